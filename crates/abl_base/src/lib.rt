@@ -1,0 +1,16 @@
+//! What every other crate speaks of: bytes and values, rows and their identities, places in a
+//! text, and the names of the rules that a source or a schema file can break. It stands on no
+//! other crate. Contracts see each `Items` as a list.
+#![tactic(auto)]
+
+pub mod items;
+pub mod place;
+pub mod row;
+pub mod rule;
+pub mod value;
+
+pub use items::Items;
+pub use place::Place;
+pub use row::{Cursor, Cycle, Holders, Numbers, Row, RowId, Rows};
+pub use rule::Rule;
+pub use value::{Bytes, Kind, Value};
