@@ -11,6 +11,6 @@ pub mod value;
 
 pub use items::Items;
 pub use place::Place;
-pub use row::{Cursor, Cycle, Holders, Numbers, Row, RowId, Rows};
+pub use row::{Cursor, Cycle, Holders, Numbers, Row, RowId, Rows, copy_row};
 pub use rule::Rule;
 pub use value::{Bytes, Kind, Value};

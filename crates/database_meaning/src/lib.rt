@@ -1,0 +1,10 @@
+//! What clients ask of the database, and what it answers: operations, answers, events and contents
+//! as types, and (in `specs/`) the database machine that says which answers and steps are legal.
+//! It stands on `abl_base`; the client, the runner and the database itself are proved against it.
+#![tactic(auto)]
+
+pub mod contents;
+pub mod operation;
+
+pub use contents::{ContentRow, ContentRows, Contents};
+pub use operation::{Answer, Event, Op, Trace};
