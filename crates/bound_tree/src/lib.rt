@@ -1,0 +1,21 @@
+//! The bound tree: a source in which each name is the number of its variable, buffer, field,
+//! stream, sequence or procedure, each block has its header, and each value is marked with its
+//! kind. It stands on `abl_base`. The binder makes it, the compiler and the definition of what a
+//! client does read it; `specs/Tree.antt` has the tree of that definition and the function from
+//! these types to it.
+#![tactic(auto)]
+
+pub mod block;
+pub mod expression;
+pub mod procedure;
+pub mod statement;
+pub mod table;
+
+pub use block::{
+    Action, BlockKind, BracketPart, Fetch, FetchWord, Flags, Header, LockWanted, OnPhrase, Reading,
+    ToPhrase,
+};
+pub use expression::{Binary, Expr, Ternary, Unary, Variable};
+pub use procedure::{Bound, BufferDef, Procedure, Reference, ReferenceKind};
+pub use statement::{Argument, Assignment, FindWord, PutItem, Right, Stmt, Target};
+pub use table::{FieldDef, IndexDef, TableDef};
