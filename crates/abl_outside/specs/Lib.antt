@@ -1,0 +1,5 @@
+pub mod Faults
+pub mod Files
+pub mod MemFiles
+pub mod Out
+pub mod MemOut

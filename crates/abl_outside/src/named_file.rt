@@ -1,0 +1,28 @@
+//! Files in memory, by name.
+
+ghost use Rattle.std.specs.Prelude.{◌≡◌, IfOk};
+
+use abl_base::{Bytes, Items};
+use std::alloc::AllocError;
+
+/// A file's name and what it holds.
+#[derive(Drop)]
+pub struct NamedFile {
+    pub name: Bytes,
+    pub bytes: Bytes,
+}
+
+/// Files by name. Of two with one name the first counts.
+pub type NamedFiles = Items<NamedFile>;
+
+impl NamedFile {
+    /// The same file again. Want of memory is the only refusal.
+    pub fn copy(&self) -> Result<NamedFile, AllocError>
+        ensures { IfOk result (λ file. file ≡ self.now) }
+    {
+        Ok(NamedFile {
+            name: self.name.copy()?,
+            bytes: self.bytes.copy()?,
+        })
+    }
+}
