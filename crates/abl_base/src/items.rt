@@ -1,8 +1,8 @@
 //! Lists that own their memory, which contracts see as lists.
 
-ghost use Rattle.std.specs.Prelude.{◌≡◌, [], length, IfOk};
+ghost use Rattle.std.specs.Prelude.{◌≡◌, [], ◌∷◌, ◌++◌, length, IfOk, OnOk, OnErr};
 
-use std::alloc::{AllocError, Global};
+use std::alloc::{AllocError, AllocFailed, Global};
 use std::marker::Model;
 
 /// A list of values in order. It is made from a `Vec` and gives it back without taking memory.
@@ -58,6 +58,15 @@ impl<T> Items<T> {
         self.items.len()
     }
 
+    /// Adds the value at the end. Want of memory is the only refusal, and the list is then as
+    /// before.
+    pub fn push(&mut self, value: T) -> Result<(), AllocFailed<T>>
+        ensures ok { OnOk result (self.new ≡ self.old ++ value ∷ []) }
+        ensures err { OnErr result (self.new ≡ self.old) }
+    {
+        self.items.push(value)
+    }
+
     /// The allocator that the list takes its memory from.
     pub fn allocator(&self) -> Global {
         *self.items.allocator()
@@ -72,6 +81,15 @@ impl<T: Copy> Items<T> {
         Ok(Items {
             items: Vec::from_slice(alloc, values)?,
         })
+    }
+
+    /// Adds the values at the end, in order. Want of memory is the only refusal, and the list is
+    /// then as before.
+    pub fn extend_from_slice(&mut self, values: &[T]) -> Result<(), AllocError>
+        ensures ok { OnOk result (self.new ≡ self.old ++ values.now) }
+        ensures err { OnErr result (self.new ≡ self.old) }
+    {
+        self.items.extend_from_slice(values)
     }
 
     /// The same list again. Want of memory is the only refusal.
