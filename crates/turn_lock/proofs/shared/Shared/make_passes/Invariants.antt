@@ -7,7 +7,9 @@ use Rattle.turn_lock.proofs.shared.Shared.make_passes.Given as goal
 
 abbrev pub invariant-loop-i : goal.invariant-loop-i
 invariant-loop-i g l =
-    (l.maker.table_id ≡ l.shared.table_id)
-    × ((p : ℕ) × (p + l._i ≡ l.seats) × (l.maker.me ≡ (view (Some l.shared.key) p [] Idle, [])))
-    × (l.list.items ≡ passes_from l.self (first_of l.self) l._i)
-    × (l.seats ≤ vec_capacity l.list)
+    record {
+      table : l.maker.table_id ≡ l.shared.table_id;
+      maker : (p : ℕ) × (p + l._i ≡ l.seats) × (l.maker.me ≡ (view (Some l.shared.key) p [] Idle, []));
+      list : l.list.items ≡ passes_from l.self (first_of l.self) l._i;
+      room : l.seats ≤ vec_capacity l.list;
+    }
