@@ -26,6 +26,7 @@ module _ {T E O : Type 0} (entries : T → List E) (client : E → ℕ) (origin 
   abbrev Rule : Key T → State (Option T) (View T E) → Type 0
   Rule = IsKept entries client origin
 
+  -- a key in a Some is one key
   pub same_key : (k key : Key T) → Some k ≡ Some key → k ≡ key
   same_key k key e = cc
 
@@ -35,16 +36,19 @@ module _ {T E O : Type 0} (entries : T → List E) (client : E → ℕ) (origin 
       let is : Some h.0 ≡ Some key = sym (ap (λ (m : M). m.0.key) h.3) ∙ e in
       (h.1, h.2, h.3 ∙ ap (λ (k : Key T). (pass_view k h.1 h.2 Idle, [])) (same_key h.0 key is))
 
+  -- the turn of this lock
   pub turn_at : (p : Seat (Option T) (View T E)) (key : Key T) (count : ℕ) → HasTurn client p count → p.me.0.key ≡ Some key
       → (n : ℕ) × (t : ℕ) × (l : List E) × (p.me ≡ (pass_view key n (own_entries client n l) (Holds t l), (0, None) ∷ [])) × (count ≡ length l)
   turn_at p key count h e =
       let is : Some h.0 ≡ Some key = sym (ap (λ (m : M). m.0.key) h.4) ∙ e in
       (h.1, h.2, h.3, h.4 ∙ ap (λ (k : Key T). (pass_view k h.1 (own_entries client h.1 h.3) (Holds h.2 h.3), (0, None) ∷ [])) (same_key h.0 key is), h.5)
 
+  -- ticket
   pub draws : (key : Key T) (slots id : ℕ) (m : M) (n : ℕ) (mine : List E) → m ≡ (pass_view key n mine Idle, [])
       → Allows (Rule key) slots id m 1 (λ k. (k + 1) % 2 ^ 64) (Draws m)
   draws key slots id m n mine e = subst (λ (z : M). Allows (Rule key) slots id z 1 (λ k. (k + 1) % 2 ^ 64) (Draws z)) (sym e) (tickets entries client origin key slots id 1 ((n, mine) ∷ []) [] (omega arith))
 
+  -- what a look tells, at the key and the ticket of the seat
   looked_as : (key : Key T) (v : View T E) (t r : ℕ) (m : M) → v.key ≡ Some key → v.stage ≡ Waits t
       → (r ≡ t % 2 ^ 64 → TakesOut entries client origin key v t m) × (¬ (r ≡ t % 2 ^ 64) → m ≡ (v, [])) → Looks entries client origin (v, []) r m
   looked_as key v t r m is at h k i e q =
@@ -53,6 +57,7 @@ module _ {T E O : Type 0} (entries : T → List E) (client : E → ℕ) (origin 
       let ts : t ≡ i = cc in
       subst (λ (y : Key T × ℕ). (r ≡ y.1 % 2 ^ 64 → TakesOut entries client origin y.0 v y.1 m) × (¬ (r ≡ y.1 % 2 ^ 64) → m ≡ (v, []))) (λ j. (ks j, ts j)) h
 
+  -- look
   pub looks_out : (key : Key T) (slots id : ℕ) (m : M) (n t : ℕ) (mine : List E) → m ≡ (pass_view key n mine (Waits t), [])
       → Allows (Rule key) slots id m 2 (λ k. k) (Looks entries client origin m)
   looks_out key slots id m n t mine e = subst (λ (z : M). Allows (Rule key) slots id z 2 (λ k. k) (Looks entries client origin z)) (sym e)
@@ -77,6 +82,7 @@ module _ {T E O : Type 0} (entries : T → List E) (client : E → ℕ) (origin 
   pub only_slot : (c : List (ℕ × Option T)) (a b : Option T) → c ≡ (0, a) ∷ rest c → c ≡ (0, b) ∷ [] → a ≡ b
   only_slot c a b e h = ap (λ (q : ℕ × Option T). q.1) (some-injective (0, a) (0, b) (ap (λ (l : List (ℕ × Option T)). get_elem? l 0) (sym e ∙ h)))
 
+  -- what the exchange then gives: the value, with the client's own entries in it
   pub took : (key : Key T) (n t : ℕ) (mine : List E) (m m' : M) (back : Option T) (value : T) → TakesOut entries client origin key (pass_view key n mine (Waits t)) t m
       → m.1 ≡ (0, back) ∷ rest m.1 → m' ≡ (m.0, (0, None) ∷ rest m.1) → back ≡ Some value
       → (m' ≡ (pass_view key n mine (Holds t (entries value)), (0, None) ∷ [])) × (own_entries client n (entries value) ≡ mine) × (origin value ≡ origin key.start.value) × IsPrefix (entries key.start.value) (entries value)
@@ -108,6 +114,7 @@ module _ {T E O : Type 0} (entries : T → List E) (client : E → ℕ) (origin 
       by true is = let more : a < b = grind (arith, nat_tests) in ⊎_elim (λ e. absurd (omega (arith, ap length e))) (λ g. g) h
       by false is = let less : b ≤ a = grind (arith, nat_tests) in ⊎_elim (λ e. e) (λ g. absurd (omega (arith, ap length g.2, length-append l (g.0 ∷ [])))) h
 
+  -- record
   pub records_one : (p : Seat (Option T) (View T E)) (key : Key T) (slots : ℕ) → PutsBack entries client p true → p.me.0.key ≡ Some key → Allows (Rule key) slots p.id p.me 0 (λ k. (k + 1) % 2 ^ 64) (λ r. Records entries client p.me r)
   records_one p key slots h e =
       let same : h.0 ≡ key = same_key h.0 key (sym (ap (λ (m : M). m.0.key) h.5) ∙ e) in
@@ -122,6 +129,7 @@ module _ {T E O : Type 0} (entries : T → List E) (client : E → ℕ) (origin 
       let known : (pass_view h.0 n (own_entries client n l) (Holds t l), (0, Some x) ∷ []) ≡ (pass_view h.0 n (own_entries client n (entries x)) (Holds t (entries x)), (0, Some x) ∷ []) = ap (λ (z : List E). (pass_view h.0 n (own_entries client n z) (Holds t z), (0, Some x) ∷ [])) (sym h.6) in
       h.5 ∙ (known ∙ ap (λ (m : M). (caught_up entries client m.0 m.1, m.1)) (sym h.5))
 
+  -- serve
   pub serves_one : (p : Seat (Option T) (View T E)) (key : Key T) (lock : Lock T) (slots : ℕ) → slots ≡ 1 → HasPutBack entries client origin lock p → p.me.0.key ≡ Some key → lock.key ≡ Some key
       → Allows (Rule key) slots p.id p.me 2 (λ k. (k + 1) % 2 ^ 64) (λ r. Serves p.me r)
   serves_one p key lock slots one h e is =
@@ -137,19 +145,23 @@ module _ {T E O : Type 0} (entries : T → List E) (client : E → ℕ) (origin 
   abbrev N : Type 0
   N = Me (Option T) (View T E)
 
+  -- number
   pub numbers_one : (slots id p : ℕ) (m : N) → m ≡ (view (Some key) p [] Idle, []) → 0 < p → Allows (IsKept entries client origin key) slots id m 3 (λ k. (k + 1) % 2 ^ 64) (λ r. Numbers m r)
   numbers_one slots id p m e some_part = subst (λ (z : N). Allows (IsKept entries client origin key) slots id z 3 (λ k. (k + 1) % 2 ^ 64) (λ r. Numbers z r)) (sym e)
       (λ s r sized at small. let h = numbers entries client origin key slots id p [] some_part s r sized at small in
       (h.0, h.1, h.2, h.3, (h.4.0, λ k same. let ks : key ≡ k = same_key entries client origin key k same in h.4.1 ∙ ap (λ (z : Key T). z.first + z.seats) ks)))
 
+  -- the number that the first seat has then
   pub numbered_one : (p r : ℕ) (m m' : N) → m ≡ (view (Some key) p [] Idle, []) → Numbers m r m' → (m' ≡ (view (Some key) p ((r, []) ∷ []) Idle, [])) × (r + p ≡ key.first + key.seats)
   numbered_one p r m m' e h = let g = subst (λ (z : N). Numbers z r m') e h in (g.0, g.1 key refl)
 
+  -- split
   pub splits_one : (id p n : ℕ) (v : View T E) → v ≡ view (Some key) p ((n, []) ∷ []) Idle → 0 < p → Splits (IsKept entries client origin key) id v (kept_part v) (handed_part v)
   splits_one id p n v e some_part = subst (λ (z : View T E). Splits (IsKept entries client origin key) id z (kept_part z) (handed_part z)) (sym e) (splits entries client origin key id p ((n, []) ∷ []) refl some_part)
 
+  -- the table as it is made keeps the rule
   pub begins : (count first : ℕ) (value : T) → key.start.value ≡ value → count ≡ length (entries value) → first ≡ key.first → key.first + key.seats ≤ 65535 → ((n : ℕ) → key.first ≤ n → own_entries client n (entries value) ≡ [])
-      → IsKept entries client origin key (opening (count ∷ 0 ∷ 0 ∷ first ∷ []) (Some value ∷ []) (first_view key))
+      → IsKept entries client origin key (opening (count ∷ 0 ∷ 0 ∷ first ∷ 0 ∷ 0 ∷ 0 ∷ 0 ∷ 0 ∷ 0 ∷ 0 ∷ 0 ∷ 0 ∷ 0 ∷ 0 ∷ 0 ∷ 0 ∷ 0 ∷ 0 ∷ 0 ∷ []) (Some value ∷ []) (first_view key))
   begins count first value start counted is small fresh = record {
     log = entries value;
     drawn = 0;
@@ -177,9 +189,11 @@ module _ {T E O : Type 0} (entries : T → List E) (client : E → ℕ) (origin 
           record { same = λ _. refl; counts = (omega arith, omega arith); full = λ other. absurd (other refl); lists = λ i q no. absurd (some-ne-none q (sym no)); stage = tt }
       only (suc j) v e = absurd (some-ne-none v (sym e))
 
+  -- join
   pub joins_one : (id other p : ℕ) (ls : List (ℕ × List E)) (v w : View T E) (n : ℕ) (mine : List E) → v ≡ view (Some key) p ls Idle → w ≡ pass_view key n mine Idle → Joins (IsKept entries client origin key) id v other w (joined_view v w) spent_view
   joins_one id other p ls v w n mine e h = subst (λ (y : View T E × View T E). Joins (IsKept entries client origin key) id y.0 other y.1 (joined_view y.0 y.1) spent_view) (λ i. (sym e i, sym h i)) (joins entries client origin key id p other 1 ls ((n, mine) ∷ []) (omega arith))
 
+  -- at the end, with every part in one seat, the value is in the slot
   pub closes : (words : List ℕ) (slots : List (Option T)) (id p : ℕ) (ls : List (ℕ × List E)) (v : View T E) → v ≡ view (Some key) p ls Idle → p ≡ key.seats → Final (Seen (IsKept entries client origin key) id v) words slots
       → (x : T) × (get_elem? slots 0 ≡ some (Some x)) × (origin x ≡ origin key.start.value) × IsPrefix (entries key.start.value) (entries x) × ((i : ℕ) (q : ℕ × List E) → get_elem? ls i ≡ some q → own_entries client q.0 (entries x) ≡ q.1)
   closes words slots id p ls v e all f =

@@ -16,7 +16,7 @@ use Rattle.turn_lock.specs.Journal.{own_entries}
 use Rattle.turn_lock.specs.View.{queued, view, pass_view, kept_part, handed_part, joined_view, spent_view}
 use Rattle.turn_lock.specs.Steps.{TakesOut}
 use Rattle.turn_lock.specs.Rule.{parts_of, queued_of, clients_of, Stands, Owns, Fits, IsKept}
-use Rattle.turn_lock.proofs.Sums.{sum_set, sum_snoc, two_le_sum, sum_le, sum_but, own_entries-other, put_at, put_here, put_else, in_range}
+use Rattle.turn_lock.proofs.Sums.{total-set, total-push, two-le-total, total-le, total-but, own_entries-other, put_at, put_here, put_else, in_range}
 
 module _ {T E O : Type 0} (entries : T → List E) (client : E → ℕ) (origin : T → O) (key : Key T) where
   abbrev V : Type 0
@@ -44,10 +44,11 @@ module _ {T E O : Type 0} (entries : T → List E) (client : E → ℕ) (origin 
 
   -- how many numbers were given out
   few_numbers : (s : St) (r : Rule s) → get_or s.words 3 0 ≤ key.first + key.seats
-  few_numbers s r = let a = sum_le clients_of parts_of s.views (λ j u e. (r.each j u e).counts.0) in let b = r.numbers in let c = r.whole in omega arith
+  few_numbers s r = let a = total-le clients_of parts_of s.views (λ j u e. (r.each j u e).counts.0) in let b = r.numbers in let c = r.whole in omega arith
 
+  -- how many tickets are out
   few_tickets : (s : St) (r : Rule s) → r.drawn ≤ r.served + key.seats
-  few_tickets s r = let a = sum_le queued_of parts_of s.views (λ j u e. (r.each j u e).counts.1) in let b = r.line in let c = r.whole in omega arith
+  few_tickets s r = let a = total-le queued_of parts_of s.views (λ j u e. (r.each j u e).counts.1) in let b = r.line in let c = r.whole in omega arith
 
   -- the new client has no entry yet
   new_list : (s : St) (r : Rule s) (id i : ℕ) (q : ℕ × List E) → get_elem? ((get_or s.words 3 0, []) ∷ []) i ≡ some q → Owns entries client origin key.first (get_or s.words 3 0 + 1) (put_at (get_or s.words 3 0) id r.owner) r.log id q
@@ -59,6 +60,7 @@ module _ {T E O : Type 0} (entries : T → List E) (client : E → ℕ) (origin 
   only_maker : (s : St) (r : Rule s) (id p : ℕ) → 0 < p → get_elem? s.views id ≡ some (view (Some key) p [] Idle) → id ≡ r.maker
   only_maker s r id p some_part at = dite (ℕ_discrete id r.maker) (λ e. e) (λ other. let h = (r.each id (view (Some key) p [] Idle) at).full other in absurd (omega arith))
 
+  -- number
   pub numbers : (slots id p : ℕ) (c : List (ℕ × Option T)) → 0 < p → Allows Rule slots id (view (Some key) p [] Idle, c) 3 (λ n. (n + 1) % 2 ^ 64) (λ n m. (m ≡ (view (Some key) p ((n, []) ∷ []) Idle, c)) × (n + p ≡ key.first + key.seats))
   numbers slots id p c some_part s r sized at small =
       let v : V = view (Some key) p [] Idle in
@@ -89,9 +91,9 @@ module _ {T E O : Type 0} (entries : T → List E) (client : E → ℕ) (origin 
           counted = word 0 (λ e. omega arith) ∙ r.counted;
           tickets = word 1 (λ e. omega arith) ∙ r.tickets;
           serving = word 2 (λ e. omega arith) ∙ r.serving;
-          numbers = let b = sum_set clients_of s.views id v w at in let d = r.numbers in now ∙ (omega arith);
-          line = let b = sum_set queued_of s.views id v w at in let d = r.line in omega arith;
-          whole = let b = sum_set parts_of s.views id v w at in let d = r.whole in omega arith;
+          numbers = let b = total-set clients_of s.views id v w at in let d = r.numbers in now ∙ (omega arith);
+          line = let b = total-set queued_of s.views id v w at in let d = r.line in omega arith;
+          whole = let b = total-set parts_of s.views id v w at in let d = r.whole in omega arith;
           small = r.small;
           fresh = λ k above. r.fresh k (omega (arith, now));
           begins = r.begins;
@@ -107,9 +109,10 @@ module _ {T E O : Type 0} (entries : T → List E) (client : E → ℕ) (origin 
                 stage = h.stage;
               }));
         },
-        (refl, let h = r.numbers in let k = r.whole in let t = sum_but parts_of clients_of s.views id v at (λ j u other e. let f = r.each j u e in let c = f.counts.0 in let g = f.full (λ is. other (is ∙ sym mine)) in omega arith) in omega arith),
+        (refl, let h = r.numbers in let k = r.whole in let t = total-but parts_of clients_of s.views id v at (λ j u other e. let f = r.each j u e in let c = f.counts.0 in let g = f.full (λ is. other (is ∙ sym mine)) in omega arith) in omega arith),
       )
 
+  -- one ticket more is drawn, by the seat id, and each other stands where it stood
   stands_longer : (out : Type 0) (served drawn id : ℕ) (bearer : ℕ → ℕ) (log : List E) (j : ℕ) (st : Stage E) → Stands out served drawn bearer log j st → Stands out served (drawn + 1) (put_at drawn id bearer) log j st
   stands_longer out served drawn id bearer log j Idle h = tt
   stands_longer out served drawn id bearer log j (Waits t) h = let b = h.1 in (h.0, omega arith, put_else drawn id bearer t (λ e. omega arith) ∙ h.2)
@@ -119,6 +122,7 @@ module _ {T E O : Type 0} (entries : T → List E) (client : E → ℕ) (origin 
   holder_drawn : (s : St) (r : Rule s) (k : ℕ) (u : V) → get_elem? s.views k ≡ some u → u.stage ≡ Holds r.served r.log → r.served < r.drawn
   holder_drawn s r k u e is = (subst (Stands (s.homes ≡ none ∷ []) r.served r.drawn r.bearer r.log k) is (r.each k u e).stage).1
 
+  -- ticket
   pub tickets : (slots id p : ℕ) (ls : List (ℕ × List E)) (c : List (ℕ × Option T)) → 0 < p
       → Allows Rule slots id (view (Some key) p ls Idle, c) 1 (λ n. (n + 1) % 2 ^ 64) (λ n m. (t : ℕ) × (n ≡ t % 2 ^ 64) × (m ≡ (view (Some key) p ls (Waits t), c)))
   tickets slots id p ls c some_part s r sized at small =
@@ -151,9 +155,9 @@ module _ {T E O : Type 0} (entries : T → List E) (client : E → ℕ) (origin 
           counted = word 0 (λ e. omega arith) ∙ r.counted;
           tickets = now;
           serving = word 2 (λ e. omega arith) ∙ r.serving;
-          numbers = let a = word 3 (λ e. omega arith) in let b = sum_set clients_of s.views id v w at in let h = r.numbers in a ∙ (omega arith);
-          line = let b = sum_set queued_of s.views id v w at in omega arith;
-          whole = let b = sum_set parts_of s.views id v w at in let h = r.whole in omega arith;
+          numbers = let a = word 3 (λ e. omega arith) in let b = total-set clients_of s.views id v w at in let h = r.numbers in a ∙ (omega arith);
+          line = let b = total-set queued_of s.views id v w at in omega arith;
+          whole = let b = total-set parts_of s.views id v w at in let h = r.whole in omega arith;
           small = r.small;
           fresh = λ k above. let a = word 3 (λ e. omega arith) in r.fresh k (omega arith);
           begins = r.begins;
@@ -168,6 +172,7 @@ module _ {T E O : Type 0} (entries : T → List E) (client : E → ℕ) (origin 
         (d, before, refl),
       )
 
+  -- the slot is out now, and each ticket stands where it stood
   stands_out : (out out' : Type 0) (served drawn : ℕ) (bearer : ℕ → ℕ) (log : List E) (j : ℕ) → out' → (st : Stage E) → Stands out served drawn bearer log j st → Stands out' served drawn bearer log j st
   stands_out out out' served drawn bearer log j is Idle h = tt
   stands_out out out' served drawn bearer log j is (Waits t) h = h
@@ -199,9 +204,9 @@ module _ {T E O : Type 0} (entries : T → List E) (client : E → ℕ) (origin 
         counted = r.counted;
         tickets = r.tickets;
         serving = r.serving;
-        numbers = let b = sum_set clients_of s.views id v w at in let h = r.numbers in omega arith;
-        line = let b = sum_set queued_of s.views id v w at in let h = r.line in omega arith;
-        whole = let b = sum_set parts_of s.views id v w at in let h = r.whole in omega arith;
+        numbers = let b = total-set clients_of s.views id v w at in let h = r.numbers in omega arith;
+        line = let b = total-set queued_of s.views id v w at in let h = r.line in omega arith;
+        whole = let b = total-set parts_of s.views id v w at in let h = r.whole in omega arith;
         small = r.small;
         fresh = r.fresh;
         begins = r.begins;
@@ -231,6 +236,7 @@ module _ {T E O : Type 0} (entries : T → List E) (client : E → ℕ) (origin 
       let z : Waits r.served ≡ Holds r.served r.log = sym (ap (λ (u : V). u.stage) e) ∙ h.3 in absurd (cc))
       r.slot
 
+  -- look, and with it take out
   pub looks : (slots id p t : ℕ) (ls : List (ℕ × List E))
       → Allows Rule slots id (view (Some key) p ls (Waits t), []) 2 (λ n. n)
       (λ n m. (n ≡ t % 2 ^ 64 → TakesOut entries client origin key (view (Some key) p ls (Waits t)) t m) × (¬ (n ≡ t % 2 ^ 64) → m ≡ (view (Some key) p ls (Waits t), [])))
@@ -253,12 +259,14 @@ module _ {T E O : Type 0} (entries : T → List E) (client : E → ℕ) (origin 
       ))
       (λ no. (v, keeps, tt, unmoved s 2 s.homes (set s.views id v) (subst (λ (l : List V). Rule record { words = s.words; homes = s.homes; views = l }) (sym (set_again s.views id v at)) r), ((λ is. absurd (no is)), (λ _. refl))))
 
+  -- the next ticket is served, and each other than that of the seat id stands where it stood
   stands_next : (out out' : Type 0) (served drawn id : ℕ) (bearer : ℕ → ℕ) (log : List E) (j : ℕ) → bearer served ≡ id → j ≢ id → (st : Stage E) → Stands out served drawn bearer log j st → Stands out' (served + 1) drawn bearer log j st
   stands_next out out' served drawn id bearer log j is other Idle h = tt
   stands_next out out' served drawn id bearer log j is other (Waits t) h =
       let apart : t ≢ served = λ e. other (sym h.2 ∙ (ap bearer e ∙ is)) in let a = h.0 in (omega arith, h.1, h.2)
   stands_next out out' served drawn id bearer log j is other (Holds t l) h = absurd (other (sym h.2 ∙ (ap bearer h.0 ∙ is)))
 
+  -- serve, and with it put back
   pub serves : (id p t : ℕ) (ls : List (ℕ × List E)) (x : T) → origin x ≡ origin key.start.value
       → Allows Rule 1 id (view (Some key) p ls (Holds t (entries x)), (0, Some x) ∷ []) 2 (λ n. (n + 1) % 2 ^ 64) (λ n m. m ≡ (view (Some key) p ls Idle, []))
   serves id p t ls x from s r sized at small =
@@ -288,9 +296,9 @@ module _ {T E O : Type 0} (entries : T → List E) (client : E → ℕ) (origin 
           counted = word 0 (λ e. omega arith) ∙ r.counted;
           tickets = word 1 (λ e. omega arith) ∙ r.tickets;
           serving = now;
-          numbers = let a = word 3 (λ e. omega arith) in let b = sum_set clients_of s.views id v w at in let h = r.numbers in a ∙ (omega arith);
-          line = let b = sum_set queued_of s.views id v w at in let h = r.line in omega arith;
-          whole = let b = sum_set parts_of s.views id v w at in let h = r.whole in omega arith;
+          numbers = let a = word 3 (λ e. omega arith) in let b = total-set clients_of s.views id v w at in let h = r.numbers in a ∙ (omega arith);
+          line = let b = total-set queued_of s.views id v w at in let h = r.line in omega arith;
+          whole = let b = total-set parts_of s.views id v w at in let h = r.whole in omega arith;
           small = r.small;
           fresh = λ k above. let a = word 3 (λ e. omega arith) in r.fresh k (omega arith);
           begins = r.begins;
@@ -312,21 +320,57 @@ module _ {T E O : Type 0} (entries : T → List E) (client : E → ℕ) (origin 
         refl,
       )
 
+  -- a bell is none of the words that the rule speaks of
+  pub rings : (slots id i : ℕ) (m : V × List (ℕ × Option T)) → 4 ≤ i → Allows Rule slots id m i (λ n. (n + 1) % 2 ^ 64) (λ n m'. m' ≡ m)
+  rings slots id i m above s r sized at small =
+      let n : ℕ = (get_or s.words i 0 + 1) % 2 ^ 64 in
+      let word : (k : ℕ) → k < 4 → get_or (set s.words i n) k 0 ≡ get_or s.words k 0 = λ k few. get_or-set_other s.words i k n 0 (λ e. omega arith) in
+      let New : ℕ → ℕ → V → Type 0 = λ z. Fits entries client origin key r.maker (s.homes ≡ none ∷ []) z r.served r.drawn r.bearer r.owner r.log in (
+        m.0,
+        keeps,
+        tt,
+        subst (λ (l : List V). Rule record { words = set s.words i n; homes = s.homes; views = l }) (sym (set_again s.views id m.0 at)) record {
+          log = r.log;
+          drawn = r.drawn;
+          served = r.served;
+          bearer = r.bearer;
+          owner = r.owner;
+          maker = r.maker;
+          wide = length-set s.words i n ∙ r.wide;
+          counted = word 0 (omega arith) ∙ r.counted;
+          tickets = word 1 (omega arith) ∙ r.tickets;
+          serving = word 2 (omega arith) ∙ r.serving;
+          numbers = word 3 (omega arith) ∙ r.numbers;
+          line = r.line;
+          whole = r.whole;
+          small = r.small;
+          fresh = λ k more. let a = word 3 (omega arith) in r.fresh k (omega arith);
+          begins = r.begins;
+          slot = r.slot;
+          ticketed = r.ticketed;
+          each = subst (λ (z : ℕ). (j : ℕ) (u : V) → get_elem? s.views j ≡ some u → New z j u) (sym (word 3 (omega arith))) r.each;
+        },
+        refl,
+      )
+
   -- one client's list does not change by an entry of another
   apart_lists : (next id j n : ℕ) (owner : ℕ → ℕ) (l : List E) (e : E) (q : ℕ × List E) → client e ≡ n → owner n ≡ id → j ≢ id → Owns entries client origin key.first next owner l j q
       → Owns entries client origin key.first next owner (l ++ e ∷ []) j q
   apart_lists next id j n owner l e q by mine other o =
       (o.0, o.1, o.2, own_entries-other client q.0 l e (λ same. other (sym o.2 ∙ (ap owner (sym same ∙ by) ∙ mine))) ∙ o.3)
 
+  -- another list is to be put back by the seat id, and each other seat has a ticket as before
   stands_log : (out : Type 0) (served drawn id : ℕ) (bearer : ℕ → ℕ) (log log' : List E) (j : ℕ) → bearer served ≡ id → j ≢ id → (st : Stage E) → Stands out served drawn bearer log j st → Stands out served drawn bearer log' j st
   stands_log out served drawn id bearer log log' j is other Idle h = tt
   stands_log out served drawn id bearer log log' j is other (Waits t) h = h
   stands_log out served drawn id bearer log log' j is other (Holds t l) h = absurd (other (sym h.2 ∙ (ap bearer h.0 ∙ is)))
 
+  -- a seat with one client owns that one
   only_list : (next id n : ℕ) (owner : ℕ → ℕ) (log mine : List E) → Owns entries client origin key.first next owner log id (n, mine) → (i : ℕ) (q : ℕ × List E) → get_elem? ((n, mine) ∷ []) i ≡ some q → Owns entries client origin key.first next owner log id q
   only_list next id n owner log mine o zero q e = subst (Owns entries client origin key.first next owner log id) (some-injective (n, mine) q e) o
   only_list next id n owner log mine o (suc i) q e = absurd (some-ne-none q (sym e))
 
+  -- record
   pub records : (slots id n t : ℕ) (mine l : List E) (e : E) (x : T) (c : List (ℕ × Option T)) → entries x ≡ l ++ e ∷ [] → client e ≡ n → length (entries x) < 2 ^ 64
       → Allows Rule slots id (pass_view key n mine (Holds t l), c) 0 (λ k. (k + 1) % 2 ^ 64) (λ k m. m ≡ (pass_view key n (own_entries client n (entries x)) (Holds t (entries x)), c))
   records slots id n t mine l e x c grown by room s r sized at small =
@@ -359,9 +403,9 @@ module _ {T E O : Type 0} (entries : T → List E) (client : E → ℕ) (origin 
           counted = now;
           tickets = word 1 (λ e. omega arith) ∙ r.tickets;
           serving = word 2 (λ e. omega arith) ∙ r.serving;
-          numbers = let a = word 3 (λ e. omega arith) in let b = sum_set clients_of s.views id v w at in let h = r.numbers in a ∙ (omega arith);
-          line = let b = sum_set queued_of s.views id v w at in let h = r.line in omega arith;
-          whole = let b = sum_set parts_of s.views id v w at in let h = r.whole in omega arith;
+          numbers = let a = word 3 (λ e. omega arith) in let b = total-set clients_of s.views id v w at in let h = r.numbers in a ∙ (omega arith);
+          line = let b = total-set queued_of s.views id v w at in let h = r.line in omega arith;
+          whole = let b = total-set parts_of s.views id v w at in let h = r.whole in omega arith;
           small = r.small;
           fresh = λ i above. let a = word 3 (λ e. omega arith) in let below = had.1 in ap (own_entries client i) log ∙ (own_entries-other client i r.log e (λ same. omega arith) ∙ r.fresh i (omega arith));
           begins = (r.begins.0 ++ e ∷ [], sym (append_assoc (entries key.start.value) r.begins.0 (e ∷ [])) ∙ (ap (λ (z : List E). z ++ e ∷ []) r.begins.1 ∙ sym log));
@@ -403,17 +447,20 @@ module _ {T E O : Type 0} (entries : T → List E) (client : E → ℕ) (origin 
   unfolding moved
   moved_else other id owner n j e d = put_else other id (λ k. k) (owner n) (λ same. d (sym e ∙ same)) ∙ e
 
+  -- what holds at each place of two lists holds at each place of both together
   at_append : {A : Type 0} (P : A → Type 0) (xs ys : List A) → ((i : ℕ) (q : A) → get_elem? xs i ≡ some q → P q) → ((i : ℕ) (q : A) → get_elem? ys i ≡ some q → P q) → (i : ℕ) (q : A) → get_elem? (xs ++ ys) i ≡ some q → P q
   at_append P [] ys f g i q e = g i q e
   at_append P (x ∷ xs) ys f g zero q e = f zero q e
   at_append P (x ∷ xs) ys f g (suc i) q e = at_append P xs ys (λ k. f (suc k)) g i q e
 
+  -- what holds at each place of a list and of one element more holds at each place of both together
   at_end : {A : Type 0} (P : ℕ → A → Type 0) (l : List A) (w : A) (n : ℕ) → length l ≡ n → P n w → ((j : ℕ) (u : A) → get_elem? l j ≡ some u → P j u) → (j : ℕ) (u : A) → get_elem? (l ++ w ∷ []) j ≡ some u → P j u
   at_end {A} P [] w m n mine f zero u e = subst (λ (y : ℕ × A). P y.0 y.1) (λ i. (sym n i, some-injective w u e i)) mine
   at_end {A} P [] w m n mine f (suc j) u e = absurd (some-ne-none u (sym e))
   at_end {A} P (x ∷ l) w m n mine f zero u e = f zero u e
   at_end {A} P (x ∷ l) w m n mine f (suc j) u e = at_end (λ k. P (suc k)) l w (length l) refl (subst (λ (k : ℕ). P k w) (sym n) mine) (λ k. f (suc k)) j u e
 
+  -- join
   pub joins : (id p other q : ℕ) (ls ms : List (ℕ × List E)) → q ≤ length ms → Joins Rule id (view (Some key) p ls Idle) other (view (Some key) q ms Idle) (joined_view (view (Some key) p ls Idle) (view (Some key) q ms Idle)) spent_view
   joins id p other q ls ms whole s r at apart' there =
       let v : V = view (Some key) p ls Idle in
@@ -439,9 +486,9 @@ module _ {T E O : Type 0} (entries : T → List E) (client : E → ℕ) (origin 
         counted = r.counted;
         tickets = r.tickets;
         serving = r.serving;
-        numbers = let a = sum_set clients_of s.views id v w at in let b = sum_set clients_of (set s.views id w) other u end there in let h = r.numbers in omega arith;
-        line = let a = sum_set queued_of s.views id v w at in let b = sum_set queued_of (set s.views id w) other u end there in let h = r.line in omega arith;
-        whole = let a = sum_set parts_of s.views id v w at in let b = sum_set parts_of (set s.views id w) other u end there in let h = r.whole in omega arith;
+        numbers = let a = total-set clients_of s.views id v w at in let b = total-set clients_of (set s.views id w) other u end there in let h = r.numbers in omega arith;
+        line = let a = total-set queued_of s.views id v w at in let b = total-set queued_of (set s.views id w) other u end there in let h = r.line in omega arith;
+        whole = let a = total-set parts_of s.views id v w at in let b = total-set parts_of (set s.views id w) other u end there in let h = r.whole in omega arith;
         small = r.small;
         fresh = r.fresh;
         begins = r.begins;
@@ -468,6 +515,7 @@ module _ {T E O : Type 0} (entries : T → List E) (client : E → ℕ) (origin 
             }) j z e d);
       }
 
+  -- split
   pub splits : (id p : ℕ) (ls : List (ℕ × List E)) → length ls ≡ 1 → 0 < p → Splits Rule id (view (Some key) p ls Idle) (kept_part (view (Some key) p ls Idle)) (handed_part (view (Some key) p ls Idle))
   splits id p ls one some_part s r at =
       let v : V = view (Some key) p ls Idle in
@@ -491,9 +539,9 @@ module _ {T E O : Type 0} (entries : T → List E) (client : E → ℕ) (origin 
         counted = r.counted;
         tickets = r.tickets;
         serving = r.serving;
-        numbers = let a = sum_snoc clients_of (set s.views id l) w in let b = sum_set clients_of s.views id v l at in let c = r.numbers in omega arith;
-        line = let a = sum_snoc queued_of (set s.views id l) w in let b = sum_set queued_of s.views id v l at in let c = r.line in omega arith;
-        whole = let a = sum_snoc parts_of (set s.views id l) w in let b = sum_set parts_of s.views id v l at in let c = r.whole in omega arith;
+        numbers = let a = total-push clients_of (set s.views id l) w in let b = total-set clients_of s.views id v l at in let c = r.numbers in omega arith;
+        line = let a = total-push queued_of (set s.views id l) w in let b = total-set queued_of s.views id v l at in let c = r.line in omega arith;
+        whole = let a = total-push parts_of (set s.views id l) w in let b = total-set parts_of s.views id v l at in let c = r.whole in omega arith;
         small = r.small;
         fresh = r.fresh;
         begins = r.begins;
@@ -513,6 +561,6 @@ module _ {T E O : Type 0} (entries : T → List E) (client : E → ℕ) (origin 
       (λ h. (h.0, h.1, h.3, subst (IsPrefix (entries key.start.value)) (sym h.2) r.begins, λ i q e. ap (own_entries client q.0) h.2 ∙ ((r.each id (view (Some key) key.seats ls Idle) at).lists i q e).3))
       (λ h. let v : V = view (Some key) key.seats ls Idle in
       let n = apart s.views id (r.bearer r.served) v h.0 at h.2 (λ same. let k = ap queued h.3 in omega arith) in
-      let two = two_le_sum parts_of s.views (r.bearer r.served) id h.0 v n h.2 at in
+      let two = two-le-total parts_of s.views (r.bearer r.served) id h.0 v n h.2 at in
       let whole = r.whole in let one = (r.each (r.bearer r.served) h.0 h.2).counts.1 in let k = ap queued h.3 in absurd (omega arith))
       r.slot

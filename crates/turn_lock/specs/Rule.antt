@@ -1,5 +1,5 @@
 -- The rule of the turn lock, which every step on its table keeps.
--- Word 0 is the number of entries, word 1 the number of tickets drawn, word 2 that of tickets served, and word 3 the number of the next client. The one slot has the value, or is out with the seat that has the turn.
+-- Word 0 is the number of entries, word 1 the number of tickets drawn, word 2 that of tickets served, and word 3 the number of the next client. Words 4 to 19 are bells, on which threads sleep, and the rule says nothing of them. The one slot has the value, or is out with the seat that has the turn.
 use Rattle.std.specs.Prelude.{◌≡◌, ℕ, ◌+◌, ◌%◌, ◌^◌, ◌<◌, ◌≤◌, List, [], ◌∷◌, length, slice_index, Option, Some, ◌⊎◌}
 use mathlib.Core.Option.{none, some}
 use mathlib.Core.List.{IsPrefix}
@@ -70,7 +70,7 @@ module _ {T E O : Type 0} (entries : T → List E) (client : E → ℕ) (origin 
     pub owner : ℕ → ℕ
     pub maker : ℕ
     -- what the words are
-    pub wide : length s.words ≡ 4
+    pub wide : length s.words ≡ 20
     pub counted : slice_index s.words 0 ≡ length log
     pub tickets : slice_index s.words 1 ≡ drawn % 2 ^ 64
     pub serving : slice_index s.words 2 ≡ served % 2 ^ 64

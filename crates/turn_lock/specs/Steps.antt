@@ -23,6 +23,10 @@ module _ {T E : Type 0} where
   abbrev pub Serves : Me (Option T) (View T E) → ℕ → Me (Option T) (View T E) → Type 0
   Serves m r n = n ≡ (with_stage m.0 Idle, [])
 
+  -- ring: nothing that it knows changes
+  abbrev pub Rings : Me (Option T) (View T E) → ℕ → Me (Option T) (View T E) → Type 0
+  Rings m r n = n ≡ m
+
 module _ {T E O : Type 0} (entries : T → List E) (client : E → ℕ) (origin : T → O) where
   -- the value is out with the seat. It has the key's origin, a list that begins with the key's, and in it the clients' own entries
   abbrev pub TakesOut : Key T → View T E → ℕ → Me (Option T) (View T E) → Type 0

@@ -11,7 +11,7 @@ ghost use Rattle.turn_lock.specs.Steps.{caught_up};
 use crate::journal::Journal;
 use crate::passes::{Pass, Passes, Place};
 use crate::rule::TurnRule;
-use crate::steps::{Draw, Hand, Look, Number, Record, Serve};
+use crate::steps::{Draw, Hand, Look, Number, Record, Ring, Serve};
 use crate::turn::Turn;
 use crate::view::{Key, View};
 use atomic_table::{Refused, Table};
@@ -28,6 +28,11 @@ const TICKETS: usize = 1;
 const SERVED: usize = 2;
 
 const CLIENTS: usize = 3;
+
+const WORDS: usize = 20;
+
+// The other words are bells. Who waits sleeps on the bell of its ticket, so up to this many threads are woken one by one.
+const BELLS: u64 = 16;
 
 // The slot of the value.
 const VALUE: usize = 0;
@@ -52,7 +57,14 @@ impl<T: Journal> Model for Shared<T> {
 
     ghost view = { λ s. record { table = s.table.shared.table_id; key = Some s.table.shared.key } };
 
-    ghost invariant = { λ s. (s.table.shared.table_id.words ≡ 4) × (s.table.shared.table_id.slots ≡ 1) };
+    ghost invariant = { λ s. (s.table.shared.table_id.words ≡ 20) × (s.table.shared.table_id.slots ≡ 1) };
+}
+
+// The bell of a ticket, as a word of the table.
+fn bell_of(ticket: u64) -> usize
+    ensures { (4 ≤ result) × (result < 20) }
+{
+    4 + (ticket % BELLS) as usize
 }
 
 impl<T: Journal> Shared<T> {
@@ -87,7 +99,10 @@ impl<T: Journal> Shared<T> {
             seats: u64::from(seats),
         };
         slots.push_reserved(Some(value));
-        match Table::new(alloc, &[count, 0, 0, u64::from(first)], slots, &key) {
+        let mut words = [0; WORDS];
+        words[ENTRIES] = count;
+        words[CLIENTS] = u64::from(first);
+        match Table::new(alloc, &words, slots, &key) {
             Ok((table, maker)) => {
                 let shared = Shared { table };
                 let passes = shared.make_passes(maker, list, seats);
@@ -132,15 +147,17 @@ impl<T: Journal> Shared<T> {
         let Pass { mut place } = pass;
         let shared = &self.table.shared;
         let ticket = shared.fetch_add::<Draw>(&mut place, TICKETS, 1);
+        let bell = bell_of(ticket);
         for _ in rt.forever() {
+            let rung = shared.peek(bell);
             let served = shared.load::<Look<T>>(&mut place, SERVED);
             if served == ticket {
                 let value = shared.exchange(&mut place, VALUE, None).unwrap();
                 let count = value.entries();
                 return (value, Turn { place, count });
             }
-            // It sleeps only while the word is still what was found, so no wake is missed.
-            shared.park(rt, SERVED, (served & 0xffff_ffff) as u32);
+            // It sleeps only while the bell has not rung since before the look, so no wake is missed.
+            shared.park(rt, bell, (rung & 0xffff_ffff) as u32);
         }
         unreachable!()
     }
@@ -177,7 +194,7 @@ impl<T: Journal> Shared<T> {
         }
     }
 
-    // Gives the slot back and serves the next ticket.
+    // Gives the slot back, serves the next ticket and wakes its thread.
     fn serve(&self, place: &mut Place<T>)
         requires lock { lock_of place.old ≡ self.now }
         requires value { HasPutBack T.entries T.client T.origin self.now place.old }
@@ -187,8 +204,11 @@ impl<T: Journal> Shared<T> {
         let shared = &self.table.shared;
         let served = shared.fetch_add::<Serve>(place, SERVED, 1);
         // Who draws a ticket after this look finds its turn, and does not sleep.
-        if shared.peek(TICKETS) != served.wrapping_add(1) {
-            shared.wake_all(SERVED);
+        let next = served.wrapping_add(1);
+        if shared.peek(TICKETS) != next {
+            let bell = bell_of(next);
+            shared.fetch_add::<Ring>(place, bell, 1);
+            shared.wake_all(bell);
         }
     }
 

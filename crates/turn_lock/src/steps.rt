@@ -1,6 +1,6 @@
 // What each step on the table tells the seat that makes it. No value of these types is made.
 ghost use Rattle.turn_lock.specs.View.{kept_part, handed_part, joined_view, spent_view};
-ghost use Rattle.turn_lock.specs.Steps.{Numbers, Draws, Looks, Records, Serves};
+ghost use Rattle.turn_lock.specs.Steps.{Numbers, Draws, Looks, Records, Serves, Rings};
 
 use crate::journal::Journal;
 use crate::view::View;
@@ -59,4 +59,11 @@ pub(crate) struct Serve;
 
 impl<T, E> Play<Option<T>, View<T, E>> for Serve {
     ghost then = { λ _. Serves };
+}
+
+// A seat rings a bell.
+pub(crate) struct Ring;
+
+impl<T, E> Play<Option<T>, View<T, E>> for Ring {
+    ghost then = { λ _. Rings };
 }

@@ -15,7 +15,7 @@ new-requires g c =
     let again = c.from-3.ensures in
     let room = c.requires.room in
     let key : Key g.row.T.Denot = record { start = c.of.result; first = c.from.result; seats = c.from-2.result } in
-    subst (λ l. IsKept j.entries j.client j.origin key (opening (c.entries-count.result ∷ 0 ∷ 0 ∷ c.from-3.result ∷ []) l (first_view key)))
+    subst (λ l. IsKept j.entries j.client j.origin key (opening (c.entries-count.result ∷ 0 ∷ 0 ∷ c.from-3.result ∷ 0 ∷ 0 ∷ 0 ∷ 0 ∷ 0 ∷ 0 ∷ 0 ∷ 0 ∷ 0 ∷ 0 ∷ 0 ∷ 0 ∷ 0 ∷ 0 ∷ 0 ∷ 0 ∷ []) l (first_view key)))
     (sym (c.push_reserved.ensures.items ∙ ap (λ l. l ++ Some c.args.value ∷ []) c.in-Ok-with_capacity.ensures.items))
     (begins j.entries j.client j.origin key c.entries-count.result c.from-3.result c.args.value c.of.ensures c.entries-count.ensures (omega arith) (omega arith) (λ n above. c.requires.fresh n (omega arith)))
 
