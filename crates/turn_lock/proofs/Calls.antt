@@ -15,7 +15,7 @@ use Rattle.turn_lock.specs.Shared.{Lock}
 use Rattle.turn_lock.specs.Turn.{ClientTurn}
 use Rattle.turn_lock.specs.View.{view, pass_view, kept_part, handed_part, first_view, joined_view, spent_view, with_stage, client_in, list_in, list_out}
 use Rattle.turn_lock.specs.Seats.{turn_of, HasPass, HasTurn, PutsBack, HasPutBack}
-use Rattle.turn_lock.specs.Steps.{caught_up, Numbers, Draws, Serves, TakesOut, Looks, Records}
+use Rattle.turn_lock.specs.Steps.{Numbers, Draws, Serves, TakesOut, Looks, Records}
 use Rattle.turn_lock.specs.Rule.{Fits, IsKept}
 use Rattle.turn_lock.proofs.RuleKept.{numbers, splits, joins, ends, tickets, looks, serves, records}
 
@@ -121,13 +121,6 @@ module _ {T E O : Type 0} (entries : T → List E) (client : E → ℕ) (origin 
       let n : ℕ = h.1 in let t : ℕ = h.2 in let l : List E = h.3 in let x : T = h.4 in
       let me : p.me ≡ (pass_view key n (own_entries client n l) (Holds t l), (0, Some x) ∷ []) = h.5 ∙ ap (λ (k : Key T). (pass_view k n (own_entries client n l) (Holds t l), (0, Some x) ∷ [])) same in
       subst (λ (z : M). Allows (Rule key) slots p.id z 0 (λ k. (k + 1) % 2 ^ 64) (λ r. Records entries client z r)) (sym me) (records entries client origin key slots p.id n t (own_entries client n l) l h.6.0 x ((0, Some x) ∷ []) h.6.2 h.6.1 h.7)
-
-  -- with no entry more the seat knows the list already
-  pub unrecorded : (p : Seat (Option T) (View T E)) → PutsBack entries client p false → p.me ≡ (caught_up entries client p.me.0 p.me.1, p.me.1)
-  unrecorded p h =
-      let n : ℕ = h.1 in let t : ℕ = h.2 in let l : List E = h.3 in let x : T = h.4 in
-      let known : (pass_view h.0 n (own_entries client n l) (Holds t l), (0, Some x) ∷ []) ≡ (pass_view h.0 n (own_entries client n (entries x)) (Holds t (entries x)), (0, Some x) ∷ []) = ap (λ (z : List E). (pass_view h.0 n (own_entries client n z) (Holds t z), (0, Some x) ∷ [])) (sym h.6) in
-      h.5 ∙ (known ∙ ap (λ (m : M). (caught_up entries client m.0 m.1, m.1)) (sym h.5))
 
   -- serve
   pub serves_one : (p : Seat (Option T) (View T E)) (key : Key T) (lock : Lock T) (slots : ℕ) → slots ≡ 1 → HasPutBack entries client origin lock p → p.me.0.key ≡ Some key → lock.key ≡ Some key

@@ -1,4 +1,4 @@
--- Sums over lists, a view that stays where another changes, and the entries of one client.
+-- Totals over lists, the entries of one client, and a function that is changed at one number.
 use Rattle.std.proofs.Common.{◌≡◌, ◌≢◌, ℕ, zero, suc, ◌+◌, ◌<◌, ◌≤◌, List, [], ◌∷◌, ◌++◌, length, set, eqb, refl, sym, ap, arith, ne_eqb, eq-eqb, cond}
 use Rattle.std.proofs.lemmas.List.Elements.{filter-append}
 use Rattle.std.proofs.lemmas.List.{append-nil}
@@ -49,10 +49,7 @@ total-le f g [] h = omega arith
 total-le f g (x ∷ l) h = let s = total-le f g l (λ j a e. h (suc j) a e) in let t = h 0 x refl in omega arith
 
 module _ {E : Type 0} (client : E → ℕ) where
-  -- the entries of one client with one entry more, of this client or of another
-  pub own_entries-mine : (n : ℕ) (log : List E) (e : E) → client e ≡ n → own_entries client n (log ++ e ∷ []) ≡ own_entries client n log ++ e ∷ []
-  own_entries-mine n log e is = let b = eq-eqb (client e) n is in rw (filter-append, b)
-
+  -- an entry more of another client changes nothing for this one
   pub own_entries-other : (n : ℕ) (log : List E) (e : E) → client e ≢ n → own_entries client n (log ++ e ∷ []) ≡ own_entries client n log
   own_entries-other n log e is = let b = ne_eqb (client e) n is in rw (filter-append, b, append-nil)
 

@@ -10,7 +10,7 @@ mod rule;
 mod shared;
 mod steps;
 mod turn;
-pub mod view;
+mod view;
 
 pub use journal::Journal;
 pub use passes::{Pass, Passes};

@@ -81,8 +81,9 @@ impl<T: Journal> Shared<T> {
         requires some { 0 < seats }
         requires room { first + seats ≤ 65535 }
         requires fresh { (n : ℕ) → first ≤ n → own_entries T.client n (T.entries value) ≡ [] }
-        ensures lock { IfOk result (λ made. IsMadeOf made.0 value first seats × (made.1.lock ≡ made.0)) }
-        ensures passes { IfOk result (λ made. made.1.passes ≡ passes_from made.0 first seats) }
+        ensures made { IfOk result (λ m. IsMadeOf m.0 value first seats) }
+        ensures lock { IfOk result (λ m. m.1.lock ≡ m.0) }
+        ensures passes { IfOk result (λ m. m.1.passes ≡ passes_from m.0 first seats) }
         ensures back { IfErr result (λ refused. refused.1 ≡ value) }
     {
         let Ok(list) = Vec::with_capacity(alloc, seats as usize) else {
@@ -142,7 +143,9 @@ impl<T: Journal> Shared<T> {
         requires { pass.lock ≡ self.now }
         ensures own { own_entries T.client pass.client (T.entries result.0) ≡ pass.list }
         ensures start { GoesOn T.entries T.origin self.now result.0 }
-        ensures turn { (result.1.lock ≡ self.now) × (result.1.client ≡ pass.client) × (result.1.taken ≡ T.entries result.0) }
+        ensures lock { result.1.lock ≡ self.now }
+        ensures client { result.1.client ≡ pass.client }
+        ensures taken { result.1.taken ≡ T.entries result.0 }
     {
         let Pass { mut place } = pass;
         let shared = &self.table.shared;
@@ -169,7 +172,8 @@ impl<T: Journal> Shared<T> {
         requires lock { turn.lock ≡ self.now }
         requires origin { HasOrigin T.origin self.now value }
         requires adds { Adds T.client turn.client turn.taken (T.entries value) }
-        ensures pass { (result.lock ≡ self.now) × (result.client ≡ turn.client) }
+        ensures lock { result.lock ≡ self.now }
+        ensures client { result.client ≡ turn.client }
         ensures own { result.list ≡ own_entries T.client turn.client (T.entries value) }
     {
         let Turn { mut place, count } = turn;

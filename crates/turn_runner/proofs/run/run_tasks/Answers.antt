@@ -8,10 +8,10 @@ use Rattle.turn_runner.specs.Tasks.{IsReady, pass_of}
 use Rattle.turn_runner.proofs.run.run_tasks.Goals as goal
 
 pub run_all-requires-clause-ready : goal.run_all-requires-clause-ready
-run_all-requires-clause-ready g c κs within = λ k d less. subst (λ l. IsReady l (slice_index_or c.hand_out.new.tasks k d)) (c.hand_out.ensures.lock ∙ c.in-Ok.ensures.lock.1) (c.hand_out.ensures.ready k d less)
+run_all-requires-clause-ready g c κs within = λ k d less. subst (λ l. IsReady l (slice_index_or c.hand_out.new.tasks k d)) (c.hand_out.ensures.lock ∙ c.in-Ok.ensures.lock) (c.hand_out.ensures.ready k d less)
 
 pub collect-requires-clause-ready : goal.collect-requires-clause-ready
-collect-requires-clause-ready g c = λ k d less. subst (λ l. IsReady l (slice_index_or c.run_all.new.tasks k d)) (sym (c.hand_out.ensures.lock ∙ c.in-Ok.ensures.lock.1)) (c.run_all.ensures.ready k d less)
+collect-requires-clause-ready g c = λ k d less. subst (λ l. IsReady l (slice_index_or c.run_all.new.tasks k d)) (sym (c.hand_out.ensures.lock ∙ c.in-Ok.ensures.lock)) (c.run_all.ensures.ready k d less)
 
 pub returns-clause-own : goal.returns-clause-own
 returns-clause-own g c = λ k d less.

@@ -62,5 +62,7 @@ returns-then-served-ticket g c =
     record {
       own = ap (λ n. own_entries j.client n (j.entries c.unwrap-value.result)) (sym client) ∙ (k.1 ∙ (sym w.6 ∙ ap (λ p. p.list) c.pass.view_is));
       start = subst (λ l. GoesOn j.entries j.origin l c.unwrap-value.result) c.self.view_is (k.2, k.3);
-      turn = ((λ i. record { table = table i; key = same_key i }) ∙ c.self.view_is, ap (λ m. client_in m.0.lists) k.0 ∙ client, ap (λ m. list_out m.0.stage) k.0);
+      lock = (λ i. record { table = table i; key = same_key i }) ∙ c.self.view_is;
+      client = ap (λ m. client_in m.0.lists) k.0 ∙ client;
+      taken = ap (λ m. list_out m.0.stage) k.0;
     }
