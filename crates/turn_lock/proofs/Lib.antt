@@ -1,0 +1,4 @@
+pub mod Sums
+pub mod RuleKept
+pub mod PassLists
+pub mod Calls

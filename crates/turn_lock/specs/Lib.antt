@@ -1,0 +1,9 @@
+pub mod Journal
+pub mod Shared
+pub mod Passes
+pub mod Turn
+pub mod View
+pub mod Seats
+pub mod Steps
+pub mod Rule
+pub mod Examples
