@@ -1,0 +1,109 @@
+-- Texts written one after the other.
+use Rattle.std.proofs.Common.{◌≡◌, ◌≤◌, ◌<◌, ◌+◌, ◌-◌, ◌^◌, ◌⊎◌, ℕ, Bool, true, false, List, [], ◌∷◌, ◌++◌, refl, sym, ap, ◌∙◌, subst, arith, length, take, drop, inl, inr, append_assoc, append-nil, length-append, zero, suc, get_or}
+use Rattle.std.specs.List.{flat_map}
+use Rattle.std.proofs.lemmas.Bool.{cases_lt}
+use Rattle.std.proofs.Math.Seq.{take-append-add}
+use Rattle.std.proofs.lemmas.List.{take-append-le}
+use Rattle.std.proofs.lemmas.Grind.{common_steps}
+use Rattle.std.specs.Prelude.{IsTrue}
+use Rattle.abl_outside.specs.declared.out.Stream.{Stream}
+use Rattle.abl_outside.specs.declared.out.Stream.TheVariants.{Output, Diagnostics}
+use Rattle.abl_outside.specs.Out.{Texts, appended, AppendsPrefix}
+use Rattle.abl_outside.specs.Faults.{Rose}
+use Rattle.abl_cli.specs.Writes.{Written, Writes}
+
+appended-nothing : (stream : Stream) (t : Texts) → appended stream [] t ≡ t
+appended-nothing Output t = ap (λ text. record { output = text; diagnostics = t.diagnostics }) (append-nil t.output)
+appended-nothing Diagnostics t = ap (λ text. record { output = t.output; diagnostics = text }) (append-nil t.diagnostics)
+
+appended-append : (stream : Stream) (a b : List ℕ) (t : Texts) → appended stream b (appended stream a t) ≡ appended stream (a ++ b) t
+appended-append Output a b t = ap (λ text. record { output = text; diagnostics = t.diagnostics }) (append_assoc t.output a b)
+appended-append Diagnostics a b t = ap (λ text. record { output = t.output; diagnostics = text }) (append_assoc t.diagnostics a b)
+
+-- nothing was written
+pub writes_nothing : (stream : Stream) (w : Written) → Writes true stream [] w w
+writes_nothing stream w =
+    record {
+      all = λ ok told. sym (appended-nothing stream w.texts);
+      part = λ no. absurd (cc no);
+      cause = λ no. absurd (cc no);
+      quiet = λ ok. refl;
+      later = omega arith;
+      tells = refl;
+    }
+
+-- a count that rose from a later one rose from an earlier one too
+rose_later : (a b c : ℕ) → a ≤ b → b ≤ c → Rose b c → Rose a c
+rose_later a b c le more (inl lt) = inl (omega (arith, le, lt))
+rose_later a b c le more (inr last) = either (cases_lt a c)
+  where
+    either : (a < c) ⊎ (c ≤ a) → Rose a c
+    either (inl lt) = inl lt
+    either (inr ge) = inr (omega (arith, le, more, last, ge))
+
+-- a prefix behind a whole text
+part_then : (stream : Stream) (a b : List ℕ) (old mid new : Texts) → mid ≡ appended stream a old → AppendsPrefix stream b mid new → AppendsPrefix stream (a ++ b) old new
+part_then stream a b old mid new is part =
+    let both : length (a ++ b) ≡ length a + length b = length-append a b in (
+      length a + part.0,
+      omega (arith, part.1, both),
+      part.2 ∙ ap (appended stream (take part.0 b)) is ∙ appended-append stream a (take part.0 b) old
+          ∙ ap (λ text. appended stream text old) (sym (take-append-add a b part.0)),
+    )
+
+-- a text, and then another, or a prefix of it
+pub writes_then :
+    (ok : Bool) (stream : Stream) (a b : List ℕ) (old mid new : Written) →
+    Writes true stream a old mid → Writes ok stream b mid new → Writes ok stream (a ++ b) old new
+writes_then ok stream a b old mid new first second =
+    record {
+      all = λ yes told. second.all yes (subst IsTrue (sym first.tells) told) ∙ ap (appended stream b) (first.all refl told) ∙ appended-append stream a b old.texts;
+      part = λ no told. part_then stream a b old.texts mid.texts new.texts (first.all refl told) (second.part no (subst IsTrue (sym first.tells) told));
+      cause = λ no. rose_later old.faults mid.faults new.faults first.later second.later (second.cause no);
+      quiet = λ yes. second.quiet yes ∙ first.quiet refl;
+      later = omega (arith, first.later, second.later);
+      tells = second.tells ∙ first.tells;
+    }
+
+-- a prefix of a text is one of a longer text
+pub writes_part :
+    (stream : Stream) (a b : List ℕ) (old new : Written) → Writes false stream a old new → Writes false stream (a ++ b) old new
+writes_part stream a b old new first =
+    record {
+      all = λ no. absurd (cc no);
+      part = λ no told. longer (first.part refl told);
+      cause = first.cause;
+      quiet = λ no. absurd (cc no);
+      later = first.later;
+      tells = first.tells;
+    }
+  where
+    longer : AppendsPrefix stream a old.texts new.texts → AppendsPrefix stream (a ++ b) old.texts new.texts
+    longer part =
+        let both : length (a ++ b) ≡ length a + length b = length-append a b in (
+          part.0,
+          omega (arith, part.1, both),
+          part.2 ∙ ap (λ text. appended stream text old.texts) (sym (take-append-le part.0 a b part.1)),
+        )
+
+-- the texts of a list's elements, parted at one of them
+flat_map-parted :
+    {X : Type 0} (f : X → List ℕ) (xs : List X) (i : ℕ) (d : X) → i < length xs →
+    flat_map f xs ≡ (flat_map f (take i xs) ++ f (get_or xs i d)) ++ flat_map f (drop (suc i) xs)
+flat_map-parted f [] i d below = absurd (omega (arith, below))
+flat_map-parted f (x ∷ xs) zero d below = refl
+flat_map-parted f (x ∷ xs) (suc i) d below =
+    let less : i < length xs = omega (arith, below) in
+    ap (λ text. f x ++ text) (flat_map-parted f xs i d less)
+    ∙ sym (append_assoc (f x) (flat_map f (take i xs) ++ f (get_or xs i d)) (flat_map f (drop (suc i) xs)))
+    ∙ ap (λ text. text ++ flat_map f (drop (suc i) xs)) (sym (append_assoc (f x) (flat_map f (take i xs)) (f (get_or xs i d))))
+
+-- the texts before an element were written whole, and a prefix of its own
+pub writes_within :
+    {X : Type 0} (f : X → List ℕ) (xs : List X) (i : ℕ) (d : X) (stream : Stream) (old mid new : Written) → i < length xs →
+    Writes true stream (flat_map f (take i xs)) old mid → Writes false stream (f (get_or xs i d)) mid new →
+    Writes false stream (flat_map f xs) old new
+writes_within f xs i d stream old mid new below before at =
+    subst (λ text. Writes false stream text old new) (sym (flat_map-parted f xs i d below))
+    (writes_part stream (flat_map f (take i xs) ++ f (get_or xs i d)) (flat_map f (drop (suc i) xs)) old new
+    (writes_then false stream (flat_map f (take i xs)) (f (get_or xs i d)) old mid new before at))

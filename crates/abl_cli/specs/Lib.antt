@@ -1,0 +1,5 @@
+pub mod Words
+pub mod Slots
+pub mod Tokens
+pub mod Report
+pub mod Writes

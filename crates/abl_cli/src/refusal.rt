@@ -1,0 +1,56 @@
+//! Why a command did not do its work.
+
+use abl_base::{Bytes, Place, Rule};
+
+/// A refusal, in the order in which the causes are looked for (this project's choice).
+#[derive(Drop)]
+pub enum Refusal {
+    /// The words have no form of the program; the number of the wrong word, from 0, or the count
+    /// of words where more are missing.
+    Usage {
+        word: u32,
+    },
+    /// The file cannot be read, also where there is none of that name.
+    File {
+        name: Bytes,
+    },
+    /// The file is longer than so many bytes.
+    TooLong {
+        name: Bytes,
+        most: u64,
+    },
+    /// The client's source breaks the rule, first at this place.
+    Source {
+        client: u16,
+        rule: Rule,
+        place: Place,
+    },
+    /// Some client ended in Error or Stop; the first one in order.
+    Client {
+        first: u16,
+    },
+    /// Standard output did not take the whole report.
+    Output,
+    /// Memory is wanting.
+    NoMemory,
+}
+
+impl Refusal {
+    ghost use Rattle.std.specs.Prelude.{◌≡◌};
+    ghost use Rattle.abl_cli.specs.Report.{status_of};
+
+    /// The status that the program ends with.
+    pub fn status(&self) -> u8
+        ensures { result ≡ status_of self.now }
+    {
+        match self {
+            Refusal::Usage { .. } => 1,
+            Refusal::File { .. } => 2,
+            Refusal::Source { .. } => 4,
+            Refusal::Output => 6,
+            Refusal::NoMemory => 7,
+            Refusal::Client { .. } => 8,
+            Refusal::TooLong { .. } => 10,
+        }
+    }
+}

@@ -1,0 +1,220 @@
+//! The text that a run writes to standard output, and the lines that tell how a command ended.
+
+ghost use Rattle.std.specs.Prelude.{◌≡◌, ◌++◌, ◌∷◌, [], codes, decimal, is_ok};
+ghost use Rattle.std.specs.List.{flat_map};
+ghost use Rattle.abl_outside.specs.declared.out.Stream.{Stream};
+ghost use Rattle.abl_cli.specs.Writes.{Writes};
+ghost use Rattle.abl_cli.specs.Report.{line_end_of, line_end_after, part_of, report_of, end_line, status_lines};
+
+use crate::refusal::Refusal;
+use abl_base::Place;
+use abl_outside::{Out, OutFailed, Stream};
+use block_meaning::ClientEnd;
+use block_vm::Section;
+use itoa::Buffer;
+
+/// Writes the piece. After an error a prefix of it was written.
+fn write_piece<O: Out>(out: &mut O, stream: Stream, piece: &[u8]) -> Result<(), OutFailed>
+    ensures { Writes (is_ok result) stream piece.now (record { told = O.told out.old; texts = O.written out.old; faults = O.failures out.old }) (record { told = O.told out.new; texts = O.written out.new; faults = O.failures out.new }) }
+{
+    match out.write(stream, piece) {
+        Ok(()) => Ok(()),
+        Err(fault) => Err(fault),
+    }
+}
+
+/// Writes the pieces one after the other. After an error a prefix of them was written.
+fn write_all<O: Out>(out: &mut O, stream: Stream, pieces: &[&[u8]]) -> Result<(), OutFailed>
+    ensures { Writes (is_ok result) stream (flat_map (λ piece. piece.now) pieces.now) (record { told = O.told out.old; texts = O.written out.old; faults = O.failures out.old }) (record { told = O.told out.new; texts = O.written out.new; faults = O.failures out.new }) }
+{
+    for piece in pieces {
+        write_piece(out, stream, piece)?;
+    }
+    Ok(())
+}
+
+/// What bytes want behind them, so that they are empty or end with a line feed.
+fn line_end(bytes: &[u8]) -> &'static [u8]
+    ensures { result.now ≡ line_end_of bytes.now }
+{
+    match bytes {
+        [] => b"",
+        [.., last] => line_end_behind(*last),
+    }
+}
+
+/// What stands behind bytes that end with this one.
+fn line_end_behind(last: u8) -> &'static [u8]
+    ensures { result.now ≡ line_end_after last }
+{
+    if last == b'\n' { b"" } else { b"\n" }
+}
+
+/// Writes a part of the report under this title.
+fn write_part<'a, O: Out>(
+    out: &mut O,
+    title: &'a [u8],
+    bytes: &'a [u8],
+    end: &'a [u8],
+) -> Result<(), OutFailed>
+    requires { end.now ≡ line_end_of bytes.now }
+    ensures { Writes (is_ok result) Stream.Output (part_of title.now bytes.now) (record { told = O.told out.old; texts = O.written out.old; faults = O.failures out.old }) (record { told = O.told out.new; texts = O.written out.new; faults = O.failures out.new }) }
+{
+    let pieces = [b"== ", title, b" ==\n", bytes, end];
+    write_all(out, Stream::Output, &pieces)
+}
+
+/// Writes the part of a named output.
+fn write_named<'a, O: Out>(
+    out: &mut O,
+    name: &'a [u8],
+    file: &'a [u8],
+    bytes: &'a [u8],
+    end: &'a [u8],
+) -> Result<(), OutFailed>
+    requires { end.now ≡ line_end_of bytes.now }
+    ensures { Writes (is_ok result) Stream.Output (part_of (name.now ++ 58 ∷ file.now) bytes.now) (record { told = O.told out.old; texts = O.written out.old; faults = O.failures out.old }) (record { told = O.told out.new; texts = O.written out.new; faults = O.failures out.new }) }
+{
+    let pieces = [b"== ", name, b":", file, b" ==\n", bytes, end];
+    write_all(out, Stream::Output, &pieces)
+}
+
+/// Writes a client's part of the report: `== NAME ==` and its output, and for each named output
+/// `== NAME:FILE ==` and its bytes. It takes no memory.
+pub fn write_report<O: Out>(out: &mut O, name: &[u8], sections: &[Section]) -> Result<(), OutFailed>
+    ensures { Writes (is_ok result) Stream.Output (report_of name.now sections.now) (record { told = O.told out.old; texts = O.written out.old; faults = O.failures out.old }) (record { told = O.told out.new; texts = O.written out.new; faults = O.failures out.new }) }
+{
+    let Some((default, named)) = sections.split_first() else {
+        return write_part(out, name, b"", b"");
+    };
+    let bytes = default.bytes.as_slice();
+    write_part(out, name, bytes, line_end(bytes))?;
+    write_all_named(out, name, named)
+}
+
+/// Writes the parts of the named outputs.
+fn write_all_named<O: Out>(out: &mut O, name: &[u8], named: &[Section]) -> Result<(), OutFailed>
+    ensures { Writes (is_ok result) Stream.Output (flat_map (λ s. part_of (name.now ++ 58 ∷ s.name) s.bytes) named.now) (record { told = O.told out.old; texts = O.written out.old; faults = O.failures out.old }) (record { told = O.told out.new; texts = O.written out.new; faults = O.failures out.new }) }
+{
+    for section in named {
+        let bytes = section.bytes.as_slice();
+        write_named(out, name, section.name.as_slice(), bytes, line_end(bytes))?;
+    }
+    Ok(())
+}
+
+/// Writes the lines of a status to standard error. A fault there changes nothing else.
+pub fn write_status<O: Out>(
+    out: &mut O,
+    name: &[u8],
+    ends: &[ClientEnd],
+    refusal: &Refusal,
+) -> Result<(), OutFailed>
+    ensures { Writes (is_ok result) Stream.Diagnostics (status_lines name.now ends.now refusal.now) (record { told = O.told out.old; texts = O.written out.old; faults = O.failures out.old }) (record { told = O.told out.new; texts = O.written out.new; faults = O.failures out.new }) }
+{
+    let mut buffer = Buffer::new();
+    match refusal {
+        Refusal::Usage { word } => {
+            let word = buffer.format(*word).as_bytes();
+            write_line(out, b"abl: usage at word ", word, b"")
+        }
+        Refusal::File { name: file } => {
+            write_line(out, b"abl: cannot read ", file.as_slice(), b"")
+        }
+        Refusal::TooLong { name: file, most } => {
+            let most = buffer.format(*most).as_bytes();
+            write_too_long(out, file.as_slice(), most)
+        }
+        Refusal::Source { rule, place, .. } => write_source(out, name, rule.name(), *place),
+        Refusal::Client { .. } => write_ends(out, name, ends),
+        Refusal::Output => write_line(out, b"abl: output", b"", b""),
+        Refusal::NoMemory => write_line(out, b"abl: no memory", b"", b""),
+    }
+}
+
+/// Writes a line of three pieces to standard error.
+fn write_line<'a, O: Out>(
+    out: &mut O,
+    before: &'a [u8],
+    middle: &'a [u8],
+    after: &'a [u8],
+) -> Result<(), OutFailed>
+    ensures { Writes (is_ok result) Stream.Diagnostics (before.now ++ middle.now ++ after.now ++ 10 ∷ []) (record { told = O.told out.old; texts = O.written out.old; faults = O.failures out.old }) (record { told = O.told out.new; texts = O.written out.new; faults = O.failures out.new }) }
+{
+    let pieces = [before, middle, after, b"\n"];
+    write_all(out, Stream::Diagnostics, &pieces)
+}
+
+/// Writes the line about a file that is too long.
+fn write_too_long<'a, O: Out>(out: &mut O, name: &'a [u8], most: &'a [u8]) -> Result<(), OutFailed>
+    ensures { Writes (is_ok result) Stream.Diagnostics (codes "abl: " ++ name.now ++ codes " is longer than " ++ most.now ++ codes " bytes" ++ 10 ∷ []) (record { told = O.told out.old; texts = O.written out.old; faults = O.failures out.old }) (record { told = O.told out.new; texts = O.written out.new; faults = O.failures out.new }) }
+{
+    let pieces = [b"abl: ", name, b" is longer than ", most, b" bytes\n"];
+    write_all(out, Stream::Diagnostics, &pieces)
+}
+
+/// Writes the line about a source that breaks a rule.
+fn write_source<O: Out>(
+    out: &mut O,
+    name: &[u8],
+    rule: &[u8],
+    place: Place,
+) -> Result<(), OutFailed>
+    ensures { Writes (is_ok result) Stream.Diagnostics (codes "abl: " ++ name.now ++ codes ": " ++ rule.now ++ codes " at " ++ decimal place.line ++ 58 ∷ decimal place.column ++ 10 ∷ []) (record { told = O.told out.old; texts = O.written out.old; faults = O.failures out.old }) (record { told = O.told out.new; texts = O.written out.new; faults = O.failures out.new }) }
+{
+    let mut line = Buffer::new();
+    let mut column = Buffer::new();
+    let line = line.format(place.line).as_bytes();
+    let column = column.format(place.column).as_bytes();
+    write_rule(out, name, rule, line, column)
+}
+
+/// Writes the line about a source that breaks a rule, with its place in digits.
+fn write_rule<'a, O: Out>(
+    out: &mut O,
+    name: &'a [u8],
+    rule: &'a [u8],
+    line: &'a [u8],
+    column: &'a [u8],
+) -> Result<(), OutFailed>
+    ensures { Writes (is_ok result) Stream.Diagnostics (codes "abl: " ++ name.now ++ codes ": " ++ rule.now ++ codes " at " ++ line.now ++ 58 ∷ column.now ++ 10 ∷ []) (record { told = O.told out.old; texts = O.written out.old; faults = O.failures out.old }) (record { told = O.told out.new; texts = O.written out.new; faults = O.failures out.new }) }
+{
+    let pieces = [
+        b"abl: ", name, b": ", rule, b" at ", line, b":", column, b"\n",
+    ];
+    write_all(out, Stream::Diagnostics, &pieces)
+}
+
+/// Writes a line for each client that ended in Error or Stop.
+fn write_ends<O: Out>(out: &mut O, name: &[u8], ends: &[ClientEnd]) -> Result<(), OutFailed>
+    ensures { Writes (is_ok result) Stream.Diagnostics (flat_map (end_line name.now) ends.now) (record { told = O.told out.old; texts = O.written out.old; faults = O.failures out.old }) (record { told = O.told out.new; texts = O.written out.new; faults = O.failures out.new }) }
+{
+    for end in ends {
+        write_end(out, name, end)?;
+    }
+    Ok(())
+}
+
+/// Writes the line about a client that ended in Error or Stop.
+fn write_end<O: Out>(out: &mut O, name: &[u8], end: &ClientEnd) -> Result<(), OutFailed>
+    ensures { Writes (is_ok result) Stream.Diagnostics (end_line name.now end.now) (record { told = O.told out.old; texts = O.written out.old; faults = O.failures out.old }) (record { told = O.told out.new; texts = O.written out.new; faults = O.failures out.new }) }
+{
+    match end {
+        ClientEnd::Normal | ClientEnd::Returned | ClientEnd::NoMemory => Ok(()),
+        ClientEnd::Error(text) => write_how(out, name, b": error ", text.as_slice()),
+        ClientEnd::Stop(why) => write_how(out, name, b": stop ", why.name()),
+    }
+}
+
+/// Writes the line about a client's end, and why it came.
+fn write_how<'a, O: Out>(
+    out: &mut O,
+    name: &'a [u8],
+    how: &'a [u8],
+    why: &'a [u8],
+) -> Result<(), OutFailed>
+    ensures { Writes (is_ok result) Stream.Diagnostics (codes "abl: client " ++ name.now ++ how.now ++ why.now ++ 10 ∷ []) (record { told = O.told out.old; texts = O.written out.old; faults = O.failures out.old }) (record { told = O.told out.new; texts = O.written out.new; faults = O.failures out.new }) }
+{
+    let pieces = [b"abl: client ", name, how, why, b"\n"];
+    write_all(out, Stream::Diagnostics, &pieces)
+}

@@ -1,0 +1,267 @@
+//! Whole commands over files and output in memory.
+
+use crate::{Refusal, Report, Word, run_abl};
+use abl_base::{Bytes, Items};
+use abl_outside::{MemFiles, MemOut, NamedFile, Stream};
+use block_meaning::{ClientEnd, StopWhy};
+use database_meaning::{Answer, Op};
+use std::alloc::{AllocError, Global};
+use std::process::Abort;
+use std::test::Fail;
+
+const UNDO: &[u8] =
+    b"DEFINE VARIABLE i AS INTEGER.\nDEFINE VARIABLE n AS INTEGER NO-UNDO.\nDO TRANSACTION: i = 1. n = 1. UNDO, LEAVE. END.\nPUT UNFORMATTED i \" \" n SKIP.\n";
+
+/// The words set apart by blanks.
+fn words_of(alloc: Global, line: &[u8]) -> Result<Vec<Word>, AllocError> {
+    let mut words = Vec::new(alloc);
+    for word in line.split(|byte| *byte == b' ') {
+        if !word.is_empty() {
+            words.push(Bytes::of(alloc, word)?)?;
+        }
+    }
+    Ok(words)
+}
+
+/// Files of which only `p` is there, with this text.
+fn only_p(alloc: Global, text: &[u8], fails: &[u64]) -> Result<MemFiles, AllocError> {
+    let mut files = Vec::new(alloc);
+    files.push(NamedFile {
+        name: Bytes::of(alloc, b"p")?,
+        bytes: Bytes::of(alloc, text)?,
+    })?;
+    MemFiles::new(alloc, &Items::from_vec(files), fails)
+}
+
+/// Runs the words over the source `p`, and asserts the status and what the streams hold.
+fn expect(
+    rt: &impl Abort,
+    alloc: Global,
+    line: &[u8],
+    source: &[u8],
+    want: (u8, &[u8], &[u8]),
+) -> Result<Report, AllocError> {
+    let mut files = only_p(alloc, source, &[])?;
+    let mut out = MemOut::new(alloc, 1000, &[])?;
+    let report = run_abl(alloc, &words_of(alloc, line)?, &mut files, &mut out);
+    let (status, output, diagnostics) = want;
+    assert_eq!(rt; report.status, status);
+    assert_eq!(rt; out.text(Stream::Output), output);
+    assert_eq!(rt; out.text(Stream::Diagnostics), diagnostics);
+    Ok(report)
+}
+
+#[test]
+fn commands_end_with_their_status_and_lines(rt: HostRuntime) -> Result<(), Fail> {
+    let table: [(&[u8], &[u8], u8, &[u8], &[u8]); 24] = [
+        (b"run s.df 1 quiet a=p", b"", 0, b"== a ==\n", b""),
+        (b"run s.df 10 quiet a=p", b"  \n ", 0, b"== a ==\n", b""),
+        (b"run s.df 10 quiet a=p", UNDO, 0, b"== a ==\n0 1\n", b""),
+        (
+            b"run s.df 999999999 quiet clientNumber016X=p",
+            UNDO,
+            0,
+            b"== clientNumber016X ==\n0 1\n",
+            b"",
+        ),
+        (
+            b"run s.df 9 quiet a=p",
+            UNDO,
+            8,
+            b"== a ==\n",
+            b"abl: client a: stop Budget\n",
+        ),
+        (
+            b"run s.df 9 quiet a=p",
+            b"LEAVE.",
+            4,
+            b"",
+            b"abl: a: N1 at 1:1\n",
+        ),
+        (
+            b"run s.df 9 quiet a=p",
+            b"PUT UNFORMATTED x.",
+            4,
+            b"",
+            b"abl: a: N1 at 1:1\n",
+        ),
+        (
+            b"run s.df 9 quiet a=p",
+            b"PUT UNFORMATTED 1.",
+            4,
+            b"",
+            b"abl: a: N1 at 1:1\n",
+        ),
+        (
+            b"run s.df 9 quiet a=p",
+            b"PUT UNFORMATTED \"a~b\".",
+            4,
+            b"",
+            b"abl: a: N1 at 1:1\n",
+        ),
+        (
+            b"run s.df 9 quiet a=p",
+            b"PUT UNFORMATTED SKIP.PUT UNFORMATTED.",
+            4,
+            b"",
+            b"abl: a: N1 at 1:1\n",
+        ),
+        (
+            b"run s.df 9 quiet a=p",
+            b"DO TRANSACTION: PUT UNFORMATTED \"x\".",
+            4,
+            b"",
+            b"abl: a: N1 at 1:1\n",
+        ),
+        (
+            b"run s.df 9 quiet a=p",
+            b"DO TRANSACTION:PUT UNFORMATTED \"x\"SKIP\"y\". END.",
+            0,
+            b"== a ==\nx\ny\n",
+            b"",
+        ),
+        (
+            b"run s.df 9 quiet a=p",
+            b"DEFINE VARIABLE i AS INTEGER. i=007.PUT UNFORMATTED i",
+            4,
+            b"",
+            b"abl: a: N1 at 1:1\n",
+        ),
+        (
+            b"run s.df 9 quiet a=p",
+            b"DEFINE VARIABLE i AS INTEGER. i=007. PUT UNFORMATTED i.",
+            0,
+            b"== a ==\n7\n",
+            b"",
+        ),
+        (
+            b"run s.df 9 quiet a=p",
+            b"DEFINE VARIABLE i AS INTEGER. i = 1234567890.",
+            4,
+            b"",
+            b"abl: a: N1 at 1:1\n",
+        ),
+        (
+            b"run s.df 9 quiet a=p",
+            b"DEFINE VARIABLE i AS INTEGER. DEFINE VARIABLE i AS INTEGER NO-UNDO.",
+            4,
+            b"",
+            b"abl: a: N1 at 1:1\n",
+        ),
+        (
+            b"run s.df 0 quiet a=p",
+            b"",
+            1,
+            b"",
+            b"abl: usage at word 2\n",
+        ),
+        (b"run s.df 5 quiet", b"", 1, b"", b"abl: usage at word 4\n"),
+        (b"", b"", 1, b"", b"abl: usage at word 0\n"),
+        (b"walk", b"", 1, b"", b"abl: usage at word 0\n"),
+        (
+            b"run s.df 05 quiet a=p",
+            b"",
+            1,
+            b"",
+            b"abl: usage at word 2\n",
+        ),
+        (
+            b"run s.df 5 quiet a=p<i",
+            b"",
+            1,
+            b"",
+            b"abl: usage at word 4\n",
+        ),
+        (
+            b"run s.df 5 quiet a=p b=p",
+            b"",
+            1,
+            b"",
+            b"abl: usage at word 5\n",
+        ),
+        (
+            b"run s.df 5 quiet a=q",
+            b"",
+            2,
+            b"",
+            b"abl: cannot read q\n",
+        ),
+    ];
+    for (line, source, status, output, diagnostics) in table {
+        expect(&rt, rt.alloc(), line, source, (status, output, diagnostics))?;
+    }
+    Ok(())
+}
+
+#[test]
+fn an_undo_asks_back_and_a_commit(rt: HostRuntime) -> Result<(), Fail> {
+    let report = expect(
+        &rt,
+        rt.alloc(),
+        b"run s.df 10 quiet a=p",
+        UNDO,
+        (0, b"== a ==\n0 1\n", b""),
+    )?;
+    assert!(rt; report.refusal.is_none());
+    assert!(rt; matches!(report.ends.as_slice(), [ClientEnd::Normal]));
+    let [enter, back, leave, end] = report.trace.as_slice() else {
+        assert!(rt; false, "four events");
+        return Ok(());
+    };
+    assert!(rt; matches!((&enter.op, &enter.answer), (Op::Enter, Answer::Done)));
+    assert!(rt;
+        matches!(
+            (&back.op, &back.answer),
+            (Op::Back { depth: 1 }, Answer::Done)
+        )
+    );
+    assert!(rt;
+        matches!(
+            (&leave.op, &leave.answer),
+            (Op::Leave { .. }, Answer::Committed { moment: 0 })
+        )
+    );
+    assert!(rt; matches!((&end.op, &end.answer), (Op::End, Answer::Done)));
+    Ok(())
+}
+
+#[test]
+fn the_last_unit_decides(rt: HostRuntime) -> Result<(), Fail> {
+    let want: (u8, &[u8], &[u8]) = (8, b"== a ==\n", b"abl: client a: stop Budget\n");
+    let report = expect(&rt, rt.alloc(), b"run s.df 9 quiet a=p", UNDO, want)?;
+    assert!(rt; matches!(report.ends.as_slice(), [ClientEnd::Stop(StopWhy::Budget)]));
+    assert!(rt; matches!(report.refusal, Some(Refusal::Client { first: 0 })));
+    Ok(())
+}
+
+#[test]
+fn a_long_source_and_faults_are_refused(rt: HostRuntime) -> Result<(), Fail> {
+    let alloc = rt.alloc();
+    let line = words_of(alloc, b"run s.df 10 quiet a=p")?;
+    let long = vec![in alloc; b' '; 1_048_577]?;
+    let mut out = MemOut::new(alloc, 1000, &[])?;
+    let report = run_abl(alloc, &line, &mut only_p(alloc, &long, &[])?, &mut out);
+    assert_eq!(rt; report.status, 10);
+    let want = b"abl: p is longer than 1048576 bytes\n".as_slice();
+    assert_eq!(rt; out.text(Stream::Diagnostics), want);
+
+    let most = vec![in alloc; b' '; 1_048_576]?;
+    let mut out = MemOut::new(alloc, 1000, &[])?;
+    let report = run_abl(alloc, &line, &mut only_p(alloc, &most, &[])?, &mut out);
+    assert_eq!(rt; report.status, 0);
+
+    let mut out = MemOut::new(alloc, 1000, &[])?;
+    let report = run_abl(alloc, &line, &mut only_p(alloc, UNDO, &[1])?, &mut out);
+    assert_eq!(rt; report.status, 2);
+    assert_eq!(rt;
+        out.text(Stream::Diagnostics),
+        b"abl: cannot read p\n".as_slice()
+    );
+
+    // The report has twelve bytes.
+    let mut out = MemOut::new(alloc, 11, &[])?;
+    let report = run_abl(alloc, &line, &mut only_p(alloc, UNDO, &[])?, &mut out);
+    assert_eq!(rt; report.status, 6);
+    assert_eq!(rt; out.text(Stream::Output), b"== a ==\n".as_slice());
+    Ok(())
+}

@@ -1,0 +1,145 @@
+//! From the bound tree to block code.
+
+use crate::code::{Code, Instr};
+use abl_base::Row;
+use bound_tree::{
+    Action, Assignment, BlockKind, Bound, Expr, Header, Procedure, PutItem, Right, Stmt, Target,
+};
+use std::alloc::{AllocError, AllocFailed, Global};
+
+/// Why a bound tree was not compiled.
+#[derive(Debug, Drop)]
+pub enum CompileFault {
+    /// It has a form that is not built yet.
+    NotBuilt,
+    /// Memory is wanting.
+    NoMemory,
+}
+
+impl From<AllocError> for CompileFault {
+    fn from(_: AllocError) -> CompileFault {
+        CompileFault::NoMemory
+    }
+}
+
+impl<T: Drop> From<AllocFailed<T>> for CompileFault {
+    fn from(_: AllocFailed<T>) -> CompileFault {
+        CompileFault::NoMemory
+    }
+}
+
+/// The code of a bound source. `NotBuilt` comes where some statement, header or value has a form
+/// that is not built yet; want of memory may come at any time.
+pub fn compile(alloc: Global, bound: Bound) -> Result<Code, CompileFault> {
+    let Bound {
+        procedures,
+        inputs,
+        ..
+    } = bound;
+    let mut code = Code {
+        instrs: Vec::new(alloc),
+        undoable: Row::empty(alloc),
+        kept: Row::empty(alloc),
+        inputs,
+    };
+    let mut main_is_there = false;
+    for procedure in procedures {
+        if main_is_there {
+            return Err(CompileFault::NotBuilt);
+        }
+        let Procedure {
+            undoable,
+            kept,
+            header,
+            body,
+            ..
+        } = procedure;
+        code.undoable = undoable;
+        code.kept = kept;
+        emit_block(&mut code.instrs, header, body)?;
+        main_is_there = true;
+    }
+    Ok(code)
+}
+
+/// The code of a block, behind the code that is there.
+#[cycle(emit)]
+fn emit_block(code: &mut Vec<Instr>, header: Header, body: Vec<Stmt>) -> Result<(), CompileFault> {
+    if !is_built_header(&header) {
+        return Err(CompileFault::NotBuilt);
+    }
+    let at = code.len();
+    code.push(Instr::Open { header, after: 0 })?;
+    for stmt in body {
+        emit(code, stmt)?;
+    }
+    code.push(Instr::Close)?;
+    let end = code.len();
+    if let Some(Instr::Open { after, .. }) = code.get_mut(at) {
+        *after = end;
+    }
+    Ok(())
+}
+
+/// The code of a statement, behind the code that is there.
+#[cycle(emit)]
+fn emit(code: &mut Vec<Instr>, stmt: Stmt) -> Result<(), CompileFault> {
+    match stmt {
+        Stmt::Block { header, body } => emit_block(code, header, body),
+        Stmt::Assign { pairs, no_error } => {
+            if no_error || !pairs.iter().all(is_built_assignment) {
+                return Err(CompileFault::NotBuilt);
+            }
+            code.push(Instr::Assign { pairs, no_error })?;
+            Ok(())
+        }
+        Stmt::Put { stream, items } => {
+            if stream != 0 || !items.iter().all(is_built_item) {
+                return Err(CompileFault::NotBuilt);
+            }
+            code.push(Instr::Put { stream, items })?;
+            Ok(())
+        }
+        Stmt::Undo {
+            block,
+            action: Action::Leave(target),
+        } => {
+            code.push(Instr::Undo {
+                block,
+                action: Action::Leave(target),
+            })?;
+            Ok(())
+        }
+        _ => Err(CompileFault::NotBuilt),
+    }
+}
+
+/// Whether blocks with this header are built: the external procedure's, and DO without TO, WHILE,
+/// ON and buffers.
+fn is_built_header(header: &Header) -> bool {
+    let kind = matches!(header.kind, BlockKind::Procedure | BlockKind::Do);
+    kind && header.scoped.is_empty()
+        && header.to.is_none()
+        && header.while_test.is_none()
+        && header.fetch.is_none()
+        && header.on_error.is_none()
+        && header.on_endkey.is_none()
+}
+
+/// Whether the assignment is built: a literal to a variable of the external procedure.
+fn is_built_assignment(pair: &Assignment) -> bool {
+    matches!(pair.target, Target::Variable(_))
+        && matches!(&pair.right, Right::Value(Expr::Literal(_)))
+}
+
+/// Whether the item is built: a literal or a variable without FORMAT, and SKIP.
+fn is_built_item(item: &PutItem) -> bool {
+    match item {
+        PutItem::Shows { value, mask: None } => matches!(
+            value,
+            Expr::Literal(_) | Expr::Variable(_)
+        ),
+        PutItem::Shows { .. } => false,
+        PutItem::Skip(_) | PutItem::Space(_) => true,
+    }
+}
