@@ -1,5 +1,8 @@
 //! From the bound tree to block code.
 
+ghost use Rattle.std.specs.Prelude.{◌≡◌, ◌++◌, ◌∷◌, [], ◌+◌, length, OnOk, IfOk};
+ghost use Rattle.block_code.specs.Code.{code_of, body_code, block_code};
+
 use crate::code::{Code, Instr};
 use abl_base::Row;
 use bound_tree::{
@@ -69,21 +72,33 @@ fn emit_block(code: &mut Vec<Instr>, header: Header, body: Vec<Stmt>) -> Result<
         return Err(CompileFault::NotBuilt);
     }
     let at = code.len();
-    code.push(Instr::Open { header, after: 0 })?;
+    // Its place is kept for the Open, which knows the place behind the Close.
+    code.push(Instr::Close)?;
+    emit_all(code, body)?;
+    code.push(Instr::Close)?;
+    code[at] = Instr::Open {
+        header,
+        after: code.len(),
+    };
+    Ok(())
+}
+
+/// The code of statements, one behind the other, behind the code that is there.
+#[cycle(emit)]
+fn emit_all(code: &mut Vec<Instr>, body: Vec<Stmt>) -> Result<(), CompileFault>
+    ensures { OnOk result (code.new.items ≡ code.old.items ++ body_code (length code.old.items) body.items) }
+{
     for stmt in body {
         emit(code, stmt)?;
-    }
-    code.push(Instr::Close)?;
-    let end = code.len();
-    if let Some(Instr::Open { after, .. }) = code.get_mut(at) {
-        *after = end;
     }
     Ok(())
 }
 
 /// The code of a statement, behind the code that is there.
 #[cycle(emit)]
-fn emit(code: &mut Vec<Instr>, stmt: Stmt) -> Result<(), CompileFault> {
+fn emit(code: &mut Vec<Instr>, stmt: Stmt) -> Result<(), CompileFault>
+    ensures { OnOk result (code.new.items ≡ code.old.items ++ code_of (length code.old.items) stmt) }
+{
     match stmt {
         Stmt::Block { header, body } => emit_block(code, header, body),
         Stmt::Assign { pairs, no_error } => {

@@ -1,0 +1,60 @@
+-- The code that is written, statement by statement.
+use Rattle.std.proofs.Common.{◌≡◌, ℕ, ◌+◌, List, [], ◌∷◌, ◌++◌, length, refl, sym, ap, ◌∙◌, arith, rules, append_assoc, append-nil, add-zero, length-append}
+use Rattle.std.specs.Prelude.{slice_set, Vec}
+use Rattle.std.specs.declared.alloc.Global.{Global}
+use Rattle.std.proofs.Math.Seq.{set-append_seam}
+use mathlib.Core.Former.{Count, none_left, one_more}
+use Rattle.bound_tree.specs.declared.block.Header.{Header}
+use Rattle.bound_tree.specs.declared.statement.Stmt.{Stmt, Row_of-Stmt, end_of-Stmt, more_of-Stmt, items-the_row-Stmt}
+use Rattle.bound_tree.specs.declared.statement.Stmt.TheViews as view
+use Rattle.bound_tree.specs.declared.statement.Stmt.TheViews.{the_lemmas}
+use Rattle.block_code.specs.declared.code.Instr.{Instr}
+use Rattle.block_code.specs.declared.code.Instr.TheVariants.{Open, Close}
+use Rattle.block_code.specs.Code.{code_of, row_code, body_code, block_code}
+
+-- the code of one more statement
+pub body_code-snoc : (p : ℕ) (ts : List Stmt) (t : Stmt) → body_code p (ts ++ t ∷ []) ≡ body_code p ts ++ code_of (p + length (body_code p ts)) t
+body_code-snoc p [] t = append-nil (code_of p t) ∙ ap (λ k. code_of k t) (sym (add-zero p))
+body_code-snoc p (s ∷ ts) t =
+    let first = code_of p s in
+    let rest = body_code (p + length first) ts in
+    let at : p + length first + length rest ≡ p + length (first ++ rest) = let e = length-append first rest in omega arith in
+    ap (λ c. first ++ c) (body_code-snoc (p + length first) ts t)
+    ∙ sym (append_assoc first rest (code_of (p + length first + length rest) t))
+    ∙ ap (λ k. (first ++ rest) ++ code_of k t) at
+
+-- the code of one more statement stands behind that of those before it
+pub one_more_stmt :
+    (base code code' : List Instr) (ts : List Stmt) (t : Stmt) → code ≡ base ++ body_code (length base) ts → code' ≡ code ++ code_of (length code) t →
+    code' ≡ base ++ body_code (length base) (ts ++ t ∷ [])
+one_more_stmt base code code' ts t before more =
+    let done = body_code (length base) ts in
+    more
+    ∙ ap (λ c. c ++ code_of (length c) t) before
+    ∙ ap (λ n. (base ++ done) ++ code_of n t) (length-append base done)
+    ∙ append_assoc base done (code_of (length base + length done) t)
+    ∙ ap (λ c. base ++ c) (sym (body_code-snoc (length base) ts t))
+
+-- the place that was kept becomes the Open of the block
+pub block_is_written :
+    (base c1 c2 c3 : List Instr) (y : Instr) (h : Header) (n1 n2 : ℕ) (ts : List Stmt) →
+    n1 ≡ length base → c1 ≡ base ++ y ∷ [] → c2 ≡ c1 ++ body_code (length c1) ts → c3 ≡ c2 ++ Close ∷ [] → n2 ≡ length c3 →
+    slice_set c3 n1 (Open h n2) ≡ base ++ block_code (length base) h (body_code (length base + 1) ts)
+block_is_written base c1 c2 c3 y h n1 n2 ts m1 e1 e2 e3 m2 =
+    let l1 : length c1 ≡ length base + 1 = ap length e1 ∙ length-append base (y ∷ []) in
+    let sc = body_code (length base + 1) ts in
+    let c2_is : c2 ≡ base ++ y ∷ sc = e2 ∙ ap (λ k. c1 ++ body_code k ts) l1 ∙ ap (λ c. c ++ sc) e1 ∙ append_assoc base (y ∷ []) sc in
+    let all : c3 ≡ base ++ y ∷ (sc ++ Close ∷ []) = e3 ∙ ap (λ c. c ++ Close ∷ []) c2_is ∙ append_assoc base (y ∷ sc) (Close ∷ []) in
+    let l2 : n2 ≡ length base + 1 + length sc + 1 = let e = m2 ∙ ap length all ∙ length-append base (y ∷ (sc ++ Close ∷ [])) in let f = length-append sc (Close ∷ []) in omega arith in
+    ap (λ c. slice_set c n1 (Open h n2)) all
+    ∙ ap (λ k. slice_set (base ++ y ∷ (sc ++ Close ∷ [])) k (Open h n2)) m1
+    ∙ set-append_seam base y (sc ++ Close ∷ []) (Open h n2)
+    ∙ ap (λ k. base ++ Open h k ∷ (sc ++ Close ∷ [])) l2
+
+-- the statements of a block are the list that its Vec has
+pub row_is : (p : ℕ) (n : Count) (k : Row_of-Stmt n) → row_code p k ≡ body_code p (items-the_row-Stmt n k)
+row_is p none_left end_of-Stmt = refl
+row_is p (one_more n) (more_of-Stmt t rest) = ap (λ c. code_of p t ++ c) (row_is (p + length (code_of p t)) n rest)
+
+pub block_is : (p : ℕ) (h : Header) (v : Vec Stmt Global) → code_of p (view.Block h v) ≡ block_code p h (body_code (p + 1) v.items)
+block_is p h v = search (rules, the_lemmas, row_is)
