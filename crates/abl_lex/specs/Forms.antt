@@ -36,14 +36,20 @@ one_or_two w = length w == 1 || length w == 2
 abbrev pub two_or_four : List ℕ → Bool
 two_or_four w = length w == 2 || length w == 4
 
+-- day / year
+abbrev pub is_day_year : List ℕ → Bool
+is_day_year w = (parted is_digit slash w && one_or_two (front is_digit w))
+    && (is_digits (behind is_digit w) && two_or_four (behind is_digit w))
+
 -- month / day / year, of one or two, one or two, and two or four digits
 abbrev pub is_dated : List ℕ → Bool
 is_dated w = (parted is_digit slash w && one_or_two (front is_digit w))
     && (is_day_year (behind is_digit w))
 
-abbrev pub is_day_year : List ℕ → Bool
-is_day_year w = (parted is_digit slash w && one_or_two (front is_digit w))
-    && (is_digits (behind is_digit w) && two_or_four (behind is_digit w))
+-- n more than the number, where there is one
+abbrev pub plus : ℕ → Option ℕ → Option ℕ
+plus n None = None
+plus n (Some m) = Some (n + m)
 
 -- How many bytes there are up to the end of the text whose opening quote stands in front. A byte
 -- behind ~ is passed over, and so is the own quote where it is doubled.
@@ -54,11 +60,6 @@ closing quote false (b ∷ bs) =
     if b == tilde then plus 1 (closing quote true bs)
     else if b == quote then (if starts quote bs then plus 1 (closing quote true bs) else Some 1)
     else plus 1 (closing quote false bs)
-
--- n more than the number, where there is one
-abbrev pub plus : ℕ → Option ℕ → Option ℕ
-plus n None = None
-plus n (Some m) = Some (n + m)
 
 abbrev pub is_at : Option ℕ → ℕ → Bool
 is_at None n = false
