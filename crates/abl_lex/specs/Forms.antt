@@ -1,5 +1,5 @@
 -- The forms of tokens, and which of them is the longest at a place.
-use Rattle.std.specs.Prelude.{ℕ, zero, suc, ◌+◌, ◌<◌, ◌≤◌, ◌≡◌, Bool, true, false, not, ◌&&◌, ◌||◌, ◌==◌, if◌then◌else◌, List, [], ◌∷◌, length, take, drop, Option, Some, None, is_some}
+use Rattle.std.specs.Prelude.{ℕ, suc, ◌+◌, ◌<◌, ◌≤◌, ◌≡◌, Bool, true, false, not, ◌&&◌, ◌||◌, ◌==◌, if◌then◌else◌, List, [], ◌∷◌, length, take, drop, Option, Some, None, is_some}
 use Rattle.std.specs.List.{list_all, prefix_len}
 use Rattle.abl_tree.specs.Keywords.{keyword_of}
 use Rattle.abl_lex.specs.declared.form.Form.{Form}
@@ -78,6 +78,11 @@ ends_here (b ∷ bs) = starts_gap (b ∷ bs)
 abbrev pub is_pair : ℕ → ℕ → Bool
 is_pair b c = (b == 60 && (c == 62 || c == 61)) || (b == 62 && c == 61)
 
+abbrev pub starts_pair : List ℕ → Bool
+starts_pair [] = false
+starts_pair (b ∷ []) = false
+starts_pair (b ∷ c ∷ bs) = is_pair b c
+
 -- the byte is a symbol in front of what follows: / opens no comment, and behind the period stands
 -- white space, a comment or nothing
 abbrev pub is_single : ℕ → List ℕ → Bool
@@ -110,3 +115,15 @@ pub record Longest (f : Form) (n : ℕ) (text : List ℕ) : Type 0 where
 -- no bytes in front of the text are of any form
 abbrev pub NoForm : List ℕ → Type 0
 NoForm text = (g : Form) (m : ℕ) → m ≤ length text → form g (take m text) (drop m text) ≡ true → ⊥
+
+-- a date is the m bytes in front of the text, and no digit follows
+pub record DatedAt (text : List ℕ) (m : ℕ) : Type 0 where
+  pub within : m ≤ length text
+  pub matches : is_dated (take m text) ≡ true
+  pub apart : starts_digit (drop m text) ≡ false
+
+-- the same of a day and a year
+pub record DayYearAt (text : List ℕ) (m : ℕ) : Type 0 where
+  pub within : m ≤ length text
+  pub matches : is_day_year (take m text) ≡ true
+  pub apart : starts_digit (drop m text) ≡ false

@@ -1,5 +1,5 @@
 -- What a word of each form stands for.
-use Rattle.std.specs.Prelude.{ℕ, zero, suc, ◌+◌, ◌-◌, ◌*◌, ◌^◌, ◌%◌, Bool, true, false, not, ◌&&◌, ◌||◌, ◌==◌, nat_le, nat_lt, if◌then◌else◌, List, [], ◌∷◌, ◌++◌, length, fold, Option, Some, None, unwrap_or}
+use Rattle.std.specs.Prelude.{ℕ, zero, suc, ◌+◌, ◌-◌, ◌*◌, ◌^◌, ◌%◌, Bool, false, not, ◌&&◌, ◌||◌, ◌==◌, nat_le, nat_lt, if◌then◌else◌, List, [], ◌∷◌, ◌++◌, length, fold, Option, Some, None, unwrap_or}
 use Rattle.abl_tree.specs.Keywords.{keyword_of}
 use Rattle.abl_tree.specs.declared.token.TokenKind.{TokenKind}
 use Rattle.abl_tree.specs.declared.token.TokenKind.TheVariants.{Name, QualifiedName, WholeNumber, DecimalNumber, DateLiteral, TextLiteral, Colon, Comma, LeftParenthesis, RightParenthesis, Equals, NotEqual, Less, Greater, LessOrEqual, GreaterOrEqual, Plus, Minus, Star, Slash, QuestionMark, Caret, Period}

@@ -1,6 +1,6 @@
 -- Which tokens a whole text has, and where it breaks a rule first.
-use Rattle.std.specs.Prelude.{ℕ, zero, suc, ◌+◌, ◌-◌, ◌<◌, ◌≤◌, ◌≡◌, ◌⊎◌, ◌==◌, Bool, true, false, not, List, [], ◌∷◌, length, take, drop, reverse, count_by}
-use Rattle.std.specs.List.{prefix_len}
+use Rattle.std.specs.Prelude.{ℕ, ◌+◌, ◌-◌, ◌<◌, ◌≤◌, ◌≡◌, ◌⊎◌, ◌==◌, true, false, not, List, [], ◌∷◌, length, take, drop, count_by}
+use Rattle.std.specs.List.{prefix_len, suffix_len}
 use Rattle.abl_base.specs.declared.place.Place.{Place}
 use Rattle.abl_base.specs.declared.rule.Rule.{Rule}
 use Rattle.abl_base.specs.declared.rule.Rule.TheVariants.{L1, L2, L3, L4, L5}
@@ -8,7 +8,7 @@ use Rattle.abl_tree.specs.declared.token.Token.{Token}
 use Rattle.abl_tree.specs.declared.token.TokenKind.TheVariants.{EndOfSource}
 use Rattle.abl_tree.specs.declared.token.Meaning.TheVariants.{KindAlone}
 use Rattle.abl_lex.specs.declared.form.Form.{Form}
-use Rattle.abl_lex.specs.declared.form.Form.TheVariants.{Word, Qualified, Digits, Fractional, Dated, Quoted, Symbol}
+use Rattle.abl_lex.specs.declared.form.Form.TheVariants.{Word, Qualified, Digits, Fractional, Dated}
 use Rattle.abl_lex.specs.Bytes.{line_feed, is_digit, is_name_byte, starts_quote}
 use Rattle.abl_lex.specs.Forms.{Longest, NoForm, front, behind}
 use Rattle.abl_lex.specs.Gaps.{Gap, OpenGap}
@@ -19,7 +19,7 @@ use Rattle.abl_lex.specs.Meanings.{kind_of, meaning_of, is_date, date_of}
 unfoldable pub place_of : List ℕ → ℕ → Place
 place_of text at = record {
   line = 1 + count_by (λ b. b == line_feed) (take at text);
-  column = 1 + prefix_len (λ b. not (b == line_feed)) (reverse (take at text));
+  column = 1 + suffix_len (λ b. not (b == line_feed)) (take at text);
 }
 
 -- the bytes from start up to and without end
@@ -98,6 +98,30 @@ number L3 = 3
 number L4 = 4
 number L5 = 5
 number _ = 6
+
+-- no word of a form stands in front of the text, which is no end
+abbrev pub BreaksFront : Rule → List ℕ → Type 0
+BreaksFront L1 text = (starts_quote text ≡ false) × NoForm text
+BreaksFront L3 text = (starts_quote text ≡ true) × NoForm text
+BreaksFront _ text = ⊥
+
+-- the word breaks no rule
+abbrev pub IsFit : Form → List ℕ → Type 0
+IsFit f w = (rule : Rule) (offset : ℕ) → Misfit f w rule offset → ⊥
+
+-- the first rule that the word breaks
+pub record IsFirstMisfit (f : Form) (w : List ℕ) (rule : Rule) (offset : ℕ) : Type 0 where
+  pub breaks : Misfit f w rule offset
+  pub first : (other : Rule) (at : ℕ) → Misfit f w other at → (offset ≤ at) × (number rule ≤ number other)
+
+-- nothing but a gap is left
+abbrev pub EndsAt : List ℕ → ℕ → Type 0
+EndsAt text at = (gap : ℕ) × Gap (drop at text) gap × (at + gap ≡ length text)
+
+-- the first rule broken behind the gap at this place
+pub record IsBrokenFirst (text : List ℕ) (at : ℕ) (rule : Rule) (spot : ℕ) : Type 0 where
+  pub breaks : Broken text at rule spot
+  pub first : (other : Rule) (x : ℕ) → Broken text at other x → (spot ≤ x) × (number rule ≤ number other)
 
 -- The first place in the text, and there the least rule.
 pub record IsFirst (text : List ℕ) (rule : Rule) (spot : ℕ) : Type 0 where

@@ -3,6 +3,18 @@
 //! has and where it breaks a rule; the layer above needs the source no more.
 #![tactic(auto)]
 
+mod bytes;
 mod form;
+mod gap;
+pub mod laws;
+mod meaning;
+mod misfit;
+mod number;
+mod place;
+mod source;
+#[cfg(test)]
+mod tests;
+mod word;
 
 pub use form::Form;
+pub use source::{LexRefusal, lex};
