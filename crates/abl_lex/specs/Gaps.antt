@@ -1,0 +1,26 @@
+-- White space and comments.
+use Rattle.std.specs.Prelude.{ℕ, zero, suc, ◌+◌, ◌≡◌, Bool, true, false, ◌&&◌, ◌==◌, if◌then◌else◌, List, [], ◌∷◌, drop, Option, Some, None}
+use Rattle.abl_lex.specs.Bytes.{star, slash, is_white, starts_gap}
+use Rattle.abl_lex.specs.Forms.{plus}
+
+-- How many bytes end the comments that are open, as many as d; none where one is open at the end.
+unfoldable pub comment : ℕ → List ℕ → Option ℕ
+comment zero text = Some 0
+comment (suc d) [] = None
+comment (suc d) (b ∷ []) = None
+comment (suc d) (b ∷ c ∷ bs) =
+    if b == slash && c == star then plus 2 (comment (suc (suc d)) bs)
+    else if b == star && c == slash then plus 2 (comment d bs)
+    else plus 1 (comment (suc d) (c ∷ bs))
+
+-- n bytes of white space and whole comments are in front of the text, and no more of these follow
+pub data Gap : List ℕ → ℕ → Type 0 where
+  nothing : {text : List ℕ} → starts_gap text ≡ false → Gap text 0
+  white : {b : ℕ} {text : List ℕ} {n : ℕ} → is_white b ≡ true → Gap text n → Gap (b ∷ text) (suc n)
+  commented : {b c : ℕ} {text : List ℕ} {n : ℕ} (m : ℕ) → b ≡ slash → c ≡ star → comment 1 text ≡ Some m → Gap (drop m text) n → Gap (b ∷ c ∷ text) (suc (suc (m + n)))
+
+-- after n such bytes a comment begins that is open at the end
+pub data OpenGap : List ℕ → ℕ → Type 0 where
+  opens : {b c : ℕ} {text : List ℕ} → b ≡ slash → c ≡ star → comment 1 text ≡ None → OpenGap (b ∷ c ∷ text) 0
+  white_open : {b : ℕ} {text : List ℕ} {n : ℕ} → is_white b ≡ true → OpenGap text n → OpenGap (b ∷ text) (suc n)
+  commented_open : {b c : ℕ} {text : List ℕ} {n : ℕ} (m : ℕ) → b ≡ slash → c ≡ star → comment 1 text ≡ Some m → OpenGap (drop m text) n → OpenGap (b ∷ c ∷ text) (suc (suc (m + n)))

@@ -1,0 +1,5 @@
+pub mod Bytes
+pub mod Forms
+pub mod Gaps
+pub mod Meanings
+pub mod Texts
