@@ -1,9 +1,8 @@
 -- The tests that the whole table passes, computed once over all its rows, and what they say of one row.
-use Rattle.std.proofs.Common.{ℕ, zero, suc, ◌+◌, ◌<◌, ◌≤◌, ◌≡◌, Bool, true, false, not, ◌&&◌, ◌||◌, cond, ltb, List, [], ◌∷◌, ◌++◌, length, slice_index_or, refl, sym, ◌∙◌, ap, subst, arith, ◌⊎◌, inl, inr}
+use Rattle.std.proofs.Common.{ℕ, suc, ◌≡◌, Bool, true, false, not, ◌&&◌, ◌||◌, cond, ltb, List, [], ◌∷◌, ◌++◌, refl}
 use Rattle.std.specs.Prelude.{◌==◌}
 use Rattle.abl_tree.specs.declared.token.TokenKind.{TokenKind}
 use Rattle.abl_tree.specs.declared.token.TokenKind.TheVariants.{Name}
-use Rattle.abl_parse.specs.declared.part.Part.{Part}
 use Rattle.abl_parse.specs.declared.part.Part.TheVariants.{Statement}
 use Rattle.abl_parse.specs.declared.symbol.Symbol.{Symbol}
 use Rattle.abl_parse.specs.declared.symbol.Symbol.TheVariants.{Take, Open}

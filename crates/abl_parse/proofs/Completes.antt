@@ -1,5 +1,5 @@
 -- Every stack that the reader comes to can be completed: so what was read is viable.
-use Rattle.std.proofs.Common.{ℕ, zero, suc, ◌+◌, ◌<◌, ◌≤◌, ◌≡◌, Bool, true, false, not, ◌&&◌, ◌||◌, cond, ltb, List, [], ◌∷◌, ◌++◌, length, take, slice_index_or, Option, Some, None, refl, sym, ◌∙◌, ap, subst, arith, ◌⊎◌, inl, inr}
+use Rattle.std.proofs.Common.{ℕ, zero, suc, ◌+◌, ◌<◌, ◌≤◌, ◌≡◌, Bool, true, false, not, ◌&&◌, cond, ltb, List, [], ◌∷◌, ◌++◌, length, Option, Some, None, refl, sym, ◌∙◌, ap, subst, arith}
 use Rattle.std.proofs.lemmas.Bool.{ltb-true}
 use Rattle.abl_tree.specs.declared.token.TokenKind.{TokenKind}
 use Rattle.abl_tree.specs.declared.token.TokenKind.TheVariants.{EndOfSource}
@@ -11,11 +11,11 @@ use Rattle.abl_parse.specs.declared.symbol.Entry.{Entry}
 use Rattle.abl_parse.specs.declared.symbol.Entry.TheVariants.{Await, Derive}
 use Rattle.abl_parse.specs.declared.symbol.Opening.{Opening}
 use Rattle.abl_parse.specs.Same.{same_kind, same_part}
-use Rattle.abl_parse.specs.Grammar.{row, parts, symbols, symbols_from, starts, starts_from, empty, rule, rules as table, rule_count, Begins, Greedy, whole, inside, opening}
+use Rattle.abl_parse.specs.Grammar.{row, parts, symbols, symbols_from, starts, starts_from, empty, rule, rules as table, rule_count, Greedy, whole, inside, opening}
 use Rattle.abl_parse.specs.Table.{has, vanishes_as, some, is_nil, each, of_part}
 use Rattle.abl_parse.specs.Engine.{body, plain, source, Steps, done, take_one, open_one}
 use Rattle.abl_parse.specs.Completions.{short, first_of, expects, size}
-use Rattle.abl_parse.specs.Completing.{nil_rule, head, before, weigh, is_head, no_head, part_ok, suits}
+use Rattle.abl_parse.specs.Completing.{head, before, weigh, is_head, no_head, part_ok, suits}
 use Rattle.abl_parse.proofs.Flags.{and_left, and_right, and_both, not_true, parts_same, kinds_same, each_has, each_at, implied}
 use Rattle.abl_parse.proofs.Sound.{starts_are, rule_part}
 use Rattle.abl_parse.proofs.Steps.{plain_append}

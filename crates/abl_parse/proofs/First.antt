@@ -1,15 +1,14 @@
 -- Which tokens a derivation can begin with.
-use Rattle.std.proofs.Common.{ℕ, zero, suc, ◌+◌, ◌<◌, ◌≤◌, ◌≡◌, List, [], ◌∷◌, ◌++◌, length, refl, sym, ◌∙◌, ap, subst, arith, ◌⊎◌, inl, inr}
+use Rattle.std.proofs.Common.{ℕ, zero, suc, ◌≤◌, ◌≡◌, List, [], ◌∷◌, ◌++◌, length, sym, ap, subst, arith, ◌⊎◌, inl, inr}
 use Rattle.abl_tree.specs.declared.token.TokenKind.{TokenKind}
-use Rattle.abl_parse.specs.declared.part.Part.{Part}
 use Rattle.abl_parse.specs.declared.symbol.Symbol.{Symbol}
 use Rattle.abl_parse.specs.declared.symbol.Symbol.TheVariants.{Take, Open}
 use Rattle.abl_parse.specs.declared.symbol.Room.{Room}
 use Rattle.abl_parse.specs.declared.symbol.Entry.{Entry}
 use Rattle.abl_parse.specs.declared.symbol.Opening.{Opening}
-use Rattle.abl_parse.specs.Grammar.{rule, rule_count, inside, Vanishes, nothing, both, Begins, here, inside_part, past}
+use Rattle.abl_parse.specs.Grammar.{rule, inside, Vanishes, nothing, both, Begins, here, inside_part, past}
 use Rattle.abl_parse.specs.Engine.{entries, Steps}
-use Rattle.abl_parse.proofs.Trees.{taken, Taken, opened, Opened}
+use Rattle.abl_parse.proofs.Trees.{taken, opened}
 
 -- the symbols stand for nothing, and the derivation goes on behind them
 pub record Passed (at : ℕ) (symbols : List Symbol) (stack : List Entry) (os : List Opening) (ts : List TokenKind) : Type 0 where

@@ -1,11 +1,10 @@
 -- A statement that begins with a name: the token behind it decides.
-use Rattle.std.proofs.Common.{ℕ, zero, suc, ◌+◌, ◌<◌, ◌≡◌, ◌≢◌, Bool, true, false, not, ◌&&◌, ◌||◌, List, [], ◌∷◌, ◌++◌, length, slice_index_or, refl, sym, ◌∙◌, ap, subst, append_assoc, arith, ◌⊎◌, inl, inr}
+use Rattle.std.proofs.Common.{ℕ, zero, suc, ◌+◌, ◌<◌, ◌≡◌, ◌≢◌, true, List, [], ◌∷◌, ◌++◌, length, slice_index_or, refl, sym, ◌∙◌, ap, subst, append_assoc, arith, ◌⊎◌, inl, inr}
 use Rattle.std.specs.Prelude.{◌==◌}
 use Rattle.std.proofs.lemmas.Bool.{eqb-true}
 use Rattle.abl_tree.specs.declared.token.TokenKind.{TokenKind}
 use Rattle.abl_tree.specs.declared.token.TokenKind.TheVariants.{Name, Colon, Equals, Period}
-use Rattle.abl_tree.specs.declared.production.TheConstants.{STATEMENT_NAME, STATEMENT_ASSIGNMENT, ASSIGNMENT_TARGET, TARGET_NAME}
-use Rattle.abl_parse.specs.declared.part.Part.{Part}
+use Rattle.abl_tree.specs.declared.production.TheConstants.{ASSIGNMENT_TARGET, TARGET_NAME}
 use Rattle.abl_parse.specs.declared.part.Part.TheVariants.{Statement, Block, Assignment, Target, RightSide, NoErrorWord}
 use Rattle.abl_parse.specs.declared.symbol.Symbol.{Symbol}
 use Rattle.abl_parse.specs.declared.symbol.Symbol.TheVariants.{Take, Open}
@@ -15,10 +14,10 @@ use Rattle.abl_parse.specs.declared.symbol.Entry.TheVariants.{Await, Derive}
 use Rattle.abl_parse.specs.declared.symbol.Opening.{Opening}
 use Rattle.abl_parse.specs.Same.{same_kind, same_part}
 use Rattle.abl_parse.specs.Grammar.{Production, row, parts, symbols, symbols_from, starts, starts_from, empty, rule, rules as table, rule_count, Greedy, inside, opening}
-use Rattle.abl_parse.specs.Table.{has, starts_with, vanishes_as, some}
+use Rattle.abl_parse.specs.Table.{has, starts_with}
 use Rattle.abl_parse.specs.Engine.{entries, body, Steps, open_one, OnlyRule}
 use Rattle.abl_parse.proofs.Flags.{and_left, and_right, and_both, or_cases, refuted, implied, parts_equal}
-use Rattle.abl_parse.proofs.Trees.{opened, Opened, taken, Taken}
+use Rattle.abl_parse.proofs.Trees.{opened, Opened, taken}
 use Rattle.abl_parse.proofs.Checks.{only_named, named_hold, never_empty, label_row, assign_row}
 use Rattle.abl_parse.proofs.Sound.{rule_empty}
 use Rattle.abl_parse.proofs.Steps.{begun, by_start, Along, along_by}

@@ -1,19 +1,18 @@
 -- What opening a statement at a name does.
-use Rattle.std.proofs.Common.{ℕ, ◌+◌, ◌<◌, ◌≡◌, ◌≢◌, Bool, true, false, ◌&&◌, ◌||◌, List, [], ◌∷◌, ◌++◌, refl, sym, ◌∙◌, ap, subst, arith, ◌⊎◌, inl, inr}
+use Rattle.std.proofs.Common.{ℕ, ◌≡◌, ◌≢◌, true, false, ◌&&◌, List, [], ◌∷◌, ◌++◌, refl, sym, ◌∙◌, ap, subst, inl, inr}
 use Rattle.std.specs.Prelude.{◌==◌}
 use Rattle.std.proofs.lemmas.Bool.{eqb-true}
 use Rattle.abl_tree.specs.declared.token.TokenKind.{TokenKind}
 use Rattle.abl_tree.specs.declared.token.TokenKind.TheVariants.{Name, Colon, Equals, Period}
-use Rattle.abl_tree.specs.declared.production.TheConstants.{STATEMENT_NAME, STATEMENT_ASSIGNMENT, ASSIGNMENT_TARGET, TARGET_NAME, NEGATION_NOT, SIGNED_PLUS_OR_MINUS}
-use Rattle.abl_parse.specs.declared.part.Part.TheVariants.{Statement, Expression, Block, Assignment, Target, RightSide, NoErrorWord}
-use Rattle.abl_parse.specs.declared.symbol.Symbol.TheVariants.{Take, Open}
+use Rattle.abl_tree.specs.declared.production.TheConstants.{ASSIGNMENT_TARGET, TARGET_NAME}
+use Rattle.abl_parse.specs.declared.part.Part.TheVariants.{Statement, Block, Assignment, Target, RightSide, NoErrorWord}
 use Rattle.abl_parse.specs.declared.symbol.Room.{Room}
 use Rattle.abl_parse.specs.declared.symbol.Entry.{Entry}
 use Rattle.abl_parse.specs.declared.symbol.Entry.TheVariants.{Await, Derive}
 use Rattle.abl_parse.specs.declared.symbol.Opening.{Opening}
 use Rattle.abl_parse.specs.Same.{same_part}
-use Rattle.abl_parse.specs.Grammar.{row, parts, symbols, symbols_from, starts, starts_from, empty, rule, rules as table, rule_count, inside, opening, statement, expression, too_deep, any_deep}
-use Rattle.abl_parse.specs.Engine.{entries, body, Leads, Named, OnlyRule, AllAt}
+use Rattle.abl_parse.specs.Grammar.{row, parts, symbols, symbols_from, starts, starts_from, empty, rule, rules as table, inside, opening, statement, expression, too_deep, any_deep}
+use Rattle.abl_parse.specs.Engine.{entries, body, Named}
 use Rattle.abl_parse.proofs.Flags.{and_left, and_right, or_cases, refuted}
 use Rattle.abl_parse.proofs.Steps.{Along, along_by}
 use Rattle.abl_parse.proofs.Checks.{label_row, assign_row}

@@ -1,23 +1,20 @@
 -- Where a token opens the 65th.
-use Rattle.std.proofs.Common.{ℕ, zero, suc, ◌+◌, ◌<◌, ◌≤◌, ◌≡◌, ◌≢◌, Bool, true, false, ◌&&◌, ◌||◌, List, [], ◌∷◌, ◌++◌, length, take, drop, slice_index_or, refl, sym, ◌∙◌, ap, subst, append_assoc, append-nil, arith, ◌⊎◌, inl, inr}
+use Rattle.std.proofs.Common.{ℕ, ◌+◌, ◌<◌, ◌≡◌, true, false, ◌&&◌, List, [], ◌∷◌, ◌++◌, length, take, drop, slice_index_or, refl, sym, ◌∙◌, ap, subst, append_assoc, arith, ◌⊎◌, inl, inr}
 use Rattle.std.specs.Prelude.{◌==◌}
 use Rattle.std.proofs.lemmas.List.{append_cancel_left}
 use Rattle.abl_base.specs.declared.rule.Rule.{Rule}
 use Rattle.abl_base.specs.declared.rule.Rule.TheVariants.{G1, G2}
 use Rattle.abl_tree.specs.declared.token.TokenKind.{TokenKind}
-use Rattle.abl_tree.specs.declared.token.TokenKind.TheVariants.{Name}
-use Rattle.abl_parse.specs.declared.part.Part.{Part}
 use Rattle.abl_parse.specs.declared.part.Part.TheVariants.{Statement}
 use Rattle.abl_parse.specs.declared.symbol.Room.{Room}
 use Rattle.abl_parse.specs.declared.symbol.Entry.{Entry}
-use Rattle.abl_parse.specs.declared.symbol.Entry.TheVariants.{Await, Derive}
 use Rattle.abl_parse.specs.declared.symbol.Opening.{Opening}
-use Rattle.abl_parse.specs.Grammar.{Forest, spelt, Derives, whole, Viable, openings, opening, full, rule, statement, expression, too_deep, any_deep, DeepAt}
+use Rattle.abl_parse.specs.Grammar.{Viable, openings, full, rule, statement, too_deep, any_deep, DeepAt}
 use Rattle.abl_parse.specs.Violations.{Breaks, Stops, Overflows}
-use Rattle.abl_parse.specs.Engine.{source, Steps, done, take_one, open_one, AllAt, Leads, Named, Went, plainly, looking, Reached}
-use Rattle.abl_parse.proofs.Flags.{or_cases, or_left, or_right, or_neither, either, refuted, parts_equal}
-use Rattle.abl_parse.proofs.Trees.{opened, Opened}
-use Rattle.abl_parse.proofs.Runs.{seen_more, first_is, steps_of_forest, forest_of_steps, Read, Run, run_of, viable_by, Finished}
+use Rattle.abl_parse.specs.Engine.{source, Steps, done, take_one, open_one, AllAt, Went, plainly, looking, Reached}
+use Rattle.abl_parse.proofs.Flags.{or_cases, or_left, or_right, either, refuted, parts_equal}
+use Rattle.abl_parse.proofs.Trees.{opened}
+use Rattle.abl_parse.proofs.Runs.{seen_more, first_is, steps_of_forest, forest_of_steps, Finished}
 
 pub deep_left : (at : ℕ) (xs ys : List Opening) → DeepAt at xs → DeepAt at (xs ++ ys)
 deep_left at [] ys h = absurd h

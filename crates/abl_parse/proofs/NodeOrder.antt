@@ -1,5 +1,5 @@
 -- The nodes of a tree are laid out from its openings.
-use Rattle.std.proofs.Common.{false, ℕ, zero, suc, ◌+◌, ◌<◌, ◌≡◌, List, [], ◌∷◌, ◌++◌, length, drop, refl, sym, ◌∙◌, ap, subst, append_assoc, append-nil, arith}
+use Rattle.std.proofs.Common.{false, ℕ, zero, suc, ◌+◌, ◌≡◌, List, [], ◌∷◌, ◌++◌, length, drop, refl, sym, ◌∙◌, ap, subst, append_assoc, append-nil, arith}
 use Rattle.std.specs.Prelude.{slice_index}
 use Rattle.std.proofs.lemmas.List.{drop_at}
 use Rattle.abl_tree.specs.declared.token.TokenKind.{TokenKind}
@@ -11,7 +11,7 @@ use Rattle.abl_parse.specs.declared.symbol.Opening.{Opening}
 use Rattle.abl_parse.specs.Grammar.{Forest, none, leaf, node, spelt, Derives, rule, whole, nodes, node_count, openings, opening, inside, full, IsTree, Spells, IsShallow, DeepAt, any_deep, kinds}
 use Rattle.abl_parse.specs.Engine.{IsRead}
 use Rattle.abl_tree.specs.declared.token.Token.{Token}
-use Rattle.abl_parse.specs.Closing.{opens_in, parts_of, end_after, Closed, closed, closing, laid}
+use Rattle.abl_parse.specs.Closing.{opens_in, end_after, Closed, closed, closing, laid}
 use Rattle.abl_parse.proofs.Runs.{steps_of_forest}
 use Rattle.abl_parse.proofs.Nesting.{shallow_none}
 use Rattle.abl_parse.proofs.Unique.{unique}
@@ -120,12 +120,14 @@ one_tree one other tokens s t =
 -- WHAT IS READ IS A TREE
 pub tree_of : (ts us : List Token) (used : List Opening) (tree : List Node) → us ≡ ts → (forest : Forest) × IsRead forest used (kinds us) → tree ≡ laid used → Spells tree (kinds ts)
 tree_of ts us used tree e r f =
-    let d = r.1.derives in
-    (r.0, record {
-      derives = d;
-      spells = r.1.spells ∙ ap kinds e;
-      laid = sym (laid_is r.0 d) ∙ ap laid r.1.opens ∙ sym f;
-    })
+    let d = r.1.derives in (
+      r.0,
+      record {
+        derives = d;
+        spells = r.1.spells ∙ ap kinds e;
+        laid = sym (laid_is r.0 d) ∙ ap laid r.1.opens ∙ sym f;
+      },
+    )
 
 pub shallow_of : (ts us : List Token) (used : List Opening) (tree : List Node) → us ≡ ts → (forest : Forest) × IsRead forest used (kinds us) → any_deep used ≡ false → (forest : Forest) → IsTree forest tree (kinds ts) → IsShallow forest
 shallow_of ts us used tree e r f forest t place d =

@@ -1,5 +1,5 @@
 -- Where the reader stands before a token, and what each outcome of reading it means.
-use Rattle.std.proofs.Common.{ℕ, zero, suc, ◌+◌, ◌<◌, ◌≤◌, ◌≡◌, Bool, true, false, not, ◌&&◌, List, [], ◌∷◌, ◌++◌, length, take, drop, slice_index_or, IsTrue, refl, sym, ◌∙◌, ap, subst, arith, ◌⊎◌, inl, inr}
+use Rattle.std.proofs.Common.{ℕ, suc, ◌+◌, ◌<◌, ◌≡◌, true, false, not, List, [], ◌∷◌, length, take, drop, slice_index_or, IsTrue, refl, sym, ◌∙◌, ap, subst, arith}
 use Rattle.std.proofs.Math.Seq.{drop-append_seam}
 use Rattle.std.proofs.Math.Decide.{dec_lt}
 use Rattle.abl_base.specs.declared.rule.Rule.{Rule}
@@ -9,16 +9,16 @@ use Rattle.abl_tree.specs.declared.token.TokenKind.TheVariants.{EndOfSource, Nam
 use Rattle.abl_tree.specs.declared.token.Token.{Token}
 use Rattle.abl_tree.specs.Tokens.{ends_once as tokens_end_once, is_end}
 use Rattle.abl_parse.specs.declared.symbol.Entry.{Entry}
-use Rattle.abl_parse.specs.declared.symbol.Entry.TheVariants.{Await, Derive}
+use Rattle.abl_parse.specs.declared.symbol.Entry.TheVariants.{Await}
 use Rattle.abl_parse.specs.declared.symbol.Opening.{Opening}
 use Rattle.abl_parse.specs.Grammar.{Forest, Viable, rules, IsText, kinds, any_deep}
 use Rattle.abl_parse.specs.Violations.{Breaks, IsFirst, Stops, Overflows}
 use Rattle.abl_parse.specs.Table.{ends_once}
 use Rattle.abl_parse.specs.Completing.{suits}
-use Rattle.abl_parse.specs.Engine.{plain, source, Steps, Leads, Went, Stuck, IsTaking, Reached, IsRead}
+use Rattle.abl_parse.specs.Engine.{plain, source, Leads, Went, Stuck, IsTaking, Reached, IsRead}
 use Rattle.abl_parse.proofs.Flags.{and_left, and_right, not_so}
 use Rattle.abl_parse.proofs.Completes.{suits_take, suits_source}
-use Rattle.abl_parse.proofs.Runs.{refused, refused_went, reached, open_after, closed_after, ended, open_source, viable, finished, Finished, onward, Onward, forest_of_steps, Read}
+use Rattle.abl_parse.proofs.Runs.{refused, refused_went, reached, open_after, closed_after, ended, open_source, viable, finished, onward, Onward, forest_of_steps}
 use Rattle.abl_parse.proofs.Nesting.{overflows, no_overflow, unbroken, broken_within, none_append}
 
 pub record At (tokens : List TokenKind) (at : ℕ) (stack : List Entry) (used : List Opening) : Type 0 where

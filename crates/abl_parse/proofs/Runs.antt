@@ -1,24 +1,21 @@
 -- The reader's run over a source.
-use Rattle.std.proofs.Common.{ℕ, zero, suc, ◌+◌, ◌<◌, ◌≤◌, ◌≡◌, ◌≢◌, Bool, true, false, cond, List, [], ◌∷◌, ◌++◌, length, take, drop, slice_index_or, refl, sym, ◌∙◌, ap, subst, append_assoc, append-nil, arith, ◌⊎◌, inl, inr}
+use Rattle.std.proofs.Common.{ℕ, zero, suc, ◌+◌, ◌<◌, ◌≡◌, ◌≢◌, true, List, [], ◌∷◌, ◌++◌, length, take, drop, slice_index_or, refl, sym, ◌∙◌, ap, subst, append_assoc, append-nil, arith}
 use Rattle.std.proofs.lemmas.List.{take_more}
 use Rattle.std.proofs.Math.Decide.{dec_lt}
 use Rattle.abl_tree.specs.declared.token.TokenKind.{TokenKind}
 use Rattle.abl_tree.specs.declared.token.TokenKind.TheVariants.{EndOfSource, Name}
-use Rattle.abl_tree.specs.declared.tree.Node.{Node}
-use Rattle.abl_parse.specs.declared.part.Part.{Part}
 use Rattle.abl_parse.specs.declared.part.Part.TheVariants.{Statement}
-use Rattle.abl_parse.specs.declared.symbol.Room.{Room}
 use Rattle.abl_parse.specs.declared.symbol.Entry.{Entry}
 use Rattle.abl_parse.specs.declared.symbol.Entry.TheVariants.{Await, Derive}
 use Rattle.abl_parse.specs.declared.symbol.Opening.{Opening}
 use Rattle.abl_parse.specs.Same.{same_kind}
-use Rattle.abl_parse.specs.Grammar.{Forest, spelt, Derives, whole, nodes, IsTree, Spells, Viable, openings, full, IsText, rules}
+use Rattle.abl_parse.specs.Grammar.{Forest, spelt, Derives, whole, nodes, Viable, openings, full, IsText, rules}
 use Rattle.abl_parse.specs.Table.{ends_once, is_nil}
 use Rattle.abl_parse.specs.Completing.{suits, weigh}
-use Rattle.abl_parse.specs.Engine.{plain, source, Steps, done, take_one, Leads, Named, Went, plainly, looking, FirstIs, Stuck, IsTaking, Reached, IsRead}
+use Rattle.abl_parse.specs.Engine.{plain, source, Steps, done, take_one, Leads, Went, plainly, looking, FirstIs, Stuck, IsTaking, Reached, IsRead}
 use Rattle.abl_parse.proofs.Flags.{chosen_true, chosen_false, nil_is, kinds_differ, kinds_equal}
-use Rattle.abl_parse.proofs.Trees.{taken, Taken, steps_of, split, Split}
-use Rattle.abl_parse.proofs.Completes.{Completed, complete}
+use Rattle.abl_parse.proofs.Trees.{taken, steps_of, split, Split}
+use Rattle.abl_parse.proofs.Completes.{complete}
 
 same_first : {a b : TokenKind} {xs ys : List TokenKind} → a ∷ xs ≡ b ∷ ys → a ≡ b
 same_first e = cc

@@ -1,5 +1,5 @@
 -- From the computed tests to rules about one row.
-use Rattle.std.proofs.Common.{ℕ, zero, suc, ◌+◌, ◌<◌, ◌≤◌, ◌≡◌, Bool, true, false, not, ◌&&◌, ◌||◌, cond, ltb, List, [], ◌∷◌, ◌++◌, length, slice_index_or, refl, sym, ◌∙◌, ap, subst, arith, ◌⊎◌, inl, inr}
+use Rattle.std.proofs.Common.{ℕ, zero, suc, ◌+◌, ◌<◌, ◌≡◌, Bool, true, false, not, ◌&&◌, ◌||◌, cond, ltb, List, [], ◌∷◌, length, slice_index_or, refl, sym, ◌∙◌, ap, subst, arith, ◌⊎◌, inl, inr}
 use Rattle.std.proofs.lemmas.Bool.{ltb-true}
 use native.Mathlib.Decide.{dec_lt}
 use Rattle.abl_tree.specs.declared.token.TokenKind.{TokenKind}
@@ -11,8 +11,8 @@ use Rattle.abl_parse.specs.declared.symbol.Symbol.TheVariants.{Take, Open}
 use Rattle.abl_parse.specs.Same.{same_kind, same_part}
 use Rattle.abl_parse.specs.Grammar.{Production, blank, rule, rules as table, rule_count, Vanishes, nothing, both, Begins, here, inside_part, past}
 use Rattle.abl_parse.specs.Completions.{rank}
-use Rattle.abl_parse.specs.Table.{has, starts_with, vanishes_as, some, front, is_nil, ends_free, each, of_part}
-use Rattle.abl_parse.proofs.Flags.{and_left, and_right, and_both, or_cases, or_left, or_right, implied, not_true, nil_is, kinds_same, kind_itself, parts_same, parts_equal, each_at, some_at, Found, found, has_append, has_left, has_right, each_has}
+use Rattle.abl_parse.specs.Table.{has, vanishes_as, some, front, is_nil, ends_free, each, of_part}
+use Rattle.abl_parse.proofs.Flags.{and_left, and_right, and_both, or_cases, or_left, implied, not_true, nil_is, kinds_same, kind_itself, parts_same, parts_equal, each_at, some_at, found, has_append, has_left, has_right, each_has}
 use Rattle.abl_parse.proofs.Checks.{leads, all_vanish, within, row_ok, pair_ok, pairs_ok, rows_hold, pairs_hold}
 
 -- the tokens of a part are those of its rows

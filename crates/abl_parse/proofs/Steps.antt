@@ -1,5 +1,5 @@
 -- The one production that a derivation can go on with, and one step of the reader.
-use Rattle.std.proofs.Common.{ℕ, zero, suc, ◌+◌, ◌<◌, ◌≤◌, ◌≡◌, Bool, true, false, not, ◌&&◌, ◌||◌, cond, List, [], ◌∷◌, ◌++◌, length, refl, sym, ◌∙◌, ap, subst, append_assoc, arith, ◌⊎◌, inl, inr}
+use Rattle.std.proofs.Common.{ℕ, ◌+◌, ◌<◌, ◌≡◌, Bool, true, false, not, ◌&&◌, cond, List, [], ◌∷◌, ◌++◌, length, refl, sym, ◌∙◌, ap, subst, append_assoc, arith, ◌⊎◌, inl, inr}
 use Rattle.abl_tree.specs.declared.token.TokenKind.{TokenKind}
 use Rattle.abl_tree.specs.declared.token.TokenKind.TheVariants.{EndOfSource, Name}
 use Rattle.abl_parse.specs.declared.part.Part.{Part}
@@ -11,15 +11,15 @@ use Rattle.abl_parse.specs.declared.symbol.Entry.{Entry}
 use Rattle.abl_parse.specs.declared.symbol.Entry.TheVariants.{Await, Derive}
 use Rattle.abl_parse.specs.declared.symbol.Opening.{Opening}
 use Rattle.abl_parse.specs.Same.{same_kind, same_part}
-use Rattle.abl_parse.specs.Grammar.{rule, rules as table, rule_count, Begins, Greedy, inside, opening}
+use Rattle.abl_parse.specs.Grammar.{rule, rules as table, rule_count, Begins, inside, opening}
 use Rattle.abl_parse.specs.Completions.{rank}
 use Rattle.abl_parse.specs.Table.{has, starts_with, vanishes_as, some, front, is_nil, ends_free, ends_once}
 use Rattle.abl_parse.specs.Engine.{entry, entries, body, plain, symbol_of, Steps, open_one, OnlyRule, Stuck, Leads, AllAt, Named, Went, looking, IsTaking}
 use Rattle.abl_parse.proofs.Flags.{and_left, and_right, and_both, refuted, not_so, chosen_false, parts_same, parts_equal}
 use Rattle.abl_parse.proofs.Checks.{all_vanish}
 use Rattle.abl_parse.proofs.Trees.{opened, Opened}
-use Rattle.abl_parse.proofs.First.{first, First, Passed, silent}
-use Rattle.abl_parse.proofs.Sound.{row_holds, rule_empty, vanishing_is, starts_are, starts_begin, alike, Apart}
+use Rattle.abl_parse.proofs.First.{first, silent}
+use Rattle.abl_parse.proofs.Sound.{row_holds, rule_empty, vanishing_is, starts_are, starts_begin, alike}
 
 same_first : {a b : TokenKind} {xs ys : List TokenKind} → a ∷ xs ≡ b ∷ ys → a ≡ b
 same_first e = cc

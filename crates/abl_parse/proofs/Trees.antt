@@ -1,5 +1,5 @@
 -- The reader's steps and the trees are the same derivations.
-use Rattle.std.proofs.Common.{ℕ, zero, suc, ◌+◌, ◌<◌, ◌≤◌, ◌≡◌, List, [], ◌∷◌, ◌++◌, length, refl, sym, ◌∙◌, ap, subst, append_assoc, append-nil, arith, length-append, ◌⊎◌, inl, inr}
+use Rattle.std.proofs.Common.{ℕ, zero, suc, ◌+◌, ◌<◌, ◌≤◌, ◌≡◌, List, [], ◌∷◌, ◌++◌, length, refl, sym, ◌∙◌, ap, subst, append_assoc, arith, length-append}
 use Rattle.abl_tree.specs.declared.token.TokenKind.{TokenKind}
 use Rattle.abl_parse.specs.declared.part.Part.{Part}
 use Rattle.abl_parse.specs.declared.symbol.Symbol.{Symbol}
@@ -9,7 +9,7 @@ use Rattle.abl_parse.specs.declared.symbol.Entry.{Entry}
 use Rattle.abl_parse.specs.declared.symbol.Entry.TheVariants.{Await, Derive}
 use Rattle.abl_parse.specs.declared.symbol.Opening.{Opening}
 use Rattle.abl_parse.specs.Grammar.{rule, rule_count, Greedy, Forest, none, leaf, node, spelt, Derives, openings, opening, inside}
-use Rattle.abl_parse.specs.Engine.{entries, body, Steps, done, take_one, open_one}
+use Rattle.abl_parse.specs.Engine.{entries, body, Steps, take_one, open_one}
 
 -- what a derivation from a token has done
 pub record Taken (at : ℕ) (stack : List Entry) (os : List Opening) (k : TokenKind) (ts : List TokenKind) : Type 0 where

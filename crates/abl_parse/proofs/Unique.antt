@@ -1,19 +1,17 @@
 -- No list of tokens has two derivations.
-use Rattle.std.proofs.Common.{ℕ, ◌+◌, ◌<◌, ◌≡◌, true, false, List, [], ◌∷◌, ◌++◌, refl, sym, ◌∙◌, ap, subst, ◌⊎◌, inl, inr}
+use Rattle.std.proofs.Common.{ℕ, ◌+◌, ◌≡◌, List, [], ◌∷◌, ◌++◌, refl, sym, ◌∙◌, ap, subst, inl, inr}
 use Rattle.abl_tree.specs.declared.token.TokenKind.{TokenKind}
 use Rattle.abl_tree.specs.declared.token.TokenKind.TheVariants.{Name, Colon, Equals}
 use Rattle.abl_parse.specs.declared.part.Part.{Part}
 use Rattle.abl_parse.specs.declared.part.Part.TheVariants.{Statement}
 use Rattle.abl_parse.specs.declared.symbol.Room.{Room}
 use Rattle.abl_parse.specs.declared.symbol.Entry.{Entry}
-use Rattle.abl_parse.specs.declared.symbol.Entry.TheVariants.{Await, Derive}
 use Rattle.abl_parse.specs.declared.symbol.Opening.{Opening}
-use Rattle.abl_parse.specs.Grammar.{rule, rule_count, Begins, opening}
-use Rattle.abl_parse.specs.Table.{has}
+use Rattle.abl_parse.specs.Grammar.{opening}
 use Rattle.abl_parse.specs.Engine.{body, Steps, done, take_one, open_one}
 use Rattle.abl_parse.proofs.Checks.{label_row, assign_row}
-use Rattle.abl_parse.proofs.Trees.{opened, Opened, taken, Taken}
-use Rattle.abl_parse.proofs.Sound.{alike, Apart, starts_begin}
+use Rattle.abl_parse.proofs.Trees.{opened, Opened, taken}
+use Rattle.abl_parse.proofs.Sound.{alike, starts_begin}
 use Rattle.abl_parse.proofs.Steps.{begun, begun_silent}
 use Rattle.abl_parse.proofs.NameRows.{one_of_two, label_next, assign_next}
 

@@ -1,7 +1,7 @@
 -- How the reader goes: what is still to come, from the next on, against the tokens that are left.
-use Rattle.std.specs.Prelude.{ℕ, ◌<◌, ◌≡◌, ◌≢◌, ◌+◌, List, [], ◌∷◌, ◌++◌, Bool, true, false}
+use Rattle.std.specs.Prelude.{ℕ, ◌<◌, ◌≡◌, ◌+◌, List, [], ◌∷◌, ◌++◌, true}
 use Rattle.abl_tree.specs.declared.token.TokenKind.{TokenKind}
-use Rattle.abl_tree.specs.declared.token.TokenKind.TheVariants.{EndOfSource, Name}
+use Rattle.abl_tree.specs.declared.token.TokenKind.TheVariants.{Name}
 use Rattle.abl_parse.specs.declared.part.Part.{Part}
 use Rattle.abl_parse.specs.declared.part.Part.TheVariants.{Statement}
 use Rattle.abl_parse.specs.declared.symbol.Symbol.{Symbol}
@@ -10,7 +10,7 @@ use Rattle.abl_parse.specs.declared.symbol.Room.{Room}
 use Rattle.abl_parse.specs.declared.symbol.Entry.{Entry}
 use Rattle.abl_parse.specs.declared.symbol.Entry.TheVariants.{Await, Derive}
 use Rattle.abl_parse.specs.declared.symbol.Opening.{Opening}
-use Rattle.abl_parse.specs.Grammar.{rule, rule_count, Greedy, Forest, Derives, spelt, openings, opening, inside, full, whole, any_deep, DeepAt}
+use Rattle.abl_parse.specs.Grammar.{rule, rule_count, Greedy, Forest, Derives, spelt, openings, opening, inside, full, whole, any_deep}
 
 abbrev pub entry : Room → Symbol → Entry
 entry room (Take k) = Await k

@@ -1,5 +1,5 @@
 -- What the table is asked: which production a part can begin with a token, and which can be empty.
-use Rattle.std.specs.Prelude.{ℕ, ◌+◌, ◌<◌, ◌≡◌, Bool, true, false, not, cond, ◌&&◌, ◌||◌, List, [], ◌∷◌, ◌++◌}
+use Rattle.std.specs.Prelude.{ℕ, ◌+◌, Bool, true, false, not, cond, ◌&&◌, ◌||◌, List, [], ◌∷◌, ◌++◌}
 use Rattle.abl_tree.specs.declared.token.TokenKind.{TokenKind}
 use Rattle.abl_tree.specs.declared.token.TokenKind.TheVariants.{EndOfSource}
 use Rattle.abl_parse.specs.declared.part.Part.{Part}

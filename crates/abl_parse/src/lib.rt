@@ -9,16 +9,22 @@
 
 mod choice;
 mod expand;
+#[cfg(test)]
+mod expected;
 pub mod laws;
 mod nodes;
 mod opening;
 pub mod part;
 pub mod rows;
+#[cfg(test)]
+mod sources;
 mod stack;
 pub mod starts;
 pub mod symbol;
 pub mod symbols;
 pub mod syntax;
 mod table;
+#[cfg(test)]
+mod tests;
 
 pub use syntax::{SyntaxRefusal, parse};

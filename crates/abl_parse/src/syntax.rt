@@ -23,7 +23,7 @@ pub enum SyntaxRefusal {
     /// program begins with the tokens up to and with this one, but one does with those before it.
     /// `G2`: this token opens a statement inside 64 others, or an expression, a NOT or a sign
     /// inside 64 others of these three. The bound of 64 is this project's choice.
-    Refused { rule: Rule, at: u32 },
+    Broken { rule: Rule, at: u32 },
     /// Memory ran out.
     NoMemory,
 }
@@ -75,9 +75,9 @@ fn finds_deep(openings: &[Opening]) -> bool
 }
 
 fn refusal(rule: Rule, at: u32) -> SyntaxRefusal
-    ensures { result ≡ SyntaxRefusal.Refused rule at }
+    ensures { result ≡ SyntaxRefusal.Broken rule at }
 {
-    SyntaxRefusal::Refused { rule, at }
+    SyntaxRefusal::Broken { rule, at }
 }
 
 // The openings of the source's tree.
@@ -86,7 +86,7 @@ fn read(alloc: Global, tokens: &[Token]) -> Result<Vec<Opening>, SyntaxRefusal>
     ensures spelled { IfOk result (λ used. (forest : Forest) × IsRead forest used.items (kinds tokens.now)) }
     ensures shallow { IfOk result (λ used. any_deep used.items ≡ false) }
     ensures clean { IfOk result (λ _. (broken : Rule) (place : ℕ) → Breaks (kinds tokens.now) broken place → ⊥) }
-    ensures refused { (broken : Rule) (place : ℕ) → result ≡ Err (SyntaxRefusal.Refused broken place) → IsFirst (kinds tokens.now) broken place }
+    ensures refused { (broken : Rule) (place : ℕ) → result ≡ Err (SyntaxRefusal.Broken broken place) → IsFirst (kinds tokens.now) broken place }
 {
     let mut stack = Stack::whole(alloc)?;
     let mut used = Vec::new(alloc);
@@ -118,7 +118,7 @@ pub fn parse(alloc: Global, tokens: &Tokens) -> Result<Tree, SyntaxRefusal>
     ensures spelled { IfOk result (λ tree. Spells tree (kinds tokens.now)) }
     ensures shallow { IfOk result (λ tree. (forest : Forest) → IsTree forest tree (kinds tokens.now) → IsShallow forest) }
     ensures clean { IfOk result (λ _. (broken : Rule) (place : ℕ) → Breaks (kinds tokens.now) broken place → ⊥) }
-    ensures refused { (broken : Rule) (place : ℕ) → result ≡ Err (SyntaxRefusal.Refused broken place) → IsFirst (kinds tokens.now) broken place }
+    ensures refused { (broken : Rule) (place : ℕ) → result ≡ Err (SyntaxRefusal.Broken broken place) → IsFirst (kinds tokens.now) broken place }
 {
     let used = match read(alloc, tokens.as_slice()) {
         Ok(used) => used,

@@ -1,4 +1,4 @@
-use Rattle.std.proofs.Common.{rules, List, ◌∷◌, ◌≡◌, ℕ, ◌<◌, true, false, Option, IfSome, IfNone, Some, None, sym, subst}
+use Rattle.std.proofs.Common.{List, ◌∷◌, ◌≡◌, ℕ, ◌<◌, true, false, Option, IfSome, IfNone, Some, None}
 use Rattle.abl_tree.specs.declared.token.TokenKind.{TokenKind}
 use Rattle.abl_parse.specs.declared.part.Part.{Part}
 use Rattle.abl_parse.specs.declared.symbol.Room.{Room}

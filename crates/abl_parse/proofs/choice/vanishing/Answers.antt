@@ -1,7 +1,4 @@
-use Rattle.std.proofs.Common.{◌≡◌, ◌≤◌, ◌<◌, arith}
-use Rattle.abl_parse.specs.Same.{same_part}
-use Rattle.abl_parse.specs.Grammar.{rule}
-use Rattle.abl_parse.specs.Table.{has}
+use Rattle.std.proofs.Common.{arith}
 use Rattle.std.proofs.Math.Decide.{dec_lt}
 use Rattle.abl_parse.proofs.Flags.{parts_differ, and_first}
 use Rattle.abl_parse.proofs.choice.vanishing.Goals as goal

@@ -1,4 +1,3 @@
-use Rattle.std.proofs.Common.{sym, refl}
 use Rattle.abl_parse.specs.Engine.{plainly}
 use Rattle.abl_parse.proofs.Steps.{leads_more, went_named, taking_named, statement_top}
 use Rattle.abl_parse.proofs.expand.expand.Goals as goal

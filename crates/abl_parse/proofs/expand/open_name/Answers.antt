@@ -1,4 +1,4 @@
-use Rattle.std.proofs.Common.{◌≡◌, ◌<◌, true, false, sym, ◌∙◌, ap, arith}
+use Rattle.std.proofs.Common.{sym, ◌∙◌, ap, arith}
 use Rattle.abl_tree.specs.declared.token.TokenKind.TheVariants.{Colon}
 use Rattle.abl_parse.specs.Same.{same_kind}
 use Rattle.abl_parse.proofs.Flags.{kinds_same, kind_itself, refuted}

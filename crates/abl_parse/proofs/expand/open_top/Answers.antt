@@ -1,4 +1,3 @@
-use Rattle.std.proofs.Common.{refl}
 use Rattle.abl_parse.proofs.Steps.{stepped}
 use Rattle.abl_parse.proofs.Completes.{suits_row}
 use Rattle.abl_parse.proofs.expand.open_top.Goals as goal

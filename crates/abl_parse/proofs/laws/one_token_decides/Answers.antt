@@ -1,4 +1,4 @@
-use Rattle.std.proofs.Common.{◌≡◌, sym, ◌∙◌, inl, inr}
+use Rattle.std.proofs.Common.{sym, ◌∙◌, inl, inr}
 use Rattle.abl_parse.proofs.Sound.{starts_are, alike}
 use Rattle.abl_parse.proofs.laws.one_token_decides.Goals as goal
 

@@ -1,8 +1,8 @@
-use Rattle.std.proofs.Common.{ℕ, zero, suc, ◌+◌, ◌-◌, ◌<◌, ◌≤◌, ◌≡◌, List, [], ◌∷◌, ◌++◌, length, drop, reverse, slice_index_or, refl, sym, ◌∙◌, ap, subst, arith}
+use Rattle.std.proofs.Common.{ℕ, zero, suc, ◌+◌, ◌-◌, ◌<◌, ◌≡◌, List, [], ◌∷◌, ◌++◌, length, drop, reverse, slice_index_or, refl, sym, ◌∙◌, ap, subst, arith}
 use Rattle.std.proofs.lemmas.List.{reverse-append}
 use Rattle.abl_tree.specs.declared.tree.Node.{Node}
 use Rattle.abl_parse.specs.declared.symbol.Opening.{Opening}
-use Rattle.abl_parse.specs.Closing.{closing, closed, end_after, parts_of, laid, Closed}
+use Rattle.abl_parse.specs.Closing.{closing, closed, end_after, parts_of, laid}
 use Rattle.abl_parse.proofs.nodes.nodes_of.Invariants.{Laid}
 use Rattle.abl_parse.proofs.nodes.nodes_of.Goals as goal
 
@@ -51,7 +51,7 @@ loop-k-init c = laid_first _ _ _ _ (omega arith) c.in_ok-nodes.ensures.items (ap
 pub loop-k-preserved : goal.loop-k-preserved
 loop-k-preserved c =
     laid_next _ _ (length c.args.openings.now - 1 - c.loop-k.k) (length c.args.openings.now - c.loop-k.k) _ c.loop-k.nodes.items _ c.loop-k.ends _ c.parts_of-parts.result c.end_after-end.result
-        (omega arith) (omega arith) (omega arith) c.loop-k.invariant c.parts_of-parts.ensures c.end_after-end.ensures c.in_ok-close.ensures c.in_ok-push.ensures.items
+    (omega arith) (omega arith) (omega arith) c.loop-k.invariant c.parts_of-parts.ensures c.end_after-end.ensures c.in_ok-close.ensures c.in_ok-push.ensures.items
 
 pub returns : goal.returns
 returns c = laid_last c.args.openings.now _ c.loop-k.nodes.items _ c.loop-k.ends (omega arith) c.loop-k.invariant c.reverse.ensures.items

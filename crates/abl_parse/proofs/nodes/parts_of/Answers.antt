@@ -1,4 +1,4 @@
-use Rattle.std.proofs.Common.{ℕ, zero, suc, ◌<◌, ◌≤◌, ◌≡◌, List, [], ◌∷◌, length, slice_index_or, refl, sym, ap, arith}
+use Rattle.std.proofs.Common.{ℕ, zero, suc, ◌≤◌, ◌≡◌, List, [], ◌∷◌, length, slice_index_or, refl, sym, ap, arith}
 use Rattle.abl_parse.specs.Grammar.{Production, blank, rule, rules, rule_count}
 use Rattle.abl_parse.specs.Closing.{opens_in}
 use Rattle.abl_parse.proofs.nodes.parts_of.Goals as goal

@@ -1,6 +1,4 @@
-use Rattle.std.proofs.Common.{◌∙◌, ap}
-use Rattle.abl_parse.specs.declared.symbol.Room.{Room}
-use Rattle.abl_parse.specs.Grammar.{inside, left}
+use Rattle.abl_parse.specs.Grammar.{inside}
 use Rattle.abl_parse.proofs.opening.inside.Goals as goal
 
 pub returns : goal.returns

@@ -1,6 +1,6 @@
-use Rattle.std.proofs.Common.{◌||◌, ◌&&◌, ◌≡◌, true, false, sym, ◌∙◌, ap, refl}
+use Rattle.std.proofs.Common.{◌||◌, ◌&&◌, sym, ◌∙◌, ap}
 use Rattle.std.specs.Prelude.{◌==◌}
-use Rattle.abl_parse.specs.Grammar.{too_deep, statement, expression}
+use Rattle.abl_parse.specs.Grammar.{too_deep, expression}
 use Rattle.abl_parse.proofs.opening.too_deep.Goals as goal
 
 pub returns-then-none_left : goal.returns-then-none_left

@@ -1,7 +1,7 @@
 use Rattle.std.proofs.Common.{◌∙◌, ap, subst}
 use Rattle.abl_parse.specs.Closing.{laid}
 use Rattle.abl_parse.specs.Grammar.{kinds}
-use Rattle.abl_parse.specs.Violations.{IsFirst, Breaks}
+use Rattle.abl_parse.specs.Violations.{IsFirst}
 use Rattle.abl_parse.proofs.NodeOrder.{tree_of, shallow_of}
 use Rattle.abl_parse.proofs.syntax.parse.Goals as goal
 

@@ -1,15 +1,14 @@
-use Rattle.std.proofs.Common.{ℕ, ◌+◌, ◌<◌, ◌≡◌, true, false, List, length, drop, Result, Ok, Err, refl, sym, ◌∙◌, ap, subst, arith}
+use Rattle.std.proofs.Common.{ℕ, ◌<◌, ◌≡◌, List, length, drop, Result, Err, refl, sym, ◌∙◌, ap, subst, arith}
 use Rattle.abl_base.specs.declared.rule.Rule.{Rule}
-use Rattle.abl_base.specs.declared.rule.Rule.TheVariants.{G1, G2}
 use Rattle.abl_tree.specs.declared.token.TokenKind.{TokenKind}
 use Rattle.abl_parse.specs.declared.syntax.SyntaxRefusal.{SyntaxRefusal}
-use Rattle.abl_parse.specs.declared.syntax.SyntaxRefusal.TheVariants.{Refused}
+use Rattle.abl_parse.specs.declared.syntax.SyntaxRefusal.TheVariants.{Broken}
 use Rattle.abl_parse.specs.Grammar.{any_deep, kinds}
 use Rattle.abl_parse.specs.Violations.{IsFirst}
-use Rattle.abl_parse.proofs.Places.{At, begun, stuck_here, other_here, deep_here, onward_here, at_end, clean_end, text_of, kinds_long}
+use Rattle.abl_parse.proofs.Places.{begun, stuck_here, other_here, deep_here, onward_here, at_end, clean_end, text_of, kinds_long}
 use Rattle.abl_parse.proofs.syntax.read.Goals as goal
 
-told : (T : Type 0) (tokens : List TokenKind) (x : Result T SyntaxRefusal) (r : SyntaxRefusal) (one other : Rule) (p q : ℕ) → x ≡ Err r → r ≡ Refused one p → x ≡ Err (Refused other q) → IsFirst tokens one p → IsFirst tokens other q
+told : (T : Type 0) (tokens : List TokenKind) (x : Result T SyntaxRefusal) (r : SyntaxRefusal) (one other : Rule) (p q : ℕ) → x ≡ Err r → r ≡ Broken one p → x ≡ Err (Broken other q) → IsFirst tokens one p → IsFirst tokens other q
 told T tokens x r one other p q d e f h =
     let a : one ≡ other = cc in
     let b : p ≡ q = cc in

@@ -1,4 +1,4 @@
-use Rattle.std.proofs.Common.{◌≡◌, ◌≤◌, ◌<◌, ◌+◌, ap, sym, subst}
+use Rattle.std.proofs.Common.{◌<◌, ◌+◌, sym, subst}
 use Rattle.std.specs.Prelude.{slice_index}
 use Rattle.abl_parse.proofs.Cuts.{ends_by}
 use Rattle.abl_parse.proofs.table.after_rows.Goals as goal

@@ -1,4 +1,4 @@
-use Rattle.std.proofs.Common.{◌≡◌, take, false, drop}
+use Rattle.std.proofs.Common.{◌≡◌, drop}
 use Rattle.abl_parse.specs.Table.{has}
 use Rattle.abl_parse.proofs.table.has.Given as goal
 

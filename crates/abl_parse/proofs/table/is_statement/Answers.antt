@@ -1,4 +1,4 @@
-use Rattle.std.proofs.Common.{sym, ◌∙◌, ap, refl}
+use Rattle.std.proofs.Common.{◌∙◌, ap}
 use Rattle.abl_parse.specs.declared.part.Part.TheVariants.{Statement}
 use Rattle.abl_parse.specs.Same.{same_part}
 use Rattle.abl_parse.specs.Grammar.{statement}

@@ -1,4 +1,4 @@
-use Rattle.std.proofs.Common.{◌<◌, length, ap, arith}
+use Rattle.std.proofs.Common.{length, ap, arith}
 use Rattle.abl_parse.proofs.Cuts.{count_is, empty_long, empty_is}
 use Rattle.abl_parse.proofs.table.may_be_empty.Goals as goal
 

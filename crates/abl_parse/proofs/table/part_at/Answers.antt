@@ -1,6 +1,6 @@
-use Rattle.std.proofs.Common.{◌<◌, length, ap, arith}
+use Rattle.std.proofs.Common.{length, ap, arith}
 use Rattle.abl_parse.specs.declared.part.Part.TheVariants.{Program}
-use Rattle.abl_parse.proofs.Cuts.{count_is, count_fits, part_is}
+use Rattle.abl_parse.proofs.Cuts.{count_is, part_is}
 use Rattle.abl_parse.proofs.table.part_at.Goals as goal
 
 pub bounds-all-r : goal.bounds-all-r

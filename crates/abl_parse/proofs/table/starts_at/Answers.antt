@@ -1,4 +1,4 @@
-use Rattle.std.proofs.Common.{◌<◌, length, ap, arith}
+use Rattle.std.proofs.Common.{arith}
 use Rattle.abl_parse.proofs.Cuts.{starts_cut, starts_are}
 use Rattle.abl_parse.proofs.table.starts_at.Goals as goal
 

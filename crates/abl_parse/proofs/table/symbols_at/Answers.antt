@@ -1,4 +1,4 @@
-use Rattle.std.proofs.Common.{◌<◌, length, ap, arith}
+use Rattle.std.proofs.Common.{arith}
 use Rattle.abl_parse.proofs.Cuts.{symbols_cut, symbols_are}
 use Rattle.abl_parse.proofs.table.symbols_at.Goals as goal
 

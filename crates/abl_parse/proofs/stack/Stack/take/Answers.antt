@@ -1,4 +1,4 @@
-use Rattle.std.proofs.Common.{◌≡◌, List, ◌∷◌, true, false, Bool, sym, ◌∙◌, ap}
+use Rattle.std.proofs.Common.{◌≡◌, List, ◌∷◌, true, false, sym, ◌∙◌, ap}
 use Rattle.abl_tree.specs.declared.token.TokenKind.{TokenKind}
 use Rattle.abl_parse.specs.declared.symbol.Entry.{Entry}
 use Rattle.abl_parse.specs.declared.symbol.Entry.TheVariants.{Await}
