@@ -1,0 +1,155 @@
+-- Tests, as flags, and what they say.
+use Rattle.std.proofs.Common.{ℕ, zero, suc, ◌<◌, ◌≡◌, Bool, true, false, not, ◌&&◌, ◌||◌, cond, List, [], ◌∷◌, ◌++◌, length, slice_index_or, refl, sym, ◌∙◌, subst, arith, ◌⊎◌, inl, inr}
+use Rattle.abl_tree.specs.declared.token.TokenKind.{TokenKind}
+use Rattle.abl_parse.specs.declared.part.Part.{Part}
+use denote.Enum.Bare.{same_true, true_same, false_same}
+use Rattle.abl_tree.specs.contracts.token.TokenKind.{the_type as kind_type}
+use Rattle.abl_parse.specs.contracts.part.Part.{the_type as part_type}
+use Rattle.abl_parse.specs.Same.{same_kind, same_part}
+use Rattle.abl_parse.specs.Table.{has, some, each, is_nil}
+
+pub and_left : (a b : Bool) → a && b ≡ true → a ≡ true
+and_left true b e = refl
+and_left false b e = cc
+
+pub and_right : (a b : Bool) → a && b ≡ true → b ≡ true
+and_right true b e = e
+and_right false b e = cc
+
+pub and_both : (a b : Bool) → a ≡ true → b ≡ true → a && b ≡ true
+and_both true b e h = h
+and_both false b e h = cc
+
+pub or_cases : (a b : Bool) → a || b ≡ true → (a ≡ true) ⊎ (b ≡ true)
+or_cases true b e = inl refl
+or_cases false b e = inr e
+
+pub or_left : (a b : Bool) → a ≡ true → a || b ≡ true
+or_left true b e = refl
+or_left false b e = cc
+
+pub or_right : (a b : Bool) → b ≡ true → a || b ≡ true
+or_right true b e = refl
+or_right false b e = e
+
+pub or_neither : (a b : Bool) → a ≡ false → b ≡ false → a || b ≡ false
+or_neither true b e h = cc
+or_neither false b e h = h
+
+pub implied : (a b : Bool) → not a || b ≡ true → a ≡ true → b ≡ true
+implied true b e h = e
+implied false b e h = cc
+
+pub refuted : (a : Bool) → a ≡ true → a ≡ false → ⊥
+refuted a h e = let x : true ≡ false = sym h ∙ e in cc
+
+pub either : (a : Bool) → (a ≡ true) ⊎ (a ≡ false)
+either true = inl refl
+either false = inr refl
+
+pub not_true : (a : Bool) → not a ≡ true → a ≡ true → ⊥
+not_true true e h = cc
+not_true false e h = cc
+
+pub not_so : (b : Bool) → not b ≡ true → b ≡ false
+not_so true e = cc
+not_so false e = refl
+
+pub chosen_true : {A : Type 0} (b : Bool) (x y : A) → b ≡ true → cond b x y ≡ x
+chosen_true true x y e = refl
+chosen_true false x y e = cc
+
+pub chosen_false : {A : Type 0} (b : Bool) (x y : A) → b ≡ false → cond b x y ≡ y
+chosen_false true x y e = cc
+chosen_false false x y e = refl
+
+pub nil_is : {A : Type 0} (xs : List A) → is_nil xs ≡ true → xs ≡ []
+nil_is [] e = refl
+nil_is (x ∷ xs) e = cc
+
+pub kinds_same : (a b : TokenKind) → same_kind a b ≡ true → a ≡ b
+unfolding same_kind
+kinds_same a b e = same_true kind_type tt a b e
+
+pub kind_itself : (a : TokenKind) → same_kind a a ≡ true
+unfolding same_kind
+kind_itself a = true_same kind_type a a refl
+
+pub kinds_differ : (a b : TokenKind) → (a ≡ b → ⊥) → same_kind a b ≡ false
+unfolding same_kind
+kinds_differ a b h = false_same kind_type tt a b h
+
+pub kinds_equal : (a b : TokenKind) → a ≡ b → same_kind a b ≡ true
+unfolding same_kind
+kinds_equal a b e = true_same kind_type a b e
+
+pub parts_same : (a b : Part) → same_part a b ≡ true → a ≡ b
+unfolding same_part
+parts_same a b e = same_true part_type tt a b e
+
+pub parts_equal : (a b : Part) → a ≡ b → same_part a b ≡ true
+unfolding same_part
+parts_equal a b e = true_same part_type a b e
+
+pub parts_differ : (a b : Part) → (a ≡ b → ⊥) → same_part a b ≡ false
+unfolding same_part
+parts_differ a b h = false_same part_type tt a b h
+
+pub and_first : (a b : Bool) → a ≡ false → a && b ≡ false
+and_first true b e = cc
+and_first false b e = refl
+
+-- lists of tests
+pub each_at : {A : Type 0} (p : A → Bool) (xs : List A) (i : ℕ) (d : A) → each p xs ≡ true → i < length xs → p (slice_index_or xs i d) ≡ true
+each_at p [] i d e h = absurd (omega arith)
+each_at p (x ∷ xs) zero d e h = and_left (p x) (each p xs) e
+each_at p (x ∷ xs) (suc i) d e h = each_at p xs i d (and_right (p x) (each p xs) e) (omega arith)
+
+pub some_at : {A : Type 0} (p : A → Bool) (xs : List A) (i : ℕ) (d : A) → p (slice_index_or xs i d) ≡ true → i < length xs → some p xs ≡ true
+some_at p [] i d e h = absurd (omega arith)
+some_at p (x ∷ xs) zero d e h = or_left (p x) (some p xs) e
+some_at p (x ∷ xs) (suc i) d e h = or_right (p x) (some p xs) (some_at p xs i d e (omega arith))
+
+pub record Found {A : Type 0} (p : A → Bool) (xs : List A) (d : A) : Type 0 where
+  pub at : ℕ
+  pub inside_it : at < length xs
+  pub passes : p (slice_index_or xs at d) ≡ true
+
+later : {A : Type 0} (p : A → Bool) (x : A) (xs : List A) (d : A) → Found p xs d → Found p (x ∷ xs) d
+later p x xs d f = record { at = suc f.at; inside_it = (let h = f.inside_it in omega arith); passes = f.passes }
+
+pub found : {A : Type 0} (p : A → Bool) (xs : List A) (d : A) → some p xs ≡ true → Found p xs d
+found p [] d e = cc
+found p (x ∷ xs) d e = elim (or_cases (p x) (some p xs) e) [
+  | inl h ↦ record { at = 0; inside_it = omega arith; passes = h }
+  | inr h ↦ later p x xs d (found p xs d h)
+]
+
+-- lists of kinds
+pub has_append : (xs ys : List TokenKind) (k : TokenKind) → has (xs ++ ys) k ≡ true → (has xs k ≡ true) ⊎ (has ys k ≡ true)
+has_append [] ys k e = inr e
+has_append (x ∷ xs) ys k e = elim (or_cases (same_kind x k) (has (xs ++ ys) k) e) [
+  | inl h ↦ inl (or_left (same_kind x k) (has xs k) h)
+  | inr h ↦ elim (has_append xs ys k h) [
+    | inl g ↦ inl (or_right (same_kind x k) (has xs k) g)
+    | inr g ↦ inr g
+  ]
+]
+
+pub has_left : (xs ys : List TokenKind) (k : TokenKind) → has xs k ≡ true → has (xs ++ ys) k ≡ true
+has_left [] ys k e = cc
+has_left (x ∷ xs) ys k e = elim (or_cases (same_kind x k) (has xs k) e) [
+  | inl h ↦ or_left (same_kind x k) (has (xs ++ ys) k) h
+  | inr h ↦ or_right (same_kind x k) (has (xs ++ ys) k) (has_left xs ys k h)
+]
+
+pub has_right : (xs ys : List TokenKind) (k : TokenKind) → has ys k ≡ true → has (xs ++ ys) k ≡ true
+has_right [] ys k e = e
+has_right (x ∷ xs) ys k e = or_right (same_kind x k) (has (xs ++ ys) k) (has_right xs ys k e)
+
+pub each_has : (p : TokenKind → Bool) (xs : List TokenKind) (k : TokenKind) → each p xs ≡ true → has xs k ≡ true → p k ≡ true
+each_has p [] k e h = cc
+each_has p (x ∷ xs) k e h = elim (or_cases (same_kind x k) (has xs k) h) [
+  | inl g ↦ subst (λ y. p y ≡ true) (kinds_same x k g) (and_left (p x) (each p xs) e)
+  | inr g ↦ each_has p xs k (and_right (p x) (each p xs) e) g
+]

@@ -1,0 +1,15 @@
+pub mod Flags
+pub mod Trees
+pub mod First
+pub mod Cuts
+pub mod Checks
+pub mod Sound
+pub mod Steps
+pub mod Completes
+pub mod NameRows
+pub mod NameSteps
+pub mod Runs
+pub mod Nesting
+pub mod Places
+pub mod Unique
+pub mod NodeOrder

@@ -1,0 +1,30 @@
+//! The parser: from the tokens of a source to its syntax tree. It stands on `abl_tree`, which has
+//! the tokens, the tree and the names of the productions. The layers above may rely on a tree
+//! being the one derivation of its tokens from `Program` by the table of productions
+//! (`Spells` of the definitions), and on each refusal being the first place where a rule is broken.
+//!
+//! The grammar is data: one table, one row a production, which the definitions, the reader and the
+//! check of the table read. `tools/grammar` writes it from `tools/grammar.txt`.
+#![tactic(auto)]
+
+mod choice;
+mod expand;
+#[cfg(test)]
+mod expected;
+pub mod laws;
+mod nodes;
+mod opening;
+pub mod part;
+pub mod rows;
+#[cfg(test)]
+mod sources;
+mod stack;
+pub mod starts;
+pub mod symbol;
+pub mod symbols;
+pub mod syntax;
+mod table;
+#[cfg(test)]
+mod tests;
+
+pub use syntax::{SyntaxRefusal, parse};

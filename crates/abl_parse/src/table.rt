@@ -1,0 +1,185 @@
+//! The table of productions, read by row.
+
+ghost use Rattle.std.specs.Prelude.{◌+◌, length, ℕ, ◌<◌, ◌≤◌, ◌≡◌, true, false};
+ghost use Rattle.abl_parse.specs.Same.{same_kind, same_part, part_number};
+ghost use Rattle.abl_parse.specs.Grammar.{rule, rule_count, parts, symbols, symbols_from, starts, starts_from, empty, statement, not_or_sign, expression};
+ghost use Rattle.abl_parse.specs.Table.{rows_from, has};
+
+use crate::part::Part;
+use crate::rows::{EMPTY, PARTS, ROWS_FROM, STARTS_FROM, SYMBOLS_FROM};
+use crate::starts::STARTS;
+use crate::symbol::Symbol;
+use crate::symbols::SYMBOLS;
+use abl_tree::TokenKind;
+use abl_tree::production::{NEGATION_NOT, SIGNED_PLUS_OR_MINUS};
+
+fn parts() -> &'static [Part]
+    ensures { result.now ≡ parts }
+{
+    &PARTS
+}
+
+fn symbols() -> &'static [Symbol]
+    ensures { result.now ≡ symbols }
+{
+    &SYMBOLS
+}
+
+fn symbols_from() -> &'static [usize]
+    ensures { result.now ≡ symbols_from }
+{
+    &SYMBOLS_FROM
+}
+
+fn starts() -> &'static [TokenKind]
+    ensures { result.now ≡ starts }
+{
+    &STARTS
+}
+
+fn starts_from() -> &'static [usize]
+    ensures { result.now ≡ starts_from }
+{
+    &STARTS_FROM
+}
+
+fn empty() -> &'static [bool]
+    ensures { result.now ≡ empty }
+{
+    &EMPTY
+}
+
+fn rows_from() -> &'static [usize]
+    ensures { result.now ≡ rows_from }
+{
+    &ROWS_FROM
+}
+
+/// How many productions there are.
+pub(crate) fn count() -> usize
+    ensures { result ≡ rule_count }
+{
+    parts().len()
+}
+
+/// The part of a production.
+pub(crate) fn part_at(r: usize) -> Part
+    requires { r < rule_count }
+    ensures { result ≡ (rule r).part }
+{
+    let all = parts();
+    all[r]
+}
+
+/// The symbols of a production.
+pub(crate) fn symbols_at(r: usize) -> &'static [Symbol]
+    requires { r < rule_count }
+    ensures { result.now ≡ (rule r).symbols }
+{
+    let all = symbols();
+    let from = symbols_from();
+    &all[from[r]..from[r + 1]]
+}
+
+/// The tokens that a production can begin with.
+pub(crate) fn starts_at(r: usize) -> &'static [TokenKind]
+    requires { r < rule_count }
+    ensures { result.now ≡ (rule r).starts }
+{
+    let all = starts();
+    let from = starts_from();
+    &all[from[r]..from[r + 1]]
+}
+
+/// Whether a production can stand for nothing.
+pub(crate) fn may_be_empty(r: usize) -> bool
+    requires { r < rule_count }
+    ensures { result ≡ (rule r).empty }
+{
+    let all = empty();
+    all[r]
+}
+
+pub(crate) fn same_kind(a: TokenKind, b: TokenKind) -> bool
+    ensures { result ≡ same_kind a b }
+{
+    a == b
+}
+
+pub(crate) fn same_part(a: Part, b: Part) -> bool
+    ensures { result ≡ same_part a b }
+{
+    a == b
+}
+
+fn part_number(part: Part) -> usize
+    ensures { result ≡ part_number part }
+{
+    part as usize
+}
+
+/// The first row of the part, or 0 where the table does not say.
+pub(crate) fn first_row(part: Part) -> usize
+    ensures below { result ≤ rule_count }
+    ensures before { (q : ℕ) → q < rule_count → (rule q).part ≡ part → result ≤ q }
+{
+    let from = rows_from();
+    let number = part_number(part);
+    if number < from.len() && from[number] <= count() {
+        from[number]
+    } else {
+        0
+    }
+}
+
+/// The row after the last of the part, or the number of rows where the table does not say.
+pub(crate) fn after_rows(part: Part) -> usize
+    ensures below { result ≤ rule_count }
+    ensures behind { (q : ℕ) → q < rule_count → (rule q).part ≡ part → q < result }
+{
+    let from = rows_from();
+    let number = part_number(part);
+    if number < from.len() && number + 1 < from.len() && from[number + 1] <= count() {
+        from[number + 1]
+    } else {
+        count()
+    }
+}
+
+/// Whether the kind is one of these.
+pub(crate) fn has(kinds: &[TokenKind], kind: TokenKind) -> bool
+    ensures { result ≡ has kinds.now kind }
+{
+    for k in kinds {
+        if same_kind(*k, kind) {
+            return true;
+        }
+    }
+    false
+}
+
+/// Whether the production is one of a statement.
+pub(crate) fn is_statement(r: usize) -> bool
+    requires { r < rule_count }
+    ensures { result ≡ statement r }
+{
+    same_part(part_at(r), Part::Statement)
+}
+
+/// Whether the production is one of an expression, a NOT or a sign.
+pub(crate) fn is_expression(r: usize) -> bool
+    requires { r < rule_count }
+    ensures { result ≡ expression r }
+{
+    if same_part(part_at(r), Part::Expression) {
+        true
+    } else {
+        not_or_sign(r)
+    }
+}
+
+fn not_or_sign(r: usize) -> bool
+    ensures { result ≡ not_or_sign r }
+{
+    r == NEGATION_NOT as usize || r == SIGNED_PLUS_OR_MINUS as usize
+}
