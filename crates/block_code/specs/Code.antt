@@ -4,6 +4,9 @@ use Rattle.bound_tree.specs.declared.block.Action.TheVariants as act
 use Rattle.bound_tree.specs.declared.block.Header.{Header}
 use Rattle.bound_tree.specs.declared.statement.Stmt.{Stmt, Row_of-Stmt, end_of-Stmt, more_of-Stmt}
 use Rattle.bound_tree.specs.declared.statement.Stmt.TheVariants as stmt
+use Rattle.bound_tree.specs.declared.procedure.Procedure.{Procedure}
+use Rattle.bound_tree.specs.declared.procedure.Bound.{Bound}
+use Rattle.block_code.specs.declared.code.Code.{Code}
 use Rattle.block_code.specs.declared.code.Instr.{Instr}
 use Rattle.block_code.specs.declared.code.Instr.TheVariants.{Open, Close, Assign, Put, Undo}
 
@@ -29,3 +32,12 @@ abbrev mutual
 abbrev pub body_code : ℕ → List Stmt → List Instr
 body_code p [] = []
 body_code p (t ∷ ts) = code_of p t ++ body_code (p + length (code_of p t)) ts
+
+-- the code of a bound source that has no procedure but the external one
+pub record StandsFor (code : Code) (bound : Bound) : Type 0 where
+  pub main : Procedure
+  pub only : bound.procedures.items ≡ main ∷ []
+  pub instrs : code.instrs.items ≡ block_code 0 main.header (body_code 1 main.body.items)
+  pub undoable : code.undoable ≡ main.undoable
+  pub kept : code.kept ≡ main.kept
+  pub inputs : code.inputs ≡ bound.inputs

@@ -1,10 +1,9 @@
 //! From the bound tree to block code.
 
 ghost use Rattle.std.specs.Prelude.{◌≡◌, ◌++◌, ◌∷◌, [], ◌+◌, length, OnOk, IfOk};
-ghost use Rattle.block_code.specs.Code.{code_of, body_code, block_code};
+ghost use Rattle.block_code.specs.Code.{code_of, body_code, block_code, StandsFor};
 
 use crate::code::{Code, Instr};
-use abl_base::Row;
 use bound_tree::{
     Action, Assignment, BlockKind, Bound, Expr, Header, Procedure, PutItem, Right, Stmt, Target,
 };
@@ -33,36 +32,32 @@ impl<T: Drop> From<AllocFailed<T>> for CompileFault {
 
 /// The code of a bound source. `NotBuilt` comes where some statement, header or value has a form
 /// that is not built yet; want of memory may come at any time.
-pub fn compile(alloc: Global, bound: Bound) -> Result<Code, CompileFault> {
+pub fn compile(alloc: Global, bound: Bound) -> Result<Code, CompileFault>
+    ensures { IfOk result (λ code. StandsFor code bound) }
+{
     let Bound {
-        procedures,
+        mut procedures,
         inputs,
         ..
     } = bound;
-    let mut code = Code {
-        instrs: Vec::new(alloc),
-        undoable: Row::empty(alloc),
-        kept: Row::empty(alloc),
-        inputs,
+    let (Some(main), None) = (procedures.pop(), procedures.pop()) else {
+        return Err(CompileFault::NotBuilt);
     };
-    let mut main_is_there = false;
-    for procedure in procedures {
-        if main_is_there {
-            return Err(CompileFault::NotBuilt);
-        }
-        let Procedure {
-            undoable,
-            kept,
-            header,
-            body,
-            ..
-        } = procedure;
-        code.undoable = undoable;
-        code.kept = kept;
-        emit_block(&mut code.instrs, header, body)?;
-        main_is_there = true;
-    }
-    Ok(code)
+    let Procedure {
+        undoable,
+        kept,
+        header,
+        body,
+        ..
+    } = main;
+    let mut instrs = Vec::new(alloc);
+    emit_block(&mut instrs, header, body)?;
+    Ok(Code {
+        instrs,
+        undoable,
+        kept,
+        inputs,
+    })
 }
 
 /// The code of a block, behind the code that is there.
@@ -100,7 +95,10 @@ fn emit(code: &mut Vec<Instr>, stmt: Stmt) -> Result<(), CompileFault>
     ensures { OnOk result (code.new.items ≡ code.old.items ++ code_of (length code.old.items) stmt) }
 {
     match stmt {
-        Stmt::Block { header, body } => emit_block(code, header, body),
+        Stmt::Block { header, body } => {
+            emit_block(code, header, body)?;
+            Ok(())
+        }
         Stmt::Assign { pairs, no_error } => {
             if no_error || !pairs.iter().all(is_built_assignment) {
                 return Err(CompileFault::NotBuilt);
