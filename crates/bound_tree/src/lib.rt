@@ -18,4 +18,4 @@ pub use block::{
 pub use expression::{Binary, Expr, Ternary, Unary, Variable};
 pub use procedure::{Bound, BufferDef, Procedure, Reference, ReferenceKind};
 pub use statement::{Argument, Assignment, FindWord, PutItem, Right, Stmt, Target};
-pub use table::{FieldDef, IndexDef, TableDef};
+pub use table::{FieldDef, IndexDef, Part, Parts, TableDef};

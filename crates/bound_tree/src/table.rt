@@ -1,32 +1,40 @@
 //! What a source needs of its schema: the tables that its buffers have.
 
-use abl_base::{Bytes, Kind, Row, Value};
+use abl_base::{Bytes, Items, Kind, Value};
 
 /// A field of a table. A field of an unsupported kind has none, and always holds `?`.
 #[derive(Drop)]
 pub struct FieldDef {
-    /// As the schema file spells it.
     pub name: Bytes,
     pub kind: Option<Kind>,
     pub initial: Value,
     pub mandatory: bool,
+    pub mask: Bytes,
 }
 
-/// A usable index of a table.
+/// A component of an index: a field by its number in the table.
+#[derive(Clone, Copy, Debug, PartialEq, Eq)]
+pub struct Part {
+    pub field: u16,
+    pub descending: bool,
+}
+
+/// The components of an index, the leading one first.
+pub type Parts = Items<Part>;
+
+/// An index of a table.
 #[derive(Drop)]
 pub struct IndexDef {
-    /// As the schema file spells it.
     pub name: Bytes,
     pub unique: bool,
-    /// The numbers of its fields, in the order of its components.
-    pub parts: Vec<u16>,
+    pub parts: Parts,
 }
 
-/// A table.
+/// A table: its fields in order, its usable indexes, and which of them is the primary one.
 #[derive(Drop)]
 pub struct TableDef {
-    /// As the schema file spells it.
     pub name: Bytes,
-    pub fields: Vec<FieldDef>,
-    pub indexes: Vec<IndexDef>,
+    pub fields: Items<FieldDef>,
+    pub indexes: Items<IndexDef>,
+    pub primary: Option<u16>,
 }
