@@ -1,5 +1,5 @@
 -- The tree that a bound source is.
-use Rattle.std.specs.Prelude.{ℕ, List, [], ◌∷◌, Option, Some, None, map, option_map}
+use Rattle.std.specs.Prelude.{List, [], ◌∷◌, Option, Some, None, map}
 use Rattle.bound_tree.specs.declared.expression.Expr.{Expr as SourceExpr}
 use Rattle.bound_tree.specs.declared.expression.Expr.TheVariants as e
 use Rattle.bound_tree.specs.declared.block.Action.{Action as SourceAction}

@@ -13,7 +13,7 @@ use Rattle.bound_tree.specs.declared.block.Flags.{Flags}
 use Rattle.bound_tree.specs.declared.statement.FindWord.{FindWord}
 use Rattle.bound_tree.specs.declared.statement.Target.{Target}
 use Rattle.bound_tree.specs.declared.procedure.BufferDef.{BufferDef}
-use Rattle.bound_tree.specs.declared.table.TableDef.{TableDef}
+use Rattle.abl_base.specs.declared.schema.TableDef.{TableDef}
 
 -- an expression
 pub data Expr : Type 0 where
