@@ -5,6 +5,8 @@
 #![tactic(auto)]
 
 pub mod ends;
+pub mod wants;
 
 pub use database_meaning::{Answer, Contents, Event, Op};
 pub use ends::{ClientEnd, StopWhy};
+pub use wants::{Piece, Wants};
