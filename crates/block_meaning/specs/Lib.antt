@@ -4,3 +4,9 @@ pub mod Lines
 pub mod State
 pub mod Values
 pub mod Views
+pub mod Buffers
+pub mod Reads
+pub mod Changes
+pub mod Blocks
+pub mod Streams
+pub mod Meaning

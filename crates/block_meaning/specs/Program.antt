@@ -1,5 +1,5 @@
 -- What a client runs, and does not change: its source, its inputs, and how values stand in texts.
-use Rattle.std.specs.Prelude.{ℕ, Bool, true, false, List, [], slice_index_or, Option, None}
+use Rattle.std.specs.Prelude.{ℕ, true, false, List, [], slice_index_or, None}
 use Rattle.abl_base.specs.declared.schema.FieldDef.{FieldDef}
 use Rattle.abl_base.specs.declared.schema.IndexDef.{IndexDef}
 use Rattle.abl_base.specs.declared.schema.TableDef.{TableDef}

@@ -136,13 +136,13 @@ pub record Doing : Type 0 where
   pub wants : Wants
 
 -- how a part of a run goes: it is over, with the answers that are left; or it stands at an operation without answer
-pub data Result : Type 0 where
-  Goes : (way : Way) (s : State) (left : List Answer) → Result
-  Stands : (doing : Doing) → Result
+pub data Course : Type 0 where
+  Goes : (way : Way) (s : State) (left : List Answer) → Course
+  Stands : (doing : Doing) → Course
 
 -- what remains to be done, from a state and with the answers that are left
 abbrev pub Part : Type 0
-Part = State → List Answer → Result
+Part = State → List Answer → Course
 
 abbrev pub nothing_behind : Behind
 nothing_behind = record { first = None; buffers = [] }
@@ -175,7 +175,7 @@ charged go s ans = charged_from s.units go s ans
 
 -- an operation that was asked, and what follows its answer. After Blocked the same one is asked again, and
 -- some answers end the client
-abbrev pub hears : Op → (Answer → Part) → State → List Answer → Result
+abbrev pub hears : Op → (Answer → Part) → State → List Answer → Course
 hears op go s [] = Stands (record { written = s.written; wants = Ask op })
 hears op go s (answer.Blocked holders ∷ ans) = hears op go s ans
 hears op go s (answer.NoMemory ∷ ans) = Goes (Stops client.NoMemory) s ans
@@ -194,7 +194,7 @@ abbrev pub after_way : Way → Part → Part
 after_way Ran next s ans = next s ans
 after_way way next s ans = Goes way s ans
 
-abbrev pub and_then : Result → Part → Result
+abbrev pub and_then : Course → Part → Course
 and_then (Goes way s ans) next = after_way way next s ans
 and_then (Stands d) next = Stands d
 
