@@ -1,0 +1,4 @@
+pub mod Small
+pub mod Rows
+pub mod Records
+pub mod Procedures
