@@ -10,3 +10,4 @@ pub mod Changes
 pub mod Blocks
 pub mod Streams
 pub mod Meaning
+pub mod GivesUp

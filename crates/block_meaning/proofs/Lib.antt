@@ -1,0 +1,3 @@
+pub mod Goes_on
+pub mod Parts
+pub mod Whole
