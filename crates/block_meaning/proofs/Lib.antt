@@ -1,3 +1,5 @@
 pub mod Goes_on
 pub mod Parts
 pub mod Whole
+pub mod Runs
+pub mod Undone

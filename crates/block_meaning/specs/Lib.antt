@@ -11,3 +11,4 @@ pub mod Blocks
 pub mod Streams
 pub mod Meaning
 pub mod GivesUp
+pub mod Undone

@@ -184,6 +184,10 @@ calls_of p (suc d) n args vs s ans =
     (λ retry. meaning_all (procedure_at p n).body (record { program = p; calls = calls_of p d; retry = retry }))
     (opened_frame p n args vs s) ans)
 
+-- what a statement stands in where so many more procedures may be open
+abbrev pub standing : Program → ℕ → Bool → Around
+standing p depth retry = record { program = p; calls = calls_of p depth; retry = retry }
+
 -- ---- the run
 
 -- the client asks End and ends, whatever the answer

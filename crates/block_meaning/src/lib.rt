@@ -5,6 +5,7 @@
 #![tactic(auto)]
 
 pub mod ends;
+pub mod laws;
 pub mod wants;
 
 pub use database_meaning::{Answer, Contents, Event, Op};

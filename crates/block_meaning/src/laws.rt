@@ -1,0 +1,49 @@
+//! What holds of the definition of what a client does, whatever its source is and whatever it is
+//! answered. Each law is what its function ensures.
+
+ghost use Rattle.std.specs.Prelude.{◌≡◌, ◌≤◌, ℕ, List, ◌++◌, Bool, Some, length};
+ghost use Rattle.database_meaning.specs.declared.operation.Answer.{Answer};
+ghost use Rattle.database_meaning.specs.declared.operation.Op.{Op};
+ghost use Rattle.bound_tree.specs.Tree.{Stmt};
+ghost use Rattle.block_meaning.specs.declared.ends.ClientEnd.{ClientEnd};
+ghost use Rattle.block_meaning.specs.Program.{Program};
+ghost use Rattle.block_meaning.specs.State.{State, Way, Ran, Goes, Copy};
+ghost use Rattle.block_meaning.specs.Blocks.{goes_back};
+ghost use Rattle.block_meaning.specs.Meaning.{run, asked, meaning, standing};
+ghost use Rattle.block_meaning.specs.GivesUp.{Begins, paid};
+ghost use Rattle.block_meaning.specs.Undone.{undoable_of, saved_variables, LeftAlone};
+
+use crate::wants::Wants;
+
+/// What a client has written stays: under more answers more is written after it.
+pub fn written_only_grows()
+    ensures { (p : Program) (units : ℕ) (ans more : List Answer) → Begins (run p units ans).written (run p units (ans ++ more)).written }
+{}
+
+/// What a client has asked stays: under more answers it asks the same, and goes on from there.
+pub fn asked_only_grows()
+    ensures { (p : Program) (units : ℕ) (ans more : List Answer) → asked (run p units) (ans ++ more) ≡ asked (run p units) ans ++ asked (λ rest. run p units (ans ++ rest)) more }
+{}
+
+/// An end stays: a client that has ended neither writes nor asks more.
+pub fn an_end_stays()
+    ensures { (p : Program) (units : ℕ) (ans more : List Answer) (end : ClientEnd) → (run p units ans).wants ≡ Wants.Ended end → run p units (ans ++ more) ≡ run p units ans }
+{}
+
+/// Each operation that is not asked again after Blocked costs a unit.
+pub fn operations_are_paid()
+    ensures { (p : Program) (units : ℕ) (ans : List Answer) (op : Op) → (run p units ans).wants ≡ Wants.Ask op → paid ans ≤ units }
+{}
+
+/// No statement gives back units.
+pub fn units_never_grow()
+    ensures { (p : Program) (depth : ℕ) (retry : Bool) (t : Stmt) (s after : State) (ans left : List Answer) (way : Way) → meaning t (standing p depth retry) s ans ≡ Goes way after left → after.units ≤ s.units }
+{}
+
+/// An UNDO with a level gives back exactly the undoable variables of the copy, and leaves every
+/// NO-UNDO variable, every place in a stream or input and what was written as they are. Where the
+/// copy has as many procedures as are open, which is so for each level that is open.
+pub fn undo_gives_back_the_copy()
+    ensures variables { (copy : Copy) (but : List ℕ) (s after : State) (ans left : List Answer) → length copy.frames ≡ length s.frames → goes_back (Some copy) but s ans ≡ Goes Ran after left → undoable_of after ≡ saved_variables copy }
+    ensures alone { (copy : Copy) (but : List ℕ) (s after : State) (ans left : List Answer) → goes_back (Some copy) but s ans ≡ Goes Ran after left → LeftAlone s after }
+{}
