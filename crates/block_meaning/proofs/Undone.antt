@@ -1,6 +1,9 @@
--- The five steps of an UNDO change buffers and levels alone, once the copy is put back.
-use Rattle.std.proofs.Common.{◌≡◌, refl, ap, ◌∙◌, subst, ℕ, zero, suc, ◌==◌, nat_lt, List, [], ◌∷◌, map, length, Bool, true, false, Some, arith}
+-- What the five steps of an UNDO keep, once the copy is put back: all but buffers and levels, and pending records of it.
+use Rattle.std.proofs.Common.{◌≡◌, refl, sym, ap, ◌∙◌, subst, ℕ, zero, suc, ◌+◌, ◌≤◌, ◌<◌, ◌==◌, nat_lt, List, [], ◌∷◌, ◌++◌, map, length, Bool, true, false, Option, Some, None, arith}
+use Rattle.std.specs.Prelude.{slice_index_or}
 use Rattle.std.proofs.Math.Seq.{map-set_same}
+use Rattle.abl_base.specs.declared.row.RowId.{RowId}
+use Rattle.abl_base.specs.declared.value.Value.{Value}
 use Rattle.database_meaning.specs.declared.operation.Op.{Op}
 use Rattle.database_meaning.specs.declared.operation.Op.TheVariants as op
 use Rattle.database_meaning.specs.declared.operation.Answer.{Answer}
@@ -9,117 +12,186 @@ use Rattle.block_meaning.specs.State.{State, Frame, Buffer, Saved, Copy, Content
 use Rattle.block_meaning.specs.Views.{values_in}
 use Rattle.block_meaning.specs.Buffers.{Place, buffer_in, holding_in, all_places, keep_of, shared, left_if, left, was_left, leaves, got_content, was_got, made_later, updates_content, updates, is_left_out, updates_places}
 use Rattle.block_meaning.specs.Blocks.{comes_back, goes_back}
-use Rattle.block_meaning.specs.Undone.{undoable_of, kept_of, saved_variables, LeftAlone}
+use Rattle.block_meaning.specs.Undone.{undoable_of, kept_of, saved_variables, content_in, LeftAlone}
 
--- ---- only buffers, the level and the units differ
+-- ---- parts that keep something true of the state
 
+abbrev pub Holds : (State → Type 0) → Course → Type 0
+Holds P (Goes way s left) = P s
+Holds P (Stands d) = Unit {0}
+
+abbrev pub Preserves : (State → Type 0) → Part → Type 0
+Preserves P go = (s : State) (ans : List Answer) → P s → Holds P (go s ans)
+
+-- it says nothing of the units
+abbrev pub IgnoresUnits : (State → Type 0) → Type 0
+IgnoresUnits P = (s : State) (n : ℕ) → P s → P (record s { units = n })
+
+preserves_goes : (P : State → Type 0) (way : Way) → Preserves P (goes way)
+preserves_goes P way s ans x = x
+
+preserves_where : (P : State → Type 0) (b : Bool) (one other : Part) → Preserves P one → Preserves P other → Preserves P (where_so b one other)
+preserves_where P true one other x y s ans h = x s ans h
+preserves_where P false one other x y s ans h = y s ans h
+
+preserves_first : (P : State → Type 0) (change : State → State) (go : Part) → ((s : State) → P s → P (change s)) → Preserves P go → Preserves P (first_with change go)
+preserves_first P change go k x s ans h = x (change s) ans (k s h)
+
+preserves_hears : (P : State → Type 0) (op : Op) (go : Answer → Part) (s : State) → ((a : Answer) (ans : List Answer) → Holds P (go a s ans)) → P s → (ans : List Answer) → Holds P (hears op go s ans)
+preserves_hears P op go s x h [] = tt
+preserves_hears P op go s x h (answer.Blocked holders ∷ ans) = preserves_hears P op go s x h ans
+preserves_hears P op go s x h (answer.NoMemory ∷ ans) = h
+preserves_hears P op go s x h (answer.Closed ∷ ans) = h
+preserves_hears P op go s x h (answer.Deadlock cycle ∷ ans) = h
+preserves_hears P op go s x h (answer.TxFull ∷ ans) = h
+preserves_hears P op go s x h (answer.TraceFull ∷ ans) = h
+preserves_hears P op go s x h (a ∷ ans) = x a ans
+
+-- an operation, where what follows its answer keeps it from the state with a unit less
+preserves_from : (P : State → Type 0) → IgnoresUnits P → (n : ℕ) (op : Op) (go : Answer → Part) (s : State) → ((m : ℕ) (a : Answer) (ans : List Answer) → Holds P (go a (record s { units = m }) ans)) → P s → (ans : List Answer) → Holds P (charged_from n (hears op go) s ans)
+preserves_from P u zero op go s x h ans = h
+preserves_from P u (suc n) op go s x h ans = preserves_hears P op go (record s { units = n }) (x n) (u s n h) ans
+
+preserves_asks : (P : State → Type 0) → IgnoresUnits P → (op : Op) (go : Answer → Part) → ((a : Answer) → Preserves P (go a)) → Preserves P (asks op go)
+preserves_asks P u op go x s ans h = preserves_from P u s.units op go s (λ m a ans. x a (record s { units = m }) ans (u s m h)) h ans
+
+preserves_after : (P : State → Type 0) (way : Way) (next : Part) → Preserves P next → Preserves P (after_way way next)
+preserves_after P Ran next x s ans h = x s ans h
+preserves_after P way next x s ans h = h
+
+preserves_and_then : (P : State → Type 0) (r : Course) (next : Part) → Holds P r → Preserves P next → Holds P (and_then r next)
+preserves_and_then P (Goes way s left) next h x = preserves_after P way next x s left h
+preserves_and_then P (Stands d) next h x = tt
+
+preserves_then : (P : State → Type 0) (go next : Part) → Preserves P go → Preserves P next → Preserves P (λ s ans. and_then (go s ans) next)
+preserves_then P go next x y s ans h = preserves_and_then P (go s ans) next (x s ans h) y
+
+-- ---- bringing buffers up to date
+
+-- what a content must be for its buffer to be changed: a row, or a record that was created after the copy
+abbrev pub MayChange : ℕ → Content → Type 0
+MayChange mark Empty = ⊥
+MayChange mark (Record row values held made) = Unit {0}
+MayChange mark (Pending values since made) = nat_lt mark made ≡ true
+
+-- such a change keeps it
+abbrev pub AllowsUpdates : (State → Type 0) → ℕ → Type 0
+AllowsUpdates P mark = (at : Place) (c : Content) (s : State) → MayChange mark (content_in at s) → P s → P (holding_in at c s)
+
+drops_pending : (P : State → Type 0) (mark : ℕ) (at : Place) (made : ℕ) (b : Bool) (s : State) (ans : List Answer) → nat_lt mark made ≡ b → (nat_lt mark made ≡ true → P (holding_in at Empty s)) → P s → Holds P (where_so b (first_with (holding_in at Empty) (goes Ran)) (goes Ran) s ans)
+drops_pending P mark at made true s ans e x h = x e
+drops_pending P mark at made false s ans e x h = h
+
+holds_either : (P : State → Type 0) (b : Bool) (one other : Part) (s : State) (ans : List Answer) → Holds P (one s ans) → Holds P (other s ans) → Holds P (where_so b one other s ans)
+holds_either P true one other s ans x y = x
+holds_either P false one other s ans x y = y
+
+preserves_updates_content : (P : State → Type 0) (mark : ℕ) → IgnoresUnits P → AllowsUpdates P mark → (at : Place) (t : ℕ) (c : Content) (s : State) (ans : List Answer) → c ≡ content_in at s → P s → Holds P (updates_content mark at t c s ans)
+preserves_updates_content P mark u k at t Empty s ans e h = h
+preserves_updates_content P mark u k at t (Pending values since made) s ans e h =
+    drops_pending P mark at made (nat_lt mark made) s ans refl (λ l. k at Empty s (subst (MayChange mark) e l) h) h
+preserves_updates_content P mark u k at t (Record row values held made) s ans e h =
+    holds_either P (made_later mark made) (first_with (holding_in at Empty) (goes Ran)) (asks (op.Get t row) (was_got at row held made)) s ans
+    (k at Empty s (subst (MayChange mark) e tt) h)
+    (preserves_from P u s.units (op.Get t row) (was_got at row held made) s (λ m a ans. k at (got_content (values_in a) row held made) (record s { units = m }) (subst (MayChange mark) e tt) (u s m h)) h ans)
+
+preserves_updates_places : (P : State → Type 0) (mark : ℕ) → IgnoresUnits P → AllowsUpdates P mark → (but : List ℕ) (places : List Place) → Preserves P (updates_places mark but places)
+preserves_updates_places P mark u k but [] s ans h = h
+preserves_updates_places P mark u k but (at ∷ more) s ans h =
+    preserves_then P (where_so (is_left_out but at) (goes Ran) (updates mark at)) (updates_places mark but more)
+    (preserves_where P (is_left_out but at) (goes Ran) (updates mark at) (preserves_goes P Ran)
+    (λ s ans h. preserves_updates_content P mark u k at (buffer_in at s).table (content_in at s) s ans refl h))
+    (preserves_updates_places P mark u k but more) s ans h
+
+-- ---- the five steps
+
+-- what the steps after the putting back keep
+pub record Survives (P : State → Type 0) (mark : ℕ) (but : List ℕ) : Type 0 where
+  pub units : IgnoresUnits P
+  pub updates : AllowsUpdates P mark
+  pub leaving : (b : Bool) (s : State) → P s → P (left_if b s)
+  pub emptying : (s : State) → P s → P (all_emptied but s)
+
+comes_back_keeps : (P : State → Type 0) (copy : Copy) (but : List ℕ) → Survives P copy.made but → (s : State) (ans : List Answer) → P (put_back copy s) → Holds P (comes_back copy but s ans)
+comes_back_keeps P copy but k s ans h =
+    preserves_then P (λ t ans. and_then (updates_places copy.made but (all_places (put_back copy s)) t ans) (leaves but)) (first_with (all_emptied but) (goes Ran))
+    (preserves_then P (updates_places copy.made but (all_places (put_back copy s))) (leaves but)
+    (preserves_updates_places P copy.made k.units k.updates but (all_places (put_back copy s)))
+    (λ s ans h. preserves_asks P k.units (op.Leave (keep_of but s)) was_left (λ a. preserves_first P left (goes Ran) (λ s. k.leaving (s.level == 1) s) (preserves_goes P Ran)) s ans h))
+    (preserves_first P (all_emptied but) (goes Ran) k.emptying (preserves_goes P Ran)) (put_back copy s) ans h
+
+-- where they run to their end. P speaks of the state that they begin with
+abbrev pub HoldsRan : (State → Type 0) → Course → Type 0
+HoldsRan P (Goes Ran s left) = P s
+HoldsRan P (Goes way s left) = Unit {0}
+HoldsRan P (Stands d) = Unit {0}
+
+holds_ran : (P : State → Type 0) (r : Course) → Holds P r → HoldsRan P r
+holds_ran P (Goes Ran s left) h = h
+holds_ran P (Goes way s left) h = tt
+holds_ran P (Stands d) h = tt
+
+back_hears : (P : State → Type 0) (copy : Copy) (but : List ℕ) → Survives P copy.made but → (s : State) → P (put_back copy s) → (ans : List Answer) → HoldsRan P (hears (op.Back copy.depth) (λ a. comes_back copy but) s ans)
+back_hears P copy but k s h [] = tt
+back_hears P copy but k s h (answer.Blocked holders ∷ ans) = back_hears P copy but k s h ans
+back_hears P copy but k s h (answer.NoMemory ∷ ans) = tt
+back_hears P copy but k s h (answer.Closed ∷ ans) = tt
+back_hears P copy but k s h (answer.Deadlock cycle ∷ ans) = tt
+back_hears P copy but k s h (answer.TxFull ∷ ans) = tt
+back_hears P copy but k s h (answer.TraceFull ∷ ans) = tt
+back_hears P copy but k s h (a ∷ ans) = holds_ran P (comes_back copy but s ans) (comes_back_keeps P copy but k s ans h)
+
+back_from : (n : ℕ) (P : State → Type 0) (copy : Copy) (but : List ℕ) → Survives P copy.made but → (s : State) → P (put_back copy s) → (ans : List Answer) → HoldsRan P (charged_from n (hears (op.Back copy.depth) (λ a. comes_back copy but)) s ans)
+back_from zero P copy but k s h ans = tt
+back_from (suc n) P copy but k s h ans = back_hears P copy but k (record s { units = n }) (k.units (put_back copy s) n h) ans
+
+-- what holds once the copy is put back, and survives the other steps, holds at their end
+pub undo_keeps : (P : State → Type 0) (copy : Copy) (but : List ℕ) → Survives P copy.made but → (s s' : State) (ans left : List Answer) → P (put_back copy s) → goes_back (Some copy) but s ans ≡ Goes Ran s' left → P s'
+undo_keeps P copy but k s s' ans left h e = subst (HoldsRan P) e (back_from s.units P copy but k s h ans)
+
+-- ---- variables and streams
+
+-- from a state on, only buffers, the level and the units differ
 pub record SameVariables (s s' : State) : Type 0 where
   pub undoable : undoable_of s' ≡ undoable_of s
   pub alone : LeftAlone s s'
 
-pub alone_itself : (s : State) → LeftAlone s s
-alone_itself s = record { kept = refl; streams = refl; at = refl; status = refl; returned = refl; written = refl; size = refl; made = refl }
+-- with other frames that have the same variables
+frames_same : (o s : State) (fs : List Frame) (n : ℕ) → map (λ f. f.undoable) fs ≡ undoable_of s → map (λ f. f.kept) fs ≡ kept_of s → SameVariables o s → SameVariables o (record s { frames = fs; level = n })
+frames_same o s fs n u k x = record {
+    undoable = u ∙ x.undoable;
+    alone = record {
+      kept = k ∙ x.alone.kept;
+      streams = x.alone.streams;
+      at = x.alone.at;
+      status = x.alone.status;
+      returned = x.alone.returned;
+      written = x.alone.written;
+      size = x.alone.size;
+      made = x.alone.made;
+    };
+  }
 
-alone_further : (s t u : State) → LeftAlone s t → LeftAlone t u → LeftAlone s u
-alone_further s t u x y = record {
-  kept = y.kept ∙ x.kept;
-  streams = y.streams ∙ x.streams;
-  at = y.at ∙ x.at;
-  status = y.status ∙ x.status;
-  returned = y.returned ∙ x.returned;
-  written = y.written ∙ x.written;
-  size = y.size ∙ x.size;
-  made = y.made ∙ x.made;
-}
+same_units : (o : State) → IgnoresUnits (SameVariables o)
+same_units o s n x = record {
+    undoable = x.undoable;
+    alone = record {
+      kept = x.alone.kept;
+      streams = x.alone.streams;
+      at = x.alone.at;
+      status = x.alone.status;
+      returned = x.alone.returned;
+      written = x.alone.written;
+      size = x.alone.size;
+      made = x.alone.made;
+    };
+  }
 
-same_itself : (s : State) → SameVariables s s
-same_itself s = record { undoable = refl; alone = alone_itself s }
-
-same_further : (s t u : State) → SameVariables s t → SameVariables t u → SameVariables s u
-same_further s t u x y = record { undoable = y.undoable ∙ x.undoable; alone = alone_further s t u x.alone y.alone }
-
--- frames with the same variables
-frames_same : (s : State) (fs : List Frame) → map (λ f. f.undoable) fs ≡ undoable_of s → map (λ f. f.kept) fs ≡ kept_of s → SameVariables s (record s { frames = fs })
-frames_same s fs u k = record { undoable = u; alone = record { kept = k; streams = refl; at = refl; status = refl; returned = refl; written = refl; size = refl; made = refl } }
-
--- ---- courses and parts that are so
-
-abbrev pub IsSame : State → Course → Type 0
-IsSame s (Goes way s' left) = SameVariables s s'
-IsSame s (Stands d) = Unit {0}
-
-abbrev pub IsQuiet : Part → Type 0
-IsQuiet go = (s : State) (ans : List Answer) → IsSame s (go s ans)
-
-is_same_earlier : (s t : State) (r : Course) → SameVariables s t → IsSame t r → IsSame s r
-is_same_earlier s t (Goes way u left) x y = same_further s t u x y
-is_same_earlier s t (Stands d) x y = tt
-
-quiet_goes : (way : Way) → IsQuiet (goes way)
-quiet_goes way s ans = same_itself s
-
-quiet_where : (b : Bool) (one other : Part) → IsQuiet one → IsQuiet other → IsQuiet (where_so b one other)
-quiet_where true one other x y s ans = x s ans
-quiet_where false one other x y s ans = y s ans
-
-quiet_first : (change : State → State) (go : Part) → ((s : State) → SameVariables s (change s)) → IsQuiet go → IsQuiet (first_with change go)
-quiet_first change go k x s ans = is_same_earlier s (change s) (go (change s) ans) (k s) (x (change s) ans)
-
-quiet_hears : (op : Op) (go : Answer → Part) → ((a : Answer) → IsQuiet (go a)) → (s : State) (ans : List Answer) → IsSame s (hears op go s ans)
-quiet_hears op go x s [] = tt
-quiet_hears op go x s (answer.Blocked holders ∷ ans) = quiet_hears op go x s ans
-quiet_hears op go x s (answer.NoMemory ∷ ans) = same_itself s
-quiet_hears op go x s (answer.Closed ∷ ans) = same_itself s
-quiet_hears op go x s (answer.Deadlock cycle ∷ ans) = same_itself s
-quiet_hears op go x s (answer.TxFull ∷ ans) = same_itself s
-quiet_hears op go x s (answer.TraceFull ∷ ans) = same_itself s
-quiet_hears op go x s (a ∷ ans) = x a s ans
-
-paid_same : (s : State) (n : ℕ) → SameVariables s (record s { units = n })
-paid_same s n = record { undoable = refl; alone = record { kept = refl; streams = refl; at = refl; status = refl; returned = refl; written = refl; size = refl; made = refl } }
-
-quiet_from : (n : ℕ) (op : Op) (go : Answer → Part) → ((a : Answer) → IsQuiet (go a)) → (s : State) (ans : List Answer) → IsSame s (charged_from n (hears op go) s ans)
-quiet_from zero op go x s ans = same_itself s
-quiet_from (suc n) op go x s ans = is_same_earlier s (record s { units = n }) (hears op go (record s { units = n }) ans) (paid_same s n) (quiet_hears op go x (record s { units = n }) ans)
-
-quiet_asks : (op : Op) (go : Answer → Part) → ((a : Answer) → IsQuiet (go a)) → IsQuiet (asks op go)
-quiet_asks op go x s ans = quiet_from s.units op go x s ans
-
-quiet_after : (way : Way) (next : Part) → IsQuiet next → IsQuiet (after_way way next)
-quiet_after Ran next x s ans = x s ans
-quiet_after way next x s ans = same_itself s
-
-quiet_and_then : (s : State) (r : Course) (next : Part) → IsSame s r → IsQuiet next → IsSame s (and_then r next)
-quiet_and_then s (Goes way t left) next x y = is_same_earlier s t (after_way way next t left) x (quiet_after way next y t left)
-quiet_and_then s (Stands d) next x y = tt
-
-quiet_then : (go next : Part) → IsQuiet go → IsQuiet next → IsQuiet (λ s ans. and_then (go s ans) next)
-quiet_then go next x y s ans = quiet_and_then s (go s ans) next (x s ans) y
-
--- ---- the steps
-
-holding_same : (at : Place) (c : Content) (s : State) → SameVariables s (holding_in at c s)
-holding_same at c s =
-    frames_same s _
+holding_same : (o : State) (at : Place) (c : Content) (s : State) → SameVariables o s → SameVariables o (holding_in at c s)
+holding_same o at c s x =
+    frames_same o s _ s.level
     (map-set_same (λ (f : Frame). f.undoable) s.frames at.out _ no_frame refl)
-    (map-set_same (λ (f : Frame). f.kept) s.frames at.out _ no_frame refl)
-
-quiet_holding : (at : Place) (c : Content) → IsQuiet (first_with (holding_in at c) (goes Ran))
-quiet_holding at c = quiet_first (holding_in at c) (goes Ran) (holding_same at c) (quiet_goes Ran)
-
-quiet_updates_content : (mark : ℕ) (at : Place) (t : ℕ) (c : Content) → IsQuiet (updates_content mark at t c)
-quiet_updates_content mark at t Empty = quiet_goes Ran
-quiet_updates_content mark at t (Pending values since made) = quiet_where (nat_lt mark made) (first_with (holding_in at Empty) (goes Ran)) (goes Ran) (quiet_holding at Empty) (quiet_goes Ran)
-quiet_updates_content mark at t (Record row values held made) =
-    quiet_where (made_later mark made) (first_with (holding_in at Empty) (goes Ran)) (asks (op.Get t row) (was_got at row held made)) (quiet_holding at Empty)
-    (quiet_asks (op.Get t row) (was_got at row held made) (λ a. quiet_holding at (got_content (values_in a) row held made)))
-
-quiet_updates_places : (mark : ℕ) (but : List ℕ) (places : List Place) → IsQuiet (updates_places mark but places)
-quiet_updates_places mark but [] s ans = same_itself s
-quiet_updates_places mark but (at ∷ more) s ans =
-    quiet_then (where_so (is_left_out but at) (goes Ran) (updates mark at)) (updates_places mark but more)
-    (quiet_where (is_left_out but at) (goes Ran) (updates mark at) (quiet_goes Ran) (λ s ans. quiet_updates_content mark at (buffer_in at s).table (buffer_in at s).content s ans))
-    (quiet_updates_places mark but more) s ans
+    (map-set_same (λ (f : Frame). f.kept) s.frames at.out _ no_frame refl) x
 
 shared_undoable : (fs : List Frame) → map (λ f. f.undoable) (shared fs) ≡ map (λ f. f.undoable) fs
 shared_undoable [] = refl
@@ -129,15 +201,9 @@ shared_kept : (fs : List Frame) → map (λ f. f.kept) (shared fs) ≡ map (λ f
 shared_kept [] = refl
 shared_kept (f ∷ fs) = ap (λ l. f.kept ∷ l) (shared_kept fs)
 
-left_if_same : (b : Bool) (s : State) → SameVariables s (left_if b s)
-left_if_same true s = record { undoable = shared_undoable s.frames; alone = record { kept = shared_kept s.frames; streams = refl; at = refl; status = refl; returned = refl; written = refl; size = refl; made = refl } }
-left_if_same false s = record { undoable = refl; alone = record { kept = refl; streams = refl; at = refl; status = refl; returned = refl; written = refl; size = refl; made = refl } }
-
-left_same : (s : State) → SameVariables s (left s)
-left_same s = let x = left_if_same (s.level == 1) s in record { undoable = x.undoable; alone = x.alone }
-
-quiet_leaves : (but : List ℕ) → IsQuiet (leaves but)
-quiet_leaves but s ans = quiet_asks (op.Leave (keep_of but s)) was_left (λ a. quiet_first left (goes Ran) left_same (quiet_goes Ran)) s ans
+left_same : (o : State) (b : Bool) (s : State) → SameVariables o s → SameVariables o (left_if b s)
+left_same o true s x = frames_same o s (shared s.frames) 0 (shared_undoable s.frames) (shared_kept s.frames) x
+left_same o false s x = frames_same o s s.frames _ refl refl x
 
 own_undoable : (fs : List Frame) (bs : List Buffer) → map (λ f. f.undoable) (with_own (record (own_frame fs) { buffers = bs }) fs) ≡ map (λ f. f.undoable) fs
 own_undoable [] bs = refl
@@ -147,19 +213,15 @@ own_kept : (fs : List Frame) (bs : List Buffer) → map (λ f. f.kept) (with_own
 own_kept [] bs = refl
 own_kept (f ∷ fs) bs = refl
 
-emptied_same : (b : ℕ) (s : State) → SameVariables s (emptied b s)
-emptied_same b s = frames_same s _ (own_undoable s.frames _) (own_kept s.frames _)
+emptied_same : (o : State) (b : ℕ) (s : State) → SameVariables o s → SameVariables o (emptied b s)
+emptied_same o b s x = frames_same o s _ s.level (own_undoable s.frames _) (own_kept s.frames _) x
 
-all_emptied_same : (bs : List ℕ) (s : State) → SameVariables s (all_emptied bs s)
-all_emptied_same [] s = same_itself s
-all_emptied_same (b ∷ bs) s = same_further s (emptied b s) (all_emptied bs (emptied b s)) (emptied_same b s) (all_emptied_same bs (emptied b s))
+all_emptied_same : (o : State) (bs : List ℕ) (s : State) → SameVariables o s → SameVariables o (all_emptied bs s)
+all_emptied_same o [] s x = x
+all_emptied_same o (b ∷ bs) s x = all_emptied_same o bs (emptied b s) (emptied_same o b s x)
 
--- after the copy is put back nothing else of the variables changes
-back_is_same : (copy : Copy) (but : List ℕ) (s : State) (ans : List Answer) → IsSame (put_back copy s) (comes_back copy but s ans)
-back_is_same copy but s ans =
-    quiet_then (λ t ans. and_then (updates_places copy.made but (all_places (put_back copy s)) t ans) (leaves but)) (first_with (all_emptied but) (goes Ran))
-    (quiet_then (updates_places copy.made but (all_places (put_back copy s))) (leaves but) (quiet_updates_places copy.made but (all_places (put_back copy s))) (quiet_leaves but))
-    (quiet_first (all_emptied but) (goes Ran) (all_emptied_same but) (quiet_goes Ran)) (put_back copy s) ans
+same_survives : (o : State) (mark : ℕ) (but : List ℕ) → Survives (SameVariables o) mark but
+same_survives o mark but = record { units = same_units o; updates = λ at c s m. holding_same o at c s; leaving = left_same o; emptying = all_emptied_same o but }
 
 -- ---- the copy
 
@@ -174,55 +236,23 @@ frames_back_undoable [] (f ∷ fs) e = absurd (omega arith)
 frames_back_undoable (c ∷ cs) [] e = absurd (omega arith)
 frames_back_undoable (c ∷ cs) (f ∷ fs) e = ap (λ l. c.undoable ∷ l) (frames_back_undoable cs fs (omega arith))
 
--- ---- the whole of the five steps
+same_itself : (s : State) → SameVariables s s
+same_itself s = record { undoable = refl; alone = record { kept = refl; streams = refl; at = refl; status = refl; returned = refl; written = refl; size = refl; made = refl } }
 
-pub record IsBack (copy : Copy) (s s' : State) : Type 0 where
-  pub undoable : undoable_of s' ≡ map (λ f. f.undoable) (frames_back copy.frames s.frames)
-  pub alone : LeftAlone s s'
-
-abbrev pub BackWay : Way → Copy → State → State → Type 0
-BackWay Ran copy s s' = IsBack copy s s'
-BackWay way copy s s' = Unit {0}
-
-abbrev pub IsBackIn : Copy → State → Course → Type 0
-IsBackIn copy s (Goes way s' left) = BackWay way copy s s'
-IsBackIn copy s (Stands d) = Unit {0}
-
-back_way : (way : Way) (copy : Copy) (s s' : State) → IsBack copy s s' → BackWay way copy s s'
-back_way Ran copy s s' x = x
-back_way way copy s s' x = tt
-
-put_back_alone : (copy : Copy) (s : State) → LeftAlone s (put_back copy s)
-put_back_alone copy s = record { kept = frames_back_kept copy.frames s.frames; streams = refl; at = refl; status = refl; returned = refl; written = refl; size = refl; made = refl }
-
-back_of_same : (copy : Copy) (s : State) (r : Course) → IsSame (put_back copy s) r → IsBackIn copy s r
-back_of_same copy s (Goes way s' left) x = back_way way copy s s' (record { undoable = x.undoable; alone = alone_further s (put_back copy s) s' (put_back_alone copy s) x.alone })
-back_of_same copy s (Stands d) x = tt
-
-back_hears : (copy : Copy) (but : List ℕ) (s : State) (ans : List Answer) → IsBackIn copy s (hears (op.Back copy.depth) (λ a. comes_back copy but) s ans)
-back_hears copy but s [] = tt
-back_hears copy but s (answer.Blocked holders ∷ ans) = back_hears copy but s ans
-back_hears copy but s (answer.NoMemory ∷ ans) = tt
-back_hears copy but s (answer.Closed ∷ ans) = tt
-back_hears copy but s (answer.Deadlock cycle ∷ ans) = tt
-back_hears copy but s (answer.TxFull ∷ ans) = tt
-back_hears copy but s (answer.TraceFull ∷ ans) = tt
-back_hears copy but s (a ∷ ans) = back_of_same copy s (comes_back copy but s ans) (back_is_same copy but s ans)
-
-back_earlier : (way : Way) (copy : Copy) (s : State) (n : ℕ) (s' : State) → BackWay way copy (record s { units = n }) s' → BackWay way copy s s'
-back_earlier Ran copy s n s' x = record { undoable = x.undoable; alone = alone_further s (record s { units = n }) s' (paid_same s n).alone x.alone }
-back_earlier way copy s n s' x = tt
-
-back_in_earlier : (copy : Copy) (s : State) (n : ℕ) (r : Course) → IsBackIn copy (record s { units = n }) r → IsBackIn copy s r
-back_in_earlier copy s n (Goes way s' left) x = back_earlier way copy s n s' x
-back_in_earlier copy s n (Stands d) x = tt
-
-back_from : (n : ℕ) (copy : Copy) (but : List ℕ) (s : State) (ans : List Answer) → IsBackIn copy s (charged_from n (hears (op.Back copy.depth) (λ a. comes_back copy but)) s ans)
-back_from zero copy but s ans = tt
-back_from (suc n) copy but s ans = back_in_earlier copy s n (hears (op.Back copy.depth) (λ a. comes_back copy but) (record s { units = n }) ans) (back_hears copy but (record s { units = n }) ans)
-
-pub undo_is_back : (copy : Copy) (but : List ℕ) (s s' : State) (ans left : List Answer) → goes_back (Some copy) but s ans ≡ Goes Ran s' left → IsBack copy s s'
-undo_is_back copy but s s' ans left e = subst (IsBackIn copy s) e (back_from s.units copy but s ans)
+undo_is_same : (copy : Copy) (but : List ℕ) (s s' : State) (ans left : List Answer) → goes_back (Some copy) but s ans ≡ Goes Ran s' left → SameVariables (put_back copy s) s'
+undo_is_same copy but s s' ans left e =
+    undo_keeps (SameVariables (put_back copy s)) copy but (same_survives (put_back copy s) copy.made but) s s' ans left (same_itself (put_back copy s)) e
 
 pub undo_gives_variables : (copy : Copy) (but : List ℕ) (s s' : State) (ans left : List Answer) → length copy.frames ≡ length s.frames → goes_back (Some copy) but s ans ≡ Goes Ran s' left → undoable_of s' ≡ saved_variables copy
-undo_gives_variables copy but s s' ans left l e = (undo_is_back copy but s s' ans left e).undoable ∙ frames_back_undoable copy.frames s.frames l
+undo_gives_variables copy but s s' ans left l e = (undo_is_same copy but s s' ans left e).undoable ∙ frames_back_undoable copy.frames s.frames l
+
+pub undo_leaves_alone : (copy : Copy) (but : List ℕ) (s s' : State) (ans left : List Answer) → goes_back (Some copy) but s ans ≡ Goes Ran s' left → LeftAlone s s'
+undo_leaves_alone copy but s s' ans left e =
+    let x = (undo_is_same copy but s s' ans left e).alone in
+    record { kept = x.kept ∙ frames_back_kept copy.frames s.frames; streams = x.streams; at = x.at; status = x.status; returned = x.returned; written = x.written; size = x.size; made = x.made }
+
+-- ---- pending records
+
+-- the buffer at a place has this record pending
+abbrev pub HasPending : Place → List Value → List ℕ → ℕ → State → Type 0
+HasPending at values since made s = content_in at s ≡ Pending values since made

@@ -1,4 +1,5 @@
 pub mod Small
+pub mod Expressions
 pub mod Rows
 pub mod Records
 pub mod Procedures
