@@ -3,3 +3,4 @@ pub mod Parts
 pub mod Whole
 pub mod Runs
 pub mod Undone
+pub mod Pending

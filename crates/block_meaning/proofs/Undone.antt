@@ -1,9 +1,6 @@
 -- What the five steps of an UNDO keep, once the copy is put back: all but buffers and levels, and pending records of it.
-use Rattle.std.proofs.Common.{◌≡◌, refl, sym, ap, ◌∙◌, subst, ℕ, zero, suc, ◌+◌, ◌≤◌, ◌<◌, ◌==◌, nat_lt, List, [], ◌∷◌, ◌++◌, map, length, Bool, true, false, Option, Some, None, arith}
-use Rattle.std.specs.Prelude.{slice_index_or}
+use Rattle.std.proofs.Common.{◌≡◌, refl, ap, ◌∙◌, subst, ℕ, zero, suc, ◌==◌, nat_lt, List, [], ◌∷◌, map, length, Bool, true, false, Some, arith}
 use Rattle.std.proofs.Math.Seq.{map-set_same}
-use Rattle.abl_base.specs.declared.row.RowId.{RowId}
-use Rattle.abl_base.specs.declared.value.Value.{Value}
 use Rattle.database_meaning.specs.declared.operation.Op.{Op}
 use Rattle.database_meaning.specs.declared.operation.Op.TheVariants as op
 use Rattle.database_meaning.specs.declared.operation.Answer.{Answer}
@@ -159,33 +156,33 @@ pub record SameVariables (s s' : State) : Type 0 where
 -- with other frames that have the same variables
 frames_same : (o s : State) (fs : List Frame) (n : ℕ) → map (λ f. f.undoable) fs ≡ undoable_of s → map (λ f. f.kept) fs ≡ kept_of s → SameVariables o s → SameVariables o (record s { frames = fs; level = n })
 frames_same o s fs n u k x = record {
-    undoable = u ∙ x.undoable;
-    alone = record {
-      kept = k ∙ x.alone.kept;
-      streams = x.alone.streams;
-      at = x.alone.at;
-      status = x.alone.status;
-      returned = x.alone.returned;
-      written = x.alone.written;
-      size = x.alone.size;
-      made = x.alone.made;
-    };
-  }
+  undoable = u ∙ x.undoable;
+  alone = record {
+    kept = k ∙ x.alone.kept;
+    streams = x.alone.streams;
+    at = x.alone.at;
+    status = x.alone.status;
+    returned = x.alone.returned;
+    written = x.alone.written;
+    size = x.alone.size;
+    made = x.alone.made;
+  };
+}
 
 same_units : (o : State) → IgnoresUnits (SameVariables o)
 same_units o s n x = record {
-    undoable = x.undoable;
-    alone = record {
-      kept = x.alone.kept;
-      streams = x.alone.streams;
-      at = x.alone.at;
-      status = x.alone.status;
-      returned = x.alone.returned;
-      written = x.alone.written;
-      size = x.alone.size;
-      made = x.alone.made;
-    };
-  }
+  undoable = x.undoable;
+  alone = record {
+    kept = x.alone.kept;
+    streams = x.alone.streams;
+    at = x.alone.at;
+    status = x.alone.status;
+    returned = x.alone.returned;
+    written = x.alone.written;
+    size = x.alone.size;
+    made = x.alone.made;
+  };
+}
 
 holding_same : (o : State) (at : Place) (c : Content) (s : State) → SameVariables o s → SameVariables o (holding_in at c s)
 holding_same o at c s x =
@@ -250,9 +247,3 @@ pub undo_leaves_alone : (copy : Copy) (but : List ℕ) (s s' : State) (ans left 
 undo_leaves_alone copy but s s' ans left e =
     let x = (undo_is_same copy but s s' ans left e).alone in
     record { kept = x.kept ∙ frames_back_kept copy.frames s.frames; streams = x.streams; at = x.at; status = x.status; returned = x.returned; written = x.written; size = x.size; made = x.made }
-
--- ---- pending records
-
--- the buffer at a place has this record pending
-abbrev pub HasPending : Place → List Value → List ℕ → ℕ → State → Type 0
-HasPending at values since made s = content_in at s ≡ Pending values since made

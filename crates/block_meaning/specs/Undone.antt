@@ -1,5 +1,5 @@
 -- What an UNDO gives back, and what it leaves alone.
-use Rattle.std.specs.Prelude.{◌≡◌, ℕ, List, [], map, slice_index_or}
+use Rattle.std.specs.Prelude.{◌≡◌, List, [], map, slice_index_or}
 use Rattle.abl_base.specs.declared.value.Value.{Value}
 use Rattle.block_meaning.specs.State.{State, Content, Empty, Saved, Copy}
 use Rattle.block_meaning.specs.Buffers.{Place, buffer_in}
@@ -14,6 +14,13 @@ kept_of s = map (λ f. f.kept) s.frames
 -- the undoable variables in a copy
 abbrev pub saved_variables : Copy → List (List Value)
 saved_variables copy = map (λ f. f.undoable) copy.frames
+
+-- what a copy has of the buffer at a place
+abbrev pub no_saved : Saved
+no_saved = record { undoable = []; contents = [] }
+
+abbrev pub saved_content : Place → Copy → Content
+saved_content at copy = slice_index_or (slice_index_or copy.frames at.out no_saved).contents at.number Empty
 
 -- what a buffer holds
 abbrev pub content_in : Place → State → Content

@@ -1,8 +1,7 @@
 -- What operators and functions give.
-use Rattle.std.specs.Prelude.{◌≡◌, ℕ, List, [], ◌∷◌, codes, Bool, true, false, Option, Some, None, Ok, Err, refl, pos, negsuc}
+use Rattle.std.specs.Prelude.{◌≡◌, ℕ, List, [], codes, true, false, Some, None, Ok, Err, refl, pos, negsuc}
 use Rattle.std.specs.Fmt.{digits}
-use Rattle.abl_base.specs.declared.value.Value.{Value}
-use Rattle.abl_base.specs.declared.value.Value.TheVariants.{Text, Int, Int64, Dec, Logical, Date, Unknown}
+use Rattle.abl_base.specs.declared.value.Value.TheVariants.{Text, Int, Int64, Dec, Logical, Unknown}
 use Rattle.abl_base.specs.declared.value.Kind.TheVariants as kind
 use Rattle.abl_base.specs.Arithmetic.{sum_of, difference_of, product_of, quotient_of, remainder_of}
 use Rattle.abl_base.specs.Dates.{date_from, date_of_day, date_after, day_number}
@@ -263,4 +262,3 @@ no_leap_day = refl
 days_between_dates : gives (Two two.Subtract (Three three.DateOf (n 3) (n 1) (n 2024)) (Three three.DateOf (n 2) (n 28) (n 2024))) ≡ Ok (Int64 (pos 2))
 unfolding sum_of difference_of product_of quotient_of remainder_of fitted value_order plain_text digits date_from date_of_day date_after day_number
 days_between_dates = refl
-

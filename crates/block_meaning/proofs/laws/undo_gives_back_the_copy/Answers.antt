@@ -1,4 +1,5 @@
 use Rattle.block_meaning.proofs.Undone.{undo_gives_variables, undo_leaves_alone}
+use Rattle.block_meaning.proofs.Pending.{undo_gives_pending}
 use Rattle.block_meaning.proofs.laws.undo_gives_back_the_copy.Goals as goal
 
 pub returns-clause-variables : goal.returns-clause-variables
@@ -6,3 +7,6 @@ returns-clause-variables c = undo_gives_variables
 
 pub returns-clause-alone : goal.returns-clause-alone
 returns-clause-alone c = undo_leaves_alone
+
+pub returns-clause-pending : goal.returns-clause-pending
+returns-clause-pending c = undo_gives_pending
