@@ -4,3 +4,4 @@ pub mod Whole
 pub mod Runs
 pub mod Undone
 pub mod Pending
+pub mod Older

@@ -14,10 +14,10 @@ use Rattle.block_meaning.specs.Undone.{no_saved, saved_content, content_in}
 use Rattle.block_meaning.proofs.Undone.{MayChange, AllowsUpdates, Survives, undo_keeps}
 
 -- a buffer by the numbers of its frame and its own, and the frames where it holds something else
-abbrev at_numbers : List Frame → ℕ → ℕ → Buffer
+abbrev pub at_numbers : List Frame → ℕ → ℕ → Buffer
 at_numbers fs o n = slice_index_or (slice_index_or fs o no_frame).buffers n no_buffer
 
-abbrev put_at : List Frame → ℕ → ℕ → Content → List Frame
+abbrev pub put_at : List Frame → ℕ → ℕ → Content → List Frame
 put_at fs o n c = slice_set fs o (record (slice_index_or fs o no_frame) { buffers = slice_set (slice_index_or fs o no_frame).buffers n (record (at_numbers fs o n) { content = c }) })
 
 -- what is the same of a frame that is replaced is the same of the list's
@@ -30,7 +30,7 @@ put_number : (fs : List Frame) (o n m : ℕ) (c : Content) → (n ≡ m → ⊥)
 put_number fs o n m c ne =
     set_keeps (λ f. slice_index_or f.buffers n no_buffer) fs o _ (get_or-set_other (slice_index_or fs o no_frame).buffers m n (record (at_numbers fs o m) { content = c }) no_buffer ne)
 
-put_other : (fs : List Frame) (o n k m : ℕ) (c : Content) → (o ≡ k → n ≡ m → ⊥) → at_numbers (put_at fs k m c) o n ≡ at_numbers fs o n
+pub put_other : (fs : List Frame) (o n k m : ℕ) (c : Content) → (o ≡ k → n ≡ m → ⊥) → at_numbers (put_at fs k m c) o n ≡ at_numbers fs o n
 put_other fs o n k m c ne =
     elim (eqb_tells o k) [
       | inl t ↦ subst (λ j. at_numbers (put_at fs j m c) o n ≡ at_numbers fs o n) t.1 (put_number fs o n m c (ne t.1))
@@ -47,7 +47,7 @@ same_place : (fs : List Frame) (o n k m : ℕ) → o ≡ k → n ≡ m → at_nu
 same_place fs o n k m e f = sym (ap (λ j. at_numbers fs j n) e ∙ ap (at_numbers fs k) f)
 
 holding_pending : (at : Place) (values : List Value) (since : List ℕ) (made mark : ℕ) → made ≤ mark → AllowsUpdates (HasPending at values since made) mark
-holding_pending at values since made mark l to c s may h = ap (λ (b : Buffer). b.content) (put_other s.frames at.out at.number to.out to.number c apart) ∙ h
+holding_pending at values since made mark l to c s may becomes h = ap (λ (b : Buffer). b.content) (put_other s.frames at.out at.number to.out to.number c apart) ∙ h
   where
     apart : at.out ≡ to.out → at.number ≡ to.number → ⊥
     apart e f =
@@ -56,7 +56,7 @@ holding_pending at values since made mark l to c s may h = ap (λ (b : Buffer). 
         grind arith
 
 -- sharing leaves pending records
-shared_at : (fs : List Frame) (o n : ℕ) → at_numbers (shared fs) o n ≡ buffer_shared (at_numbers fs o n)
+pub shared_at : (fs : List Frame) (o n : ℕ) → at_numbers (shared fs) o n ≡ buffer_shared (at_numbers fs o n)
 shared_at fs o n =
     ap (λ (f : Frame). slice_index_or f.buffers n no_buffer) (get_or-map frame_shared fs o no_frame)
     ∙ get_or-map buffer_shared (slice_index_or fs o no_frame).buffers n no_buffer
@@ -66,7 +66,7 @@ left_pending at values since made true s h = ap (λ (b : Buffer). b.content) (sh
 left_pending at values since made false s h = h
 
 -- emptying other buffers of the procedure leaves it
-emptied_is : (b : ℕ) (fs : List Frame) → with_own (record (own_frame fs) { buffers = slice_set (own_frame fs).buffers b (record (slice_index_or (own_frame fs).buffers b no_buffer) { content = Empty }) }) fs ≡ put_at fs 0 b Empty
+pub emptied_is : (b : ℕ) (fs : List Frame) → with_own (record (own_frame fs) { buffers = slice_set (own_frame fs).buffers b (record (slice_index_or (own_frame fs).buffers b no_buffer) { content = Empty }) }) fs ≡ put_at fs 0 b Empty
 emptied_is b [] = refl
 emptied_is b (f ∷ fs) = refl
 
@@ -75,11 +75,11 @@ emptied_pending at values since made b s apart h =
     ap (λ fs. (at_numbers fs at.out at.number).content) (emptied_is b s.frames)
     ∙ ap (λ (b : Buffer). b.content) (put_other s.frames at.out at.number 0 b Empty apart) ∙ h
 
-or_false : (x y : Bool) → (x || y) ≡ false → (x ≡ false) × (y ≡ false)
+pub or_false : (x y : Bool) → (x || y) ≡ false → (x ≡ false) × (y ≡ false)
 or_false true y h = (h, absurd (grind arith))
 or_false false y h = (refl, h)
 
-not_both : (x : Bool) → x ≡ true → x ≡ false → ⊥
+pub not_both : (x : Bool) → x ≡ true → x ≡ false → ⊥
 not_both true a b = grind arith
 not_both false a b = grind arith
 
@@ -89,7 +89,7 @@ all_emptied_pending at values since made (b ∷ bs) out s h =
     all_emptied_pending at values since made bs (λ e. (or_false (at.number == b) (is_in at.number bs) (out e)).1) (emptied b s)
     (emptied_pending at values since made b s (λ e f. not_both (at.number == b) (eq-eqb at.number b f) (or_false (at.number == b) (is_in at.number bs) (out e)).0) h)
 
-and_false : (x y : Bool) → (x && y) ≡ false → x ≡ true → y ≡ false
+pub and_false : (x y : Bool) → (x && y) ≡ false → x ≡ true → y ≡ false
 and_false true y h e = h
 and_false false y h e = absurd (grind arith)
 

@@ -1,11 +1,13 @@
 -- What the five steps of an UNDO keep, once the copy is put back: all but buffers and levels, and pending records of it.
-use Rattle.std.proofs.Common.{◌≡◌, refl, ap, ◌∙◌, subst, ℕ, zero, suc, ◌==◌, nat_lt, List, [], ◌∷◌, map, length, Bool, true, false, Some, arith}
+use Rattle.std.proofs.Common.{◌≡◌, refl, ap, ◌∙◌, subst, ℕ, zero, suc, ◌==◌, nat_lt, List, [], ◌∷◌, map, length, Bool, true, false, Option, Some, None, arith}
 use Rattle.std.proofs.Math.Seq.{map-set_same}
+use Rattle.abl_base.specs.declared.row.RowId.{RowId}
+use Rattle.abl_base.specs.declared.value.Value.{Value}
 use Rattle.database_meaning.specs.declared.operation.Op.{Op}
 use Rattle.database_meaning.specs.declared.operation.Op.TheVariants as op
 use Rattle.database_meaning.specs.declared.operation.Answer.{Answer}
 use Rattle.database_meaning.specs.declared.operation.Answer.TheVariants as answer
-use Rattle.block_meaning.specs.State.{State, Frame, Buffer, Saved, Copy, Content, Empty, Record, Pending, Way, Ran, Course, Goes, Stands, Part, goes, where_so, first_with, charged_from, hears, asks, after_way, and_then, no_frame, own_frame, with_own, emptied, all_emptied, frames_back, put_back}
+use Rattle.block_meaning.specs.State.{State, Frame, Buffer, Saved, Copy, Content, Empty, Record, Pending, Held, Way, Ran, Course, Goes, Stands, Part, goes, where_so, first_with, charged_from, hears, asks, after_way, and_then, no_frame, own_frame, with_own, emptied, all_emptied, frames_back, put_back}
 use Rattle.block_meaning.specs.Views.{values_in}
 use Rattle.block_meaning.specs.Buffers.{Place, buffer_in, holding_in, all_places, keep_of, shared, left_if, left, was_left, leaves, got_content, was_got, made_later, updates_content, updates, is_left_out, updates_places}
 use Rattle.block_meaning.specs.Blocks.{comes_back, goes_back}
@@ -24,14 +26,14 @@ Preserves P go = (s : State) (ans : List Answer) → P s → Holds P (go s ans)
 abbrev pub IgnoresUnits : (State → Type 0) → Type 0
 IgnoresUnits P = (s : State) (n : ℕ) → P s → P (record s { units = n })
 
-preserves_goes : (P : State → Type 0) (way : Way) → Preserves P (goes way)
+pub preserves_goes : (P : State → Type 0) (way : Way) → Preserves P (goes way)
 preserves_goes P way s ans x = x
 
 preserves_where : (P : State → Type 0) (b : Bool) (one other : Part) → Preserves P one → Preserves P other → Preserves P (where_so b one other)
 preserves_where P true one other x y s ans h = x s ans h
 preserves_where P false one other x y s ans h = y s ans h
 
-preserves_first : (P : State → Type 0) (change : State → State) (go : Part) → ((s : State) → P s → P (change s)) → Preserves P go → Preserves P (first_with change go)
+pub preserves_first : (P : State → Type 0) (change : State → State) (go : Part) → ((s : State) → P s → P (change s)) → Preserves P go → Preserves P (first_with change go)
 preserves_first P change go k x s ans h = x (change s) ans (k s h)
 
 preserves_hears : (P : State → Type 0) (op : Op) (go : Answer → Part) (s : State) → ((a : Answer) (ans : List Answer) → Holds P (go a s ans)) → P s → (ans : List Answer) → Holds P (hears op go s ans)
@@ -45,11 +47,11 @@ preserves_hears P op go s x h (answer.TraceFull ∷ ans) = h
 preserves_hears P op go s x h (a ∷ ans) = x a ans
 
 -- an operation, where what follows its answer keeps it from the state with a unit less
-preserves_from : (P : State → Type 0) → IgnoresUnits P → (n : ℕ) (op : Op) (go : Answer → Part) (s : State) → ((m : ℕ) (a : Answer) (ans : List Answer) → Holds P (go a (record s { units = m }) ans)) → P s → (ans : List Answer) → Holds P (charged_from n (hears op go) s ans)
+pub preserves_from : (P : State → Type 0) → IgnoresUnits P → (n : ℕ) (op : Op) (go : Answer → Part) (s : State) → ((m : ℕ) (a : Answer) (ans : List Answer) → Holds P (go a (record s { units = m }) ans)) → P s → (ans : List Answer) → Holds P (charged_from n (hears op go) s ans)
 preserves_from P u zero op go s x h ans = h
 preserves_from P u (suc n) op go s x h ans = preserves_hears P op go (record s { units = n }) (x n) (u s n h) ans
 
-preserves_asks : (P : State → Type 0) → IgnoresUnits P → (op : Op) (go : Answer → Part) → ((a : Answer) → Preserves P (go a)) → Preserves P (asks op go)
+pub preserves_asks : (P : State → Type 0) → IgnoresUnits P → (op : Op) (go : Answer → Part) → ((a : Answer) → Preserves P (go a)) → Preserves P (asks op go)
 preserves_asks P u op go x s ans h = preserves_from P u s.units op go s (λ m a ans. x a (record s { units = m }) ans (u s m h)) h ans
 
 preserves_after : (P : State → Type 0) (way : Way) (next : Part) → Preserves P next → Preserves P (after_way way next)
@@ -71,28 +73,40 @@ MayChange mark Empty = ⊥
 MayChange mark (Record row values held made) = Unit {0}
 MayChange mark (Pending values since made) = nat_lt mark made ≡ true
 
+-- and what it may become: nothing, or a row that was not created after the copy
+abbrev pub MayBecome : ℕ → Content → Type 0
+MayBecome mark Empty = Unit {0}
+MayBecome mark (Record row values held made) = made_later mark made ≡ false
+MayBecome mark (Pending values since made) = ⊥
+
+got_may : (mark : ℕ) (o : Option (List Value)) (row : RowId) (held : Held) (made : Option ℕ) → made_later mark made ≡ false → MayBecome mark (got_content o row held made)
+got_may mark (Some values) row held made e = e
+got_may mark None row held made e = tt
+
 -- such a change keeps it
 abbrev pub AllowsUpdates : (State → Type 0) → ℕ → Type 0
-AllowsUpdates P mark = (at : Place) (c : Content) (s : State) → MayChange mark (content_in at s) → P s → P (holding_in at c s)
+AllowsUpdates P mark = (at : Place) (c : Content) (s : State) → MayChange mark (content_in at s) → MayBecome mark c → P s → P (holding_in at c s)
 
 drops_pending : (P : State → Type 0) (mark : ℕ) (at : Place) (made : ℕ) (b : Bool) (s : State) (ans : List Answer) → nat_lt mark made ≡ b → (nat_lt mark made ≡ true → P (holding_in at Empty s)) → P s → Holds P (where_so b (first_with (holding_in at Empty) (goes Ran)) (goes Ran) s ans)
 drops_pending P mark at made true s ans e x h = x e
 drops_pending P mark at made false s ans e x h = h
 
-holds_either : (P : State → Type 0) (b : Bool) (one other : Part) (s : State) (ans : List Answer) → Holds P (one s ans) → Holds P (other s ans) → Holds P (where_so b one other s ans)
-holds_either P true one other s ans x y = x
-holds_either P false one other s ans x y = y
+holds_either : (P : State → Type 0) (b : Bool) (one other : Part) (s : State) (ans : List Answer) → (b ≡ true → Holds P (one s ans)) → (b ≡ false → Holds P (other s ans)) → Holds P (where_so b one other s ans)
+holds_either P true one other s ans x y = x refl
+holds_either P false one other s ans x y = y refl
 
 preserves_updates_content : (P : State → Type 0) (mark : ℕ) → IgnoresUnits P → AllowsUpdates P mark → (at : Place) (t : ℕ) (c : Content) (s : State) (ans : List Answer) → c ≡ content_in at s → P s → Holds P (updates_content mark at t c s ans)
 preserves_updates_content P mark u k at t Empty s ans e h = h
 preserves_updates_content P mark u k at t (Pending values since made) s ans e h =
-    drops_pending P mark at made (nat_lt mark made) s ans refl (λ l. k at Empty s (subst (MayChange mark) e l) h) h
+    drops_pending P mark at made (nat_lt mark made) s ans refl (λ l. k at Empty s (subst (MayChange mark) e l) tt h) h
 preserves_updates_content P mark u k at t (Record row values held made) s ans e h =
     holds_either P (made_later mark made) (first_with (holding_in at Empty) (goes Ran)) (asks (op.Get t row) (was_got at row held made)) s ans
-    (k at Empty s (subst (MayChange mark) e tt) h)
-    (preserves_from P u s.units (op.Get t row) (was_got at row held made) s (λ m a ans. k at (got_content (values_in a) row held made) (record s { units = m }) (subst (MayChange mark) e tt) (u s m h)) h ans)
+    (λ l. k at Empty s (subst (MayChange mark) e tt) tt h)
+    (λ l.
+    preserves_from P u s.units (op.Get t row) (was_got at row held made) s
+    (λ m a ans. k at (got_content (values_in a) row held made) (record s { units = m }) (subst (MayChange mark) e tt) (got_may mark (values_in a) row held made l) (u s m h)) h ans)
 
-preserves_updates_places : (P : State → Type 0) (mark : ℕ) → IgnoresUnits P → AllowsUpdates P mark → (but : List ℕ) (places : List Place) → Preserves P (updates_places mark but places)
+pub preserves_updates_places : (P : State → Type 0) (mark : ℕ) → IgnoresUnits P → AllowsUpdates P mark → (but : List ℕ) (places : List Place) → Preserves P (updates_places mark but places)
 preserves_updates_places P mark u k but [] s ans h = h
 preserves_updates_places P mark u k but (at ∷ more) s ans h =
     preserves_then P (where_so (is_left_out but at) (goes Ran) (updates mark at)) (updates_places mark but more)
@@ -123,28 +137,35 @@ HoldsRan P (Goes Ran s left) = P s
 HoldsRan P (Goes way s left) = Unit {0}
 HoldsRan P (Stands d) = Unit {0}
 
-holds_ran : (P : State → Type 0) (r : Course) → Holds P r → HoldsRan P r
+pub holds_ran : (P : State → Type 0) (r : Course) → Holds P r → HoldsRan P r
 holds_ran P (Goes Ran s left) h = h
 holds_ran P (Goes way s left) h = tt
 holds_ran P (Stands d) h = tt
 
-back_hears : (P : State → Type 0) (copy : Copy) (but : List ℕ) → Survives P copy.made but → (s : State) → P (put_back copy s) → (ans : List Answer) → HoldsRan P (hears (op.Back copy.depth) (λ a. comes_back copy but) s ans)
-back_hears P copy but k s h [] = tt
-back_hears P copy but k s h (answer.Blocked holders ∷ ans) = back_hears P copy but k s h ans
-back_hears P copy but k s h (answer.NoMemory ∷ ans) = tt
-back_hears P copy but k s h (answer.Closed ∷ ans) = tt
-back_hears P copy but k s h (answer.Deadlock cycle ∷ ans) = tt
-back_hears P copy but k s h (answer.TxFull ∷ ans) = tt
-back_hears P copy but k s h (answer.TraceFull ∷ ans) = tt
-back_hears P copy but k s h (a ∷ ans) = holds_ran P (comes_back copy but s ans) (comes_back_keeps P copy but k s ans h)
+-- an operation, and what follows its answer
+ran_hears : (P : State → Type 0) (op : Op) (go : Answer → Part) (s : State) → ((a : Answer) (ans : List Answer) → HoldsRan P (go a s ans)) → (ans : List Answer) → HoldsRan P (hears op go s ans)
+ran_hears P op go s x [] = tt
+ran_hears P op go s x (answer.Blocked holders ∷ ans) = ran_hears P op go s x ans
+ran_hears P op go s x (answer.NoMemory ∷ ans) = tt
+ran_hears P op go s x (answer.Closed ∷ ans) = tt
+ran_hears P op go s x (answer.Deadlock cycle ∷ ans) = tt
+ran_hears P op go s x (answer.TxFull ∷ ans) = tt
+ran_hears P op go s x (answer.TraceFull ∷ ans) = tt
+ran_hears P op go s x (a ∷ ans) = x a ans
 
-back_from : (n : ℕ) (P : State → Type 0) (copy : Copy) (but : List ℕ) → Survives P copy.made but → (s : State) → P (put_back copy s) → (ans : List Answer) → HoldsRan P (charged_from n (hears (op.Back copy.depth) (λ a. comes_back copy but)) s ans)
-back_from zero P copy but k s h ans = tt
-back_from (suc n) P copy but k s h ans = back_hears P copy but k (record s { units = n }) (k.units (put_back copy s) n h) ans
+ran_from : (n : ℕ) (P : State → Type 0) (op : Op) (go : Answer → Part) (s : State) → ((m : ℕ) (a : Answer) (ans : List Answer) → HoldsRan P (go a (record s { units = m }) ans)) → (ans : List Answer) → HoldsRan P (charged_from n (hears op go) s ans)
+ran_from zero P op go s x ans = tt
+ran_from (suc n) P op go s x ans = ran_hears P op go (record s { units = n }) (x n) ans
+
+-- what holds where the steps after Back run to their end holds at the end of all five
+pub undo_ends : (P : State → Type 0) (copy : Copy) (but : List ℕ) (s s' : State) (ans left : List Answer) → ((m : ℕ) (ans : List Answer) → HoldsRan P (comes_back copy but (record s { units = m }) ans)) → goes_back (Some copy) but s ans ≡ Goes Ran s' left → P s'
+undo_ends P copy but s s' ans left x e = subst (HoldsRan P) e (ran_from s.units P (op.Back copy.depth) (λ a. comes_back copy but) s (λ m a ans. x m ans) ans)
 
 -- what holds once the copy is put back, and survives the other steps, holds at their end
 pub undo_keeps : (P : State → Type 0) (copy : Copy) (but : List ℕ) → Survives P copy.made but → (s s' : State) (ans left : List Answer) → P (put_back copy s) → goes_back (Some copy) but s ans ≡ Goes Ran s' left → P s'
-undo_keeps P copy but k s s' ans left h e = subst (HoldsRan P) e (back_from s.units P copy but k s h ans)
+undo_keeps P copy but k s s' ans left h e =
+    undo_ends P copy but s s' ans left
+    (λ m ans. holds_ran P (comes_back copy but (record s { units = m }) ans) (comes_back_keeps P copy but k (record s { units = m }) ans (k.units (put_back copy s) m h))) e
 
 -- ---- variables and streams
 
@@ -218,7 +239,7 @@ all_emptied_same o [] s x = x
 all_emptied_same o (b ∷ bs) s x = all_emptied_same o bs (emptied b s) (emptied_same o b s x)
 
 same_survives : (o : State) (mark : ℕ) (but : List ℕ) → Survives (SameVariables o) mark but
-same_survives o mark but = record { units = same_units o; updates = λ at c s m. holding_same o at c s; leaving = left_same o; emptying = all_emptied_same o but }
+same_survives o mark but = record { units = same_units o; updates = λ at c s m l. holding_same o at c s; leaving = left_same o; emptying = all_emptied_same o but }
 
 -- ---- the copy
 

@@ -1,8 +1,8 @@
 -- What an UNDO gives back, and what it leaves alone.
-use Rattle.std.specs.Prelude.{◌≡◌, List, [], map, slice_index_or}
+use Rattle.std.specs.Prelude.{◌≡◌, ◌≤◌, ℕ, false, List, [], map, slice_index_or}
 use Rattle.abl_base.specs.declared.value.Value.{Value}
-use Rattle.block_meaning.specs.State.{State, Content, Empty, Saved, Copy}
-use Rattle.block_meaning.specs.Buffers.{Place, buffer_in}
+use Rattle.block_meaning.specs.State.{State, Content, Empty, Record, Pending, Saved, Copy}
+use Rattle.block_meaning.specs.Buffers.{Place, buffer_in, made_later}
 
 -- the undoable and the NO-UNDO variables of each open procedure
 abbrev pub undoable_of : State → List (List Value)
@@ -25,6 +25,12 @@ saved_content at copy = slice_index_or (slice_index_or copy.frames at.out no_sav
 -- what a buffer holds
 abbrev pub content_in : Place → State → Content
 content_in at s = (buffer_in at s).content
+
+-- no record of the buffer's own CREATE that was made after so many
+abbrev pub IsOlder : ℕ → Content → Type 0
+IsOlder mark Empty = Unit {0}
+IsOlder mark (Record row values held made) = made_later mark made ≡ false
+IsOlder mark (Pending values since made) = made ≤ mark
 
 -- NO-UNDO variables, streams and their places, ERROR-STATUS, RETURN-VALUE, what was written and the count of creates are
 -- as before. Sequences are the database's

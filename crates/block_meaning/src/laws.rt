@@ -13,7 +13,7 @@ ghost use Rattle.block_meaning.specs.Buffers.{Place, frame_out, is_left_out};
 ghost use Rattle.block_meaning.specs.Blocks.{goes_back};
 ghost use Rattle.block_meaning.specs.Meaning.{run, asked, meaning, standing};
 ghost use Rattle.block_meaning.specs.GivesUp.{Begins, paid};
-ghost use Rattle.block_meaning.specs.Undone.{undoable_of, saved_variables, saved_content, content_in, LeftAlone};
+ghost use Rattle.block_meaning.specs.Undone.{undoable_of, saved_variables, saved_content, content_in, IsOlder, LeftAlone};
 
 use crate::wants::Wants;
 
@@ -45,9 +45,11 @@ pub fn units_never_grow()
 /// An UNDO with a level gives back exactly the undoable variables of the copy, where the copy has
 /// as many procedures as are open, which is so for each level that is open; it leaves every NO-UNDO
 /// variable, every place in a stream or input and what was written as they are; and a record that
-/// is pending in the copy is pending again, save in the buffers that are scoped inside.
+/// is pending in the copy is pending again, and no record that was created later is left, save in
+/// the buffers that are scoped inside.
 pub fn undo_gives_back_the_copy()
     ensures variables { (copy : Copy) (but : List ℕ) (s after : State) (ans left : List Answer) → length copy.frames ≡ length s.frames → goes_back (Some copy) but s ans ≡ Goes Ran after left → undoable_of after ≡ saved_variables copy }
     ensures alone { (copy : Copy) (but : List ℕ) (s after : State) (ans left : List Answer) → goes_back (Some copy) but s ans ≡ Goes Ran after left → LeftAlone s after }
     ensures pending { (copy : Copy) (but : List ℕ) (at : Place) (values : List Value) (since : List ℕ) (made : ℕ) (s after : State) (ans left : List Answer) → saved_content at copy ≡ Pending values since made → made ≤ copy.made → at.number < length (frame_out at.out s).buffers → is_left_out but at ≡ false → goes_back (Some copy) but s ans ≡ Goes Ran after left → content_in at after ≡ Pending values since made }
+    ensures older { (copy : Copy) (but : List ℕ) (at : Place) (s after : State) (ans left : List Answer) → at.number < length (frame_out at.out s).buffers → is_left_out but at ≡ false → goes_back (Some copy) but s ans ≡ Goes Ran after left → IsOlder copy.made (content_in at after) }
 {}
