@@ -14,12 +14,12 @@ use Rattle.block_meaning.proofs.Goes_on.{begins_same, GoesOn, Fits, After}
 use Rattle.block_meaning.proofs.Whole.{block_goes_on, meaning_all_goes_on, calls_go_on}
 
 -- the external procedure's block
-abbrev main_part : Program → Part
+abbrev pub main_part : Program → Part
 main_part p =
     block p (procedure_at p 0).header false
     (λ retry. meaning_all (procedure_at p 0).body (record { program = p; calls = calls_of p 32; retry = retry }))
 
-main_goes_on : (p : Program) → GoesOn (main_part p)
+pub main_goes_on : (p : Program) → GoesOn (main_part p)
 main_goes_on p =
     block_goes_on p (procedure_at p 0).header false
     (λ retry. meaning_all (procedure_at p 0).body (record { program = p; calls = calls_of p 32; retry = retry }))
@@ -46,7 +46,7 @@ run_grows p units ans more = finished_grows (start p units) ans (main_part p (st
 
 -- ---- an end stays
 
-finished_stays : (s : State) (ans : List Answer) (r again : Course) (more : List Answer) (e : ClientEnd) → Fits s ans r again more → (finished r).wants ≡ Ended e → finished again ≡ finished r
+pub finished_stays : (s : State) (ans : List Answer) (r again : Course) (more : List Answer) (e : ClientEnd) → Fits s ans r again more → (finished r).wants ≡ Ended e → finished again ≡ finished r
 finished_stays s ans (Goes way t []) again more e x h = absurd (subst IsAsked h tt)
 finished_stays s ans (Goes way t (a ∷ left)) again more e x h = ap finished x.same
 finished_stays s ans (Stands d) again more e x h = absurd (subst IsAsked h x.asked)

@@ -14,7 +14,7 @@ use Rattle.block_meaning.specs.declared.wants.Piece.{Piece}
 use Rattle.block_meaning.specs.declared.wants.Piece.TheVariants.{Wrote}
 use Rattle.block_meaning.specs.Program.{Program}
 use Rattle.block_meaning.specs.Lines.{Complaint, line_of}
-use Rattle.block_meaning.specs.State.{State, Copy, Behind, nothing_behind, Turn, Way, Ran, Again, Leaves, Nexts, Undoes, Faults, Raises, EndKeys, Returns, Stops, Got, Lacks, Course, Goes, Stands, Part, goes, own_frame, Outcome, outcome, done, wrote, where_so, first_with, charged, asks, and_then, budget_ends, emptied, all_emptied, put_back, copy_of, value_of, assigned}
+use Rattle.block_meaning.specs.State.{State, Copy, Behind, nothing_behind, Turn, Way, Ran, Again, Leaves, Nexts, Undoes, Faults, Raises, EndKeys, Returns, Stops, Got, Course, Goes, Stands, Part, goes, own_frame, Outcome, outcome, done, wrote, where_so, first_with, charged, asks, and_then, budget_ends, emptied, all_emptied, put_back, copy_of, value_of, assigned}
 use Rattle.block_meaning.specs.Values.{Evaluated, Gives, Fails, value_now, evaluates, given, fit, or_range}
 use Rattle.block_meaning.specs.Buffers.{enters_all, enters_places, all_places, releases_all, updates_places, leaves}
 use Rattle.block_meaning.specs.Reads.{fetches}
@@ -213,12 +213,12 @@ none_left b copy buffer = first_with (emptied buffer) (leaves_if copy b.scoped)
 abbrev pub runs_body : Program → Header → Option Copy → Turn → Part → Part
 runs_body p b copy t body s ans = ends p b (record { copy = copy; turn = t }) (body s ans)
 
--- the record of a FOR is read: the body runs, or the block is over. A fault takes the begun level back, and is one of the block around
+-- the record of a FOR is read: the body runs. A fault takes the begun level back, and is one of the block around. Else none is left
 abbrev pub fetched_way : Program → Header → Option Copy → Turn → ℕ → Part → Way → Part
 fetched_way p b copy t buffer body (Got own) = runs_body p b copy (record t { own = Some own }) body
-fetched_way p b copy t buffer body Lacks = none_left b copy buffer
 fetched_way p b copy t buffer body (Faults c) = λ s ans. and_then (goes_back copy b.scoped s ans) (goes (Faults c))
-fetched_way p b copy t buffer body way = goes way
+fetched_way p b copy t buffer body (Stops end) = goes (Stops end)
+fetched_way p b copy t buffer body way = none_left b copy buffer
 
 abbrev pub fetched : Program → Header → Option Copy → Turn → ℕ → Part → Course → Course
 fetched p b copy t buffer body (Goes way s ans) = fetched_way p b copy t buffer body way s ans

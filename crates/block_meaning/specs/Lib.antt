@@ -12,3 +12,4 @@ pub mod Streams
 pub mod Meaning
 pub mod GivesUp
 pub mod Undone
+pub mod Levels

@@ -13,6 +13,7 @@ ghost use Rattle.block_meaning.specs.Buffers.{Place, frame_out, is_left_out};
 ghost use Rattle.block_meaning.specs.Blocks.{goes_back};
 ghost use Rattle.block_meaning.specs.Meaning.{run, asked, meaning, standing};
 ghost use Rattle.block_meaning.specs.GivesUp.{Begins, paid};
+ghost use Rattle.block_meaning.specs.Levels.{CanAskAll, asked_once};
 ghost use Rattle.block_meaning.specs.Undone.{undoable_of, saved_variables, saved_content, content_in, IsOlder, LeftAlone};
 
 use crate::wants::Wants;
@@ -40,6 +41,12 @@ pub fn operations_are_paid()
 /// No statement gives back units.
 pub fn units_never_grow()
     ensures { (p : Program) (depth : ℕ) (retry : Bool) (t : Stmt) (s after : State) (ans left : List Answer) (way : Way) → meaning t (standing p depth retry) s ans ≡ Goes way after left → after.units ≤ s.units }
+{}
+
+/// A client asks Leave only where a level is open that its own Enter opened, and Back only of such a
+/// level; an operation that is asked again after Blocked counts once.
+pub fn leave_and_back_want_a_level()
+    ensures { (p : Program) (units : ℕ) (ans : List Answer) → CanAskAll 0 (asked_once (run p units) ans) }
 {}
 
 /// An UNDO with a level gives back exactly the undoable variables of the copy, where the copy has
