@@ -30,14 +30,50 @@ use Rattle.block_meaning.proofs.Pending.{not_both}
 use Rattle.block_meaning.proofs.Parts.{then_ran, given_all_goes_on, given_text_goes_on, enters_places_goes_on, releases_goes_on, releases_all_goes_on, unlocked_goes_on, fetches_goes_on, finds_as_goes_on, finds_goes_on, finds_current_goes_on, assigns_goes_on, creates_goes_on, deletes_goes_on}
 use Rattle.block_meaning.proofs.Whole.{CallsGoOn, complained_stays, goes_back_goes_on, enters_rest_goes_on, closing_goes_on, after_closing_way, after_closing_handles, iteration_goes_on, block_goes_on, writes_to_goes_on, opens_output_goes_on, exports_goes_on, imports_line_goes_on, cleared_keeps, quiet_find_goes_on, calls_go_on, meaning_goes_on, meaning_all_goes_on}
 use Rattle.block_meaning.proofs.Levels.{FirstAt, IsStop, Over, LevelsIn, Levels, Legal, FollowsTo, FollowsAt, steady_part, over_at_once, levels_goes, levels_where, in_at, in_where, in_ran, in_then, legal_at, levels_first, legal_from, levels_charged, legal_handled, levels_handled, follows_same, legal_then, levels_then, levels_done}
-use Rattle.block_meaning.proofs.Level_parts.{ran_levels, given_levels, given_all_levels, given_text_levels, releases_levels, releases_all_levels, finds_current_levels, assigns_levels, creates_levels, deletes_levels}
 use Rattle.bound_tree.specs.declared.statement.FindWord.{FindWord}
 use Rattle.bound_tree.specs.declared.statement.FindWord.TheVariants as find
-use Rattle.bound_tree.specs.Tree.{Reading}
+use Rattle.bound_tree.specs.Tree.{Reading, Assignment}
+use Rattle.block_meaning.specs.Values.{given_all, given_text, given, Text, IsText, HasFault, EvaluatedAll, GivesAll, FailsAll}
 use Rattle.block_meaning.specs.State.{marked_locked}
 use Rattle.block_meaning.specs.Reads.{finds_as, cursor_of, lacks, found_way, found}
-use Rattle.block_meaning.proofs.Level_reads.{Calm, searches_calm, unlocked_calm, fetches_calm}
+use Rattle.block_meaning.proofs.Level_parts.{Calm, calm_levels, searches_calm, unlocked_calm, fetches_calm, releases_all_calm, releases_calm, assigns_calm, creates_calm, deletes_calm, finds_current_calm}
 use Rattle.block_meaning.proofs.Level_undo.{Plain, Faulty, faulty_family, enters_places_faulty, releases_all_faulty, left_level, legal_goes_back}
+
+-- ---- what stands below
+
+-- a change and the end of the part
+ran_levels : (change : State → State) (way : Way) → ((s : State) → (change s).level ≡ s.level) → ((s : State) → Over s.level s.level way s) → Levels (first_with change (goes way))
+ran_levels change way k o = levels_first change (goes way) k (levels_goes way o)
+
+given_levels : (v : Evaluated) (go : Value → Part) → ((v : Value) → Levels (go v)) → Levels (given v go)
+given_levels (Gives v) go x s ans = x v s ans
+given_levels (Fails c) go x s ans = levels_goes (Faults (Some c)) (λ s. (refl, refl)) s ans
+
+given_all_levels : (v : EvaluatedAll) (go : List Value → Part) → ((vs : List Value) → Levels (go vs)) → Levels (given_all v go)
+given_all_levels (GivesAll vs) go x s ans = x vs s ans
+given_all_levels (FailsAll c) go x s ans = levels_goes (Faults (Some c)) (λ s. (refl, refl)) s ans
+
+given_text_levels : (t : Text) (go : List ℕ → Part) → ((bytes : List ℕ) → Levels (go bytes)) → Levels (given_text t go)
+given_text_levels (IsText bytes) go x s ans = x bytes s ans
+given_text_levels (HasFault c) go x s ans = levels_goes (Faults (Some c)) (λ s. (refl, refl)) s ans
+
+releases_all_levels : (p : Program) (bs : List ℕ) → Levels (releases_all p bs)
+releases_all_levels p bs = calm_levels (releases_all p bs) (releases_all_goes_on p bs) (releases_all_calm p bs)
+
+releases_levels : (p : Program) (b : ℕ) → Levels (releases p b)
+releases_levels p b = calm_levels (releases p b) (releases_goes_on p b) (releases_calm p b)
+
+assigns_levels : (p : Program) (xs : List Assignment) (retry : Bool) → Levels (assigns p xs retry)
+assigns_levels p xs retry = calm_levels (assigns p xs retry) (assigns_goes_on p xs retry) (assigns_calm p xs retry)
+
+creates_levels : (p : Program) (b : ℕ) → Levels (creates p b)
+creates_levels p b = calm_levels (creates p b) (creates_goes_on p b) (creates_calm p b)
+
+deletes_levels : (b : ℕ) → Levels (deletes b)
+deletes_levels b = calm_levels (deletes b) (deletes_goes_on b) (deletes_calm b)
+
+finds_current_levels : (r : Reading) (wait : Bool) → Levels (finds_current r wait)
+finds_current_levels r wait = calm_levels (finds_current r wait) (finds_current_goes_on r wait) (finds_current_calm r wait)
 
 -- ---- ways
 

@@ -7,7 +7,6 @@ pub mod Runs
 pub mod Undone
 pub mod Pending
 pub mod Older
-pub mod Level_reads
 pub mod Level_undo
 pub mod Level_blocks
 pub mod Level_runs
