@@ -3,6 +3,7 @@ use Rattle.std.specs.Prelude.{ℕ, Bool, List, Option}
 use Rattle.abl_base.specs.declared.value.Value.{Value}
 use Rattle.bound_tree.specs.declared.expression.Variable.{Variable}
 
+-- variables, fields, AVAILABLE, LOCKED, RETRY, ERROR-STATUS:ERROR and RETURN-VALUE
 pub record Env : Type 0 where
   pub variable : Variable → Value
   -- the field of a buffer's record, and none where the buffer is empty

@@ -30,10 +30,12 @@ abbrev pub literal_if : Bool → Value → Given
 literal_if true v = Err Range
 literal_if false v = Ok v
 
+-- a literal
 abbrev pub literal : Value → Given
 literal (Text t) = literal_if (nat_lt MAX_TEXT_BYTES (length t)) (Text t)
 literal v = Ok v
 
+-- a field of the record in buffer b, which may be empty
 abbrev pub field_or : Option Value → ℕ → Given
 field_or (Some v) b = Ok v
 field_or None b = Err (EmptyBuffer b)
@@ -79,6 +81,7 @@ abbrev pub as_kind : Option Kind → Value → Given
 as_kind (Some kind) v = in_range (fitted v kind)
 as_kind None v = Ok v
 
+-- one of two branches
 abbrev pub branch : Bool → Given → Given → Given
 branch true one other = one
 branch false one other = other

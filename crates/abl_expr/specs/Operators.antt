@@ -19,6 +19,7 @@ abbrev pub in_range : Result Value ArithFault → Given
 in_range (Ok v) = Ok v
 in_range (Err fault) = Err Range
 
+-- `?`
 abbrev pub is_unknown : Value → Bool
 is_unknown (Text t) = false
 is_unknown (Int n) = false
@@ -30,16 +31,19 @@ is_unknown Unknown = true
 
 -- ---- comparisons
 
+-- below
 abbrev pub is_less : Ordering → Bool
 is_less Less = true
 is_less Equal = false
 is_less Greater = false
 
+-- level
 abbrev pub is_level : Ordering → Bool
 is_level Less = false
 is_level Equal = true
 is_level Greater = false
 
+-- above
 abbrev pub is_greater : Ordering → Bool
 is_greater Less = false
 is_greater Equal = false
@@ -56,12 +60,15 @@ compared_as true false both holds = Unknown
 compared_as false true both holds = Unknown
 compared_as false false both holds = Logical holds
 
+-- a comparison of two values by their order
 abbrev pub compared : Bool → (Ordering → Bool) → Value → Value → Value
 compared both holds a b = compared_as (is_unknown a) (is_unknown b) both (holds (value_order a b))
 
+-- `<`
 abbrev pub less : Value → Value → Value
 less a b = compared false is_less a b
 
+-- `>`
 abbrev pub greater : Value → Value → Value
 greater a b = compared false is_greater a b
 
@@ -69,6 +76,7 @@ greater a b = compared false is_greater a b
 abbrev pub at_most : Value → Value → Value
 at_most a b = compared true (λ o. not (is_greater o)) a b
 
+-- `>=`
 abbrev pub at_least : Value → Value → Value
 at_least a b = compared true (λ o. not (is_less o)) a b
 
@@ -85,12 +93,15 @@ begins a b = Unknown
 
 -- ---- signs and NOT
 
+-- the sign `+`
 abbrev pub positive : Value → Given
 positive v = in_range (sum_of (Int64 (pos 0)) v)
 
+-- the sign `-`
 abbrev pub negative : Value → Given
 negative v = in_range (difference_of (Int64 (pos 0)) v)
 
+-- NOT
 abbrev pub opposite : Value → Value
 opposite (Logical b) = Logical (not b)
 opposite v = Unknown

@@ -25,10 +25,12 @@ use Rattle.block_meaning.specs.Reads.{fetches}
 abbrev pub line_piece : Program → Complaint → State → Piece
 line_piece p c s = Wrote None (line_of p (own_frame s.frames).procedure c)
 
+-- the line about a fault is written, if it has one
 abbrev pub complained : Program → Option Complaint → State → Outcome
 complained p None s = outcome Ran s
 complained p (Some c) s = wrote (line_piece p c s) s
 
+-- as a part
 abbrev pub complains : Program → Option Complaint → Part
 complains p c = done (complained p c)
 
@@ -38,12 +40,14 @@ errs p c go s ans = and_then (complains p c s ans) go
 
 -- ---- what kind of block it is
 
+-- REPEAT and FOR
 abbrev pub is_repeat_or_for : BlockKind → Bool
 is_repeat_or_for kind.Procedure = false
 is_repeat_or_for kind.Do = false
 is_repeat_or_for kind.Repeat = true
 is_repeat_or_for kind.For = true
 
+-- the phrase stands in the header
 abbrev pub is_given : {A : Type 0} → Option A → Bool
 is_given None = false
 is_given (Some a) = true
@@ -52,6 +56,7 @@ is_given (Some a) = true
 abbrev pub iterates : Header → Bool
 iterates b = is_repeat_or_for b.kind || (is_given b.to || is_given b.while_test)
 
+-- a procedure, a REPEAT or a FOR
 abbrev pub is_endkey_block : BlockKind → Bool
 is_endkey_block kind.Procedure = true
 is_endkey_block kind.Do = false
@@ -64,12 +69,14 @@ hears_endkey b = is_endkey_block b.kind
 
 -- ---- an open iteration
 
+-- an open iteration
 pub record Iteration : Type 0 where
   -- what went with its Enter, if it asked one
   pub copy : Option Copy
   -- what its turn began with
   pub turn : Turn
 
+-- the outer one of two levels
 abbrev pub first_of_two : Option Copy → Option Copy → Option Copy
 first_of_two None inner = inner
 first_of_two (Some copy) inner = Some copy
@@ -78,9 +85,11 @@ first_of_two (Some copy) inner = Some copy
 abbrev pub behind_too : Header → Iteration → Behind → Behind
 behind_too b o behind = record { first = first_of_two o.copy behind.first; buffers = b.scoped ++ behind.buffers }
 
+-- the turn that follows, with RETRY as given
 abbrev pub next_turn : Bool → Turn → Turn
 next_turn retry t = record t { retry = retry }
 
+-- one of two ways
 abbrev pub this_or : Bool → Way → Way → Way
 this_or true one other = one
 this_or false one other = other
@@ -100,6 +109,7 @@ comes_back copy but s ans =
     and_then (and_then (updates_places copy.made but (all_places (put_back copy s)) (put_back copy s) ans) (leaves but))
     (first_with (all_emptied but) (goes Ran))
 
+-- the five steps, where there is a level; else nothing
 abbrev pub goes_back : Option Copy → List ℕ → Part
 goes_back None but = goes Ran
 goes_back (Some copy) but = asks (op.Back copy.depth) (λ a. comes_back copy but)
@@ -109,10 +119,12 @@ abbrev pub text_from : Evaluated → List ℕ
 text_from (Gives v) = plain_text v
 text_from (Fails c) = []
 
+-- the text that RETURN gives, empty without an expression
 abbrev pub text_to_return : Program → Option Expr → Bool → State → List ℕ
 text_to_return p None retry s = []
 text_to_return p (Some e) retry s = text_from (value_now p e retry s)
 
+-- RETURN-VALUE has that text
 abbrev pub returns_with : Program → Option Expr → Bool → State → State
 returns_with p e retry s = record s { returned = text_to_return p e retry s }
 
@@ -125,6 +137,7 @@ abbrev pub does_not_retry : Bool → ℕ → Way
 does_not_retry true l = Nexts l
 does_not_retry false l = Leaves l
 
+-- what comes after the undoing
 abbrev pub acts : Program → Header → Iteration → Action → Bool → Part
 acts p b o ThenRetry retry = where_so b.flags.retry_seen (goes (Again (next_turn true o.turn))) (closes p b o (does_not_retry (iterates b) b.number))
 acts p b o (ThenLeave l) retry = closes p b o (Leaves l)
@@ -143,6 +156,7 @@ passes p b ended_way left_way s ans =
     (λ s ans. and_then (releases_all p b.scoped s ans) (goes ended_way))
     (goes left_way) s ans
 
+-- an UNDO on its way out: its block is reached, or the iteration is passed
 abbrev pub undo_comes : Program → Header → Iteration → ℕ → Action → Bool → Behind → Part
 undo_comes p b o target action retry behind =
     where_so (target == b.number) (undone p b o action retry (behind_too b o behind)) (passes p b (Undoes target action retry behind) (Undoes target action retry (behind_too b o behind)))
@@ -152,6 +166,7 @@ abbrev pub error_to : Program → Header → Iteration → Option OnPhrase → B
 error_to p b o None behind = undo_comes p b o b.number ThenRetry o.turn.retry behind
 error_to p b o (Some on) behind = undo_comes p b o on.target on.action o.turn.retry behind
 
+-- ERROR on its way out: a block with the undo property decides
 abbrev pub error_comes : Program → Header → Iteration → Behind → Part
 error_comes p b o behind = where_so b.flags.undo (error_to p b o b.on_error behind) (passes p b (Raises behind) (Raises (behind_too b o behind)))
 
@@ -162,6 +177,7 @@ endkey_to p b o (Some on) behind = undo_comes p b o on.target on.action o.turn.r
 
 -- ---- the end of an iteration
 
+-- the level of an iteration is left, if it has one
 abbrev pub leaves_if : Option Copy → List ℕ → Part
 leaves_if None but = goes Ran
 leaves_if (Some copy) but = leaves but
@@ -184,6 +200,7 @@ after_closing p b o way (Goes (Faults c) s ans) = errs p c (error_comes p b o no
 after_closing p b o way (Goes other s ans) = Goes other s ans
 after_closing p b o way (Stands d) = Stands d
 
+-- the iteration ends: it is closed, and the way goes on
 abbrev pub ended : Program → Header → Iteration → Way → Part
 ended p b o way s ans = after_closing p b o way (closing p b o s ans)
 
@@ -195,6 +212,7 @@ ends_way p b o (EndKeys behind) = endkey_to p b o b.on_endkey behind
 ends_way p b o (Stops end) = goes (Stops end)
 ends_way p b o way = ended p b o way
 
+-- as what is made of the course of its body
 abbrev pub ends : Program → Header → Iteration → Course → Course
 ends p b o (Goes way s ans) = ends_way p b o way s ans
 ends p b o (Stands d) = Stands d
@@ -210,6 +228,7 @@ enters_at b (suc n) = b.flags.undo
 abbrev pub none_left : Header → Option Copy → ℕ → Part
 none_left b copy buffer = first_with (emptied buffer) (leaves_if copy b.scoped)
 
+-- the body runs, and the iteration ends
 abbrev pub runs_body : Program → Header → Option Copy → Turn → Part → Part
 runs_body p b copy t body s ans = ends p b (record { copy = copy; turn = t }) (body s ans)
 
@@ -220,14 +239,17 @@ fetched_way p b copy t buffer body (Faults c) = λ s ans. and_then (goes_back co
 fetched_way p b copy t buffer body (Stops end) = goes (Stops end)
 fetched_way p b copy t buffer body way = none_left b copy buffer
 
+-- as what is made of the course of the reading
 abbrev pub fetched : Program → Header → Option Copy → Turn → ℕ → Part → Course → Course
 fetched p b copy t buffer body (Goes way s ans) = fetched_way p b copy t buffer body way s ans
 fetched p b copy t buffer body (Stands d) = Stands d
 
+-- the iteration begins: a FOR reads its record, any other block runs its body
 abbrev pub begins_as : Option Fetch → Program → Header → Option Copy → Turn → Bool → Part → Part
 begins_as None p b copy t retry body = runs_body p b copy t body
 begins_as (Some f) p b copy t retry body = λ s ans. fetched p b copy t f.reading.buffer body (fetches p f t retry s ans)
 
+-- by the header
 abbrev pub begins : Program → Header → Option Copy → Turn → Bool → Part → Part
 begins p b copy t retry body = begins_as b.fetch p b copy t retry body
 
@@ -235,9 +257,11 @@ begins p b copy t retry body = begins_as b.fetch p b copy t retry body
 abbrev pub deeper : State → State
 deeper s = record s { level = s.level + 1 }
 
+-- Enter is asked, and a copy goes with it
 abbrev pub inside : Program → Header → Turn → Bool → Part → Part
 inside p b t retry body = asks op.Enter (λ a s ans. begins p b (Some (copy_of s)) t retry body (deeper s) ans)
 
+-- Enter is asked where the header says so
 abbrev pub enters_level : Program → Header → Turn → Bool → Part → Part
 enters_level p b t retry body s ans = where_so (enters_at b s.level) (inside p b t retry body) (begins p b None t retry body) s ans
 
@@ -265,6 +289,7 @@ in_bound false v end = holds (at_most v end)
 abbrev pub reaches : Program → ToPhrase → Value → Bool → Part → Part
 reaches p l by retry go = evaluates p l.end retry (λ end s ans. where_so (in_bound (counts_down by) (value_of l.variable s) end) go (goes Ran) s ans)
 
+-- the variable gets this value, in its own kind
 abbrev pub set_to : Program → ToPhrase → Value → Bool → Evaluated → Part → Part
 set_to p l by retry v go = given v (λ v. given (fit l.variable.kind v) (λ v. first_with (assigned l.variable v) (reaches p l by retry go)))
 
@@ -272,6 +297,7 @@ set_to p l by retry v go = given v (λ v. given (fit l.variable.kind v) (λ v. f
 abbrev pub next_value : ToPhrase → Turn → State → Evaluated
 next_value l t s = or_range (sum_of (value_of l.variable s) t.by)
 
+-- the first value, or the next one
 abbrev pub steps : Program → ToPhrase → Turn → Bool → Option Value → Part → Part
 steps p l t retry None go s ans = set_to p l t.by retry (next_value l t s) go s ans
 steps p l t retry (Some v) go s ans = set_to p l t.by retry (Gives v) go s ans
@@ -281,6 +307,7 @@ abbrev pub steps_if : Program → Option ToPhrase → Turn → Bool → Part →
 steps_if p None t retry go = go
 steps_if p (Some l) t retry go = where_so t.retry go (steps p l t retry t.start go)
 
+-- its own RETRY, or that outside
 abbrev pub or_outer : Bool → Bool → Bool → Bool
 or_outer true own outer = own
 or_outer false own outer = outer
@@ -298,6 +325,7 @@ iteration p b outer body t =
 
 -- ---- a block
 
+-- another iteration
 abbrev pub again_way : Way → (Turn → Part) → Part
 again_way (Again t) next = next t
 again_way way next = goes way
@@ -312,13 +340,16 @@ abbrev pub turns : ℕ → Program → Header → Bool → (Bool → Part) → T
 turns zero p b outer body t s ans = Goes (Stops budget_ends) s ans
 turns (suc n) p b outer body t s ans = and_again (iteration p b outer body t s ans) (turns n p b outer body)
 
+-- the first turn
 abbrev pub first_turn : Option Value → Value → Turn
 first_turn start by = record { retry = false; start = start; by = by; own = None }
 
+-- the value of BY, and 1 without it
 abbrev pub by_of : Program → Option Expr → Bool → (Value → Part) → Part
 by_of p None outer go = go (Int64 (pos 1))
 by_of p (Some e) outer go = evaluates p e outer go
 
+-- the values that TO starts and counts with, and the iterations
 abbrev pub block_from : Option ToPhrase → Program → Header → Bool → (Bool → Part) → Part
 block_from None p b outer body = λ s ans. turns s.units p b outer body (first_turn None Unknown) s ans
 block_from (Some l) p b outer body =

@@ -23,10 +23,12 @@ abbrev pub is_blocked : Answer → Bool
 is_blocked (answer.Blocked holders) = true
 is_blocked a = false
 
+-- one more, but for Blocked
 abbrev pub paid_if : Bool → ℕ → ℕ
 paid_if true n = n
 paid_if false n = suc n
 
+-- in all
 abbrev pub paid : List Answer → ℕ
 paid [] = zero
 paid (a ∷ ans) = paid_if (is_blocked a) (paid ans)

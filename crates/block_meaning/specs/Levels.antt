@@ -25,6 +25,7 @@ abbrev pub CanAskAll : ℕ → List Op → Type 0
 CanAskAll k [] = Unit {0}
 CanAskAll k (o ∷ os) = CanAsk k o × CanAskAll (levels_after k o) os
 
+-- the operation, unless it was answered Blocked
 abbrev pub unless_blocked : Bool → List Op → List Op
 unless_blocked true os = []
 unless_blocked false os = os

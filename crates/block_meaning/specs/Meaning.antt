@@ -26,6 +26,7 @@ use Rattle.block_meaning.specs.Streams.{no_stream, writes_to, exports_record, op
 
 -- ---- NO-ERROR
 
+-- ERROR-STATUS:ERROR
 abbrev pub with_status : Bool → State → State
 with_status is s = record s { status = is }
 
@@ -34,6 +35,7 @@ abbrev pub cleared : Bool → State → State
 cleared true s = with_status false s
 cleared false s = s
 
+-- what becomes of a statement's fault
 abbrev pub heard_way : Program → Bool → Way → Part
 heard_way p false (Faults c) = errs p c (goes (Raises nothing_behind))
 heard_way p true (Faults c) = first_with (with_status true) (goes Ran)
@@ -58,10 +60,12 @@ abbrev pub quiet_way : Bool → Way → Part
 quiet_way true (EndKeys behind) = goes (Faults None)
 quiet_way quiet way = goes way
 
+-- as what is made of a course
 abbrev pub quiet_result : Bool → Course → Course
 quiet_result quiet (Goes way s ans) = quiet_way quiet way s ans
 quiet_result quiet (Stands d) = Stands d
 
+-- a FIND
 abbrev pub quiet_find : Bool → Part → Part
 quiet_find quiet does s ans = quiet_result quiet (does s ans)
 
@@ -73,6 +77,7 @@ argument_value p (In e) k retry s = bind (value_now p e retry s) (fit k)
 argument_value p (InOut y) k retry s = fit k (value_of y s)
 argument_value p (Out y) k retry s = Gives Unknown
 
+-- those of all arguments
 abbrev pub argument_values : Program → List Argument → List Variable → Bool → State → EvaluatedAll
 argument_values p [] params retry s = GivesAll []
 argument_values p (a ∷ rest) [] retry s = GivesAll []
@@ -99,6 +104,7 @@ copied_out (Out y ∷ rest) (x ∷ xs) f s = copied_out rest xs f (assigned y (v
 abbrev pub new_buffer : BufferDef → Buffer
 new_buffer b = record { table = b.table; content = Empty; spot = None; locked = false }
 
+-- its variables have their initial values, its buffers are empty
 abbrev pub new_frame : Program → ℕ → Frame
 new_frame p n = record {
   procedure = n;
@@ -107,10 +113,12 @@ new_frame p n = record {
   buffers = map new_buffer (procedure_at p n).buffers;
 }
 
+-- the procedures further out
 abbrev pub popped : List Frame → List Frame
 popped [] = []
 popped (f ∷ fs) = fs
 
+-- the procedure is over
 abbrev pub without_frame : State → State
 without_frame s = record s { frames = popped s.frames }
 
@@ -121,6 +129,7 @@ returned_way args q (Returns false) s ans = Goes Ran (copied_out args q.paramete
 returned_way args q (Returns true) s ans = Goes (Faults None) (without_frame s) ans
 returned_way args q way s ans = Goes way s ans
 
+-- as what is made of the course of its block
 abbrev pub returned : List Argument → Procedure → Course → Course
 returned args q (Goes way s ans) = returned_way args q way s ans
 returned args q (Stands d) = Stands d
@@ -133,9 +142,11 @@ pub record Around : Type 0 where
   pub calls : ℕ → List Argument → List Value → Part
   pub retry : Bool
 
+-- the same with RETRY as given
 abbrev pub retrying : Around → Bool → Around
 retrying w retry = record { program = w.program; calls = w.calls; retry = retry }
 
+-- RUN: the values of the arguments, and then the procedure
 abbrev pub runs : Around → ℕ → List Argument → Part
 runs w n args s ans = given_all (argument_values w.program args (procedure_at w.program n).parameters w.retry s) (w.calls n args) s ans
 
@@ -172,6 +183,7 @@ abbrev mutual
 
 -- ---- procedures
 
+-- the procedure is open, with its parameters
 abbrev pub opened_frame : Program → ℕ → List Argument → List Value → State → State
 opened_frame p n args vs s = record s { frames = params_set args (procedure_at p n).parameters vs (new_frame p n) ∷ s.frames }
 
@@ -195,16 +207,19 @@ abbrev pub ends_in : ClientEnd → State → List Answer → Doing
 ends_in e s [] = record { written = s.written; wants = Ask op.End }
 ends_in e s (a ∷ ans) = record { written = s.written; wants = Ended e }
 
+-- how the client ends where the external procedure is over in this way
 abbrev pub end_of : Way → State → ClientEnd
 end_of (Returns false) s = client.Returned
 end_of (Returns true) s = client.Error s.returned
 end_of (Stops e) s = e
 end_of way s = client.Normal
 
+-- what it has written and wants
 abbrev pub finished : Course → Doing
 finished (Goes way s ans) = ends_in (end_of way s) s ans
 finished (Stands d) = d
 
+-- the state in which it begins
 abbrev pub start : Program → ℕ → State
 start p units = record {
   frames = new_frame p 0 ∷ [];

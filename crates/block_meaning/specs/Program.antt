@@ -10,6 +10,7 @@ use Rattle.bound_tree.specs.declared.procedure.BufferDef.{BufferDef}
 use Rattle.bound_tree.specs.Tree.{Source, Procedure, Header, Nothing}
 use Rattle.abl_expr.specs.TextForms.{TextForms}
 
+-- the source, its inputs, and the forms of values in texts
 pub record Program : Type 0 where
   pub source : Source
   -- the client's own input, and the named ones
@@ -17,9 +18,11 @@ pub record Program : Type 0 where
   pub inputs : List (List ℕ)
   pub forms : TextForms
 
+-- a table of the schema
 abbrev pub table_at : Program → ℕ → TableDef
 table_at p t = slice_index_or p.source.tables t no_table
 
+-- what stands where a list has no such item
 abbrev pub no_header : Header
 no_header = record {
   number = 0;
@@ -33,6 +36,7 @@ no_header = record {
   on_endkey = None;
 }
 
+-- likewise
 abbrev pub no_procedure : Procedure
 no_procedure = record { undoable = []; kept = []; buffers = []; parameters = []; header = no_header; body = Nothing }
 
@@ -42,21 +46,27 @@ procedure_at p n = slice_index_or p.source.procedures n no_procedure
 
 -- ---- names, as the schema or the source spells them
 
+-- of a table
 abbrev pub table_name : Program → ℕ → List ℕ
 table_name p t = (table_at p t).name
 
+-- what stands where a table has no such field
 abbrev pub no_field : FieldDef
 no_field = record { name = []; kind = None; initial = Unknown; mandatory = false; mask = [] }
 
+-- of a field
 abbrev pub field_name : Program → ℕ → ℕ → List ℕ
 field_name p t f = (slice_index_or (table_at p t).fields f no_field).name
 
+-- what stands where a table has no such index
 abbrev pub no_index : IndexDef
 no_index = record { name = []; unique = false; parts = [] }
 
+-- of an index
 abbrev pub index_name : Program → ℕ → ℕ → List ℕ
 index_name p t i = (slice_index_or (table_at p t).indexes i no_index).name
 
+-- what stands where a procedure has no such buffer
 abbrev pub no_buffer_def : BufferDef
 no_buffer_def = record { name = []; table = 0 }
 

@@ -39,6 +39,7 @@ pub record Spot : Type 0 where
   pub index : Option ℕ
   pub cursor : Cursor
 
+-- a buffer: its table, what it holds, its cursor, and LOCKED
 pub record Buffer : Type 0 where
   pub table : ℕ
   pub content : Content
@@ -59,6 +60,7 @@ pub record Stream : Type 0 where
   pub input : Option ℕ
   pub at : ℕ
 
+-- the state of a client
 pub record State : Type 0 where
   -- the open procedures, the innermost first
   pub frames : List Frame
@@ -84,6 +86,7 @@ pub record Saved : Type 0 where
   pub undoable : List Value
   pub contents : List Content
 
+-- all of them
 pub record Copy : Type 0 where
   pub depth : ℕ
   pub made : ℕ
@@ -144,6 +147,7 @@ pub data Course : Type 0 where
 abbrev pub Part : Type 0
 Part = State → List Answer → Course
 
+-- nothing is passed yet
 abbrev pub nothing_behind : Behind
 nothing_behind = record { first = None; buffers = [] }
 
@@ -153,6 +157,7 @@ nothing_behind = record { first = None; buffers = [] }
 abbrev pub goes : Way → Part
 goes way s ans = Goes way s ans
 
+-- one of two parts
 abbrev pub where_so : Bool → Part → Part → Part
 where_so true one other s ans = one s ans
 where_so false one other s ans = other s ans
@@ -170,6 +175,7 @@ abbrev pub charged_from : ℕ → Part → Part
 charged_from zero go s ans = Goes (Stops budget_ends) s ans
 charged_from (suc n) go s ans = go (record s { units = n }) ans
 
+-- of the units that are left
 abbrev pub charged : Part → Part
 charged go s ans = charged_from s.units go s ans
 
@@ -194,6 +200,7 @@ abbrev pub after_way : Way → Part → Part
 after_way Ran next s ans = next s ans
 after_way way next s ans = Goes way s ans
 
+-- the next part, where this one ran to its end
 abbrev pub and_then : Course → Part → Course
 and_then (Goes way s ans) next = after_way way next s ans
 and_then (Stands d) next = Stands d
@@ -203,21 +210,26 @@ pub record Outcome : Type 0 where
   pub way : Way
   pub state : State
 
+-- a way and a state
 abbrev pub outcome : Way → State → Outcome
 outcome way s = record { way = way; state = s }
 
+-- as a part
 abbrev pub done : (State → Outcome) → Part
 done f s ans = Goes (f s).way (f s).state ans
 
+-- a fault
 abbrev pub has_fault : Complaint → Part
 has_fault c s ans = Goes (Faults (Some c)) s ans
 
 -- ---- writing
 
+-- how many bytes a piece writes
 abbrev pub bytes_in : Piece → ℕ
 bytes_in (Wrote section bytes) = length bytes
 bytes_in (Opened output append) = 0
 
+-- the piece is written, or the output is full
 abbrev pub written_if : Bool → Piece → State → Outcome
 written_if true piece s = outcome (Stops (client.Stop why.OutputFull)) s
 written_if false piece s = outcome Ran (record s { written = s.written ++ piece ∷ []; size = s.size + bytes_in piece })
@@ -226,14 +238,17 @@ written_if false piece s = outcome Ran (record s { written = s.written ++ piece 
 abbrev pub wrote : Piece → State → Outcome
 wrote piece s = written_if (nat_lt 16777216 (s.size + bytes_in piece)) piece s
 
+-- as a part
 abbrev pub writes : Piece → Part
 writes piece = done (wrote piece)
 
 -- ---- frames, variables and buffers
 
+-- what stands where no procedure is open
 abbrev pub no_frame : Frame
 no_frame = record { procedure = 0; undoable = []; kept = []; buffers = [] }
 
+-- what stands where a procedure has no such buffer
 abbrev pub no_buffer : Buffer
 no_buffer = record { table = 0; content = Empty; spot = None; locked = false }
 
@@ -242,32 +257,39 @@ abbrev pub own_frame : List Frame → Frame
 own_frame [] = no_frame
 own_frame (f ∷ fs) = f
 
+-- the outermost one
 abbrev pub last_frame : List Frame → Frame
 last_frame [] = no_frame
 last_frame (f ∷ []) = f
 last_frame (f ∷ g ∷ fs) = last_frame (g ∷ fs)
 
+-- with another innermost frame
 abbrev pub with_own : Frame → List Frame → List Frame
 with_own f [] = []
 with_own f (g ∷ fs) = f ∷ fs
 
+-- with another outermost frame
 abbrev pub with_last : Frame → List Frame → List Frame
 with_last f [] = []
 with_last f (g ∷ []) = f ∷ []
 with_last f (g ∷ h ∷ fs) = g ∷ with_last f (h ∷ fs)
 
+-- the frame of a variable: the external procedure's, or the own one
 abbrev pub frame_for : Bool → List Frame → Frame
 frame_for true fs = last_frame fs
 frame_for false fs = own_frame fs
 
+-- with another one
 abbrev pub with_frame_for : Bool → Frame → List Frame → List Frame
 with_frame_for true f fs = with_last f fs
 with_frame_for false f fs = with_own f fs
 
+-- a variable by its number: undoable, or NO-UNDO
 abbrev pub value_in : Bool → ℕ → Frame → Value
 value_in true n f = slice_index_or f.undoable n Unknown
 value_in false n f = slice_index_or f.kept n Unknown
 
+-- with another value
 abbrev pub set_in : Bool → ℕ → Value → Frame → Frame
 set_in true n v f = record f { undoable = slice_set f.undoable n v }
 set_in false n v f = record f { kept = slice_set f.kept n v }
@@ -276,6 +298,7 @@ set_in false n v f = record f { kept = slice_set f.kept n v }
 abbrev pub value_of : Variable → State → Value
 value_of x s = value_in x.undoable x.number (frame_for x.external s.frames)
 
+-- a variable has this value
 abbrev pub assigned : Variable → Value → State → State
 assigned x v s = record s { frames = with_frame_for x.external (set_in x.undoable x.number v (frame_for x.external s.frames)) s.frames }
 
@@ -283,36 +306,46 @@ assigned x v s = record s { frames = with_frame_for x.external (set_in x.undoabl
 abbrev pub buffer_at : ℕ → State → Buffer
 buffer_at b s = slice_index_or (own_frame s.frames).buffers b no_buffer
 
+-- with another one
 abbrev pub with_buffer : ℕ → Buffer → State → State
 with_buffer b x s = record s { frames = with_own (record (own_frame s.frames) { buffers = slice_set (own_frame s.frames).buffers b x }) s.frames }
 
+-- what it holds
 abbrev pub content_of : ℕ → State → Content
 content_of b s = (buffer_at b s).content
 
+-- its table
 abbrev pub table_of : ℕ → State → ℕ
 table_of b s = (buffer_at b s).table
 
+-- it holds this
 abbrev pub holding : ℕ → Content → State → State
 holding b c s = with_buffer b (record (buffer_at b s) { content = c }) s
 
+-- it holds nothing
 abbrev pub emptied : ℕ → State → State
 emptied b s = holding b Empty s
 
+-- several hold nothing
 abbrev pub all_emptied : List ℕ → State → State
 all_emptied [] s = s
 all_emptied (b ∷ bs) s = all_emptied bs (emptied b s)
 
+-- LOCKED is so
 abbrev pub marked_locked : ℕ → Bool → State → State
 marked_locked b is s = with_buffer b (record (buffer_at b s) { locked = is }) s
 
+-- its cursor
 abbrev pub with_spot : ℕ → Option Spot → State → State
 with_spot b spot s = with_buffer b (record (buffer_at b s) { spot = spot }) s
 
+-- with a lock
 abbrev pub is_held : Held → Bool
 is_held NoLock = false
 is_held Share = true
 is_held Exclusive = true
 
+-- the number is one of these
 abbrev pub is_in : ℕ → List ℕ → Bool
 is_in n [] = false
 is_in n (m ∷ ms) = (n == m) || is_in n ms
@@ -322,6 +355,7 @@ abbrev pub row_if : Bool → RowId → Option RowId
 row_if true row = Some row
 row_if false row = None
 
+-- of what a buffer holds
 abbrev pub locked_row : Content → Option RowId
 locked_row Empty = None
 locked_row (Record row values held made) = row_if (is_held held) row
@@ -329,11 +363,13 @@ locked_row (Pending values since made) = None
 
 -- ---- copies
 
+-- a pending record, and nothing else
 abbrev pub pending_of : Content → Content
 pending_of Empty = Empty
 pending_of (Record row values held made) = Empty
 pending_of (Pending values since made) = Pending values since made
 
+-- what a copy has of a procedure
 abbrev pub saved_of : Frame → Saved
 saved_of f = record { undoable = f.undoable; contents = map (λ b. pending_of b.content) f.buffers }
 
@@ -347,11 +383,13 @@ again_pending Empty b = b
 again_pending (Record row values held made) b = b
 again_pending (Pending values since made) b = record b { content = Pending values since made }
 
+-- in the buffers of a procedure
 abbrev pub all_again : List Content → List Buffer → List Buffer
 all_again [] bs = bs
 all_again (c ∷ cs) [] = []
 all_again (c ∷ cs) (b ∷ bs) = again_pending c b ∷ all_again cs bs
 
+-- in every procedure that the copy has
 abbrev pub frames_back : List Saved → List Frame → List Frame
 frames_back [] fs = fs
 frames_back (c ∷ cs) [] = []

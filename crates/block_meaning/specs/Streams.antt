@@ -15,12 +15,15 @@ use Rattle.block_meaning.specs.Changes.{assigns}
 
 -- ---- streams
 
+-- a stream that is not opened
 abbrev pub no_stream : Stream
 no_stream = record { output = None; input = None; at = 0 }
 
+-- a stream by its number, 0 for the unnamed one
 abbrev pub stream_at : ℕ → State → Stream
 stream_at n s = slice_index_or s.streams n no_stream
 
+-- with another one
 abbrev pub with_stream : ℕ → Stream → State → State
 with_stream n x s = record s { streams = slice_set s.streams n x }
 
@@ -53,10 +56,12 @@ abbrev pub input_of : Program → Option ℕ → List ℕ
 input_of p None = p.input
 input_of p (Some n) = slice_index_or p.inputs n []
 
+-- the place in it
 abbrev pub place_of : Option ℕ → Stream → State → ℕ
 place_of None x s = s.at
 place_of (Some n) x s = x.at
 
+-- the place moves to `next`
 abbrev pub read_up_to : Option ℕ → ℕ → Stream → ℕ → State → State
 read_up_to None n x next s = record s { at = next }
 read_up_to (Some i) n x next s = with_stream n (record x { at = next }) s
@@ -70,6 +75,7 @@ abbrev pub kind_of : Target → Kind
 kind_of (target.Variable x) = x.kind
 kind_of (target.Field b f kind) = kind
 
+-- those of all targets
 abbrev pub kinds_of : List (Option Target) → List (Option Kind)
 kinds_of [] = []
 kinds_of (None ∷ ts) = None ∷ kinds_of ts
@@ -89,6 +95,7 @@ imports_line p n ts retry AtInputEnd = goes (EndKeys nothing_behind)
 imports_line p n ts retry (BadElement number next) = first_with (read_to n next) (has_fault (BadField number))
 imports_line p n ts retry (Elements vs next) = first_with (read_to n next) (assigns p (pairs_of ts vs) retry)
 
+-- what the next line has for the targets
 abbrev pub line_now : Program → ℕ → List (Option Target) → State → Imported
 line_now p n ts s =
     p.forms.line_at (input_of p (stream_at n s).input) (place_of (stream_at n s).input (stream_at n s) s) (kinds_of ts)

@@ -8,6 +8,7 @@ use Rattle.block_meaning.specs.Buffers.{Place, buffer_in, made_later}
 abbrev pub undoable_of : State → List (List Value)
 undoable_of s = map (λ f. f.undoable) s.frames
 
+-- the NO-UNDO variables
 abbrev pub kept_of : State → List (List Value)
 kept_of s = map (λ f. f.kept) s.frames
 
@@ -19,6 +20,7 @@ saved_variables copy = map (λ f. f.undoable) copy.frames
 abbrev pub no_saved : Saved
 no_saved = record { undoable = []; contents = [] }
 
+-- the content saved at a place
 abbrev pub saved_content : Place → Copy → Content
 saved_content at copy = slice_index_or (slice_index_or copy.frames at.out no_saved).contents at.number Empty
 

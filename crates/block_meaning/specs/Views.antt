@@ -7,6 +7,7 @@ use Rattle.database_meaning.specs.declared.operation.Answer.{Answer}
 use Rattle.database_meaning.specs.declared.operation.Answer.TheVariants as answer
 use Rattle.block_meaning.specs.Lines.{Complaint, IsDuplicate, KeyIsTooLong, DatabaseFull, RecordIsGone}
 
+-- a record that was found
 pub record FoundRow : Type 0 where
   pub cursor : Cursor
   pub values : List Value
@@ -31,16 +32,19 @@ abbrev pub number_in : Answer → Option ℤ
 number_in (answer.Value n) = Some n
 number_in a = None
 
+-- what became of a lock
 pub data Grant : Type 0 where
   IsGranted : Grant
   IsBusy : Grant
   IsGone : Grant
 
+-- of the answer to Lock
 abbrev pub grant_in : Answer → Grant
 grant_in answer.Granted = IsGranted
 grant_in (answer.Busy holders) = IsBusy
 grant_in a = IsGone
 
+-- Gone
 abbrev pub is_gone : Answer → Bool
 is_gone answer.Gone = true
 is_gone a = false

@@ -46,26 +46,32 @@ abbrev pub maybe_expr_of : Option SourceExpr → Option Expr
 maybe_expr_of None = None
 maybe_expr_of (Some a) = Some (expr_of a)
 
+-- what becomes of an undone block
 abbrev pub action_of : SourceAction → Action
 action_of act.Retry = ThenRetry
 action_of (act.Leave l) = ThenLeave l
 action_of (act.Next l) = ThenNext l
 action_of (act.Return error a) = ThenReturn error (maybe_expr_of a)
 
+-- an ON phrase
 abbrev pub on_of : Option SourceOnPhrase → Option OnPhrase
 on_of None = None
 on_of (Some on) = Some (record { target = on.target; action = action_of on.action })
 
+-- a value of the bracket
 abbrev pub part_of : SourceBracketPart → BracketPart
 part_of x = record { kind = x.kind; value = expr_of x.value }
 
+-- how records are looked for
 abbrev pub reading_of : SourceReading → Reading
 reading_of r = record { buffer = r.buffer; index = r.index; bracket = map part_of r.bracket.items; test = maybe_expr_of r.test; lock = r.lock }
 
+-- the record phrase of a FOR
 abbrev pub fetch_of : Option SourceFetch → Option Fetch
 fetch_of None = None
 fetch_of (Some f) = Some (record { word = f.word; reading = reading_of f.reading })
 
+-- variable = start TO end BY by
 abbrev pub to_of : Option SourceToPhrase → Option ToPhrase
 to_of None = None
 to_of (Some x) = Some (record { variable = x.variable; start = expr_of x.start; end = expr_of x.end; by = maybe_expr_of x.by })
@@ -84,19 +90,23 @@ header_of h = record {
   on_endkey = on_of h.on_endkey;
 }
 
+-- what is assigned
 abbrev pub right_of : SourceRight → Right
 right_of (right.Value a) = ValueOf (expr_of a)
 right_of (right.NextValue q) = NextOf q
 right_of (right.CurrentValue q) = CurrentOf q
 
+-- target = right
 abbrev pub assignment_of : SourceAssignment → Assignment
 assignment_of x = record { target = x.target; right = right_of x.right }
 
+-- an argument of RUN
 abbrev pub argument_of : SourceArgument → Argument
 argument_of (arg.Input a) = In (expr_of a)
 argument_of (arg.Output x) = Out x
 argument_of (arg.InputOutput x) = InOut x
 
+-- an item of PUT
 abbrev pub item_of : PutItem → Item
 item_of (put.Shows a mask) = Shows (expr_of a) mask
 item_of (put.Skip n) = Skips n
@@ -140,6 +150,7 @@ abbrev pub body_of : List SourceStmt → Body
 body_of [] = Nothing
 body_of (t ∷ ts) = Then (stmt_of t) (body_of ts)
 
+-- a procedure
 abbrev pub procedure_of : SourceProcedure → Procedure
 procedure_of q = record {
   undoable = q.undoable;

@@ -90,6 +90,7 @@ pub data Right : Type 0 where
   CurrentOf : (sequence : ℕ) → Right
   Given : (value : Value) → Right
 
+-- target = right
 pub record Assignment : Type 0 where
   pub target : Target
   pub right : Right
