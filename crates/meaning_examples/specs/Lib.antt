@@ -3,3 +3,4 @@ pub mod Expressions
 pub mod Rows
 pub mod Records
 pub mod Procedures
+pub mod GivesUp

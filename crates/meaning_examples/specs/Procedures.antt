@@ -19,7 +19,7 @@ use Rattle.block_meaning.specs.declared.wants.Piece.TheVariants.{Wrote}
 use Rattle.block_meaning.specs.declared.wants.Wants.TheVariants.{Ended}
 use Rattle.block_meaning.specs.Program.{Program}
 use Rattle.block_meaning.specs.Meaning.{run, asked}
-use Rattle.meaning_examples.specs.Small.{◌⨾◌, only, no_flags, sub, transaction, header, undoable, whole, text, the, sets, puts, procedure, program, plain_source}
+use Rattle.meaning_examples.specs.Small.{◌⨾◌, one_more, only, no_flags, sub, transaction, header, undoable, whole, text, the, sets, puts, procedure, program, plain_source}
 
 -- ---- RUN add (2, 3, OUTPUT n). PUT UNFORMATTED n SKIP. PROCEDURE add: .. c = a + b. END.
 
@@ -103,3 +103,26 @@ a_sequence_gives_its_value = refl
 the_end_of_a_sequence_is_out_of_range : run (plain_source 1 0 (next_of ⨾ puts (the (undoable 0) ∷ []) ⨾ Nothing)) 1000 (SequenceEnd ∷ Done ∷ []) ≡ record { written = Wrote None (codes "** value out of range\n") ∷ []; wants = Ended client.Normal }
 unfolding sum_of fitted value_order plain_text export_text bytes_of_row digits
 the_end_of_a_sequence_is_out_of_range = refl
+
+-- ---- DO ON ERROR UNDO, LEAVE: IMPORT i. END. IMPORT i. PUT UNFORMATTED i SKIP.  A line with a bad element counts as read
+
+abbrev imports_bad : Program
+imports_bad = program (255 ∷ 5 ∷ []) (procedure 1 0 [] (header block.Procedure 0 sub [])
+    (Inner (record (header block.Do 1 sub []) { on_error = Some (record { target = 1; action = ThenLeave 1 }) }) (only import_i) ⨾ import_i ⨾ puts (the (undoable 0) ∷ []) ⨾ Nothing) ∷ [])
+
+a_bad_line_counts_as_read : run imports_bad 1000 (Done ∷ []) ≡ record { written = Wrote None (codes "** input field 1 is bad\n") ∷ Wrote None (codes "5\n") ∷ []; wants = Ended client.Normal }
+unfolding sum_of fitted value_order plain_text export_text bytes_of_row digits
+a_bad_line_counts_as_read = refl
+
+-- ---- DO WHILE i < 2: i = i + 1. END. PUT UNFORMATTED i SKIP.  Procedure, DO, three turns, two assignments, PUT
+
+abbrev counts_while : Program
+counts_while = plain_source 1 0 (Inner (record (header block.Do 1 no_flags []) { while_test = Some (Two two.Less (the (undoable 0)) (whole 2)) }) (only (one_more (undoable 0))) ⨾ puts (the (undoable 0) ∷ []) ⨾ Nothing)
+
+while_is_tested_before_each_turn : run counts_while 8 (Done ∷ []) ≡ record { written = Wrote None (codes "2\n") ∷ []; wants = Ended client.Normal }
+unfolding sum_of fitted value_order plain_text export_text bytes_of_row digits
+while_is_tested_before_each_turn = refl
+
+while_costs_a_unit_a_turn : run counts_while 7 (Done ∷ []) ≡ record { written = []; wants = Ended (client.Stop why.Budget) }
+unfolding sum_of fitted value_order plain_text export_text bytes_of_row digits
+while_costs_a_unit_a_turn = refl

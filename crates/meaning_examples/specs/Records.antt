@@ -11,21 +11,21 @@ use Rattle.abl_base.specs.Rows.{bytes_of_row}
 use Rattle.abl_base.specs.Texts.{plain_text, export_text}
 use Rattle.database_meaning.specs.declared.operation.Op.TheVariants.{Enter, Leave, Back, Next, Get, Lock, Insert, Put, Drop, End}
 use Rattle.database_meaning.specs.declared.operation.Answer.{Answer}
-use Rattle.database_meaning.specs.declared.operation.Answer.TheVariants.{Done, Committed, Deadlock, Found, AtEnd, Row, Granted, Inserted, Busy, Duplicate}
+use Rattle.database_meaning.specs.declared.operation.Answer.TheVariants.{Done, Committed, Deadlock, Found, AtEnd, Row, Granted, Inserted, Gone, Busy, Duplicate}
 use Rattle.bound_tree.specs.declared.expression.Binary.TheVariants as two
 use Rattle.bound_tree.specs.declared.block.BlockKind.TheVariants as block
 use Rattle.bound_tree.specs.declared.block.LockWanted.TheVariants as wanted
 use Rattle.bound_tree.specs.declared.block.FetchWord.TheVariants as fetch
 use Rattle.bound_tree.specs.declared.statement.FindWord.TheVariants as find
 use Rattle.bound_tree.specs.declared.statement.Target.TheVariants as target
-use Rattle.bound_tree.specs.Tree.{TheField, Two, IsAvailable, IsLocked, Retry, ErrorStatus, ThenRetry, ThenLeave, ValueOf, Stmt, Inner, Assign, Find, Create, Remove, Release, UndoBlock, LeaveBlock, Import, ExportRecord, Nothing}
+use Rattle.bound_tree.specs.Tree.{FindCurrent, TheField, Two, IsAvailable, IsLocked, Retry, ErrorStatus, ThenRetry, ThenLeave, ValueOf, Stmt, Inner, Assign, Find, Create, Remove, Release, UndoBlock, LeaveBlock, Import, ExportRecord, Nothing}
 use Rattle.block_meaning.specs.declared.ends.StopWhy.TheVariants as why
 use Rattle.block_meaning.specs.declared.ends.ClientEnd.TheVariants as client
 use Rattle.block_meaning.specs.declared.wants.Piece.TheVariants.{Wrote}
 use Rattle.block_meaning.specs.declared.wants.Wants.TheVariants.{Ended}
 use Rattle.block_meaning.specs.Program.{Program}
 use Rattle.block_meaning.specs.Meaning.{run, asked}
-use Rattle.meaning_examples.specs.Small.{◌⨾◌, only, ann, bob, row_id, at_row, sub, transaction, retried, header, reading, for_of, undoable, whole, text, the, num, name, sets_num, sets_name, puts, when, plain_source, customer_source, two_buffers}
+use Rattle.meaning_examples.specs.Small.{◌⨾◌, only, ann, bob, row_id, at_row, sub, transaction, retried, header, reading, for_of, undoable, whole, text, the, num, name, sets_num, sets_name, puts, when, customer_source, two_buffers}
 
 -- ---- REPEAT: CREATE customer. IMPORT customer. END. FOR EACH customer NO-LOCK: EXPORT customer. END.
 
@@ -279,8 +279,26 @@ a_deadlock_stops_the_client : run (customer_source [] 0 0 transaction (0 ∷ [])
 unfolding sum_of fitted value_order plain_text export_text bytes_of_row digits
 a_deadlock_stops_the_client = refl
 
--- ---- IMPORT of a bad element: its line counts as read
+-- ---- FOR FIRST customer NO-LOCK: END.  In its second turn there is none, and Next is not asked
 
-a_bad_line_counts_as_read : run (plain_source 1 0 (Inner (header block.Do 1 sub []) (only (Import 0 (Some (target.Variable (undoable 0)) ∷ []) false)) ⨾ Nothing)) 1000 (Done ∷ []) ≡ record { written = []; wants = Ended client.Normal }
+for_first_asks_next_once : asked (run (customer_source [] 0 0 sub [] (Inner (for_of fetch.First 1 sub (0 ∷ []) (reading wanted.NoLock)) Nothing ⨾ Nothing)) 1000) (Found (row_id 1) (1 ∷ []) ann ∷ Done ∷ []) ≡ Next 0 (Some 0) [] None true ∷ End ∷ []
 unfolding sum_of fitted value_order plain_text export_text bytes_of_row digits
-a_bad_line_counts_as_read = refl
+for_first_asks_next_once = refl
+
+-- ---- FIND FIRST customer NO-LOCK. FIND CURRENT customer EXCLUSIVE-LOCK.  The row is gone
+
+a_current_record_that_is_gone : run (customer_source [] 0 0 sub (0 ∷ []) (Find find.First (reading wanted.NoLock) true false ⨾ FindCurrent (reading wanted.Exclusive) true false ⨾ Nothing)) 1000 (Found (row_id 1) (1 ∷ []) ann ∷ Gone ∷ Done ∷ []) ≡ record { written = Wrote None (codes "** no record found in customer\n") ∷ []; wants = Ended client.Normal }
+unfolding sum_of fitted value_order plain_text export_text bytes_of_row digits
+a_current_record_that_is_gone = refl
+
+-- ---- DO TRANSACTION: FIND FIRST customer EXCLUSIVE-LOCK. name = "Z". END.  The row is gone at Put
+
+a_changed_record_that_is_gone : run (customer_source [] 0 0 sub [] (Inner (header block.Do 1 transaction (0 ∷ [])) (Find find.First (reading wanted.Exclusive) true false ⨾ sets_name (text (codes "Z")) false ⨾ Nothing) ⨾ Nothing)) 1000 (Done ∷ Found (row_id 1) (1 ∷ []) ann ∷ Granted ∷ Row ann ∷ Gone ∷ Done ∷ Done ∷ Committed 1 ∷ Done ∷ []) ≡ record { written = Wrote None (codes "** record of customer is gone\n") ∷ []; wants = Ended client.Normal }
+unfolding sum_of fitted value_order plain_text export_text bytes_of_row digits
+a_changed_record_that_is_gone = refl
+
+-- ---- FIND FIRST customer.  The row found is gone at Lock: the search goes on behind it
+
+a_lost_record_is_passed : asked (run (customer_source [] 0 0 sub (0 ∷ []) (only (Find find.First (reading wanted.Share) true false))) 1000) (Found (row_id 1) (1 ∷ []) ann ∷ Gone ∷ Found (row_id 2) (2 ∷ []) bob ∷ Granted ∷ Row bob ∷ Done ∷ Done ∷ []) ≡ Next 0 (Some 0) [] None true ∷ Lock 0 (row_id 1) false true ∷ Next 0 (Some 0) [] (at_row 1) true ∷ Lock 0 (row_id 2) false true ∷ Get 0 (row_id 2) ∷ Drop (row_id 2) ∷ End ∷ []
+unfolding sum_of fitted value_order plain_text export_text bytes_of_row digits
+a_lost_record_is_passed = refl

@@ -23,7 +23,7 @@ use Rattle.meaning_examples.specs.Small.{◌⨾◌, no_flags, sub, transaction, 
 
 -- ---- DO TRANSACTION: i = 1. n = 1. UNDO, LEAVE. END. PUT UNFORMATTED i " " n SKIP.  n is NO-UNDO
 
-abbrev undo_once : Program
+abbrev pub undo_once : Program
 undo_once = plain_source 1 1
     (Inner (header block.Do 1 transaction []) (sets (undoable 0) (whole 1) ⨾ sets (kept 0) (whole 1) ⨾ UndoBlock 1 (ThenLeave 1) ⨾ Nothing)
     ⨾ puts (the (undoable 0) ∷ text (codes " ") ∷ the (kept 0) ∷ []) ⨾ Nothing)
