@@ -1,0 +1,5 @@
+pub mod TextForms
+pub mod Env
+pub mod Operators
+pub mod Functions
+pub mod Evaluate

@@ -1,1 +1,15 @@
 pub mod Ends
+pub mod Program
+pub mod Lines
+pub mod State
+pub mod Values
+pub mod Views
+pub mod Buffers
+pub mod Reads
+pub mod Changes
+pub mod Blocks
+pub mod Streams
+pub mod Meaning
+pub mod GivesUp
+pub mod Undone
+pub mod Levels

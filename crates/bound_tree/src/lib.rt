@@ -9,7 +9,6 @@ pub mod block;
 pub mod expression;
 pub mod procedure;
 pub mod statement;
-pub mod table;
 
 pub use block::{
     Action, BlockKind, BracketPart, Fetch, FetchWord, Flags, Header, LockWanted, OnPhrase, Reading,
@@ -18,4 +17,3 @@ pub use block::{
 pub use expression::{Binary, Expr, Ternary, Unary, Variable};
 pub use procedure::{Bound, BufferDef, Procedure, Reference, ReferenceKind};
 pub use statement::{Argument, Assignment, FindWord, PutItem, Right, Stmt, Target};
-pub use table::{FieldDef, IndexDef, TableDef};

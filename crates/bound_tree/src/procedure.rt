@@ -3,8 +3,8 @@
 use crate::block::Header;
 use crate::expression::Variable;
 use crate::statement::Stmt;
-use crate::table::TableDef;
 use abl_base::{Bytes, Place, Row};
+use abl_values::TableDef;
 
 /// A buffer of a procedure. They are numbered by their first naming, DEFINE BUFFER included.
 #[derive(Drop)]

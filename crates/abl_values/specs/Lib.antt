@@ -1,0 +1,11 @@
+pub mod Order
+pub mod Dates
+pub mod Arithmetic
+pub mod Fit
+pub mod Rows
+pub mod Reads
+pub mod Keys
+pub mod Texts
+pub mod Masks
+pub mod Schema
+pub mod Examples

@@ -1,0 +1,31 @@
+//! What every other crate speaks of: bytes and values, rows and their identities, places in a
+//! text, and the names of the rules that a source or a schema file can break. It stands on no
+//! other crate. Contracts see each `Items` as a list.
+#![tactic(auto)]
+
+pub mod arithmetic;
+mod canonical;
+pub mod dates;
+pub mod fitting;
+pub mod keys;
+pub mod laws;
+pub mod masks;
+pub mod names;
+pub mod order;
+mod rounding;
+pub mod schema;
+pub mod stored;
+pub mod stored_read;
+pub mod texts;
+
+pub use arithmetic::{add, ArithFault, divide, modulo, multiply, subtract};
+pub use dates::{date_of, date_parts};
+pub use fitting::fit;
+pub use keys::key_bytes;
+pub use masks::mask_fits;
+pub use names::same_name;
+pub use order::compare;
+pub use schema::{FieldDef, IndexDef, Part, Parts, Schema, SequenceDef, TableDef};
+pub use stored::row_bytes;
+pub use stored_read::row_of;
+pub use texts::export_value;

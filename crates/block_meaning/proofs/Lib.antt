@@ -1,0 +1,12 @@
+pub mod Goes_on
+pub mod Levels
+pub mod Parts
+pub mod Level_parts
+pub mod Whole
+pub mod Runs
+pub mod Undone
+pub mod Pending
+pub mod Older
+pub mod Level_undo
+pub mod Level_blocks
+pub mod Level_runs

@@ -1,0 +1,6 @@
+pub mod Small
+pub mod Expressions
+pub mod Rows
+pub mod Records
+pub mod Procedures
+pub mod GivesUp
