@@ -6,10 +6,9 @@ ghost use Rattle.abl_values.specs.Arithmetic.{day, decimal, whole};
 ghost use Rattle.abl_values.specs.Order.{scaled};
 
 use crate::dates::is_day;
-use abl_base::Items;
 use crate::order::DECIMAL_UNITS;
 use crate::rounding::{rounded_quotient_in_range, rounded_whole};
-use abl_base::{MAX_TEXT_BYTES, Value};
+use abl_base::{Items, MAX_TEXT_BYTES, Value};
 use std::alloc::Global;
 
 /// Why an operator has no value.
@@ -106,11 +105,9 @@ pub fn modulo(a: &Value, b: &Value) -> Result<Value, ArithFault>
     match a {
         Value::Int(n) => remainder_of_whole(i64::from(*n), b),
         Value::Int64(n) => remainder_of_whole(*n, b),
-        Value::Text(_)
-        | Value::Dec(_)
-        | Value::Logical(_)
-        | Value::Date(_)
-        | Value::Unknown => Ok(Value::Unknown),
+        Value::Text(_) | Value::Dec(_) | Value::Logical(_) | Value::Date(_) | Value::Unknown => Ok(
+            Value::Unknown,
+        ),
     }
 }
 
@@ -164,11 +161,9 @@ fn add_to_day(x: i32, b: &Value) -> Result<Value, ArithFault>
     match b {
         Value::Int(y) => date_in_range(i128::from(x) + i128::from(*y)),
         Value::Int64(y) => date_in_range(i128::from(x) + i128::from(*y)),
-        Value::Text(_)
-        | Value::Dec(_)
-        | Value::Logical(_)
-        | Value::Date(_)
-        | Value::Unknown => Ok(Value::Unknown),
+        Value::Text(_) | Value::Dec(_) | Value::Logical(_) | Value::Date(_) | Value::Unknown => Ok(
+            Value::Unknown,
+        ),
     }
 }
 
@@ -251,11 +246,9 @@ fn remainder_of_whole(x: i64, b: &Value) -> Result<Value, ArithFault>
     match b {
         Value::Int(y) => whole_remainder(x, i64::from(*y)),
         Value::Int64(y) => whole_remainder(x, *y),
-        Value::Text(_)
-        | Value::Dec(_)
-        | Value::Logical(_)
-        | Value::Date(_)
-        | Value::Unknown => Ok(Value::Unknown),
+        Value::Text(_) | Value::Dec(_) | Value::Logical(_) | Value::Date(_) | Value::Unknown => Ok(
+            Value::Unknown,
+        ),
     }
 }
 

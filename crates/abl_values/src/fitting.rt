@@ -5,9 +5,8 @@ ghost use Rattle.abl_values.specs.Arithmetic.{IsUnlessNoMemory, text_in_range};
 ghost use Rattle.abl_values.specs.Fit.{fitted, small_in_range};
 
 use crate::arithmetic::{ArithFault, date_in_range, scaled, whole_in_range};
-use abl_base::Items;
 use crate::rounding::rounded_whole;
-use abl_base::{Kind, MAX_TEXT_BYTES, Value};
+use abl_base::{Items, Kind, MAX_TEXT_BYTES, Value};
 use std::alloc::Global;
 
 /// The value as a target of the kind takes it. `?` fits every kind, and a number every kind of

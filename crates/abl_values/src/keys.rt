@@ -5,11 +5,9 @@ ghost use Rattle.abl_values.specs.Order.{compared_text, folded};
 ghost use Rattle.abl_values.specs.Keys.{ascending_bytes, component, component_bytes, escaped, escaped_byte, key_bytes, turned_byte, turned_over};
 ghost use Rattle.abl_values.specs.Rows.{number_bytes};
 
-use abl_base::Items;
 use crate::order::{folded_byte, trimmed};
-use abl_base::Row;
 use crate::schema::Part;
-use abl_base::{Bytes, Value};
+use abl_base::{Bytes, Items, Row, Value};
 use byteorder::{BigEndian, ByteOrder};
 use std::alloc::{AllocError, Global};
 

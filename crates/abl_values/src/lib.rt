@@ -1,6 +1,7 @@
-//! What every other crate speaks of: bytes and values, rows and their identities, places in a
-//! text, and the names of the rules that a source or a schema file can break. It stands on no
-//! other crate. Contracts see each `Items` as a list.
+//! What is computed of values: their order in an index, arithmetic, how they fit a kind, dates, and
+//! the texts and masks of one value; the bytes of rows and keys; and schemas, with their readers
+//! and their canonical text. It stands on `abl_base`. Each call computes the definition of its name
+//! in `specs/`; `laws` has what holds of the order, of row bytes and of key bytes.
 #![tactic(auto)]
 
 pub mod arithmetic;
@@ -16,9 +17,11 @@ mod rounding;
 pub mod schema;
 pub mod stored;
 pub mod stored_read;
+#[cfg(test)]
+mod tests;
 pub mod texts;
 
-pub use arithmetic::{add, ArithFault, divide, modulo, multiply, subtract};
+pub use arithmetic::{ArithFault, add, divide, modulo, multiply, subtract};
 pub use dates::{date_of, date_parts};
 pub use fitting::fit;
 pub use keys::key_bytes;

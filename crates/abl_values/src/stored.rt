@@ -5,10 +5,8 @@ ghost use Rattle.std.specs.Int.{w32, w64, w128, cast_unsigned, cast_signed};
 ghost use Rattle.abl_values.specs.Rows.{bytes_of_row, field_bytes, FitsFields, IsShort, number_bytes};
 ghost use Rattle.abl_values.specs.Schema.{field_kinds};
 
-use abl_base::Items;
-use abl_base::Row;
 use crate::schema::FieldDef;
-use abl_base::{Bytes, MAX_TEXT_BYTES, Value};
+use abl_base::{Bytes, Items, MAX_TEXT_BYTES, Row, Value};
 use byteorder::{BigEndian, ByteOrder};
 use std::alloc::{AllocError, Global};
 

@@ -7,9 +7,8 @@ ghost use Rattle.abl_values.specs.Dates.{date_of_day};
 ghost use Rattle.abl_values.specs.Texts.{after_point, date_text, decimal_text, doubled, doubled_byte, export_text, last_digits, magnitude_text, year_text};
 
 use crate::dates::date_parts;
-use abl_base::Items;
 use crate::order::trimmed;
-use abl_base::{Bytes, Value};
+use abl_base::{Bytes, Items, Value};
 use std::alloc::{AllocError, Global};
 
 /// The text that EXPORT writes of a value: a text in `"` with inner ones doubled, `yes` or `no`, a
@@ -26,7 +25,11 @@ pub fn export_value(alloc: Global, value: &Value) -> Result<Bytes, AllocError>
 
 /// Writes the text that EXPORT writes of a value.
 #[tactic(auto, unfolding(crate::specs::Texts::export_text, crate::specs::Texts::plain_text))]
-pub(crate) fn push_export(alloc: Global, bytes: &mut Vec<u8>, value: &Value) -> Result<(), AllocError>
+pub(crate) fn push_export(
+    alloc: Global,
+    bytes: &mut Vec<u8>,
+    value: &Value,
+) -> Result<(), AllocError>
     ensures { OnOk result (bytes.new.items ≡ bytes.old.items ++ export_text value.now) }
 {
     match value {
