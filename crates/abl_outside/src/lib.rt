@@ -5,7 +5,6 @@
 //! rose (`specs/Faults.antt`).
 #![tactic(auto)]
 
-mod fails;
 pub mod files;
 pub mod mem_files;
 pub mod mem_out;

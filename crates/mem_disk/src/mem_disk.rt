@@ -1,0 +1,2 @@
+//! The disk in memory.
+pub struct MemDisk;
