@@ -11,6 +11,7 @@ ghost use Rattle.mem_disk.specs.Sound.{AllInside, HaveRoom};
 use crate::areas::{copy_out, overlay};
 use crate::call::{Call, Effect};
 use crate::images::{Images, Room, Torn};
+use crate::replay::crashed_images;
 use abl_storage::{Disk, DiskFailed};
 use fault_count::is_among;
 use std::alloc::{AllocError, Global};
@@ -85,7 +86,9 @@ impl MemDisk {
         room: &Room,
         fails: &[u64],
     ) -> Result<MemDisk, AllocError>
-        requires small { (k : ℕ) → k < 3 → length (area_of areas.now k) ≤ 2 ^ 40 }
+        requires d0 { length areas.now.d0 ≤ 2 ^ 40 }
+        requires b1 { length areas.now.b1 ≤ 2 ^ 40 }
+        requires b2 { length areas.now.b2 ≤ 2 ^ 40 }
         ensures { IfOk result (λ d. shown d ≡ record { first = area_of areas.now; notes = []; spent = 0; room = room.now; fails = fails.now; calls = 0; time = 0; faults = 0 }) }
     {
         Ok(MemDisk {
@@ -99,6 +102,27 @@ impl MemDisk {
             time: 0,
             failed: 0,
         })
+    }
+
+    /// The writes and syncs, in order, as far as there was room for them.
+    pub fn calls(&self) -> &[Call]
+        ensures { length result.now ≡ length (shown self.now).notes }
+    {
+        &self.calls
+    }
+
+    /// What a crash at that moment leaves: what was last synced, and of each write since, of all
+    /// areas in order, what it became. A missing one is Old, and further ones are not used. Want of
+    /// memory is the only refusal.
+    pub fn crash(&self, moment: u64, torn: &[Torn]) -> Result<Images, AllocError>
+        requires { moment ≤ (shown self.now).time }
+        ensures exact { IfOk result (λ images. (k : ℕ) → area_of images k ≡ crashed (shown self.now).first (take moment (shown self.now).notes) torn.now k) }
+        ensures left { IfOk result (λ images. ⟦<MemDisk as Disk>⟧.left self.now moment (area_of images)) }
+    {
+        let alloc = *self.pool.allocator();
+        let count = (moment as usize).min(self.calls.len());
+        let calls = &self.calls[..count];
+        crashed_images(alloc, &self.first, calls, &self.pool, torn)
     }
 
     /// Whether there is room for a write of so many bytes there.

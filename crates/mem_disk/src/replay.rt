@@ -2,12 +2,13 @@
 
 ghost use Rattle.std.specs.Prelude.{◌≡◌, ◌<◌, ◌≤◌, ◌+◌, ◌^◌, ℕ, List, length, take, drop, OnOk, IfOk};
 ghost use Rattle.mem_disk.specs.Notes.{Note, note_of, notes_of, done, after_notes, fresh};
-ghost use Rattle.mem_disk.specs.Crash.{is_write, synced_in, is_unsynced, first_torn, torn_by, torn_all};
+ghost use Rattle.mem_disk.specs.Crash.{is_write, synced_in, is_unsynced, first_torn, torn_by, torn_all, area_of, crashed};
 ghost use Rattle.mem_disk.specs.Sound.{IsInside, AllInside};
 
 use crate::areas::overlay;
 use crate::call::{Call, Effect};
-use crate::images::Torn;
+use crate::images::{Images, Torn};
+use abl_base::Bytes;
 use std::alloc::{AllocError, Global};
 
 /// The bytes of a call.
@@ -154,4 +155,37 @@ pub fn torn_area(
         }
     }
     Ok(image)
+}
+
+/// An area as a crash after these calls leaves it.
+fn crashed_area(
+    alloc: Global,
+    first: &[u8],
+    calls: &[Call],
+    pool: &[u8],
+    area: u8,
+    torn: &[Torn],
+) -> Result<Bytes, AllocError>
+    requires { AllInside (length pool.now) calls.now }
+    ensures { IfOk result (λ bytes. bytes ≡ torn_all area (after_notes area (fresh first.now) (notes_of pool.now calls.now)).synced (notes_of pool.now calls.now) torn.now) }
+{
+    let base = synced_area(alloc, first, calls, pool, area)?;
+    Ok(Bytes::from_vec(torn_area(alloc, base, calls, pool, area, torn)?))
+}
+
+/// The areas as a crash after these calls leaves them.
+pub fn crashed_images(
+    alloc: Global,
+    first: &Images,
+    calls: &[Call],
+    pool: &[u8],
+    torn: &[Torn],
+) -> Result<Images, AllocError>
+    requires { AllInside (length pool.now) calls.now }
+    ensures { IfOk result (λ images. (k : ℕ) → area_of images k ≡ crashed (area_of first.now) (notes_of pool.now calls.now) torn.now k) }
+{
+    let d0 = crashed_area(alloc, first.d0.as_slice(), calls, pool, 0, torn)?;
+    let b1 = crashed_area(alloc, first.b1.as_slice(), calls, pool, 1, torn)?;
+    let b2 = crashed_area(alloc, first.b2.as_slice(), calls, pool, 2, torn)?;
+    Ok(Images { d0, b1, b2 })
 }
