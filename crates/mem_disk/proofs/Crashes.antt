@@ -1,5 +1,5 @@
 -- The image that a crash leaves, as what is torn makes it, is one that a crash may leave.
-use Rattle.std.proofs.Common.{◌≡◌, ◌≢◌, ℕ, zero, suc, ◌+◌, ◌<◌, ◌≤◌, ◌==◌, Bool, true, false, ◌&&◌, ◌||◌, not, if◌then◌else◌, List, [], ◌∷◌, length, take, drop, get_or, replicate, Result, Ok, Err, IfOk, refl, sym, ◌∙◌, ap, subst, arith}
+use Rattle.std.proofs.Common.{◌≡◌, ℕ, zero, suc, ◌<◌, ◌≤◌, ◌==◌, Bool, true, false, ◌&&◌, ◌||◌, not, if◌then◌else◌, List, [], ◌∷◌, length, take, drop, replicate, Result, Ok, Err, IfOk, refl, sym, ◌∙◌, ap, subst, arith}
 use Rattle.std.proofs.lemmas.Bool.Decides.{nat_tests}
 use Rattle.std.proofs.lemmas.List.{length-replicate, length-take, get_or-take}
 use Rattle.abl_storage.specs.Disk.{Torn as TornBytes, overlaid}
@@ -12,7 +12,7 @@ use Rattle.mem_disk.specs.Notes.{Note, Held, note_of, notes_of, done_by, done, a
 use Rattle.mem_disk.specs.Crash.{is_write, is_synced, synced_in, is_unsynced, first_torn, torn_by, torn_all, crashed}
 use Rattle.mem_disk.specs.Laws.{torn_none, torn_whole}
 use Rattle.mem_disk.specs.Sound.{IsInside, AllInside, no_call}
-use Rattle.mem_disk.proofs.Record.{note_off, torn_step, torn_skip}
+use Rattle.mem_disk.proofs.Record.{torn_step, torn_skip}
 
 torn_reaches : (t : Torn) (n : Note) (image : List ℕ) → TornBytes n.at (length n.bytes) image (torn_by t n image)
 torn_reaches Old n image = torn_none n.at (length n.bytes) image

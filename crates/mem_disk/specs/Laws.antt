@@ -1,13 +1,13 @@
 -- Of the record: the disk as it reads is one of its images, and no image passes 2^40 bytes.
-use Rattle.std.specs.Prelude.{◌≡◌, ℕ, zero, suc, ◌+◌, ◌-◌, ◌<◌, ◌≤◌, ◌^◌, ◌==◌, max, Bool, true, false, if◌then◌else◌, List, [], ◌∷◌, ◌++◌, length, take, drop, get_or, replicate, refl}
+use Rattle.std.specs.Prelude.{◌≡◌, ℕ, zero, suc, ◌+◌, ◌-◌, ◌≤◌, ◌^◌, ◌==◌, max, Bool, true, false, if◌then◌else◌, List, [], ◌∷◌, ◌++◌, length, take, drop, get_or, replicate, refl}
 use Rattle.std.proofs.Common.{sym, ◌∙◌, ap, subst, arith, length-append, length-drop}
 use Rattle.std.proofs.lemmas.List.{get_or_append_left, get_or-append_right, get_or-take, get_or-drop, length-take, length-replicate, take_all}
 use Rattle.mem_disk.specs.declared.call.Call.{Call}
 use Rattle.mem_disk.specs.declared.call.Effect.{Effect}
 use Rattle.mem_disk.specs.declared.call.Effect.TheVariants.{Written, Cut, Synced, Nothing}
 use Rattle.abl_storage.specs.Disk.{Torn, overlaid, IsToldImage}
-use Rattle.mem_disk.specs.Notes.{Note, Held, note_of, notes_of, done_by, done, after_note, after_notes, held, fresh, Reaches, LeftBy, Left}
-use Rattle.mem_disk.specs.Sound.{IsInside, AllInside}
+use Rattle.mem_disk.specs.Notes.{Note, Held, notes_of, done_by, done, after_note, after_notes, held, fresh, Reaches, Left}
+use Rattle.mem_disk.specs.Sound.{AllInside}
 
 pub torn_none : (at n : ℕ) (old : List ℕ) → Torn at n old old
 torn_none at n old = record { no_shorter = omega arith; no_longer = omega arith; below = λ i lt less. refl; above = λ i lt le. refl }

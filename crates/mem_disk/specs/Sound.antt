@@ -3,7 +3,6 @@ use Rattle.std.specs.Prelude.{ℕ, zero, suc, ◌+◌, ◌<◌, ◌≤◌, ◌^�
 use Rattle.std.specs.Vec.{vec_capacity}
 use Rattle.std.specs.declared.alloc.Global.{Global}
 use Rattle.mem_disk.specs.declared.call.Call.{Call}
-use Rattle.mem_disk.specs.declared.call.Effect.{Effect}
 use Rattle.mem_disk.specs.declared.call.Effect.TheVariants.{Written}
 
 -- its bytes stand in the pool, its area is one of the three, and it ends below 2^40

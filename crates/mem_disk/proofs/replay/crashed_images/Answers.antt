@@ -1,6 +1,6 @@
-use Rattle.std.proofs.Common.{◌≡◌, ◌+◌, ◌≤◌, ℕ, zero, suc, List, [], length, sym, ◌∙◌, ap, arith}
+use Rattle.std.proofs.Common.{◌≡◌, ℕ, zero, suc, List, [], length, sym, ◌∙◌, ap, arith}
 use Rattle.mem_disk.specs.declared.images.Images.{Images}
-use Rattle.mem_disk.specs.Notes.{Held, notes_of, after_notes, fresh, held}
+use Rattle.mem_disk.specs.Notes.{Held, notes_of, after_notes, fresh}
 use Rattle.mem_disk.specs.Crash.{area_of, torn_all, crashed}
 use Rattle.mem_disk.proofs.Crashes.{far_torn, far_held, each_area}
 use Rattle.mem_disk.proofs.replay.crashed_images.Goals as goal

@@ -1,6 +1,5 @@
-use Rattle.std.proofs.Common.{◌≡◌, ◌+◌, List, ℕ, Vec, take, get_or, sym, ◌∙◌, ap}
+use Rattle.std.proofs.Common.{◌≡◌, ℕ, Vec, take, get_or, sym, ◌∙◌, ap}
 use Rattle.std.specs.declared.alloc.Global.{Global}
-use Rattle.mem_disk.specs.declared.call.Call.{Call}
 use Rattle.mem_disk.specs.Notes.{Note, Held, note_of, notes_of, done, after_notes, fresh}
 use Rattle.mem_disk.specs.Sound.{no_call}
 use Rattle.mem_disk.proofs.Record.{after_more, note_on, note_off}

@@ -1,17 +1,14 @@
-use Rattle.std.proofs.Common.{◌≡◌, ◌≢◌, ◌<◌, ◌≤◌, ◌+◌, ◌^◌, ◌++◌, ◌∷◌, [], inl, inr, ℕ, List, Bool, true, false, Vec, length, take, drop, slice_set, refl, sym, ◌∙◌, ap, subst, arith, length-append}
+use Rattle.std.proofs.Common.{◌≡◌, ◌<◌, ◌+◌, ◌++◌, ◌∷◌, [], inl, inr, ℕ, List, length, slice_set, refl, sym, ◌∙◌, ap, subst, arith, length-append}
 use Rattle.std.proofs.lemmas.Bool.{cases_eq}
 use Rattle.std.proofs.lemmas.List.{length-set}
-use Rattle.std.specs.Vec.{vec_capacity}
-use Rattle.std.specs.declared.alloc.Global.{Global}
 use Rattle.abl_storage.specs.Disk.{overlaid}
 use Rattle.mem_disk.specs.declared.call.Call.{Call}
-use Rattle.mem_disk.specs.declared.call.Effect.{Effect}
-use Rattle.mem_disk.specs.declared.call.Effect.TheVariants.{Written, Cut, Synced, Nothing}
-use Rattle.mem_disk.specs.Notes.{Note, Held, note_of, notes_of, held, bytes_in}
-use Rattle.mem_disk.specs.Crash.{area_of, is_write}
-use Rattle.mem_disk.specs.Sound.{IsInside, AllInside, HaveRoom}
-use Rattle.mem_disk.proofs.Record.{notes_push, notes_more, inside_more, capacity_at, room_set}
-use Rattle.mem_disk.proofs.Moments.{seen_same, seen_here, seen_elsewhere, bytes_at, bytes_set_same, bytes_set_other}
+use Rattle.mem_disk.specs.declared.call.Effect.TheVariants.{Written}
+use Rattle.mem_disk.specs.Notes.{Note, notes_of, held, bytes_in}
+use Rattle.mem_disk.specs.Crash.{area_of}
+use Rattle.mem_disk.specs.Sound.{AllInside}
+use Rattle.mem_disk.proofs.Record.{notes_more, inside_more, capacity_at, room_set}
+use Rattle.mem_disk.proofs.Moments.{seen_here, seen_elsewhere, bytes_at, bytes_set_same, bytes_set_other}
 use Rattle.mem_disk.proofs.mem_disk.MemDisk.put.Goals as goal
 
 pub returns-clause-notes : goal.returns-clause-notes

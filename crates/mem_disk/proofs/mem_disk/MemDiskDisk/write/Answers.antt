@@ -1,11 +1,10 @@
-use Rattle.std.proofs.Common.{◌≡◌, ◌<◌, ◌≤◌, ◌+◌, ◌++◌, ◌∷◌, [], min, ℕ, List, true, false, length, take, refl, sym, ◌∙◌, ap, subst, arith, length-append}
-use Rattle.std.proofs.lemmas.List.{take_all}
-use Rattle.abl_storage.specs.Disk.{TornIn, overlaid}
-use Rattle.mem_disk.specs.declared.call.Effect.TheVariants.{Written, Cut, Synced, Nothing}
-use Rattle.mem_disk.specs.Notes.{Note, Held, held, notes_of, LeftBy}
+use Rattle.std.proofs.Common.{◌≡◌, ◌++◌, ◌∷◌, [], min, ℕ, List, true, false, length, refl, sym, ◌∙◌, ap, subst, arith}
+use Rattle.abl_storage.specs.Disk.{TornIn}
+use Rattle.mem_disk.specs.declared.call.Effect.TheVariants.{Written, Cut}
+use Rattle.mem_disk.specs.Notes.{Note, Held, held, notes_of}
 use Rattle.mem_disk.specs.Crash.{area_of}
 use Rattle.mem_disk.specs.Laws.{length-notes_of}
-use Rattle.mem_disk.proofs.Moments.{passes, passes_not, torn_not, moved, passed_held, passed_still, passed_torn, seen_same, seen_here, still_step, write_step, written_torn, durable}
+use Rattle.mem_disk.proofs.Moments.{passes, passes_not, torn_not, moved, passed_held, passed_torn, seen_same, seen_here, write_step, written_torn}
 use Rattle.mem_disk.proofs.mem_disk.MemDiskDisk.write.Goals as goal
 
 pub returns-then-self-clause-time : goal.returns-then-self-clause-time
