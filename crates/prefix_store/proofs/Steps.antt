@@ -3,10 +3,10 @@ use Rattle.std.proofs.Common.{◌≡◌, ◌≢◌, ◌⊎◌, inl, inr, ⊎_eli
 use Rattle.std.proofs.Math.Logic.{∥∥₁_map}
 use Rattle.std.proofs.lemmas.Bool.{cases_eq}
 use Rattle.std.proofs.lemmas.Bool.Decides.{nat_tests}
-use Rattle.abl_storage.specs.Slots.{SlotState, Speaks, Transaction, Keeps, Rests, Goes, Begins, Writes, Commits, Fails, undone, wrote, put, joined}
+use Rattle.abl_storage.specs.Slots.{SlotState, Speaks, Transaction, Keeps, Rests, Goes, Begins, Writes, Commits, Fails, Ends, undone, wrote, put, joined}
 use Rattle.abl_storage.specs.declared.slots.Undo.{Undo}
 use Rattle.prefix_store.specs.World.{World, Survives, IsNamedAt, afters, IsInStep, decoded, with_at, with_own, value_or, step}
-use Rattle.prefix_store.specs.declared.Event.TheVariants.{Begun, Set, Committed, Closed}
+use Rattle.prefix_store.specs.declared.Event.TheVariants.{Begun, Set, Committed, Closed, Ended}
 use Rattle.prefix_store.proofs.Tests.{dec_in, dec_out, with_same, with_other, put_same, put_other, joined_in, joined_out, get_left, get_next}
 use Rattle.prefix_store.proofs.Moves.{splits, still_survives, commit_survives}
 
@@ -53,7 +53,7 @@ module _ (old : SlotState) (w : World) (first : ℕ → List ℕ) (h : IsInStep 
     kept = λ told. let t = told_back new r.keeps told in ap decoded (r.keeps.kept t) ∙ h.kept t;
     done = h.done;
     as_many = h.as_many;
-    closed = same ∙ h.closed;
+    closed = λ no. same ∙ h.closed no;
     no_last = h.no_last;
     no_doubt = λ told none. let t = told_back new r.keeps told in ap decoded (r.keeps.doubt t) ∙ h.no_doubt t none;
     doubt = λ told v others_left is. let t = told_back new r.keeps told in subst (λ (d : ℕ → List ℕ). ∥ (decoded d ≡ w.done) ⊎ (decoded d ≡ v) ∥₁) (sym (r.keeps.doubt t)) (h.doubt t v others_left is);
@@ -76,7 +76,7 @@ module _ (old : SlotState) (w : World) (first : ℕ → List ℕ) (h : IsInStep 
     kept = λ told. let t = told_back new r.keeps told in ap decoded (r.keeps.kept t) ∙ h.kept t;
     done = h.done;
     as_many = h.as_many;
-    closed = fails;
+    closed = λ no. absurd (cc no);
     no_last = λ no. absurd (cc no);
     no_doubt = λ told none. let t = told_back new r.keeps told in ap decoded (r.keeps.doubt t) ∙ h.no_doubt t none;
     doubt = λ told v others_left is. let t = told_back new r.keeps told in subst (λ (d : ℕ → List ℕ). ∥ (decoded d ≡ w.done) ⊎ (decoded d ≡ v) ∥₁) (sym (r.keeps.doubt t)) (h.doubt t v others_left is);
@@ -97,7 +97,7 @@ module _ (old : SlotState) (w : World) (first : ℕ → List ℕ) (h : IsInStep 
     kept = λ told. let t = told_back new b.keeps told in ap decoded (b.keeps.kept t) ∙ h.kept t;
     done = h.done;
     as_many = h.as_many;
-    closed = same ∙ h.closed;
+    closed = λ no. same ∙ h.closed no;
     no_last = h.no_last;
     no_doubt = λ told none. let t = told_back new b.keeps told in ap decoded (b.keeps.doubt t) ∙ h.no_doubt t none;
     doubt = λ told v others_left is. let t = told_back new b.keeps told in subst (λ (d : ℕ → List ℕ). ∥ (decoded d ≡ w.done) ⊎ (decoded d ≡ v) ∥₁) (sym (b.keeps.doubt t)) (h.doubt t v others_left is);
@@ -137,7 +137,7 @@ module _ (old : SlotState) (w : World) (first : ℕ → List ℕ) (h : IsInStep 
     kept = λ told. let t = told_back new b.keeps told in ap decoded (b.keeps.kept t) ∙ h.kept t;
     done = h.done;
     as_many = h.as_many;
-    closed = same ∙ h.closed;
+    closed = λ no. same ∙ h.closed no;
     no_last = h.no_last;
     no_doubt = λ told none. let t = told_back new b.keeps told in ap decoded (b.keeps.doubt t) ∙ h.no_doubt t none;
     doubt = λ told v others_left is. let t = told_back new b.keeps told in subst (λ (d : ℕ → List ℕ). ∥ (decoded d ≡ w.done) ⊎ (decoded d ≡ v) ∥₁) (sym (b.keeps.doubt t)) (h.doubt t v others_left is);
@@ -192,7 +192,7 @@ module _ (old : SlotState) (w : World) (first : ℕ → List ℕ) (h : IsInStep 
     kept = λ told. let t = told_back new keeps told in ap decoded (keeps.kept t) ∙ h.kept t;
     done = h.done;
     as_many = h.as_many;
-    closed = same ∙ h.closed;
+    closed = λ no. same ∙ h.closed no;
     no_last = h.no_last;
     no_doubt = λ told none. let t = told_back new keeps told in ap decoded (keeps.doubt t) ∙ h.no_doubt t none;
     doubt = λ told v others_left is. let t = told_back new keeps told in subst (λ (d : ℕ → List ℕ). ∥ (decoded d ≡ w.done) ⊎ (decoded d ≡ v) ∥₁) (sym (keeps.doubt t)) (h.doubt t v others_left is);
@@ -231,6 +231,33 @@ module _ (old : SlotState) (w : World) (first : ℕ → List ℕ) (h : IsInStep 
       elsewhere : Speaks old → (c : ℕ) → c < 16 → c ≢ client → new.reads (8192 + c) ≡ old.reads (8192 + c)
       elsewhere s c lt ne = ap (λ (f : ℕ → List ℕ). f (8192 + c)) (reads s) ∙ undone_out (old.transaction client).undo old.reads (8192 + c) (h.alone client (8192 + c) small (apart client c ne))
 
+  -- a transaction that ended, with a fault of the disk on the way
+  pub ended_failed : (new : SlotState) (client : ℕ) → client < 16 → Ends old new client → new.failed ≡ true → IsInStep new (step (step w (Ended client)) (Closed client false)) first
+  ended_failed new client small e fails = record {
+    kept = λ told. let t = told_back new e.keeps told in ap decoded (e.keeps.kept t) ∙ h.kept t;
+    done = h.done;
+    as_many = h.as_many;
+    closed = λ no. absurd (cc no);
+    no_last = λ no. absurd (cc no);
+    no_doubt = λ told none. let t = told_back new e.keeps told in ap decoded (e.keeps.doubt t) ∙ h.no_doubt t none;
+    doubt = λ told v others_left is. let t = told_back new e.keeps told in subst (λ (d : ℕ → List ℕ). ∥ (decoded d ≡ w.done) ⊎ (decoded d ≡ v) ∥₁) (sym (e.keeps.doubt t)) (h.doubt t v others_left is);
+    begun = λ c lt. elim (cases_eq c client) [
+      | inl q ↦ subst (λ (k : ℕ). (new.transaction k).begun ≡ with_at w.begun client false k) (sym q) (e.transaction.begun ∙ sym (with_same w.begun client false))
+      | inr ne ↦ ap (λ (t : Transaction). t.begun) (e.transaction.others c ne) ∙ h.begun c lt ∙ sym (with_other w.begun client false c ne)
+    ];
+    alone = λ c k lt ne. elim (cases_eq c client) [
+      | inl q ↦ subst (λ (j : ℕ). wrote (new.transaction j).undo k ≡ false) (sym q) (ap (λ (u : List Undo). wrote u k) e.transaction.undo)
+      | inr other ↦ ap (λ (t : Transaction). wrote t.undo k) (e.transaction.others c other) ∙ h.alone c k lt ne
+    ];
+    idle = λ c lt not_begun. elim (cases_eq c client) [
+      | inl q ↦ subst (λ (j : ℕ). with_at w.own client None j ≡ None) (sym q) (with_same w.own client None)
+      | inr ne ↦ with_other w.own client None c ne ∙ h.idle c lt (sym (with_other w.begun client false c ne) ∙ not_begun)
+    ];
+    own = λ speaks c lt b is. absurd (cc (speaks.1, fails));
+    none = λ speaks c lt is. absurd (cc (speaks.1, fails));
+    back = λ speaks c lt. absurd (cc (speaks.1, fails));
+  }
+
   -- what a commit of this client leaves
   pub joined_is : (client : ℕ) → client < 16 → Speaks old → decoded (joined (old.transaction client).undo old.reads old.kept) ≡ with_own w client
   joined_is client small s = λ i k. at k i
@@ -260,18 +287,18 @@ module _ (old : SlotState) (w : World) (first : ℕ → List ℕ) (h : IsInStep 
       ]
 
   -- a commit that is answered Disk, the first of all
-  pub fails : (new : SlotState) (client : ℕ) → client < 16 → Fails old new client → old.failed ≡ false → new.failed ≡ true → IsInStep new (step w (Closed client true)) first
-  fails new client small f was now = record {
+  pub fails : (new : SlotState) (client : ℕ) → client < 16 → Fails old new client → w.closed ≡ false → old.failed ≡ false → new.failed ≡ true → IsInStep new (step w (Closed client true)) first
+  fails new client small f still was now = record {
     kept = λ told. let t = back_told told in ap decoded (f.kept t) ∙ h.kept t;
     done = h.done;
     as_many = h.as_many;
-    closed = now;
+    closed = λ no. absurd (cc no);
     no_last = λ no. absurd (cc no);
     no_doubt = λ told none. absurd (cc none);
     doubt = λ told v others_left is. let t = back_told told in
         let last : with_own w client ≡ v = cc is in
         ⊎_elim
-        (λ (e : new.doubt ≡ old.doubt). ∣ inl (ap decoded e ∙ h.no_doubt t (h.no_last (sym h.closed ∙ was))) ∣₁)
+        (λ (e : new.doubt ≡ old.doubt). ∣ inl (ap decoded e ∙ h.no_doubt t (h.no_last still)) ∣₁)
         (λ (e : (old.failed ≡ false) × (new.doubt ≡ joined (old.transaction client).undo old.reads old.kept)). ∣ inr (ap decoded e.1 ∙ joined_is client small (t, was) ∙ last) ∣₁)
         (f.doubt t);
     begun = λ c lt. ap (λ (t : ℕ → Transaction). (t c).begun) f.transaction ∙ h.begun c lt;
@@ -286,15 +313,15 @@ module _ (old : SlotState) (w : World) (first : ℕ → List ℕ) (h : IsInStep 
       back_told told = subst (λ (b : Bool). IsTrue b) f.told told
 
   -- a commit that is answered Ok
-  pub commits : (new : SlotState) (client moment : ℕ) → client < 16 → Commits old new client → new.failed ≡ old.failed → IsInStep new (step w (Committed client moment)) first
-  commits new client moment small k same = record {
+  pub commits : (new : SlotState) (client moment : ℕ) → client < 16 → Commits old new client → w.closed ≡ false → new.failed ≡ old.failed → IsInStep new (step w (Committed client moment)) first
+  commits new client moment small k still same = record {
     kept = λ told. let t = back_told told in ap decoded (k.kept t) ∙ joined_is client small (t, k.before);
     done = get_next (first ∷ w.lefts) [] (with_own w client) _ (omega (arith, h.as_many, length-append w.moments (moment ∷ [])));
     as_many = omega (arith, h.as_many, length-append w.moments (moment ∷ []), length-append w.lefts (with_own w client ∷ []));
-    closed = same ∙ h.closed;
+    closed = λ no. same ∙ h.closed no;
     no_last = h.no_last;
     no_doubt = λ told none. let t = back_told told in ap decoded (k.doubt t ∙ k.kept t) ∙ joined_is client small (t, k.before);
-    doubt = λ told v others_left is. absurd (cc (is, h.no_last (sym h.closed ∙ k.before)));
+    doubt = λ told v others_left is. absurd (cc (is, h.no_last still));
     begun = λ c lt. elim (cases_eq c client) [
       | inl e ↦ subst (λ (j : ℕ). (new.transaction j).begun ≡ with_at w.begun client false j) (sym e) (k.transaction.begun ∙ sym (with_same w.begun client false))
       | inr ne ↦ ap (λ (t : Transaction). t.begun) (k.transaction.others c ne) ∙ h.begun c lt ∙ sym (with_other w.begun client false c ne)
@@ -338,6 +365,24 @@ module _ (old : SlotState) (w : World) (first : ℕ → List ℕ) (h : IsInStep 
         | inr some ↦ let o = h.own s client small some.0 some.1 in joined_in (old.transaction client).undo old.reads old.kept (8192 + client) o.0
       ])
 
+-- the store closes
+pub shut : (s : SlotState) (v : World) (first : ℕ → List ℕ) (client : ℕ) → IsInStep s v first → IsInStep s (step v (Closed client false)) first
+shut s v first client h = record {
+  kept = h.kept;
+  done = h.done;
+  as_many = h.as_many;
+  closed = λ no. absurd (cc no);
+  no_last = λ no. absurd (cc no);
+  no_doubt = h.no_doubt;
+  doubt = h.doubt;
+  begun = h.begun;
+  alone = h.alone;
+  idle = h.idle;
+  own = h.own;
+  none = h.none;
+  back = h.back;
+}
+
 -- the clause after a call other than a commit that is answered Ok
 pub survives_call : (old new : SlotState) (before after : ℕ → (ℕ → List ℕ) → Type 0) (first : ℕ → List ℕ) (w v : World) → Survives old before first w → IsInStep new v first
     → new.told ≡ old.told → (IsTrue old.told → new.kept ≡ old.kept) → Goes old new before after → ((m : ℕ) (x : ℕ → List ℕ) → after m x → IsTrue new.told)
@@ -359,10 +404,10 @@ survives_call old new before after first w v so_far h same kept time told moment
 
 -- and after a commit that is answered Ok
 pub survives_commit : (old new : SlotState) (before after : ℕ → (ℕ → List ℕ) → Type 0) (first : ℕ → List ℕ) (w : World) (client : ℕ) → Survives old before first w → IsInStep old w first → IsInStep new (step w (Committed client new.moment)) first
-    → old.failed ≡ false → new.told ≡ old.told → Goes old new before after → ((m : ℕ) (x : ℕ → List ℕ) → after m x → IsTrue new.told)
+    → w.closed ≡ false → new.told ≡ old.told → Goes old new before after → ((m : ℕ) (x : ℕ → List ℕ) → after m x → IsTrue new.told)
     → ((x : ℕ → List ℕ) → after new.moment x → x ≡ new.kept) → Survives new after first (step w (Committed client new.moment))
-survives_commit old new before after first w client so_far was h fine same time told acknowledges =
-    let none : w.last ≡ [] = was.no_last (sym was.closed ∙ fine) in
+survives_commit old new before after first w client so_far was h still same time told acknowledges =
+    let none : w.last ≡ [] = was.no_last still in
     commit_survives old new before after first (with_own w client) w (step w (Committed client new.moment)) so_far time none none refl refl was.as_many
     (λ m x is. (was.done ∙ ap (λ (c : ℕ → List ℕ). Some c) (sym (was.kept (subst (λ (b : Bool). IsTrue b) same (told m x is)))), h.kept (told m x is), h.no_doubt (told m x is) none))
     acknowledges

@@ -88,7 +88,7 @@ pub record IsInStep (s : SlotState) (w : World) (first : ℕ → List ℕ) : Typ
   -- the last of what the commits left
   pub done : slice_get (first ∷ w.lefts) (length w.moments) ≡ Some w.done
   pub as_many : length w.lefts ≡ length w.moments
-  pub closed : s.failed ≡ w.closed
+  pub closed : w.closed ≡ false → s.failed ≡ false
   pub no_last : w.closed ≡ false → w.last ≡ []
   pub no_doubt : IsTrue s.told → w.last ≡ [] → decoded s.doubt ≡ w.done
   pub doubt : IsTrue s.told → (v : ℕ → List ℕ) (rest : List (ℕ → List ℕ)) → w.last ≡ v ∷ rest → ∥ (decoded s.doubt ≡ w.done) ⊎ (decoded s.doubt ≡ v) ∥₁

@@ -1,4 +1,4 @@
-ghost use Rattle.std.specs.Prelude.{◌≡◌, ℕ, ◌<◌, ◌++◌, ◌∷◌, [], length, true, false, OnOk, OnErr};
+ghost use Rattle.std.specs.Prelude.{◌≡◌, ◌⊎◌, ℕ, ◌<◌, ◌++◌, ◌∷◌, [], length, true, false, OnOk, OnErr};
 ghost use Rattle.prefix_store.specs.World.{Survives, IsInStep, IsFresh, first_of, world_of};
 ghost use Rattle.std.proofs.Props.{props};
 
@@ -136,6 +136,25 @@ impl<S: Slots> Db<S> {
                 Err(Refusal::Closed)
             }
         }
+    }
+
+    pub fn abandon(&mut self, client: u16) -> Result<(), Refusal>
+        requires client { client < 16 }
+        requires begun { (world_of self.old.opened.items self.old.trace.items).begun client ≡ true }
+        ensures done { OnOk result ((self.new.trace.items ≡ self.old.trace.items ++ Event.Ended client ∷ []) ⊎ (self.new.trace.items ≡ (self.old.trace.items ++ Event.Ended client ∷ []) ++ Event.Closed client false ∷ [])) }
+    {
+        if self.trace.reserve(2).is_err() {
+            return Err(Refusal::NoMemory);
+        }
+        let before = self.slots.faults();
+        self.slots.abandon(client);
+        let _ = self.trace.push(Event::Ended(client));
+        if self.slots.faults() == before && before < u64::MAX {
+            return Ok(());
+        }
+        self.closed = true;
+        let _ = self.trace.push(Event::Closed(client, false));
+        Ok(())
     }
 
     /// What a stop leaves, of each moment that the slots tell.
