@@ -4,7 +4,7 @@ use Rattle.std.proofs.Math.Logic.{∥∥₁_prop, ∥∥₁_map, ∥∥₁_elim}
 use Rattle.std.proofs.lemmas.List.{append-nil, get_or_append_left, get_or_push}
 use Rattle.abl_storage.specs.Slots.{SlotState, Goes}
 use Rattle.prefix_store.specs.World.{World, Survives, IsNamedAt, afters, decoded, acknowledged}
-use Rattle.prefix_store.proofs.Tests.{all_acknowledged, one_more_later, get_left, get_next}
+use Rattle.prefix_store.proofs.Lookups.{all_acknowledged, one_more_later, get_left, get_next}
 
 pub splits : (a b : ℕ) → (a ≤ b) ⊎ (b < a)
 splits zero b = inl (omega arith)

@@ -7,7 +7,7 @@ use Rattle.abl_storage.specs.Slots.{SlotState, Speaks, Transaction, Keeps, Rests
 use Rattle.abl_storage.specs.declared.slots.Undo.{Undo}
 use Rattle.prefix_store.specs.World.{World, Survives, IsNamedAt, afters, IsInStep, decoded, with_at, with_own, value_or, step}
 use Rattle.prefix_store.specs.declared.Event.TheVariants.{Begun, Set, Committed, Closed, Ended}
-use Rattle.prefix_store.proofs.Tests.{dec_in, dec_out, with_same, with_other, put_same, put_other, joined_in, joined_out, get_left, get_next}
+use Rattle.prefix_store.proofs.Lookups.{dec_in, dec_out, with_same, with_other, put_same, put_other, joined_in, joined_out, get_left, get_next}
 use Rattle.prefix_store.proofs.Moves.{splits, still_survives, commit_survives}
 
 -- a slot is changed by what is taken back only where it was written, and then by itself alone

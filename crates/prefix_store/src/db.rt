@@ -6,12 +6,18 @@ use crate::Event;
 use abl_storage::{Mark, SlotFault, Slots};
 use std::alloc::Global;
 
+/// Why a call was refused.
 pub enum Refusal {
+    /// The disk has failed.
     Closed,
+    /// The transaction has all the writes that it may have.
     TxFull,
+    /// There was not enough memory.
     NoMemory,
 }
 
+/// One value for each client, in the slots from 8,192 on, with the trace of what was asked. Its type
+/// keeps that each told stop leaves the values of a committed prefix.
 pub struct Db<S: Slots> {
     slots: S,
     opened: Vec<[u8; 256]>,
@@ -36,6 +42,7 @@ impl<S: Slots> Db<S> {
         }
     }
 
+    /// Begins the client's transaction.
     pub fn begin(&mut self, client: u16) -> Result<(), Refusal>
         requires client { client < 16 }
         requires idle { (world_of self.old.opened.items self.old.trace.items).begun client ≡ false }
@@ -62,6 +69,7 @@ impl<S: Slots> Db<S> {
         }
     }
 
+    /// Sets the client's value.
     pub fn set(&mut self, client: u16, bytes: &[u8; 256]) -> Result<(), Refusal>
         requires client { client < 16 }
         requires begun { (world_of self.old.opened.items self.old.trace.items).begun client ≡ true }
@@ -90,6 +98,7 @@ impl<S: Slots> Db<S> {
         }
     }
 
+    /// Takes back what the transaction set.
     pub fn undo(&mut self, client: u16) -> Result<(), Refusal>
         requires client { client < 16 }
         requires begun { (world_of self.old.opened.items self.old.trace.items).begun client ≡ true }
@@ -114,6 +123,7 @@ impl<S: Slots> Db<S> {
         }
     }
 
+    /// Keeps what the transaction set.
     pub fn commit(&mut self, client: u16) -> Result<(), Refusal>
         requires client { client < 16 }
         requires begun { (world_of self.old.opened.items self.old.trace.items).begun client ≡ true }
@@ -138,6 +148,7 @@ impl<S: Slots> Db<S> {
         }
     }
 
+    /// Takes back what the transaction set and ends it.
     pub fn abandon(&mut self, client: u16) -> Result<(), Refusal>
         requires client { client < 16 }
         requires begun { (world_of self.old.opened.items self.old.trace.items).begun client ≡ true }

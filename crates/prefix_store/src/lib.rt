@@ -1,10 +1,13 @@
-//! A store of one value for each client, over any slots.
+//! A store of one value for each client, over any slots: it shows that the clauses of `Slots` are
+//! enough. It stands on `abl_storage`. Its type keeps that each told
+//! stop leaves the values of a committed prefix (`specs/World.antt`).
 #![tactic(auto)]
 
-ghost use Rattle.std.specs.Prelude.{◌≡◌, ◌<◌, length, false, OnOk, OnErr};
+mod db;
 
-use abl_storage::{SlotFault, Slots};
+pub use db::{Db, Refusal};
 
+/// What was asked of the store and answered.
 #[derive(Clone, Copy)]
 pub enum Event {
     Begun(u16),
@@ -14,7 +17,3 @@ pub enum Event {
     Closed(u16, bool),
     Ended(u16),
 }
-
-mod db;
-
-pub use db::Db;

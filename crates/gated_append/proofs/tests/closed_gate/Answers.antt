@@ -1,4 +1,4 @@
-use Rattle.std.proofs.Common.{◌≡◌, ℕ, List, [], ◌∷◌, sym, ◌∙◌, ap, subst}
+use Rattle.std.proofs.Common.{◌≡◌, [], sym, ◌∙◌, ap, subst}
 use Rattle.mem_disk.specs.declared.images.Images.{Images}
 use Rattle.mem_disk.specs.declared.mem_disk.MemDisk.{MemDisk}
 use Rattle.mem_disk.specs.Crash.{area_of}

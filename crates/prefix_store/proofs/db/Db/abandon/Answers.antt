@@ -3,7 +3,7 @@ use Rattle.fault_count.specs.Faults.{Rose}
 use Rattle.abl_storage.specs.Slots.{SlotState, Speaks, Ends}
 use Rattle.prefix_store.specs.World.{World, Survives, IsInStep, first_of, world_of, opened_with, step}
 use Rattle.prefix_store.specs.declared.Event.TheVariants.{Ended, Closed}
-use Rattle.prefix_store.proofs.Tests.{run_more}
+use Rattle.prefix_store.proofs.Lookups.{run_more}
 use Rattle.prefix_store.proofs.Steps.{taken_back, ended_failed, shut, survives_call}
 use Rattle.prefix_store.proofs.db.Db.abandon.Goals as goal
 

@@ -1,7 +1,7 @@
 use Rattle.std.proofs.Common.{ℕ, List, ◌≡◌, inl, inr, [], ◌∷◌, ◌++◌, false, refl, sym, ◌∙◌, ap, subst, rules}
 use Rattle.prefix_store.specs.World.{World, Survives, IsInStep, first_of, world_of, opened_with, step}
 use Rattle.prefix_store.specs.declared.Event.TheVariants.{Begun, Closed}
-use Rattle.prefix_store.proofs.Tests.{run_more}
+use Rattle.prefix_store.proofs.Lookups.{run_more}
 use Rattle.prefix_store.proofs.Steps.{rests, closes, begins, survives_call}
 use Rattle.prefix_store.proofs.db.Db.begin.Goals as goal
 

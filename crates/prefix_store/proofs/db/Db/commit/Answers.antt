@@ -1,7 +1,7 @@
 use Rattle.std.proofs.Common.{List, ◌≡◌, inl, ℕ, true, [], ◌∷◌, ◌++◌, refl, sym, ◌∙◌, ap, subst, rules}
 use Rattle.prefix_store.specs.World.{World, Survives, IsInStep, first_of, world_of, opened_with, step}
 use Rattle.prefix_store.specs.declared.Event.TheVariants.{Committed, Closed}
-use Rattle.prefix_store.proofs.Tests.{run_more, only_disk}
+use Rattle.prefix_store.proofs.Lookups.{run_more, only_disk}
 use Rattle.prefix_store.proofs.Steps.{fails, commits, survives_call, survives_commit}
 use Rattle.prefix_store.proofs.db.Db.commit.Goals as goal
 

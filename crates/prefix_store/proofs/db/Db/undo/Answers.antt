@@ -1,7 +1,7 @@
 use Rattle.std.proofs.Common.{List, ◌≡◌, inl, inr, ℕ, Bool, true, [], ◌∷◌, ◌++◌, None, false, refl, sym, ◌∙◌, ap, subst, rules}
 use Rattle.prefix_store.specs.World.{World, Survives, IsInStep, first_of, world_of, opened_with, step, with_at}
 use Rattle.prefix_store.specs.declared.Event.TheVariants.{Undone, Closed}
-use Rattle.prefix_store.proofs.Tests.{run_more, with_id, only_disk}
+use Rattle.prefix_store.proofs.Lookups.{run_more, with_id, only_disk}
 use Rattle.prefix_store.proofs.Steps.{closes, taken_back, survives_call}
 use Rattle.prefix_store.proofs.db.Db.undo.Goals as goal
 
