@@ -1,4 +1,3 @@
-pub mod Faults
 pub mod Files
 pub mod MemFiles
 pub mod Out

@@ -1,7 +1,7 @@
 -- Files in memory, and the calls that fail.
 use Rattle.std.specs.Prelude.{◌≡◌, ◌⊎◌, ℕ, List, Contains, None}
 use Rattle.abl_outside.specs.declared.named_file.NamedFile.{NamedFile}
-use Rattle.abl_outside.specs.Faults.{counted}
+use Rattle.fault_count.specs.Faults.{counted}
 use Rattle.abl_outside.specs.Files.{bytes_named}
 
 -- the files, the numbers of the calls that fail, and how many reads and faults there have been

@@ -1,6 +1,6 @@
 -- Output in memory, and the calls that fail.
 use Rattle.std.specs.Prelude.{◌<◌, ◌+◌, ◌⊎◌, ℕ, List, Contains}
-use Rattle.abl_outside.specs.Faults.{counted}
+use Rattle.fault_count.specs.Faults.{counted}
 use Rattle.abl_outside.specs.Out.{Texts, bytes_on_both}
 
 -- the bytes written, how many may be, the numbers of the calls that fail, and how many writes and faults there have been

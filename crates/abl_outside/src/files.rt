@@ -1,7 +1,7 @@
 //! The files that a program reads whole, by name.
 
 ghost use Rattle.std.specs.Prelude.{◌≡◌, ◌≤◌, ℕ, Bool, List, length, Option, Some, None, IsTrue, IfOk, IsErrOf};
-ghost use Rattle.abl_outside.specs.Faults.{Rose};
+ghost use Rattle.fault_count.specs.Faults.{Rose};
 ghost use Rattle.abl_outside.specs.Files.{IsLonger};
 
 use abl_base::Bytes;

@@ -1,18 +1,19 @@
-//! What lies outside the program: the files that it reads and the output that it writes, each as
-//! a trait with its form in memory. It stands on `abl_base`. The layer above may rely on the
-//! traits' clauses alone: what a read gives where the object tells its files, that a write appends
-//! the whole piece or, after a fault, a prefix of it, and that a fault comes only where its count
-//! rose (`specs/Faults.antt`).
+//! What lies outside the program: the files that it reads, the output that it writes and the gate
+//! before each step, each as a trait with its form in memory. It stands on `abl_base` and
+//! `fault_count`. The layer above may rely on the traits' clauses alone: what a read gives where
+//! the object tells its files, that a write appends the whole piece or, after a fault, a prefix of
+//! it, and that a fault comes only where its count rose. A gate has no meaning for the answers.
 #![tactic(auto)]
 
-mod fails;
 pub mod files;
+pub mod gate;
 pub mod mem_files;
 pub mod mem_out;
 pub mod named_file;
 pub mod out;
 
 pub use files::{FileFault, Files};
+pub use gate::{Gate, MeetGate, OpenGate};
 pub use mem_files::MemFiles;
 pub use mem_out::MemOut;
 pub use named_file::{NamedFile, NamedFiles};

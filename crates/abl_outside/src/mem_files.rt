@@ -1,14 +1,14 @@
 //! Files in memory.
 
 ghost use Rattle.std.specs.Prelude.{◌≡◌, ◌≤◌, ◌↔◌, length, true, Some, None, refl, IsTrue, IfOk, IsErrOf, ◌==◌, option_copied};
-ghost use Rattle.abl_outside.specs.Faults.{Rose, counted};
+ghost use Rattle.fault_count.specs.Faults.{Rose, counted};
 ghost use Rattle.abl_outside.specs.Files.{IsLonger, bytes_named};
 ghost use Rattle.abl_outside.specs.MemFiles.{FailsNext};
 
-use crate::fails::is_among;
 use crate::files::{FileFault, Files};
 use crate::named_file::{NamedFile, NamedFiles};
 use abl_base::Bytes;
+use fault_count::is_among;
 use std::alloc::{AllocError, Global};
 use std::marker::Model;
 

@@ -1,12 +1,12 @@
 //! Output in memory.
 
 ghost use Rattle.std.specs.Prelude.{◌≡◌, ◌≤◌, ◌+◌, ◌↔◌, true, [], length, IsTrue, IfOk, OnOk, OnErr, IsErr};
-ghost use Rattle.abl_outside.specs.Faults.{Rose, counted};
+ghost use Rattle.fault_count.specs.Faults.{Rose, counted};
 ghost use Rattle.abl_outside.specs.Out.{appended, AppendsPrefix, text_on};
 ghost use Rattle.abl_outside.specs.MemOut.{FailsNext};
 
-use crate::fails::is_among;
 use crate::out::{Out, OutFailed, Stream};
+use fault_count::is_among;
 use std::alloc::{AllocError, Global};
 use std::marker::Model;
 

@@ -1,7 +1,7 @@
 //! The two streams that a program writes.
 
 ghost use Rattle.std.specs.Prelude.{◌≡◌, ◌≤◌, ℕ, Bool, IsTrue, OnOk, OnErr};
-ghost use Rattle.abl_outside.specs.Faults.{Rose};
+ghost use Rattle.fault_count.specs.Faults.{Rose};
 ghost use Rattle.abl_outside.specs.Out.{Texts, appended, AppendsPrefix};
 
 use thiserror::Error;

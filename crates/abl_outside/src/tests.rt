@@ -1,9 +1,13 @@
-//! The files and the output in memory, by one table each.
+//! The files, the output and the gates, by one table each.
 
-use crate::{FileFault, Files, MemFiles, MemOut, NamedFile, NamedFiles, Out, OutFailed, Stream};
+use crate::{
+    FileFault, Files, Gate, MeetGate, MemFiles, MemOut, NamedFile, NamedFiles, OpenGate, Out,
+    OutFailed, Stream,
+};
 use abl_base::{Bytes, Items};
 use std::alloc::{AllocError, Global};
 use std::test::Fail;
+use std::thread::join;
 
 fn named(alloc: Global, name: &[u8], bytes: &[u8]) -> Result<NamedFile, AllocError> {
     Ok(NamedFile {
@@ -74,4 +78,24 @@ fn writes_fail_by_number_and_past_the_most(rt: HostRuntime) -> Result<(), Fail> 
     assert_eq!(rt; out.text(Stream::Output), b"abg".as_slice());
     assert_eq!(rt; out.text(Stream::Diagnostics), b"cd".as_slice());
     Ok(())
+}
+
+#[test]
+fn one_client_alone_does_not_meet(rt: HostRuntime) {
+    OpenGate.at(0, 5);
+    let gate = MeetGate::new(2, 5, 1000);
+    gate.at(0, 5);
+    gate.at(0, 5);
+    assert!(rt; !gate.met());
+    gate.at(1, 5);
+    assert!(rt; !gate.met(), "the first has spent its turns");
+}
+
+#[test]
+fn two_clients_meet(rt: HostRuntime) {
+    let gate = MeetGate::new(2, 5, 1_000_000_000);
+    gate.at(0, 4);
+    assert!(rt; !gate.met());
+    join(&rt, || gate.at(0, 5), || gate.at(1, 5));
+    assert!(rt; gate.met());
 }

@@ -1,5 +1,5 @@
 use Rattle.std.proofs.Common.{◌≡◌, inl, refl, ap, ◌∙◌, subst, ℕ, List, Contains}
-use Rattle.abl_outside.specs.Faults.{counted}
+use Rattle.fault_count.specs.Faults.{counted}
 use Rattle.abl_outside.specs.MemFiles.{Folder}
 use Rattle.abl_outside.proofs.mem_files.MemFilesFiles.read.Goals as goal
 

@@ -1,0 +1,11 @@
+//! What the database is stored on: slots with transactions, and the disk below them, each as a
+//! trait with its meaning (`specs/Slots.antt`, `specs/Disk.antt`). It stands on `fault_count`. The
+//! layers above rely on the traits' clauses alone; `mem_slots` and `mem_disk` have the forms in
+//! memory.
+#![tactic(auto)]
+
+pub mod disk;
+pub mod slots;
+
+pub use disk::{Disk, DiskFailed};
+pub use slots::{Mark, SlotFault, Slots, Undo};

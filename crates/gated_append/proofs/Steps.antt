@@ -1,0 +1,83 @@
+-- How a run of disk calls goes on, and what a write leaves.
+use Rattle.std.proofs.Common.{◌≡◌, ◌⊎◌, inl, inr, ⊎_elim, ℕ, zero, suc, ◌+◌, ◌-◌, ◌<◌, ◌≤◌, Bool, List, ◌++◌, length, take, drop, replicate, sym, ◌∙◌, ap, subst, arith, length-drop}
+use Rattle.std.proofs.lemmas.List.{length-take, ext_get_or, get_or-take, get_or-drop, append-nil}
+use Rattle.abl_storage.specs.Disk.{Passes}
+use Rattle.gated_append.specs.Device.{Wrote}
+use Rattle.abl_storage.specs.Disk.{Torn as TornBytes}
+use Rattle.gated_append.specs.Device.{Torn, Holds, Kept}
+
+abbrev Image : Type 0
+Image = ℕ → List ℕ
+
+splits : (a b : ℕ) → (a ≤ b) ⊎ (b < a)
+splits zero b = inl (omega arith)
+splits (suc a) zero = inr (omega arith)
+splits (suc a) (suc b) = ⊎_elim (λ h. inl (omega (arith, h))) (λ h. inr (omega (arith, h))) (splits a b)
+
+pub started : (was : ℕ) (before : ℕ → Image → Type 0) (P : Image → Type 0) → ((m : ℕ) (image : Image) → before m image → m ≤ was) → Kept was was before before P
+started was before P top = record {
+  later = omega arith;
+  nothing_else = λ m image le told. told;
+  stays = λ m image le told. told;
+  here = λ m image later told. let no = top m image told in absurd (omega (arith, no, later));
+}
+
+-- one call more
+pub goes_on : (ok : Bool) (was mid now : ℕ) (before between after : ℕ → Image → Type 0) (step : Image → Image → Type 0) (P : Image → Type 0) → Kept was mid before between P → Passes ok mid now between after step
+    → ((m : ℕ) (image : Image) → after m image → m ≤ now) → ((d image : Image) → between mid d → step d image → P image) → Kept was now before after P
+goes_on ok was mid now before between after step P so_far pass top each = record {
+  later = omega (arith, so_far.later, up);
+  nothing_else = λ m image le told. so_far.nothing_else m image le (pass.nothing_else m image (omega (arith, le, so_far.later)) told);
+  stays = λ m image le told. pass.stays m image (omega (arith, le, so_far.later)) (so_far.stays m image le told);
+  here = λ m image later told. ⊎_elim
+      (λ (past : m ≤ mid). so_far.here m image later (pass.nothing_else m image past told))
+      (λ (new : mid < m). let is_now : m ≡ now = (let t = top m image told in let s = small in omega (arith, t, new, s)) in
+      let from = pass.here image (subst (λ (n : ℕ). after n image) is_now told) in each from.0 image from.1 from.2)
+      (splits m mid);
+}
+  where
+    up : mid ≤ now
+    up = ⊎_elim (λ (e : now ≡ mid + 1). omega (arith, e)) (λ e. omega (arith, e.2)) pass.one
+
+    small : now ≤ mid + 1
+    small = ⊎_elim (λ (e : now ≡ mid + 1). omega (arith, e)) (λ e. omega (arith, e.2)) pass.one
+
+-- one part after another
+pub after_that : (was mid now : ℕ) (before between after : ℕ → Image → Type 0) (P Q R : Image → Type 0) → Kept was mid before between P → Kept mid now between after Q
+    → ((image : Image) → P image → R image) → ((image : Image) → Q image → R image) → Kept was now before after R
+after_that was mid now before between after P Q R one two p q = record {
+  later = omega (arith, one.later, two.later);
+  nothing_else = λ m image le told. one.nothing_else m image le (two.nothing_else m image (omega (arith, le, one.later)) told);
+  stays = λ m image le told. two.stays m image (omega (arith, le, one.later)) (one.stays m image le told);
+  here = λ m image later told. ⊎_elim
+      (λ (past : m ≤ mid). p image (one.here m image later (two.nothing_else m image past told)))
+      (λ (new : mid < m). q image (two.here m image new told))
+      (splits m mid);
+}
+
+pub weaker : (was now : ℕ) (before after : ℕ → Image → Type 0) (P Q : Image → Type 0) → Kept was now before after P → ((image : Image) → P image → Q image) → Kept was now before after Q
+weaker was now before after P Q k p = record { later = k.later; nothing_else = k.nothing_else; stays = k.stays; here = λ m image later told. p image (k.here m image later told) }
+
+-- a write within the area or at its end, by parts
+pub torn_parts : (at n : ℕ) (old new : List ℕ) → at ≤ length old → TornBytes at n old new → Torn at n old new
+torn_parts at n old new within torn = record {
+  before = ext_get_or 0 (take at new) (take at old) (omega (arith, length-take at new, length-take at old, within, torn.no_shorter)) (λ i lt.
+      let less : i < at = omega (arith, lt, length-take at new) in
+      get_or-take at new i 0 less ∙ torn.below i (omega (arith, less, within)) less ∙ sym (get_or-take at old i 0 less));
+  after = ext_get_or 0 (drop (at + n) new) (drop (at + n) old) (omega (arith, length-drop (at + n) new, length-drop (at + n) old, torn.no_shorter, torn.no_longer)) (λ i lt.
+      get_or-drop (at + n) new i 0 ∙ torn.above (at + n + i) (omega (arith, lt, length-drop (at + n) new, torn.no_shorter, torn.no_longer)) (omega arith) ∙ sym (get_or-drop (at + n) old i 0));
+  no_shorter = torn.no_shorter;
+  no_longer = torn.no_longer;
+}
+
+pub wrote_parts : (at : ℕ) (bytes old new : List ℕ) → at ≤ length old → Wrote at bytes old new → Holds old at bytes new
+wrote_parts at bytes old new within wrote =
+    let none : at - length old ≡ 0 = omega (arith, within) in
+    wrote ∙ ap (λ (n : ℕ). (take at old ++ replicate {A = ℕ} n 0) ++ bytes ++ drop (at + length bytes) old) none ∙ ap (λ (l : List ℕ). l ++ bytes ++ drop (at + length bytes) old) (append-nil (take at old))
+
+-- what has held at each moment since holds of what a crash now may leave
+pub holds_now : (was now : ℕ) (before after : ℕ → Image → Type 0) (P : Image → Type 0) → Kept was now before after P → ((image : Image) → before was image → P image) → (image : Image) → after now image → P image
+holds_now was now before after P k start image told = ⊎_elim
+    (λ (past : now ≤ was). let same : now ≡ was = (let l = k.later in omega (arith, past, l)) in start image (subst (λ (m : ℕ). before m image) same (k.nothing_else now image past told)))
+    (λ (new : was < now). k.here now image new told)
+    (splits now was)

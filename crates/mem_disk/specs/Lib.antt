@@ -1,0 +1,5 @@
+pub mod Notes
+pub mod Crash
+pub mod Sound
+pub mod Shown
+pub mod Laws

@@ -1,0 +1,369 @@
+//! The disk in memory.
+
+ghost use Rattle.std.specs.Prelude.{◌≡◌, ◌<◌, ◌≤◌, ◌+◌, ◌^◌, ◌++◌, ◌∷◌, ◌⊎◌, ◌↔◌, ℕ, List, [], min, length, take, true, false, refl, is_ok, IsTrue, IsErr, IfOk, OnOk, OnErr};
+ghost use Rattle.std.specs.Vec.{vec_capacity};
+ghost use Rattle.fault_count.specs.Faults.{Rose, counted};
+ghost use Rattle.abl_storage.specs.Disk.{Reads, Stays, overlaid, TornIn, Passes, HasCause};
+ghost use Rattle.mem_disk.specs.Notes.{notes_of, bytes_in, held};
+ghost use Rattle.mem_disk.specs.Crash.{area_of, crashed, is_write};
+ghost use Rattle.mem_disk.specs.Sound.{AllInside, HaveRoom};
+
+use crate::areas::{copy_out, overlay};
+use crate::call::{Call, Effect};
+use crate::images::{Images, Room, Torn};
+use crate::replay::crashed_images;
+use abl_storage::{Disk, DiskFailed};
+use fault_count::is_among;
+use std::alloc::{AllocError, Global};
+
+/// A disk in memory, with a record of its writes and syncs. It tells what its areas hold and what a
+/// crash at each moment may have left.
+#[derive(Drop)]
+pub struct MemDisk {
+    first: Images,
+    current: Vec<Vec<u8>>,
+    calls: Vec<Call>,
+    pool: Vec<u8>,
+    room: Room,
+    fails: Vec<u64>,
+    number: u64,
+    time: u64,
+    failed: u64,
+    ghost three: { length current.items ≡ 3 },
+    ghost agrees: { (k : ℕ) → bytes_in current.items k ≡ (held (area_of first) (notes_of pool.items calls.items) k).seen },
+    ghost many: { length calls.items ≡ min time room.calls },
+    ghost calls_room: { room.calls ≤ vec_capacity calls },
+    ghost pool_room: { room.bytes ≤ vec_capacity pool },
+    ghost pool_within: { length pool.items ≤ room.bytes },
+    ghost areas_room: { HaveRoom room.length current.items },
+    ghost small: { (k : ℕ) → length (area_of first k) ≤ 2 ^ 40 },
+    ghost inside: { AllInside (length pool.items) calls.items },
+}
+
+/// The bytes of an area of these.
+fn area_in(images: &Images, area: u8) -> &[u8]
+    requires { area < 3 }
+    ensures { result.now ≡ area_of images.now area }
+{
+    match area {
+        0 => images.d0.as_slice(),
+        1 => images.b1.as_slice(),
+        _ => images.b2.as_slice(),
+    }
+}
+
+/// The same bytes, with memory for so many.
+fn with_room(alloc: Global, bytes: &[u8], count: u64) -> Result<Vec<u8>, AllocError>
+    ensures bytes { IfOk result (λ v. v.items ≡ bytes.now) }
+    ensures room { IfOk result (λ v. count ≤ vec_capacity v) }
+{
+    let mut v = Vec::with_capacity(alloc, count as usize)?;
+    v.extend_from_slice(bytes)?;
+    Ok(v)
+}
+
+/// The three areas, each with memory for so many bytes.
+fn areas_with_room(alloc: Global, images: &Images, count: u64) -> Result<Vec<Vec<u8>>, AllocError>
+    ensures three { IfOk result (λ v. length v.items ≡ 3) }
+    ensures bytes { IfOk result (λ v. (k : ℕ) → bytes_in v.items k ≡ area_of images.now k) }
+    ensures room { IfOk result (λ v. HaveRoom count v.items) }
+{
+    let d0 = with_room(alloc, images.d0.as_slice(), count)?;
+    let b1 = with_room(alloc, images.b1.as_slice(), count)?;
+    let b2 = with_room(alloc, images.b2.as_slice(), count)?;
+    Ok(vec![in alloc; d0, b1, b2]?)
+}
+
+impl MemDisk {
+    ghost use Rattle.mem_disk.specs.Shown.{shown, Passed, PassesRoom};
+
+    /// A disk with these areas, at moment 0 with no write pending, which takes all the memory that
+    /// its room asks for; the calls whose number is in `fails` fail, the first call being number 1.
+    /// Want of memory is the only refusal.
+    pub fn new(
+        alloc: Global,
+        areas: &Images,
+        room: &Room,
+        fails: &[u64],
+    ) -> Result<MemDisk, AllocError>
+        requires d0 { length areas.now.d0 ≤ 2 ^ 40 }
+        requires b1 { length areas.now.b1 ≤ 2 ^ 40 }
+        requires b2 { length areas.now.b2 ≤ 2 ^ 40 }
+        ensures { IfOk result (λ d. shown d ≡ record { first = area_of areas.now; notes = []; spent = 0; room = room.now; fails = fails.now; calls = 0; time = 0; faults = 0 }) }
+    {
+        Ok(MemDisk {
+            first: areas.copy()?,
+            current: areas_with_room(alloc, areas, room.length)?,
+            calls: Vec::with_capacity(alloc, room.calls as usize)?,
+            pool: Vec::with_capacity(alloc, room.bytes as usize)?,
+            room: *room,
+            fails: Vec::from_slice(alloc, fails)?,
+            number: 0,
+            time: 0,
+            failed: 0,
+        })
+    }
+
+    /// The writes and syncs, in order, as far as there was room for them.
+    pub fn calls(&self) -> &[Call]
+        ensures { length result.now ≡ length (shown self.now).notes }
+    {
+        &self.calls
+    }
+
+    /// What a crash at that moment leaves: what was last synced, and of each write since, of all
+    /// areas in order, what it became. A missing one is Old, and further ones are not used. Want of
+    /// memory is the only refusal.
+    pub fn crash(&self, moment: u64, torn: &[Torn]) -> Result<Images, AllocError>
+        requires { moment ≤ (shown self.now).time }
+        ensures exact { IfOk result (λ images. (k : ℕ) → area_of images k ≡ crashed (shown self.now).first (take moment (shown self.now).notes) torn.now k) }
+        ensures left { IfOk result (λ images. ⟦<MemDisk as Disk>⟧.left self.now moment (area_of images)) }
+    {
+        let alloc = *self.pool.allocator();
+        let count = (moment as usize).min(self.calls.len());
+        let calls = &self.calls[..count];
+        crashed_images(alloc, &self.first, calls, &self.pool, torn)
+    }
+
+    /// Whether there is room for a write of so many bytes there.
+    fn has_room(&self, at: u64, count: u64) -> bool
+        requires { at + count < 2 ^ 40 }
+        ensures fits { result ≡ true → (self.now.time < self.now.room.calls) × ((length self.now.pool.items + count ≤ self.now.room.bytes) × (at + count ≤ self.now.room.length)) }
+        ensures passes { result ≡ false → PassesRoom (shown self.now) at count }
+    {
+        self.time < self.room.calls
+            && count <= self.room.bytes - self.pool.len() as u64
+            && at + count <= self.room.length
+    }
+
+    /// Records a sync, or a call that changes nothing.
+    fn record(&mut self, area: u8, effect: Effect)
+        requires area { area < 3 }
+        requires moment { self.old.time + 1 < 2 ^ 64 }
+        requires room { self.old.time < self.old.room.calls }
+        requires quiet { is_write effect ≡ false }
+        ensures counts { Passed (shown self.old) (shown self.new) }
+        ensures notes { (shown self.new).notes ≡ (shown self.old).notes ++ record { area = area; at = 0; bytes = []; effect = effect } ∷ [] }
+    {
+        self.calls
+            .push(Call {
+                area,
+                at: 0,
+                from: 0,
+                length: 0,
+                effect,
+            })
+            .unwrap();
+        self.time += 1;
+    }
+
+    /// Lets a call pass for which the record has no room.
+    fn skip(&mut self)
+        requires moment { self.old.time + 1 < 2 ^ 64 }
+        requires full { self.old.room.calls ≤ self.old.time }
+        ensures counts { Passed (shown self.old) (shown self.new) }
+        ensures notes { (shown self.new).notes ≡ (shown self.old).notes }
+    {
+        self.time += 1;
+    }
+
+    /// Lets a call pass that changes nothing. It is recorded if there is room for it.
+    fn pass_over(&mut self, area: u8)
+        requires area { area < 3 }
+        requires moment { self.old.time + 1 < 2 ^ 64 }
+        ensures counts { Passed (shown self.old) (shown self.new) }
+        ensures notes { self.old.time < self.old.room.calls → (shown self.new).notes ≡ (shown self.old).notes ++ record { area = area; at = 0; bytes = []; effect = Effect.Nothing } ∷ [] }
+        ensures full { self.old.room.calls ≤ self.old.time → (shown self.new).notes ≡ (shown self.old).notes }
+    {
+        if self.time < self.room.calls {
+            self.record(area, Effect::Nothing);
+            return;
+        }
+        self.skip();
+    }
+
+    /// Records a write that fails: reads do not show it.
+    fn cut(&mut self, area: u8, at: u64, bytes: &[u8])
+        requires area { area < 3 }
+        requires end { at + length bytes.now < 2 ^ 40 }
+        requires moment { self.old.time + 1 < 2 ^ 64 }
+        requires calls { self.old.time < self.old.room.calls }
+        requires bytes { length self.old.pool.items + length bytes.now ≤ self.old.room.bytes }
+        ensures counts { Passed (shown self.old) (shown self.new) }
+        ensures notes { (shown self.new).notes ≡ (shown self.old).notes ++ record { area = area; at = at; bytes = bytes.now; effect = Effect.Cut } ∷ [] }
+    {
+        let from = self.pool.len();
+        self.pool.extend_from_slice(bytes).unwrap();
+        self.calls
+            .push(Call {
+                area,
+                at,
+                from,
+                length: bytes.len(),
+                effect: Effect::Cut,
+            })
+            .unwrap();
+        self.time += 1;
+    }
+
+    /// Records a write that is done.
+    fn put(&mut self, area: u8, at: u64, bytes: &[u8])
+        requires area { area < 3 }
+        requires end { at + length bytes.now < 2 ^ 40 }
+        requires moment { self.old.time + 1 < 2 ^ 64 }
+        requires calls { self.old.time < self.old.room.calls }
+        requires bytes { length self.old.pool.items + length bytes.now ≤ self.old.room.bytes }
+        requires length { at + length bytes.now ≤ self.old.room.length }
+        ensures counts { Passed (shown self.old) (shown self.new) }
+        ensures notes { (shown self.new).notes ≡ (shown self.old).notes ++ record { area = area; at = at; bytes = bytes.now; effect = Effect.Written } ∷ [] }
+    {
+        let from = self.pool.len();
+        self.pool.extend_from_slice(bytes).unwrap();
+        self.calls
+            .push(Call {
+                area,
+                at,
+                from,
+                length: bytes.len(),
+                effect: Effect::Written,
+            })
+            .unwrap();
+        let target = &mut self.current[area as usize];
+        overlay(target, at as usize, bytes).unwrap();
+        self.time += 1;
+    }
+}
+
+impl Disk for MemDisk {
+    ghost use Rattle.mem_disk.specs.Laws.{reads_left, left_told, length-notes_of};
+    ghost use Rattle.mem_disk.specs.Shown.{shown, seen_of, left_of, IsDue, IsLast, PassesCalls, PassesRoom, Fits, Counts, SameHeld};
+    ghost use Rattle.std.proofs.Common.{arith};
+
+    ghost told = { λ d. true };
+
+    ghost seen = { λ d. seen_of (shown d) };
+
+    ghost left = { λ d. left_of (shown d) };
+
+    ghost time = { λ d. d.time };
+
+    ghost failures = { λ d. d.failed };
+
+    ghost reads_left = { λ d told. reads_left (shown d).first (shown d).notes d.time (Prim.omega (arith, length-notes_of d.pool.items d.calls.items, d.many)) };
+
+    ghost left_told = { λ d m image left. left_told (shown d).first d.pool.items (length d.pool.items) d.calls.items d.time m image d.small d.inside left };
+
+    fn faults(&self) -> u64 {
+        self.failed
+    }
+
+    fn moment(&self) -> u64 {
+        self.time
+    }
+
+    /// Beyond what every disk does: it fails exactly where its number is in the list.
+    fn read(&mut self, area: u8, at: u64, into: &mut [u8]) -> Result<(), DiskFailed>
+        requires area { area < 3 }
+        requires end { at + length into.old < 2 ^ 41 }
+        ensures bytes { OnOk result (Reads (seen_of (shown self.old) area) at into.new) }
+        ensures rest { Stays true true (seen_of (shown self.old)) (seen_of (shown self.new)) self.old.time self.new.time (left_of (shown self.old)) (left_of (shown self.new)) }
+        ensures counts { Counts (shown self.old) (shown self.new) }
+        ensures recorded { (shown self.new).notes ≡ (shown self.old).notes }
+        ensures cause { HasCause self.old.failed self.new.failed (is_ok result) }
+        ensures failed { IsErr result ↔ IsDue (shown self.old) }
+    {
+        self.number = self.number.saturating_add(1);
+        if is_among(&self.fails, self.number) {
+            self.failed = self.failed.saturating_add(1);
+            return Err(DiskFailed);
+        }
+        copy_out(&self.current[area as usize], at as usize, into);
+        Ok(())
+    }
+
+    /// Beyond what every disk does: it fails exactly where its number is in the list.
+    fn length(&mut self, area: u8) -> Result<u64, DiskFailed>
+        requires area { area < 3 }
+        ensures length { IfOk result (λ n. n ≡ length (seen_of (shown self.old) area)) }
+        ensures rest { Stays true true (seen_of (shown self.old)) (seen_of (shown self.new)) self.old.time self.new.time (left_of (shown self.old)) (left_of (shown self.new)) }
+        ensures counts { Counts (shown self.old) (shown self.new) }
+        ensures recorded { (shown self.new).notes ≡ (shown self.old).notes }
+        ensures cause { HasCause self.old.failed self.new.failed (is_ok result) }
+        ensures failed { IsErr result ↔ IsDue (shown self.old) }
+    {
+        self.number = self.number.saturating_add(1);
+        if is_among(&self.fails, self.number) {
+            self.failed = self.failed.saturating_add(1);
+            return Err(DiskFailed);
+        }
+        Ok(self.current[area as usize].len() as u64)
+    }
+
+    /// Beyond what every disk does: it fails exactly where its number is in the list, where no
+    /// moment is left or where it would pass the room; one that is refused for room changes no
+    /// byte, and one that fails otherwise stands in the record as cut.
+    fn write(&mut self, area: u8, at: u64, bytes: &[u8]) -> Result<(), DiskFailed>
+        requires area { area < 3 }
+        requires end { at + length bytes.now < 2 ^ 40 }
+        ensures written { OnOk result (seen_of (shown self.new) area ≡ overlaid at bytes.now (seen_of (shown self.old) area)) }
+        ensures others { TornIn area at (length bytes.now) (seen_of (shown self.old)) (seen_of (shown self.new)) }
+        ensures last { IsLast (shown self.old) → seen_of (shown self.new) ≡ seen_of (shown self.old) }
+        ensures time { Passes (is_ok result) self.old.time self.new.time (left_of (shown self.old)) (left_of (shown self.new)) (TornIn area at (length bytes.now)) }
+        ensures cause { HasCause self.old.failed self.new.failed (is_ok result) }
+        ensures failed { IsErr result ↔ (IsDue (shown self.old) ⊎ (IsLast (shown self.old) ⊎ PassesRoom (shown self.old) at (length bytes.now))) }
+        ensures counts { Counts (shown self.old) (shown self.new) }
+        ensures recorded { OnOk result ((shown self.new).notes ≡ (shown self.old).notes ++ record { area = area; at = at; bytes = bytes.now; effect = Effect.Written } ∷ []) }
+        ensures refused { PassesRoom (shown self.old) at (length bytes.now) → SameHeld (shown self.old) (shown self.new) }
+        ensures cut { OnErr result (Fits (shown self.old) at (length bytes.now) → (shown self.new).notes ≡ (shown self.old).notes ++ record { area = area; at = at; bytes = bytes.now; effect = Effect.Cut } ∷ []) }
+    {
+        self.number = self.number.saturating_add(1);
+        if self.time == u64::MAX {
+            self.failed = self.failed.saturating_add(1);
+            return Err(DiskFailed);
+        }
+        if !self.has_room(at, bytes.len() as u64) {
+            self.pass_over(area);
+            self.failed = self.failed.saturating_add(1);
+            return Err(DiskFailed);
+        }
+        if is_among(&self.fails, self.number) {
+            self.cut(area, at, bytes);
+            self.failed = self.failed.saturating_add(1);
+            return Err(DiskFailed);
+        }
+        self.put(area, at, bytes);
+        Ok(())
+    }
+
+    /// Beyond what every disk does: it fails exactly where its number is in the list, where no
+    /// moment is left or where the record has no room; one that fails changes nothing.
+    fn sync(&mut self, area: u8) -> Result<(), DiskFailed>
+        requires area { area < 3 }
+        ensures seen { seen_of (shown self.new) ≡ seen_of (shown self.old) }
+        ensures durable { OnOk result ((image : ℕ → List ℕ) → left_of (shown self.new) self.new.time image → image area ≡ seen_of (shown self.new) area) }
+        ensures time { Passes (is_ok result) self.old.time self.new.time (left_of (shown self.old)) (left_of (shown self.new)) (λ old new. new ≡ old) }
+        ensures cause { HasCause self.old.failed self.new.failed (is_ok result) }
+        ensures failed { IsErr result ↔ (IsDue (shown self.old) ⊎ (IsLast (shown self.old) ⊎ PassesCalls (shown self.old))) }
+        ensures counts { Counts (shown self.old) (shown self.new) }
+        ensures recorded { OnOk result ((shown self.new).notes ≡ (shown self.old).notes ++ record { area = area; at = 0; bytes = []; effect = Effect.Synced } ∷ []) }
+        ensures refused { OnErr result (SameHeld (shown self.old) (shown self.new)) }
+    {
+        self.number = self.number.saturating_add(1);
+        if self.time == u64::MAX {
+            self.failed = self.failed.saturating_add(1);
+            return Err(DiskFailed);
+        }
+        if self.time >= self.room.calls {
+            self.pass_over(area);
+            self.failed = self.failed.saturating_add(1);
+            return Err(DiskFailed);
+        }
+        if is_among(&self.fails, self.number) {
+            self.pass_over(area);
+            self.failed = self.failed.saturating_add(1);
+            return Err(DiskFailed);
+        }
+        self.record(area, Effect::Synced);
+        Ok(())
+    }
+}

@@ -1,0 +1,3 @@
+pub mod Sparse
+pub mod Promised
+pub mod Mem

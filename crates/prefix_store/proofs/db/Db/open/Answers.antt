@@ -1,0 +1,36 @@
+use Rattle.std.proofs.Common.{◌≡◌, inl, ℕ, ◌+◌, List, Some, refl, sym, ◌∙◌, ap, subst, arith}
+use Rattle.abl_storage.specs.Slots.{wrote, undone}
+use Rattle.abl_storage.specs.declared.slots.Undo.{Undo}
+use Rattle.prefix_store.specs.World.{World, Survives, IsInStep, first_of, world_of, opened_with, decoded}
+use Rattle.prefix_store.proofs.db.Db.open.Goals as goal
+
+pub invariant_of-result : goal.invariant_of-result
+invariant_of-result g c =
+    let f = c.requires in
+    let first = first_of c.args.opened.items in
+    let s = g.S.Slots.state c.args.slots in
+    let w_is : world_of c.args.opened.items c.new.result.items ≡ opened_with first = ap (world_of c.args.opened.items) c.new.ensures.items in
+    let survives : Survives s (g.S.Slots.stop c.args.slots) first (opened_with first) = record {
+      stops = λ m x low high told. ∣ inl (ap (λ (v : ℕ → List ℕ). Some v) (sym (f.stops m x low high told))) ∣₁;
+      ascend = record { order = f.past; within = λ i lt. absurd (omega arith); rises = λ i j le lt. absurd (omega arith) };
+    } in
+    let in_step : IsInStep s (opened_with first) first = record {
+      kept = f.contents;
+      done = refl;
+      as_many = refl;
+      closed = λ _. f.fine;
+      no_last = λ _. refl;
+      no_doubt = λ told _. ap decoded (f.doubt told) ∙ f.contents told;
+      doubt = λ told v rest is. absurd (cc is);
+      begun = λ k lt. (f.idle k).0;
+      alone = λ k j lt ne. ap (λ (u : List Undo). wrote u j) (f.idle k).1;
+      idle = λ k lt no. refl;
+      own = λ speaks k lt b is. absurd (cc is);
+      none = λ speaks k lt is. (ap (λ (u : List Undo). wrote u (8192 + k)) (f.idle k).1, ap (λ (r : ℕ → List ℕ). r (8192 + k)) (f.reads speaks));
+      back = λ speaks k lt. ap (λ (u : List Undo). undone u s.reads (8192 + k)) (f.idle k).1 ∙ ap (λ (r : ℕ → List ℕ). r (8192 + k)) (f.reads speaks);
+    } in
+    record {
+      survives = subst (λ (v : World). Survives s (g.S.Slots.stop c.args.slots) first v) (sym w_is) survives;
+      in_step = subst (λ (v : World). IsInStep s v first) (sym w_is) in_step;
+      closed_is = sym (ap (λ (v : World). v.closed) w_is);
+    }
