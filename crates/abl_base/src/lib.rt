@@ -5,6 +5,7 @@
 
 pub mod arithmetic;
 pub mod items;
+pub mod order;
 pub mod place;
 pub mod row;
 pub mod rule;
@@ -13,6 +14,7 @@ pub mod value;
 
 pub use arithmetic::ArithFault;
 pub use items::Items;
+pub use order::compare;
 pub use place::Place;
 pub use row::{Cursor, Cycle, Holders, Numbers, Row, RowId, Rows};
 pub use rule::Rule;
