@@ -1,0 +1,10 @@
+use Rattle.std.proofs.Common.{◌-◌, ◌<◌, length, get_or, arith}
+use Rattle.std.proofs.lemmas.List.{get_or_default}
+use Rattle.std.proofs.lemmas.List.Edits.{map_over_more}
+use Rattle.key_codec.proofs.component.turn_over.Goals as goal
+
+pub loop-byte-preserved : goal.loop-byte-preserved
+loop-byte-preserved c =
+    let within : c.loop-byte.byte-index < length c.loop-byte.bytes = omega arith in
+    map_over_more (λ b. 255 - b) c.args.bytes.now c.loop-byte.bytes c.loop-byte.byte-index (get_or c.loop-byte.bytes c.loop-byte.byte-index 0)
+    c.loop-byte-test.true c.loop-byte.invariant (get_or_default c.loop-byte.bytes c.loop-byte.byte-index 0 _ within)
