@@ -1,0 +1,10 @@
+pub mod Tables
+pub mod Frame
+pub mod State
+pub mod Waiting
+pub mod Search
+pub mod Counts
+pub mod Answers
+pub mod Fits
+pub mod Steps
+pub mod Traces

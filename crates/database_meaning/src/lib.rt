@@ -4,6 +4,7 @@
 #![tactic(auto)]
 
 pub mod contents;
+pub mod limits;
 pub mod operation;
 
 pub use contents::{ContentRow, ContentRows, Contents};
