@@ -8,3 +8,4 @@ pub mod Answers
 pub mod Fits
 pub mod Steps
 pub mod Traces
+pub mod Laws

@@ -4,6 +4,7 @@
 #![tactic(auto)]
 
 pub mod contents;
+pub mod laws;
 pub mod limits;
 pub mod operation;
 

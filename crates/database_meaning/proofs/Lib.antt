@@ -1,0 +1,10 @@
+mod Maps
+mod TableRows
+mod Own
+mod Clash
+mod Chains
+mod Good
+mod LockedReads
+mod Keys
+mod Kept
+mod Shortest
