@@ -1,1 +1,11 @@
 pub mod Rules
+pub mod Order
+pub mod Dates
+pub mod Arithmetic
+pub mod Fit
+pub mod Rows
+pub mod Keys
+pub mod Texts
+pub mod Masks
+pub mod Schema
+pub mod Examples

@@ -3,14 +3,18 @@
 //! other crate. Contracts see each `Items` as a list.
 #![tactic(auto)]
 
+pub mod arithmetic;
 pub mod items;
 pub mod place;
 pub mod row;
 pub mod rule;
+pub mod schema;
 pub mod value;
 
+pub use arithmetic::ArithFault;
 pub use items::Items;
 pub use place::Place;
 pub use row::{Cursor, Cycle, Holders, Numbers, Row, RowId, Rows, copy_row};
 pub use rule::Rule;
-pub use value::{Bytes, Kind, Value};
+pub use schema::{FieldDef, IndexDef, Part, Parts, SequenceDef, TableDef};
+pub use value::{Bytes, Kind, MAX_TEXT_BYTES, Value};

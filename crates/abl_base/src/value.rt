@@ -5,6 +5,9 @@ ghost use Rattle.std.specs.Prelude.{◌≡◌, IfOk};
 use crate::items::Items;
 use std::alloc::AllocError;
 
+/// The most bytes that a text value has.
+pub const MAX_TEXT_BYTES: usize = 30_000;
+
 /// A list of bytes.
 pub type Bytes = Items<u8>;
 

@@ -1,0 +1,80 @@
+-- The key bytes of a row in an index, and its unique keys.
+use Rattle.std.specs.Prelude.{◌≡◌, ℕ, ◌+◌, ◌-◌, ◌^◌, Bool, true, false, not, ◌&&◌, ◌||◌, ◌==◌, if◌then◌else◌, List, [], ◌∷◌, ◌++◌, map, slice_index_or, Option, Some, None, ℤ, pos, ◌+ℤ◌, unsigned_abs}
+use Rattle.std.specs.Ordering.{nat_cmp, ordering_then, ordering_reverse}
+use Rattle.std.specs.declared.cmp.Ordering.{Ordering}
+use Rattle.std.specs.declared.cmp.Ordering.TheVariants.{Less, Equal, Greater}
+use Rattle.byteorder.specs.Endian.{big_bytes}
+use Rattle.abl_base.specs.declared.value.Value.{Value}
+use Rattle.abl_base.specs.declared.value.Value.TheVariants.{Text, Int, Int64, Dec, Logical, Date, Unknown}
+use Rattle.abl_base.specs.declared.schema.Part.{Part}
+use Rattle.abl_base.specs.Order.{compared_text, value_order}
+
+-- ---- bytes
+
+-- a zero byte of a text as 0 and 255, any other byte as it is
+abbrev pub escaped : List ℕ → List ℕ
+escaped [] = []
+escaped (b ∷ bs) = if b == 0 then 0 ∷ 255 ∷ escaped bs else b ∷ escaped bs
+
+-- a signed number of so many bits with its highest bit turned over: the number plus half its range
+abbrev pub turned_over : ℕ → ℤ → ℕ
+turned_over bits n = unsigned_abs (n +ℤ pos (2 ^ (bits - 1)))
+
+-- the bytes of an ascending component
+abbrev pub ascending_bytes : Value → List ℕ
+ascending_bytes Unknown = 2 ∷ []
+ascending_bytes (Text t) = 1 ∷ escaped (compared_text t) ++ 0 ∷ 0 ∷ []
+ascending_bytes (Int n) = 1 ∷ big_bytes 8 (turned_over 64 n)
+ascending_bytes (Int64 n) = 1 ∷ big_bytes 8 (turned_over 64 n)
+ascending_bytes (Dec n) = 1 ∷ big_bytes 16 (turned_over 128 n)
+ascending_bytes (Logical false) = 1 ∷ 0 ∷ []
+ascending_bytes (Logical true) = 1 ∷ 1 ∷ []
+ascending_bytes (Date d) = 1 ∷ big_bytes 4 (turned_over 32 d)
+
+-- the bytes of a component: in a descending one each byte b stands as 255 - b
+abbrev pub component_bytes : Bool → Value → List ℕ
+component_bytes false v = ascending_bytes v
+component_bytes true v = map (λ b. 255 - b) (ascending_bytes v)
+
+-- the value of a component in a row
+abbrev pub component : Part → List Value → Value
+component part values = slice_index_or values part.field Unknown
+
+-- the key bytes of a row in an index with these components: their bytes one after the other
+unfoldable pub key_bytes : List Part → List Value → List ℕ
+key_bytes [] values = []
+key_bytes (part ∷ parts) values = component_bytes part.descending (component part values) ++ key_bytes parts values
+
+-- ---- order
+
+-- the order of two values in a component
+abbrev pub component_order : Bool → Value → Value → Ordering
+component_order false a b = value_order a b
+component_order true a b = value_order b a
+
+-- the order of two rows in an index, component by component
+unfoldable pub key_order : List Part → List Value → List Value → Ordering
+key_order [] a b = Equal
+key_order (part ∷ parts) a b =
+    ordering_then (component_order part.descending (component part a) (component part b)) (key_order parts a b)
+
+-- ---- unique keys
+
+abbrev pub is_unknown : Value → Bool
+is_unknown (Text t) = false
+is_unknown (Int n) = false
+is_unknown (Int64 n) = false
+is_unknown (Dec n) = false
+is_unknown (Logical b) = false
+is_unknown (Date d) = false
+is_unknown Unknown = true
+
+-- some component of the row is `?`
+abbrev pub has_unknown : List Part → List Value → Bool
+has_unknown [] values = false
+has_unknown (part ∷ parts) values = is_unknown (component part values) || has_unknown parts values
+
+-- the unique key of a row in an index: its key bytes, where the index is unique and no component is `?`
+unfoldable pub unique_key : Bool → List Part → List Value → Option (List ℕ)
+unique_key unique parts values =
+    if unique && not (has_unknown parts values) then Some (key_bytes parts values) else None

@@ -1,0 +1,95 @@
+-- The bytes of a row, and how they are read.
+use Rattle.std.specs.Prelude.{◌≡◌, ℕ, zero, suc, ◌+◌, ◌*◌, ◌/◌, ◌≤◌, ◌<◌, max, Bool, true, false, nat_le, ◌==◌, if◌then◌else◌, List, [], ◌∷◌, ◌++◌, length, take, drop, Option, Some, None, ℤ, IsTrue}
+use Rattle.std.specs.Int.{w32, w64, w128, cast_signed, cast_unsigned}
+use Rattle.byteorder.specs.Endian.{big_bytes, big_number}
+use Rattle.abl_base.specs.declared.value.Value.{Value}
+use Rattle.abl_base.specs.declared.value.Value.TheVariants.{Text, Int, Int64, Dec, Logical, Date, Unknown}
+use Rattle.abl_base.specs.declared.value.Kind.{Kind}
+use Rattle.abl_base.specs.declared.value.Kind.TheVariants.{Character, Integer, Int64 as Whole64, Decimal, Logical as Truth, Date as Day}
+use Rattle.abl_base.specs.declared.value.TheConstants.{MAX_TEXT_BYTES}
+use Rattle.abl_base.specs.Dates.{is_day}
+use Rattle.abl_base.specs.Fit.{IsOfField}
+
+-- ---- writing
+
+-- the bytes of a field: 0 for `?`, or 1 and the value, numbers with the highest byte first
+abbrev pub field_bytes : Value → List ℕ
+field_bytes Unknown = 0 ∷ []
+field_bytes (Text t) = 1 ∷ big_bytes 2 (length t) ++ t
+field_bytes (Int n) = 1 ∷ big_bytes 4 (cast_unsigned w32 n)
+field_bytes (Int64 n) = 1 ∷ big_bytes 8 (cast_unsigned w64 n)
+field_bytes (Dec n) = 1 ∷ big_bytes 16 (cast_unsigned w128 n)
+field_bytes (Logical false) = 1 ∷ 0 ∷ []
+field_bytes (Logical true) = 1 ∷ 1 ∷ []
+field_bytes (Date d) = 1 ∷ big_bytes 4 (cast_unsigned w32 d)
+
+-- the bytes of a row are those of its fields, one after the other
+unfoldable pub bytes_of_row : List Value → List ℕ
+bytes_of_row [] = []
+bytes_of_row (v ∷ vs) = field_bytes v ++ bytes_of_row vs
+
+-- the row has a value for each field, and each is one that the field holds
+abbrev pub FitsFields : List (Option Kind) → List Value → Type 0
+FitsFields [] [] = Unit {0}
+FitsFields (kind ∷ kinds) (v ∷ vs) = IsOfField kind v × FitsFields kinds vs
+FitsFields [] (v ∷ vs) = ⊥
+FitsFields (kind ∷ kinds) [] = ⊥
+
+-- ---- reading
+
+-- a value and the bytes after it
+abbrev pub Found : Type 0
+Found = Option (Value × List ℕ)
+
+-- n bytes as a value, where there are so many
+abbrev pub number_in : ℕ → (ℕ → Value) → List ℕ → Found
+number_in n value bytes =
+    if nat_le n (length bytes) then Some (value (big_number n bytes), drop n bytes) else None
+
+-- a day that is none of the years 1 to 9999 is no value
+abbrev pub day_in : Found → Found
+day_in None = None
+day_in (Some (Date d, rest)) = if is_day d then Some (Date d, rest) else None
+day_in (Some (v, rest)) = None
+
+-- the text of n bytes, where there are so many and a text may have them
+abbrev pub text_in : ℕ → List ℕ → Found
+text_in n bytes =
+    if nat_le n MAX_TEXT_BYTES then (if nat_le n (length bytes) then Some (Text (take n bytes), drop n bytes) else None)
+    else None
+
+-- a value of the kind at the head of the bytes
+abbrev pub value_in : Kind → List ℕ → Found
+value_in Character bytes =
+    if nat_le 2 (length bytes) then text_in (big_number 2 bytes) (drop 2 bytes) else None
+value_in Integer bytes = number_in 4 (λ n. Int (cast_signed w32 n)) bytes
+value_in Whole64 bytes = number_in 8 (λ n. Int64 (cast_signed w64 n)) bytes
+value_in Decimal bytes = number_in 16 (λ n. Dec (cast_signed w128 n)) bytes
+value_in Truth [] = None
+value_in Truth (b ∷ bytes) =
+    if b == 0 then Some (Logical false, bytes) else (if b == 1 then Some (Logical true, bytes) else None)
+value_in Day bytes = day_in (number_in 4 (λ n. Date (cast_signed w32 n)) bytes)
+
+-- what a field of the kind holds at the head of the bytes. A field of an unsupported kind holds `?` alone
+abbrev pub field_in : Option Kind → List ℕ → Found
+field_in kind [] = None
+field_in None (b ∷ bytes) = if b == 0 then Some (Unknown, bytes) else None
+field_in (Some kind) (b ∷ bytes) =
+    if b == 0 then Some (Unknown, bytes) else (if b == 1 then value_in kind bytes else None)
+
+abbrev pub with_first : Value → Option (List Value) → Option (List Value)
+with_first v None = None
+with_first v (Some vs) = Some (v ∷ vs)
+
+-- the row of these fields that has these bytes, where there is one
+unfoldable pub row_in : List (Option Kind) → List ℕ → Option (List Value)
+row_in [] [] = Some []
+row_in [] (b ∷ bytes) = None
+row_in (kind ∷ kinds) bytes =
+    elim (field_in kind bytes) [ None ↦ None | Some found ↦ with_first found.0 (row_in kinds found.1) ]
+
+-- ---- fragments
+
+-- the least number of fragments of 240 bytes that holds so many bytes, and at least one
+abbrev pub fragments_of : ℕ → ℕ
+fragments_of bytes = max 1 ((bytes + 239) / 240)
