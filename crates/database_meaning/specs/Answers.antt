@@ -1,5 +1,5 @@
 -- Which answers an operation may have: the table of answers, of which the first row that applies counts.
-use Rattle.std.specs.Prelude.{◌≡◌, ◌≢◌, ◌⊎◌, ◌^◌, ◌+◌, ◌-◌, ◌<◌, ◌≤◌, ℕ, Bool, true, false, IsTrue, IsFalse, List, length, Option, Some, None, ℤ, pos, negsuc, ◌+ℤ◌, ◌≤ℤ◌, ◌<ℤ◌, slice_get, slice_index_or}
+use Rattle.std.specs.Prelude.{◌≡◌, ◌≢◌, ◌⊎◌, ◌^◌, ◌+◌, ◌-◌, ◌<◌, ◌≤◌, ℕ, Bool, true, false, IsTrue, IsFalse, List, length, Option, Some, None, ℤ, pos, negsuc, ◌+ℤ◌, ◌≤ℤ◌, ◌<ℤ◌, slice_index_or}
 use Rattle.std.specs.List.{All}
 use Rattle.std.specs.FinMap.{get}
 use Rattle.abl_base.specs.declared.value.Value.{Value}
@@ -9,7 +9,7 @@ use Rattle.database_meaning.specs.declared.operation.Op.{Op}
 use Rattle.database_meaning.specs.declared.operation.Op.TheVariants.{Enter, Leave, Back, Next, Get, Lock, Insert, Put, Delete, Drop as DropLock, NextValue, CurrentValue, End}
 use Rattle.database_meaning.specs.declared.operation.Answer.{Answer}
 use Rattle.database_meaning.specs.declared.operation.Answer.TheVariants.{Refused, Closed, TraceFull, Gone, KeyTooLong, Busy, Blocked, Deadlock, Duplicate, Full, TxFull, SequenceEnd, AtEnd, NoMemory, Done, Committed, Found, Row as RowAnswer, Granted, Inserted, Value as ValueAnswer}
-use Rattle.database_meaning.specs.Frame.{Frame, Stored, Key, unique_keys, has_key, row_size, HasTable, HasIndex, HasSequence, FitsTable, key_in, increment_in}
+use Rattle.database_meaning.specs.Frame.{Frame, Stored, Key, unique_keys, has_key, row_size, HasTable, HasIndex, HasSequence, FitsTable, key_in, increment_of}
 use Rattle.database_meaning.specs.State.{State, view, lock_of, depth_of, HoldsExclusively}
 use Rattle.database_meaning.specs.Waiting.{row_in, HasConflict, IsHolders, Closes, IsCycle}
 use Rattle.database_meaning.specs.Search.{FindsNone, IsNext}
@@ -140,7 +140,7 @@ abbrev pub current_value : State → ℕ → ℤ
 current_value s sequence = slice_index_or s.sequences sequence (pos 0)
 
 abbrev pub next_value : Frame → State → ℕ → ℤ
-next_value f s sequence = current_value s sequence +ℤ increment_in (slice_get f.schema.sequences sequence)
+next_value f s sequence = current_value s sequence +ℤ increment_of f.schema sequence
 
 abbrev pub IsI64 : ℤ → Type 0
 IsI64 v = (negsuc (2 ^ 63 - 1) ≤ℤ v) × (v <ℤ pos (2 ^ 63))

@@ -4,11 +4,11 @@ use Rattle.database_meaning.specs.declared.operation.Op.{Op}
 use Rattle.database_meaning.specs.declared.operation.Op.TheVariants.{Enter, Leave, Back, Next, Get, Lock, Insert, Put, Delete, Drop as DropLock, NextValue, CurrentValue, End}
 use Rattle.database_meaning.specs.declared.operation.Answer.{Answer}
 use Rattle.database_meaning.specs.declared.operation.Answer.TheVariants.{Refused, Closed, TraceFull, Gone, KeyTooLong, Busy, Blocked, Deadlock, Duplicate, Full, TxFull, SequenceEnd, AtEnd, NoMemory, Done, Committed, Found, Row as RowAnswer, Granted, Inserted, Value as ValueAnswer}
-use Rattle.database_meaning.specs.Tables.{Schema}
+use Rattle.abl_base.specs.Schema.{SchemaData}
 use Rattle.database_meaning.specs.Frame.{HasIndex, FitsTable}
 
 -- the answers of an operation's own
-abbrev pub IsOwnAnswer : Schema → Op → Answer → Type 0
+abbrev pub IsOwnAnswer : SchemaData → Op → Answer → Type 0
 IsOwnAnswer schema Enter Done = Unit {0}
 IsOwnAnswer schema Enter _ = ⊥
 IsOwnAnswer schema (Leave keep) (Committed moment) = Unit {0}
@@ -65,7 +65,7 @@ IsNoEnd _ = Unit {0}
 
 -- the answer is one that the operation can have: each may be refused, and each but End may find the database
 -- closed, the trace full or memory wanting
-abbrev pub Fits : Schema → Op → Answer → Type 0
+abbrev pub Fits : SchemaData → Op → Answer → Type 0
 Fits schema op Refused = Unit {0}
 Fits schema op Closed = IsNoEnd op
 Fits schema op TraceFull = IsNoEnd op

@@ -1,12 +1,17 @@
 -- What stays the same while a database runs, and what its tables say of a row: its keys, and how many fragments hold it.
-use Rattle.std.specs.Prelude.{ℕ, ◌+◌, Bool, true, false, ◌&&◌, ◌||◌, ◌==◌, ◌<◌, ◌≤◌, if◌then◌else◌, List, [], ◌∷◌, ◌++◌, length, map, slice_get, Option, Some, None, ℤ, pos}
+use Rattle.std.specs.Prelude.{ℕ, ◌+◌, Bool, true, false, ◌&&◌, ◌||◌, ◌==◌, ◌<◌, if◌then◌else◌, List, [], ◌∷◌, ◌++◌, length, slice_index_or, Option, Some, None, ℤ, pos}
 use Rattle.abl_base.specs.declared.value.Value.{Value}
 use Rattle.abl_base.specs.declared.value.Kind.{Kind}
-use Rattle.database_meaning.specs.Tables.{Schema, TableDef, IndexDef, FieldDef, SequenceDef, Part, FitsFields, key_bytes, unique_key, bytes_of_row, fragments_of}
+use Rattle.abl_base.specs.declared.schema.Part.{Part}
+use Rattle.abl_base.specs.declared.schema.IndexDef.{IndexDef}
+use Rattle.abl_base.specs.declared.schema.SequenceDef.{SequenceDef}
+use Rattle.abl_base.specs.Rows.{FitsFields, bytes_of_row, fragments_of}
+use Rattle.abl_base.specs.Keys.{key_bytes, unique_key}
+use Rattle.abl_base.specs.Schema.{SchemaData, table_at, fields_of, indexes_of, field_kinds}
 
 -- the tables and sequences, and how many clients the database has, numbered from 0
 pub record Frame : Type 0 where
-  pub schema : Schema
+  pub schema : SchemaData
   pub clients : ℕ
 
 -- a row with the table that it stands in
@@ -22,49 +27,38 @@ pub record Key : Type 0 where
 
 -- ---- tables, indexes and sequences by number
 
-abbrev pub kinds_in : Option TableDef → List (Option Kind)
-kinds_in None = []
-kinds_in (Some table) = map (λ (field : FieldDef). field.kind) table.fields
-
-abbrev pub indexes_in : Option TableDef → List IndexDef
-indexes_in None = []
-indexes_in (Some table) = table.indexes
-
-abbrev pub parts_in : Option IndexDef → List Part
-parts_in None = []
-parts_in (Some index) = index.parts
-
-abbrev pub increment_in : Option SequenceDef → ℤ
-increment_in None = pos 0
-increment_in (Some sequence) = sequence.increment
-
 -- the kinds of a table's fields
-abbrev pub kinds_of : Schema → ℕ → List (Option Kind)
-kinds_of schema table = kinds_in (slice_get schema.tables table)
+abbrev pub kinds_of : SchemaData → ℕ → List (Option Kind)
+kinds_of schema table = field_kinds (fields_of schema table)
 
--- the indexes of a table
-abbrev pub indexes_of : Schema → ℕ → List IndexDef
-indexes_of schema table = indexes_in (slice_get schema.tables table)
+abbrev pub no_index : IndexDef
+no_index = record { name = []; unique = false; parts = [] }
 
 -- the components of an index of a table, the leading one first
-abbrev pub parts_of : Schema → ℕ → ℕ → List Part
-parts_of schema table index = parts_in (slice_get (indexes_of schema table) index)
+abbrev pub parts_of : SchemaData → ℕ → ℕ → List Part
+parts_of schema table index = (slice_index_or (indexes_of schema table) index no_index).parts
 
-abbrev pub HasTable : Schema → ℕ → Type 0
+abbrev pub no_sequence : SequenceDef
+no_sequence = record { name = []; initial = pos 0; increment = pos 0 }
+
+abbrev pub increment_of : SchemaData → ℕ → ℤ
+increment_of schema sequence = (slice_index_or schema.sequences sequence no_sequence).increment
+
+abbrev pub HasTable : SchemaData → ℕ → Type 0
 HasTable schema table = table < length schema.tables
 
-abbrev pub HasIndex : Schema → ℕ → ℕ → Type 0
+abbrev pub HasIndex : SchemaData → ℕ → ℕ → Type 0
 HasIndex schema table index = index < length (indexes_of schema table)
 
-abbrev pub HasSequence : Schema → ℕ → Type 0
+abbrev pub HasSequence : SchemaData → ℕ → Type 0
 HasSequence schema sequence = sequence < length schema.sequences
 
 -- the values are a row of the table
-abbrev pub FitsTable : Schema → ℕ → List Value → Type 0
+abbrev pub FitsTable : SchemaData → ℕ → List Value → Type 0
 FitsTable schema table values = FitsFields (kinds_of schema table) values
 
 -- the key bytes of a row in an index of its table
-abbrev pub key_in : Schema → ℕ → ℕ → List Value → List ℕ
+abbrev pub key_in : SchemaData → ℕ → ℕ → List Value → List ℕ
 key_in schema table index values = key_bytes (parts_of schema table index) values
 
 -- ---- unique keys
@@ -79,7 +73,7 @@ keys_from table i [] values = []
 keys_from table i (index ∷ indexes) values = key_at table i (unique_key index.unique index.parts values) ++ keys_from table (i + 1) indexes values
 
 -- the unique keys of a row: one for each unique index in which no component is `?`. Where no row is there are none
-unfoldable pub unique_keys : Schema → Option Stored → List Key
+unfoldable pub unique_keys : SchemaData → Option Stored → List Key
 unique_keys schema None = []
 unique_keys schema (Some row) = keys_from row.table 0 (indexes_of schema row.table) row.values
 

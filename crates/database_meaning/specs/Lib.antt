@@ -1,4 +1,3 @@
-pub mod Tables
 pub mod Frame
 pub mod State
 pub mod Waiting
