@@ -126,7 +126,7 @@ module _ (f : Frame) (s : State) (c : ℕ) (op : Op) where
 
 -- ---- the view where a client holds a row exclusively
 
-laid_same : (n : ℕ) (new old : ℕ → Client) (rows below : Rows) (row : ℕ) → ((d : ℕ) → get (new d).overlay row ≡ get (old d).overlay row) → get rows row ≡ get below row → laid n new rows row ≡ laid n old below row
+pub laid_same : (n : ℕ) (new old : ℕ → Client) (rows below : Rows) (row : ℕ) → ((d : ℕ) → get (new d).overlay row ≡ get (old d).overlay row) → get rows row ≡ get below row → laid n new rows row ≡ laid n old below row
 laid_same zero new old rows below row same e = e
 laid_same (suc n) new old rows below row same e = ap (λ o. over o (laid n new rows row)) (same n) ∙ ap (over (get (old n).overlay row)) (laid_same n new old rows below row same e)
 
@@ -230,7 +230,7 @@ conflict_same f new s held kept seen e d (NextValue sequence) p = absurd p
 conflict_same f new s held kept seen e d (CurrentValue sequence) p = absurd p
 conflict_same f new s held kept seen e d End p = absurd p
 
-part_same : {A : Type 0} (f : Frame) (s : State) (c : ℕ) (op : Op) (a : Answer) (part : Client → A) → part (record (client_after f s c op a) { want = want_after s c op a }) ≡ part (s.client c) → (d : ℕ) → part ((after f s c op a).client d) ≡ part (s.client d)
+pub part_same : {A : Type 0} (f : Frame) (s : State) (c : ℕ) (op : Op) (a : Answer) (part : Client → A) → part (record (client_after f s c op a) { want = want_after s c op a }) ≡ part (s.client c) → (d : ℕ) → part ((after f s c op a).client d) ≡ part (s.client d)
 part_same f s c op a part same d =
     elim (cases_eq d c) [
       | inl e ↦ ap (λ z. part ((after f s c op a).client z)) e ∙ ap part (self_after f s c op a) ∙ same ∙ sym (ap (λ z. part (s.client z)) e)

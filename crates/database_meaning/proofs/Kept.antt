@@ -10,7 +10,6 @@ use Rattle.database_meaning.specs.Answers.{Answers, IsRefused, HasTwin, HasTwins
 use Rattle.database_meaning.specs.Steps.{own_after, own_after_commit, own_after_leave, own_after_drop, is_outermost, is_success, row_of_answer, after, client_after, want_after, committed_after, laid_on, keeping}
 use Rattle.database_meaning.specs.Traces.{rows_of, state_after, Follows, opened, IsLegal, left_by}
 use Rattle.database_meaning.specs.declared.contents.Contents.{Contents}
-
 use Rattle.database_meaning.specs.declared.operation.Event.{Event}
 use Rattle.abl_base.specs.declared.value.Value.{Value}
 use Rattle.database_meaning.specs.declared.operation.Op.{Op}
@@ -129,17 +128,17 @@ module _ (f : Frame) where
 
 -- ---- what the view shows
 
-Named : ℕ → (ℕ → Client) → Rows → ℕ → Type 0
+unfoldable pub Named : ℕ → (ℕ → Client) → Rows → ℕ → Type 0
 Named n client rows row = (e : ℕ) × (e < n) × (change : Option Stored) × (get (client e).overlay row ≡ Some change) × (laid n client rows row ≡ change)
 
-Bare : ℕ → (ℕ → Client) → Rows → ℕ → Type 0
+unfoldable pub Bare : ℕ → (ℕ → Client) → Rows → ℕ → Type 0
 Bare n client rows row = ((d : ℕ) → d < n → get (client d).overlay row ≡ None) × (laid n client rows row ≡ get rows row)
 
-opt_cases : {A : Type 0} → (o : Option A) → ((x : A) × (o ≡ Some x)) ⊎ (o ≡ None)
+pub opt_cases : {A : Type 0} → (o : Option A) → ((x : A) × (o ≡ Some x)) ⊎ (o ≡ None)
 opt_cases None = inr refl
 opt_cases (Some x) = inl (x, refl)
 
-view_cases : (n : ℕ) (client : ℕ → Client) (rows : Rows) (row : ℕ) → Named n client rows row ⊎ Bare n client rows row
+pub view_cases : (n : ℕ) (client : ℕ → Client) (rows : Rows) (row : ℕ) → Named n client rows row ⊎ Bare n client rows row
 unfolding Named Bare
 view_cases zero client rows row = inr ((λ d lt. absurd (omega arith)), refl)
 view_cases (suc n) client rows row =

@@ -96,3 +96,6 @@ without_cases (x ∷ xs) lacks k h =
       | inl p ↦ (or_left (same_key x k) (has_key xs k) p.1, sym (ap (has_key lacks) (same_key_eq x k p.1)) ∙ p.0)
       | inr r ↦ let rest = without_cases xs lacks k r in (or_right (same_key x k) (has_key xs k) rest.0, rest.1)
     ]
+
+pub has_one : (x k : Key) → Has (x ∷ []) k → x ≡ k
+has_one x k h = elim (or_cases (same_key x k) false h) [ inl e ↦ same_key_eq x k e | inr e ↦ absurd (let clash : false ≡ true = e in cc) ]

@@ -8,3 +8,7 @@ mod LockedReads
 mod Keys
 mod Kept
 mod Shortest
+mod Unchanged
+mod RowsFit
+mod AnswersFit
+mod OneAnswer

@@ -2,7 +2,6 @@
 use Rattle.std.proofs.Common.{◌≡◌, ◌≢◌, ◌⊎◌, ℕ, zero, suc, ◌-◌, ◌<◌, Bool, true, false, cond, List, [], ◌∷◌, ◌++◌, length, take, Option, Some, None, refl, sym, ap, ◌∙◌, subst, inl, inr, arith, length-append}
 use Rattle.std.specs.FinMap.{get, insert, entries}
 use Rattle.std.proofs.lemmas.Bool.{cases_eq, ne_eqb}
-use Rattle.abl_base.specs.declared.row.RowId.{RowId}
 use Rattle.database_meaning.specs.declared.contents.Contents.{Contents}
 use Rattle.database_meaning.specs.Frame.{Frame, Stored}
 use Rattle.database_meaning.specs.State.{State, Client, Rows, Overlay, Held, view, lock_of, laid, over, depth_of}
@@ -11,7 +10,6 @@ use Rattle.database_meaning.specs.Answers.{Answers}
 use Rattle.database_meaning.specs.Steps.{own_after, own_after_commit, own_after_leave, own_after_drop, is_success, row_of_answer, or_exclusive, after, client_after, want_after, committed_after, laid_on}
 use Rattle.database_meaning.specs.Traces.{state_after, Follows, opened, is_committed}
 use Rattle.database_meaning.specs.Laws.{StaysOpen, AllStayOpen, ReadsAsCommitted, read_event}
-
 use Rattle.database_meaning.specs.declared.operation.Event.{Event}
 use Rattle.database_meaning.specs.declared.operation.Op.{Op}
 use Rattle.database_meaning.specs.declared.operation.Op.TheVariants.{Enter, Leave, Back, Next, Get, Lock, Insert, Put, Delete, Drop as DropLock, NextValue, CurrentValue, End}
@@ -147,11 +145,11 @@ committed_along f c row s (e ∷ es) g ok open_still h =
     committed_along f c row (after f s e.client e.op e.answer) es (good_step f s e.client e.op e.answer ok.0 g) ok.1 open_still.1 (inside_step f s c row e.client e.op e.answer ok.0 open_still.0 h)
     ∙ committed_locked f s c row g e.client e.op e.answer ok.0 open_still.0 h
 
-follows_split : (f : Frame) (s : State) (es fs : List Event) → Follows f s (es ++ fs) → Follows f s es × Follows f (state_after f s es) fs
+pub follows_split : (f : Frame) (s : State) (es fs : List Event) → Follows f s (es ++ fs) → Follows f s es × Follows f (state_after f s es) fs
 follows_split f s [] fs ok = (tt, ok)
 follows_split f s (e ∷ es) fs ok = let rest = follows_split f (after f s e.client e.op e.answer) es fs ok.1 in ((ok.0, rest.0), rest.1)
 
-state_split : (f : Frame) (s : State) (es fs : List Event) → state_after f s (es ++ fs) ≡ state_after f (state_after f s es) fs
+pub state_split : (f : Frame) (s : State) (es fs : List Event) → state_after f s (es ++ fs) ≡ state_after f (state_after f s es) fs
 state_split f s [] fs = refl
 state_split f s (e ∷ es) fs = state_split f (after f s e.client e.op e.answer) es fs
 

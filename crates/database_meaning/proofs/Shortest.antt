@@ -1,5 +1,5 @@
 -- A cycle that would close can be told with clients that all differ.
-use Rattle.std.proofs.Common.{◌≡◌, ◌≢◌, ◌⊎◌, ℕ, zero, suc, ◌+◌, ◌<◌, List, [], ◌∷◌, length, get_or, refl, sym, ap, ◌∙◌, subst, inl, inr, arith}
+use Rattle.std.proofs.Common.{◌≡◌, ◌⊎◌, ℕ, zero, suc, ◌<◌, List, [], ◌∷◌, length, get_or, refl, subst, inl, inr, arith}
 use Rattle.std.specs.List.{Contains}
 use Rattle.std.proofs.lemmas.Bool.{cases_eq}
 use Rattle.database_meaning.specs.Frame.{Frame}
@@ -7,17 +7,17 @@ use Rattle.database_meaning.specs.State.{State}
 use Rattle.database_meaning.specs.Waiting.{Chain, IsDistinct, IsCycle, Closes, WouldWait}
 use Rattle.database_meaning.specs.declared.operation.Op.{Op}
 
-here : (a : ℕ) (xs : List ℕ) → Contains (a ∷ xs) a
+pub here : (a : ℕ) (xs : List ℕ) → Contains (a ∷ xs) a
 here a xs = (0, omega arith, refl)
 
-there : (a x : ℕ) (xs : List ℕ) → Contains xs a → Contains (x ∷ xs) a
+pub there : (a x : ℕ) (xs : List ℕ) → Contains xs a → Contains (x ∷ xs) a
 there a x xs p = (suc p.0, omega (arith, p.1), p.2)
 
 at : (a x : ℕ) (xs : List ℕ) (k : ℕ) → k < length (x ∷ xs) → get_or (x ∷ xs) k a ≡ a → (x ≡ a) ⊎ Contains xs a
 at a x xs zero lt e = inl e
 at a x xs (suc k) lt e = inr (k, omega arith, e)
 
-uncons : (a x : ℕ) (xs : List ℕ) → Contains (x ∷ xs) a → (x ≡ a) ⊎ Contains xs a
+pub uncons : (a x : ℕ) (xs : List ℕ) → Contains (x ∷ xs) a → (x ≡ a) ⊎ Contains xs a
 uncons a x xs p = at a x xs p.0 p.1 p.2
 
 in_cases : (a : ℕ) (xs : List ℕ) → Contains xs a ⊎ (Contains xs a → ⊥)

@@ -1,7 +1,6 @@
 -- What is counted: the fragments that an operation draws, the slots that it writes, and the bytes of an event.
-use Rattle.std.specs.Prelude.{ℕ, zero, suc, ◌+◌, ◌-◌, ◌*◌, ◌≤◌, ◌≡◌, ◌⊎◌, max, Bool, true, false, List, length, map, sum, Option, Some, None}
+use Rattle.std.specs.Prelude.{ℕ, zero, suc, ◌+◌, ◌-◌, ◌*◌, ◌≤◌, ◌≡◌, ◌⊎◌, max, Bool, true, false, length, map, sum, Option, Some, None}
 use Rattle.std.specs.FinMap.{values}
-use Rattle.abl_base.specs.declared.value.Value.{Value}
 use Rattle.abl_base.specs.declared.row.Cursor.{Cursor}
 use Rattle.database_meaning.specs.declared.limits.TheConstants.{MAX_TRACE_BYTES, EVENT_BYTES, NUMBER_BYTES}
 use Rattle.database_meaning.specs.declared.operation.Op.{Op}

@@ -1,5 +1,5 @@
 -- Which answers an operation can have at all.
-use Rattle.std.specs.Prelude.{ℕ, Bool, IsTrue, IsFalse, List, Option, Some, None}
+use Rattle.std.specs.Prelude.{IsTrue, IsFalse}
 use Rattle.database_meaning.specs.declared.operation.Op.{Op}
 use Rattle.database_meaning.specs.declared.operation.Op.TheVariants.{Enter, Leave, Back, Next, Get, Lock, Insert, Put, Delete, Drop as DropLock, NextValue, CurrentValue, End}
 use Rattle.database_meaning.specs.declared.operation.Answer.{Answer}

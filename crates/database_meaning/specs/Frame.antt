@@ -7,7 +7,7 @@ use Rattle.abl_base.specs.declared.schema.IndexDef.{IndexDef}
 use Rattle.abl_base.specs.declared.schema.SequenceDef.{SequenceDef}
 use Rattle.abl_base.specs.Rows.{FitsFields, bytes_of_row, fragments_of}
 use Rattle.abl_base.specs.Keys.{key_bytes, unique_key}
-use Rattle.abl_base.specs.Schema.{SchemaData, table_at, fields_of, indexes_of, field_kinds}
+use Rattle.abl_base.specs.Schema.{SchemaData, fields_of, indexes_of, field_kinds}
 
 -- the tables and sequences, and how many clients the database has, numbered from 0
 pub record Frame : Type 0 where

@@ -14,7 +14,6 @@ use Rattle.database_meaning.specs.State.{State, view, lock_of, depth_of}
 use Rattle.database_meaning.specs.Waiting.{row_in}
 use Rattle.database_meaning.specs.Answers.{ByTable}
 use Rattle.database_meaning.specs.Fits.{Fits}
-use Rattle.database_meaning.specs.Steps.{is_success, after}
 use Rattle.database_meaning.specs.Traces.{IsLegal, left_by, is_committed}
 
 -- ---- locks and overlays

@@ -5,7 +5,6 @@ use Rattle.std.specs.declared.cmp.Ordering.{Ordering}
 use Rattle.std.specs.declared.cmp.Ordering.TheVariants.{Less, Greater}
 use Rattle.std.specs.Cmp.Lexicographic.{slice_cmp}
 use Rattle.abl_base.specs.declared.value.Value.{Value}
-use Rattle.abl_base.specs.declared.value.Value.TheVariants.{Unknown}
 use Rattle.abl_base.specs.declared.value.Kind.{Kind}
 use Rattle.abl_base.specs.declared.row.RowId.{RowId}
 use Rattle.abl_base.specs.declared.row.Cursor.{Cursor}

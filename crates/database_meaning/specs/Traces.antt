@@ -1,6 +1,5 @@
 -- Contents of a database, legal traces, and what the commits of a trace leave.
-use Rattle.std.specs.Prelude.{◌≡◌, ◌≢◌, ℕ, zero, suc, ◌<◌, ◌≤◌, ◌==◌, Bool, true, false, not, ◌&&◌, IsTrue, if◌then◌else◌, List, [], ◌∷◌, ◌++◌, length, map, filter, nat_le, Option, Some, None, ℤ, slice_index_or}
-use Rattle.std.specs.List.{All}
+use Rattle.std.specs.Prelude.{◌≡◌, ℕ, ◌≤◌, ◌==◌, Bool, true, false, not, ◌&&◌, IsTrue, if◌then◌else◌, List, [], ◌∷◌, length, map, filter, nat_le, None, slice_index_or}
 use Rattle.std.specs.FinMap.{get, empty, entries, from_entries}
 use Rattle.database_meaning.specs.declared.limits.TheConstants.{MAX_KEY_BYTES}
 use Rattle.database_meaning.specs.declared.contents.Contents.{Contents}

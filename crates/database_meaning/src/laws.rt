@@ -6,12 +6,12 @@ ghost use Rattle.database_meaning.specs.Frame.{Frame};
 ghost use Rattle.database_meaning.specs.State.{State};
 ghost use Rattle.database_meaning.specs.Waiting.{HasNoCycle, WaitsFor, Closes, IsCycle};
 ghost use Rattle.database_meaning.specs.Traces.{IsLegal, left_by, HasUniqueKeys};
-ghost use Rattle.database_meaning.specs.Laws.{
-    IsExclusive, HasApartOverlays, HasApartKeys, ReadsAsCommitted,
-};
+ghost use Rattle.database_meaning.specs.Steps.{is_success, after};
+ghost use Rattle.database_meaning.specs.Laws.{IsExclusive, HasApartOverlays, HasApartKeys, ReadsAsCommitted, AnswersFit, IsUnchanged, HasOneAnswer};
 ghost use Rattle.database_meaning.specs.declared.contents.Contents.{Contents as Opening};
 ghost use Rattle.database_meaning.specs.declared.operation.Event.{Event as TraceEvent};
 ghost use Rattle.database_meaning.specs.declared.operation.Op.{Op as Asked};
+ghost use Rattle.database_meaning.specs.declared.operation.Answer.{Answer as Given};
 
 /// At no moment does a cycle of clients exist of which each waits for the next.
 pub fn no_cycle_ever()
@@ -42,4 +42,20 @@ pub fn locked_reads_are_serial()
 /// there to answer with.
 pub fn deadlocks_can_be_told()
     ensures { (f : Frame) (s : State) (c : ℕ) (op : Asked) → Closes f s c op → (cycle : List ℕ) × IsCycle f s c op cycle }
+{}
+
+/// The answer of each event fits its operation.
+pub fn answers_fit()
+    ensures { (f : Frame) (contents : Opening) → AnswersFit f contents }
+{}
+
+/// After an answer that is no success rows, locks, kept keys, levels and sequences are as before.
+pub fn refusals_change_nothing()
+    ensures { (f : Frame) (s : State) (c : ℕ) (op : Asked) (a : Given) → is_success a ≡ false → IsUnchanged f s (after f s c op a) }
+{}
+
+/// The table gives one answer, save for the row of an Insert, the moment of a commit and which of
+/// several cycles is told. Beside it stand only want of memory and a fault of the disk.
+pub fn answers_are_one()
+    ensures { (f : Frame) (contents : Opening) (trace : List TraceEvent) → IsLegal f contents trace → HasOneAnswer f (left_by f contents trace) }
 {}
