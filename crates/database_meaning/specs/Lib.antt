@@ -7,4 +7,6 @@ pub mod Answers
 pub mod Fits
 pub mod Steps
 pub mod Traces
+pub mod Reserved
 pub mod Laws
+pub mod Examples
