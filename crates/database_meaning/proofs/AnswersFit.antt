@@ -6,8 +6,9 @@ use Rattle.abl_base.specs.declared.row.RowId.{RowId}
 use Rattle.abl_base.specs.declared.schema.IndexDef.{IndexDef}
 use Rattle.abl_base.specs.Keys.{unique_key}
 use Rattle.abl_base.specs.Schema.{indexes_of}
+use Rattle.database_meaning.specs.declared.state.Key.{Key}
 use Rattle.database_meaning.specs.declared.contents.Contents.{Contents}
-use Rattle.database_meaning.specs.Frame.{Frame, Key, key_at, keys_from, unique_keys, FitsTable}
+use Rattle.database_meaning.specs.Frame.{Frame, key_at, keys_from, unique_keys, FitsTable}
 use Rattle.database_meaning.specs.State.{State, view}
 use Rattle.database_meaning.specs.Waiting.{row_in, HasConflict}
 use Rattle.database_meaning.specs.Answers.{Answers, Middle, Succeeds, IsGone, IsFirstLongKey, entered, MayWait, IsFirstTwin, DrawsTooMany, WritesTooMany, IsNextOp}

@@ -3,8 +3,10 @@ use Rattle.std.proofs.Common.{◌≡◌, ℕ, zero, suc, Bool, true, false, cond
 use Rattle.std.specs.FinMap.{get, entries, get-empty, get-entries}
 use Rattle.std.proofs.lemmas.Bool.{cases_eq, ne_eqb}
 use Rattle.std.specs.Prelude.{IsTrue, IsFalse}
-use Rattle.database_meaning.specs.Frame.{Frame, Stored, unique_keys, has_key}
-use Rattle.database_meaning.specs.State.{State, Client, Want, Rows, Overlay, Held, view, laid, over}
+use Rattle.database_meaning.specs.declared.state.StoredRow.{StoredRow}
+use Rattle.database_meaning.specs.declared.state.Want.{Want}
+use Rattle.database_meaning.specs.Frame.{Frame, unique_keys, has_key}
+use Rattle.database_meaning.specs.State.{State, Client, Rows, Overlay, Held, view, laid, over}
 use Rattle.database_meaning.specs.Waiting.{Conflicts, StandsAgainst, WaitsFor, WouldWait, Chain}
 use Rattle.database_meaning.specs.Answers.{Answers, IsRefused}
 use Rattle.database_meaning.specs.Steps.{own_after, is_outermost, is_success, row_of_answer, after, client_after, want_after, committed_after, laid_on}
@@ -135,7 +137,7 @@ not_held None h = refl
 not_held (Some true) h = absurd (h tt)
 not_held (Some false) h = absurd (h refl)
 
-covered_none : (held : Held) (overlay : Overlay) (row : ℕ) (o : Option (Option Stored)) → get overlay row ≡ o → Covers held overlay → get held row ≡ None → o ≡ None
+covered_none : (held : Held) (overlay : Overlay) (row : ℕ) (o : Option (Option StoredRow)) → get overlay row ≡ o → Covers held overlay → get held row ≡ None → o ≡ None
 covered_none held overlay row None e covers none = refl
 covered_none held overlay row (Some change) e covers none = let some : get held row ≡ Some true = covers row change e in cc
 

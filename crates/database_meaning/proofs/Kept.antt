@@ -3,8 +3,11 @@ use Rattle.std.proofs.Common.{◌≡◌, ◌⊎◌, ℕ, zero, suc, ◌+◌, ◌
 use Rattle.std.specs.FinMap.{get, insert, empty, entries, get-empty, get-entries}
 use Rattle.std.proofs.lemmas.Bool.{cases_eq, cases_lt}
 use Rattle.abl_base.specs.declared.row.RowId.{RowId}
-use Rattle.database_meaning.specs.Frame.{Frame, Stored, Key, unique_keys, has_key, keys_without}
-use Rattle.database_meaning.specs.State.{State, Client, Want, Rows, Overlay, Held, view, lock_of, laid, over, depth_of}
+use Rattle.database_meaning.specs.declared.state.StoredRow.{StoredRow}
+use Rattle.database_meaning.specs.declared.state.Key.{Key}
+use Rattle.database_meaning.specs.declared.state.Want.{Want}
+use Rattle.database_meaning.specs.Frame.{Frame, unique_keys, has_key, keys_without}
+use Rattle.database_meaning.specs.State.{State, Client, Rows, Overlay, Held, view, lock_of, laid, over, depth_of}
 use Rattle.database_meaning.specs.Waiting.{StandsAgainst, row_in}
 use Rattle.database_meaning.specs.Answers.{Answers, IsRefused, HasTwin, HasTwins}
 use Rattle.database_meaning.specs.Steps.{own_after, own_after_commit, own_after_leave, own_after_drop, is_outermost, is_success, row_of_answer, after, client_after, want_after, committed_after, laid_on, keeping}
@@ -29,19 +32,19 @@ no_keys f k = refl
 -- ---- what a transaction keeps
 
 module _ (f : Frame) where
-  abbrev pub keys : Option Stored → List Key
+  abbrev pub keys : Option StoredRow → List Key
   keys o = unique_keys f.schema o
 
-  kept_still : (old new : Option Stored) (kept : List Key) (k : Key) → Has kept k → Has (keeping f old new kept) k
+  kept_still : (old new : Option StoredRow) (kept : List Key) (k : Key) → Has kept k → Has (keeping f old new kept) k
   kept_still old new kept k h = has_right (keys_without (keys new) (keys old)) _ k (has_right (keys_without (keys old) (keys new)) kept k h)
 
-  kept_entered : (old new : Option Stored) (kept : List Key) (k : Key) → Has (keys new) k → has_key (keys old) k ≡ false → Has (keeping f old new kept) k
+  kept_entered : (old new : Option StoredRow) (kept : List Key) (k : Key) → Has (keys new) k → has_key (keys old) k ≡ false → Has (keeping f old new kept) k
   kept_entered old new kept k h e = has_left (keys_without (keys new) (keys old)) _ k (has_without (keys new) (keys old) k h e)
 
-  kept_left : (old new : Option Stored) (kept : List Key) (k : Key) → Has (keys old) k → has_key (keys new) k ≡ false → Has (keeping f old new kept) k
+  kept_left : (old new : Option StoredRow) (kept : List Key) (k : Key) → Has (keys old) k → has_key (keys new) k ≡ false → Has (keeping f old new kept) k
   kept_left old new kept k h e = has_right (keys_without (keys new) (keys old)) _ k (has_left (keys_without (keys old) (keys new)) kept k (has_without (keys old) (keys new) k h e))
 
-  kept_cases : (old new : Option Stored) (kept : List Key) (k : Key) → Has (keeping f old new kept) k → (Has (keys new) k × (has_key (keys old) k ≡ false)) ⊎ (Has (keys old) k ⊎ Has kept k)
+  kept_cases : (old new : Option StoredRow) (kept : List Key) (k : Key) → Has (keeping f old new kept) k → (Has (keys new) k × (has_key (keys old) k ≡ false)) ⊎ (Has (keys old) k ⊎ Has kept k)
   kept_cases old new kept k h =
       elim (has_cases (keys_without (keys new) (keys old)) _ k h) [
         | inl e ↦ inl (without_cases (keys new) (keys old) k e)
@@ -55,10 +58,10 @@ module _ (f : Frame) where
 
   -- each key that a change adds to the committed row or takes from it is kept
   abbrev pub Adds : List Key → Rows → Overlay → Type 0
-  Adds kept rows overlay = (row : ℕ) (change : Option Stored) (k : Key) → get overlay row ≡ Some change → Has (keys change) k → Has (keys (get rows row)) k ⊎ Has kept k
+  Adds kept rows overlay = (row : ℕ) (change : Option StoredRow) (k : Key) → get overlay row ≡ Some change → Has (keys change) k → Has (keys (get rows row)) k ⊎ Has kept k
 
   abbrev pub Takes : List Key → Rows → Overlay → Type 0
-  Takes kept rows overlay = (row : ℕ) (change : Option Stored) (k : Key) → get overlay row ≡ Some change → Has (keys (get rows row)) k → Has (keys change) k ⊎ Has kept k
+  Takes kept rows overlay = (row : ℕ) (change : Option StoredRow) (k : Key) → get overlay row ≡ Some change → Has (keys (get rows row)) k → Has (keys change) k ⊎ Has kept k
 
   -- no two rows have one key
   abbrev pub One : Rows → Overlay → Type 0
@@ -101,7 +104,7 @@ module _ (f : Frame) where
   versions_grow kept more rows [] grow v = tt
   versions_grow kept more rows (o ∷ os) grow v = (version_grow kept more rows o grow v.0, versions_grow kept more rows os grow v.1)
 
-  empty_over : (rows : Rows) (row : ℕ) → over (get (empty {X = Option Stored} {R = nat_cmp}) row) (get rows row) ≡ get rows row
+  empty_over : (rows : Rows) (row : ℕ) → over (get (empty {X = Option StoredRow} {R = nat_cmp}) row) (get rows row) ≡ get rows row
   empty_over rows row = ap (λ o. over o (get rows row)) (get-empty nat_cmp row)
 
   version_empty : (kept : List Key) (rows : Rows) → OneEach rows → Version kept rows empty
@@ -129,7 +132,7 @@ module _ (f : Frame) where
 -- ---- what the view shows
 
 unfoldable pub Named : ℕ → (ℕ → Client) → Rows → ℕ → Type 0
-Named n client rows row = (e : ℕ) × (e < n) × (change : Option Stored) × (get (client e).overlay row ≡ Some change) × (laid n client rows row ≡ change)
+Named n client rows row = (e : ℕ) × (e < n) × (change : Option StoredRow) × (get (client e).overlay row ≡ Some change) × (laid n client rows row ≡ change)
 
 unfoldable pub Bare : ℕ → (ℕ → Client) → Rows → ℕ → Type 0
 Bare n client rows row = ((d : ℕ) → d < n → get (client d).overlay row ≡ None) × (laid n client rows row ≡ get rows row)
@@ -198,7 +201,7 @@ module _ (f : Frame) (s : State) (g : Good f s) (gk : GoodKeys f s) where
 
 -- ---- a row is written
 
-record Write (f : Frame) (s : State) (c row : ℕ) (old new : Option Stored) : Type 0 where
+record Write (f : Frame) (s : State) (c row : ℕ) (old new : Option StoredRow) : Type 0 where
   known : c < f.clients
   own_old : old ≡ over (get (s.client c).overlay row) (get s.committed row)
   alone : (k : Key) → Has (unique_keys f.schema new) k → has_key (unique_keys f.schema old) k ≡ false → (d : ℕ) → (d ≡ c → ⊥) → ¬ Has (s.client d).kept k
@@ -208,7 +211,7 @@ record Write (f : Frame) (s : State) (c row : ℕ) (old new : Option Stored) : T
 clash_true : (f : Frame) (s : State) → Good f s → (c d row : ℕ) → (c ≡ d → ⊥) → lock_of s c row ≡ Some true → lock_of s d row ≡ Some true → ⊥
 clash_true f s g c d row ne hc hd = g.clash c d row true ne hc (subst (λ o. StandsAgainst o true) (sym hd) tt)
 
-module _ (f : Frame) (s : State) (g : Good f s) (gk : GoodKeys f s) (c row : ℕ) (old new : Option Stored) (w : Write f s c row old new) where
+module _ (f : Frame) (s : State) (g : Good f s) (gk : GoodKeys f s) (c row : ℕ) (old new : Option StoredRow) (w : Write f s c row old new) where
   abbrev cl : Client
   cl = s.client c
 
@@ -219,7 +222,7 @@ module _ (f : Frame) (s : State) (g : Good f s) (gk : GoodKeys f s) (c row : ℕ
   kept = keeping f old new cl.kept
 
   -- the old row, where a change is and where none is
-  old_cases : ((change : Option Stored) × (get cl.overlay row ≡ Some change) × (old ≡ change)) ⊎ (old ≡ get rows row)
+  old_cases : ((change : Option StoredRow) × (get cl.overlay row ≡ Some change) × (old ≡ change)) ⊎ (old ≡ get rows row)
   old_cases =
       elim (opt_cases (get cl.overlay row)) [
         | inl p ↦ inl (p.0, p.1, w.own_old ∙ ap (λ o. over o (get rows row)) p.1)
@@ -441,7 +444,7 @@ module _ (f : Frame) (s : State) (g : Good f s) (gk : GoodKeys f s) (c : ℕ) wh
 
   module _ (d : ℕ) (ne : d ≡ c → ⊥) where
     -- where the other names the row, nothing was committed
-    other_same : (o : Overlay) → Covers (s.client d).held o → (r : ℕ) (change : Option Stored) → get o r ≡ Some change → get laid_rows r ≡ get s.committed r
+    other_same : (o : Overlay) → Covers (s.client d).held o → (r : ℕ) (change : Option StoredRow) → get o r ≡ Some change → get laid_rows r ≡ get s.committed r
     other_same o covers r change e =
         laid_over_own r ∙ ap (λ x. over x (get s.committed r)) (others_lack f s g d r true (covers r change e) c (λ x. ne (sym x)))
 
@@ -449,7 +452,7 @@ module _ (f : Frame) (s : State) (g : Good f s) (gk : GoodKeys f s) (c : ℕ) wh
     Same o r = over (get o r) (get laid_rows r) ≡ over (get o r) (get s.committed r)
 
     New : Overlay → ℕ → Type 0
-    New o r = (get o r ≡ None) × (change : Option Stored) × (get (s.client c).overlay r ≡ Some change) × (over (get o r) (get laid_rows r) ≡ change)
+    New o r = (get o r ≡ None) × (change : Option StoredRow) × (get (s.client c).overlay r ≡ Some change) × (over (get o r) (get laid_rows r) ≡ change)
 
     same_or_new : (o : Overlay) → Covers (s.client d).held o → (r : ℕ) → (Same o r × (get o r ≡ None → get (s.client c).overlay r ≡ None)) ⊎ New o r
     unfolding Same New
@@ -463,7 +466,7 @@ module _ (f : Frame) (s : State) (g : Good f s) (gk : GoodKeys f s) (c : ℕ) wh
         ]
 
     -- a key that c commits at q, and that the other has at r: the rows are one
-    mixed : (o : Overlay) → Covers (s.client d).held o → Version f (s.client d).kept s.committed o → (r q : ℕ) (k : Key) → Same o r → Has (unique_keys f.schema (over (get o r) (get s.committed r))) k → New o q → ((change : Option Stored) → get (s.client c).overlay q ≡ Some change → Has (unique_keys f.schema change) k) → (get o r ≡ None → get (s.client c).overlay r ≡ None) → r ≡ q
+    mixed : (o : Overlay) → Covers (s.client d).held o → Version f (s.client d).kept s.committed o → (r q : ℕ) (k : Key) → Same o r → Has (unique_keys f.schema (over (get o r) (get s.committed r))) k → New o q → ((change : Option StoredRow) → get (s.client c).overlay q ≡ Some change → Has (unique_keys f.schema change) k) → (get o r ≡ None → get (s.client c).overlay r ≡ None) → r ≡ q
     unfolding Same New
     mixed o covers v r q k same hr new hq bare =
         elim ((gk.own c).now.adds q new.1 k new.2 (hq new.1 new.2)) [
@@ -483,7 +486,7 @@ module _ (f : Frame) (s : State) (g : Good f s) (gk : GoodKeys f s) (c : ℕ) wh
           ]
         ]
 
-    new_has : (o : Overlay) (q : ℕ) (k : Key) → (new : New o q) → Has (unique_keys f.schema (over (get o q) (get laid_rows q))) k → (change : Option Stored) → get (s.client c).overlay q ≡ Some change → Has (unique_keys f.schema change) k
+    new_has : (o : Overlay) (q : ℕ) (k : Key) → (new : New o q) → Has (unique_keys f.schema (over (get o q) (get laid_rows q))) k → (change : Option StoredRow) → get (s.client c).overlay q ≡ Some change → Has (unique_keys f.schema change) k
     unfolding New
     new_has o q k new h change e =
         let two : Some new.1 ≡ Some change = sym new.2 ∙ e in

@@ -2,8 +2,9 @@
 use Rattle.std.proofs.Common.{◌≡◌, ◌≢◌, ◌⊎◌, ℕ, zero, suc, ◌-◌, ◌<◌, Bool, true, false, cond, List, [], ◌∷◌, ◌++◌, length, take, Option, Some, None, refl, sym, ap, ◌∙◌, subst, inl, inr, arith, length-append}
 use Rattle.std.specs.FinMap.{get, insert, entries}
 use Rattle.std.proofs.lemmas.Bool.{cases_eq, ne_eqb}
+use Rattle.database_meaning.specs.declared.state.StoredRow.{StoredRow}
 use Rattle.database_meaning.specs.declared.contents.Contents.{Contents}
-use Rattle.database_meaning.specs.Frame.{Frame, Stored}
+use Rattle.database_meaning.specs.Frame.{Frame}
 use Rattle.database_meaning.specs.State.{State, Client, Rows, Overlay, Held, view, lock_of, laid, over, depth_of}
 use Rattle.database_meaning.specs.Waiting.{StandsAgainst, row_in}
 use Rattle.database_meaning.specs.Answers.{Answers}
@@ -41,7 +42,7 @@ held_stands None x e = cc
 held_stands (Some true) x e = tt
 held_stands (Some false) x e = refl
 
-unchanged : (change : Option (Option Stored)) (overlay : Overlay) (held : Held) (row : ℕ) → get overlay row ≡ change → Covers held overlay → ¬ (get held row ≡ Some true) → change ≡ None
+unchanged : (change : Option (Option StoredRow)) (overlay : Overlay) (held : Held) (row : ℕ) → get overlay row ≡ change → Covers held overlay → ¬ (get held row ≡ Some true) → change ≡ None
 unchanged None overlay held row e covers free = refl
 unchanged (Some change) overlay held row e covers free = absurd (free (covers row change e))
 
@@ -153,7 +154,7 @@ pub state_split : (f : Frame) (s : State) (es fs : List Event) → state_after f
 state_split f s [] fs = refl
 state_split f s (e ∷ es) fs = state_split f (after f s e.client e.op e.answer) es fs
 
-read_here : (own : Option (Option Stored)) (below : Option Stored) (r : Option Stored) → over own below ≡ r → (own ≡ Some r) ⊎ (below ≡ r)
+read_here : (own : Option (Option StoredRow)) (below : Option StoredRow) (r : Option StoredRow) → over own below ≡ r → (own ≡ Some r) ⊎ (below ≡ r)
 read_here None below r e = inr e
 read_here (Some change) below r e = inl (ap Some e)
 

@@ -4,7 +4,7 @@ use Rattle.std.specs.Ordering.{eq_by_cmp, is_eq}
 use Rattle.std.specs.Cmp.{nat_cmp_total, eq_by_cmp_equiv}
 use Rattle.std.specs.FinMap.{FinMap, get, insert, remove, empty, entries, retain_keys, find, get-insert, get-remove, get-empty, get-entries, get-retain_keys, get-from_entries, nat_cmp-IsAntisymmetric}
 use Rattle.std.proofs.lemmas.Bool.{cases_eq}
-use Rattle.database_meaning.specs.Frame.{Stored}
+use Rattle.database_meaning.specs.declared.state.StoredRow.{StoredRow}
 use Rattle.database_meaning.specs.State.{Rows, Held, over}
 use Rattle.database_meaning.specs.Steps.{as_share, put_row, laid_on}
 
@@ -80,16 +80,16 @@ as_share_cases held q w e =
     let h = find_mapped (entries held) q w (sym (get-from_entries nat_cmp_total _ q) ∙ e) in
     (h.0, h.1, get-entries held q ∙ h.2)
 
-put_row_other : (rows : Rows) (k : ℕ) (o : Option Stored) (q : ℕ) → (q ≡ k → ⊥) → get (put_row rows k o) q ≡ get rows q
+put_row_other : (rows : Rows) (k : ℕ) (o : Option StoredRow) (q : ℕ) → (q ≡ k → ⊥) → get (put_row rows k o) q ≡ get rows q
 put_row_other rows k None q ne = get_remove_other rows k q ne
 put_row_other rows k (Some r) q ne = get_insert_other rows k r q ne
 
-put_row_same : (rows : Rows) (k : ℕ) (o : Option Stored) → get (put_row rows k o) k ≡ o
+put_row_same : (rows : Rows) (k : ℕ) (o : Option StoredRow) → get (put_row rows k o) k ≡ o
 put_row_same rows k None = get_remove_same rows k
 put_row_same rows k (Some r) = get_insert_same rows k r
 
 -- where no change is, the row below stays
-pub get_laid_on_none : (es : List (ℕ × Option Stored)) (rows : Rows) (q : ℕ) → find nat_cmp q es ≡ None → get (laid_on es rows) q ≡ get rows q
+pub get_laid_on_none : (es : List (ℕ × Option StoredRow)) (rows : Rows) (q : ℕ) → find nat_cmp q es ≡ None → get (laid_on es rows) q ≡ get rows q
 get_laid_on_none [] rows q e = refl
 get_laid_on_none (x ∷ es) rows q e =
     elim (cases_eq q x.0) [
@@ -99,7 +99,7 @@ get_laid_on_none (x ∷ es) rows q e =
     ]
 
 -- the changes cover the rows
-pub get_laid_on : (es : List (ℕ × Option Stored)) (rows : Rows) (q : ℕ) → get (laid_on es rows) q ≡ over (find nat_cmp q es) (get rows q)
+pub get_laid_on : (es : List (ℕ × Option StoredRow)) (rows : Rows) (q : ℕ) → get (laid_on es rows) q ≡ over (find nat_cmp q es) (get rows q)
 get_laid_on [] rows q = refl
 get_laid_on (x ∷ es) rows q =
     elim (cases_eq q x.0) [

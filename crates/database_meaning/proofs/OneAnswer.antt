@@ -12,8 +12,10 @@ use Rattle.abl_base.specs.declared.row.Cursor.{Cursor}
 use Rattle.abl_base.specs.declared.schema.IndexDef.{IndexDef}
 use Rattle.abl_base.specs.Keys.{unique_key}
 use Rattle.abl_base.specs.Schema.{indexes_of}
+use Rattle.database_meaning.specs.declared.state.StoredRow.{StoredRow}
+use Rattle.database_meaning.specs.declared.state.Key.{Key}
 use Rattle.database_meaning.specs.declared.contents.Contents.{Contents}
-use Rattle.database_meaning.specs.Frame.{Frame, Stored, Key, key_at, keys_from, unique_keys}
+use Rattle.database_meaning.specs.Frame.{Frame, key_at, keys_from, unique_keys}
 use Rattle.database_meaning.specs.State.{State, view, over}
 use Rattle.database_meaning.specs.Waiting.{row_in, IsAscending, IsHolders}
 use Rattle.database_meaning.specs.Search.{IsNext, place_cmp, direction, order_key}
@@ -109,17 +111,17 @@ same_from table i (index ∷ indexes) values k q hk hq e =
     ]
 
 module _ (f : Frame) (s : State) (g : Good f s) (gk : GoodKeys f s) where
-  abbrev has : Option Stored → Key → Type 0
+  abbrev has : Option StoredRow → Key → Type 0
   has o k = Has (unique_keys f.schema o) k
 
-  abbrev own_row_of : ℕ → ℕ → Option Stored
+  abbrev own_row_of : ℕ → ℕ → Option StoredRow
   own_row_of e row = over (get (s.client e).overlay row) (get s.committed row)
 
   -- two rows that differ, one changed by e and the other not by e
   named_other : (e : ℕ) (r q : ℕ) (k : Key) → has (own_row_of e r) k → get (s.client e).overlay q ≡ None → has (get s.committed q) k → r ≡ q
   named_other e r q k mine lacks below = (gk.own e).now.one r q k mine (subst (λ o. has (over o (get s.committed q)) k) (sym lacks) below)
 
-  own_shown : (e row : ℕ) (change : Option Stored) (k : Key) → get (s.client e).overlay row ≡ Some change → has change k → has (own_row_of e row) k
+  own_shown : (e row : ℕ) (change : Option StoredRow) (k : Key) → get (s.client e).overlay row ≡ Some change → has change k → has (own_row_of e row) k
   own_shown e row change k at h = subst (λ o. has (over o (get s.committed row)) k) (sym at) h
 
   both_named : (r q : ℕ) (k : Key) → Named f.clients s.client s.committed r → Named f.clients s.client s.committed q → has (view f s r) k → has (view f s q) k → r ≡ q
@@ -158,7 +160,7 @@ module _ (f : Frame) (s : State) (g : Good f s) (gk : GoodKeys f s) where
         | inr x ↦ elim (view_cases f.clients s.client s.committed q) [ inl y ↦ sym (one_named q r k y x hq hr) | inr y ↦ both_bare r q k x y hr hq ]
       ]
 
-  same_entered : (o : Option Stored) (k q : Key) → has o k → has o q → k.index ≡ q.index → k ≡ q
+  same_entered : (o : Option StoredRow) (k q : Key) → has o k → has o q → k.index ≡ q.index → k ≡ q
   unfolding unique_keys
   same_entered None k q hk hq e = cc
   same_entered (Some row) k q hk hq e = same_from row.table 0 (indexes_of f.schema row.table) row.values k q hk hq e
@@ -186,7 +188,7 @@ not_both : (forward : Bool) (o : Ordering) → o ≡ direction forward → order
 not_both true o e r = let t : Less ≡ Greater = ap ordering_reverse (sym e) ∙ r in cc
 not_both false o e r = let t : Greater ≡ Less = ap ordering_reverse (sym e) ∙ r in cc
 
-values_in : Option Stored → List Value
+values_in : Option StoredRow → List Value
 values_in None = []
 values_in (Some row) = row.values
 
@@ -261,7 +263,7 @@ module _ (f : Frame) (s : State) (c : ℕ) (a b : Answer) where
   succeeds_alike End x y = inl (x ∙ sym y)
 
   module _ (op : Op) where
-    same_long : (o : Option Stored) (i j : ℕ) → IsFirstLongKey f o i → IsFirstLongKey f o j → i ≡ j
+    same_long : (o : Option StoredRow) (i j : ℕ) → IsFirstLongKey f o i → IsFirstLongKey f o j → i ≡ j
     same_long None i j x y = absurd x
     same_long (Some row) i j x y = same_least (λ k. HasLongKey f row k) i j x.0 y.0 x.1 y.1
 

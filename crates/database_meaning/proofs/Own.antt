@@ -3,8 +3,10 @@ use Rattle.std.proofs.Common.{◌≡◌, ℕ, zero, suc, ◌+◌, ◌-◌, ◌<�
 use Rattle.std.specs.FinMap.{get, insert, empty, get-empty}
 use Rattle.std.proofs.lemmas.Bool.{cases_eq, cases_lt}
 use Rattle.abl_base.specs.declared.row.RowId.{RowId}
-use Rattle.database_meaning.specs.Frame.{Frame, Stored}
-use Rattle.database_meaning.specs.State.{State, Client, Want, Overlay, Held, depth_of}
+use Rattle.database_meaning.specs.declared.state.StoredRow.{StoredRow}
+use Rattle.database_meaning.specs.declared.state.Want.{Want}
+use Rattle.database_meaning.specs.Frame.{Frame}
+use Rattle.database_meaning.specs.State.{State, Client, Overlay, Held, depth_of}
 use Rattle.database_meaning.specs.Answers.{IsRefused, IsSound}
 use Rattle.database_meaning.specs.Steps.{own_after, own_after_commit, own_after_leave, own_after_drop, is_outermost, or_exclusive}
 use Rattle.database_meaning.specs.declared.operation.Op.{Op}
@@ -13,7 +15,7 @@ use Rattle.database_meaning.proofs.Maps.{get_insert_same, get_insert_other, inse
 
 -- each row that the overlay names is held exclusively
 abbrev pub Covers : Held → Overlay → Type 0
-Covers held overlay = (row : ℕ) (change : Option Stored) → get overlay row ≡ Some change → get held row ≡ Some true
+Covers held overlay = (row : ℕ) (change : Option StoredRow) → get overlay row ≡ Some change → get held row ≡ Some true
 
 abbrev pub CoversAll : Held → List Overlay → Type 0
 CoversAll held [] = Unit {0}
@@ -96,7 +98,7 @@ grows_lock held k x row e =
     ]
 
 -- a change at a row that is held exclusively
-covers_insert : (held : Held) (o : Overlay) (k : ℕ) (v : Option Stored) → get held k ≡ Some true → Covers held o → Covers held (insert o k v)
+covers_insert : (held : Held) (o : Overlay) (k : ℕ) (v : Option StoredRow) → get held k ≡ Some true → Covers held o → Covers held (insert o k v)
 covers_insert held o k v has covers row change e =
     elim (insert_cases o k v row change e) [
       | inl p ↦ ap (get held) p.0 ∙ has

@@ -10,9 +10,10 @@ use Rattle.abl_base.specs.declared.value.Kind.{Kind}
 use Rattle.abl_base.specs.declared.value.Kind.TheVariants.{Character, Integer, Int64 as Whole64, Decimal, Logical as Truth, Date as Day}
 use Rattle.abl_base.specs.Fit.{IsOfKind, IsOfField}
 use Rattle.abl_base.specs.Rows.{FitsFields}
+use Rattle.database_meaning.specs.declared.state.StoredRow.{StoredRow}
 use Rattle.database_meaning.specs.declared.contents.Contents.{Contents}
 use Rattle.database_meaning.specs.declared.contents.ContentRow.{ContentRow}
-use Rattle.database_meaning.specs.Frame.{Frame, Stored, FitsTable, kinds_of}
+use Rattle.database_meaning.specs.Frame.{Frame, FitsTable, kinds_of}
 use Rattle.database_meaning.specs.State.{State, Client, Rows, Overlay, laid, over, depth_of}
 use Rattle.database_meaning.specs.Waiting.{row_in}
 use Rattle.database_meaning.specs.Answers.{Answers, IsRefused}
@@ -104,12 +105,12 @@ stable_fields (kind ∷ kinds) (v ∷ vs) h = (stable_field kind v (λ k. h (λ 
 
 -- ---- rows that fit
 
-abbrev pub RowFits : Frame → Option Stored → Type 0
+abbrev pub RowFits : Frame → Option StoredRow → Type 0
 RowFits f None = Unit {0}
 RowFits f (Some r) = FitsTable f.schema r.table r.values
 
 abbrev pub ChangesFit : Frame → Overlay → Type 0
-ChangesFit f o = (row : ℕ) (change : Option Stored) → get o row ≡ Some change → RowFits f change
+ChangesFit f o = (row : ℕ) (change : Option StoredRow) → get o row ≡ Some change → RowFits f change
 
 abbrev pub CopiesFit : Frame → List Overlay → Type 0
 CopiesFit f [] = Unit {0}
@@ -123,7 +124,7 @@ pub record StateFits (f : Frame) (s : State) : Type 0 where
   pub committed : (row : ℕ) → RowFits f (get s.committed row)
   pub own : (c : ℕ) → ClientFits f (s.client c)
 
-over_fits : (f : Frame) (o : Option (Option Stored)) (below : Option Stored) → ((change : Option Stored) → o ≡ Some change → RowFits f change) → RowFits f below → RowFits f (over o below)
+over_fits : (f : Frame) (o : Option (Option StoredRow)) (below : Option StoredRow) → ((change : Option StoredRow) → o ≡ Some change → RowFits f change) → RowFits f below → RowFits f (over o below)
 over_fits f None below change fits = fits
 over_fits f (Some x) below change fits = change x refl
 
@@ -149,7 +150,7 @@ module _ (f : Frame) where
   copy_fits (x ∷ xs) zero all = all.0
   copy_fits (x ∷ xs) (suc i) all = copy_fits xs i all.1
 
-  insert_fits : (o : Overlay) (k : ℕ) (v : Option Stored) → RowFits f v → ChangesFit f o → ChangesFit f (insert o k v)
+  insert_fits : (o : Overlay) (k : ℕ) (v : Option StoredRow) → RowFits f v → ChangesFit f o → ChangesFit f (insert o k v)
   insert_fits o k v fits all row change e =
       elim (insert_cases o k v row change e) [ inl p ↦ subst (λ x. RowFits f x) p.1 fits | inr p ↦ all row change p.1 ]
 
@@ -220,11 +221,11 @@ module _ (f : Frame) (s : State) (c : ℕ) (op : Op) (a : Answer) (ok : Answers 
 
 -- ---- over whole traces
 
-found_fits : (f : Frame) (b : Bool) (r : Stored) (o : Option Stored) → RowFits f (Some r) → RowFits f o → RowFits f (cond b (Some r) o)
+found_fits : (f : Frame) (b : Bool) (r : StoredRow) (o : Option StoredRow) → RowFits f (Some r) → RowFits f o → RowFits f (cond b (Some r) o)
 found_fits f true r o here there = here
 found_fits f false r o here there = there
 
-find_fits : (f : Frame) (rows : List ContentRow) (q : ℕ) → IsSoundRows f rows → RowFits f (find nat_cmp q (map {B = ℕ × Stored} (λ r. (identity_of r, stored_of r)) rows))
+find_fits : (f : Frame) (rows : List ContentRow) (q : ℕ) → IsSoundRows f rows → RowFits f (find nat_cmp q (map {B = ℕ × StoredRow} (λ r. (identity_of r, stored_of r)) rows))
 find_fits f [] q ok = tt
 find_fits f (r ∷ rows) q ok = found_fits f _ (stored_of r) _ ok.0.1 (find_fits f rows q ok.1)
 

@@ -4,12 +4,14 @@ use Rattle.std.specs.List.{All}
 use Rattle.std.specs.FinMap.{get}
 use Rattle.abl_base.specs.declared.value.Value.{Value}
 use Rattle.abl_base.specs.declared.row.RowId.{RowId}
+use Rattle.database_meaning.specs.declared.state.StoredRow.{StoredRow}
+use Rattle.database_meaning.specs.declared.state.Key.{Key}
 use Rattle.database_meaning.specs.declared.limits.TheConstants.{MAX_ROW_BYTES, MAX_KEY_BYTES, FIRST_ROW, ROW_LIMIT, MAX_FRAGMENTS, MAX_TRANSACTION_WRITES}
 use Rattle.database_meaning.specs.declared.operation.Op.{Op}
 use Rattle.database_meaning.specs.declared.operation.Op.TheVariants.{Enter, Leave, Back, Next, Get, Lock, Insert, Put, Delete, Drop as DropLock, NextValue, CurrentValue, End}
 use Rattle.database_meaning.specs.declared.operation.Answer.{Answer}
 use Rattle.database_meaning.specs.declared.operation.Answer.TheVariants.{Refused, Closed, TraceFull, Gone, KeyTooLong, Busy, Blocked, Deadlock, Duplicate, Full, TxFull, SequenceEnd, AtEnd, NoMemory, Done, Committed, Found, Row as RowAnswer, Granted, Inserted, Value as ValueAnswer}
-use Rattle.database_meaning.specs.Frame.{Frame, Stored, Key, unique_keys, has_key, row_size, HasTable, HasIndex, HasSequence, FitsTable, key_in, increment_of}
+use Rattle.database_meaning.specs.Frame.{Frame, unique_keys, has_key, row_size, HasTable, HasIndex, HasSequence, FitsTable, key_in, increment_of}
 use Rattle.database_meaning.specs.State.{State, view, lock_of, depth_of, HoldsExclusively}
 use Rattle.database_meaning.specs.Waiting.{row_in, HasConflict, IsHolders, Closes, IsCycle}
 use Rattle.database_meaning.specs.Search.{FindsNone, IsNext}
@@ -57,7 +59,7 @@ IsRefused f s c op = ¬ ((c < f.clients) × IsSound f s c op × ¬ AsksAgain s c
 
 -- the view has a row of that table there
 abbrev pub IsThere : Frame → State → ℕ → ℕ → Type 0
-IsThere f s table row = (r : Stored) × (view f s row ≡ Some r) × (r.table ≡ table)
+IsThere f s table row = (r : StoredRow) × (view f s row ≡ Some r) × (r.table ≡ table)
 
 abbrev pub IsGone : Frame → State → ℕ → Op → Type 0
 IsGone f s c (Get table row) = ¬ IsThere f s table row.0
@@ -69,16 +71,16 @@ IsGone f s c _ = ⊥
 -- ---- KeyTooLong
 
 -- the row that an Insert or Put enters
-abbrev pub entered : Op → Option Stored
+abbrev pub entered : Op → Option StoredRow
 entered (Insert table values) = row_in table values
 entered (Put table row values) = row_in table values
 entered _ = None
 
-abbrev pub HasLongKey : Frame → Stored → ℕ → Type 0
+abbrev pub HasLongKey : Frame → StoredRow → ℕ → Type 0
 HasLongKey f row index = HasIndex f.schema row.table index × (MAX_KEY_BYTES < length (key_in f.schema row.table index row.values))
 
 -- the index is the least one in which the row's key is too long
-abbrev pub IsFirstLongKey : Frame → Option Stored → ℕ → Type 0
+abbrev pub IsFirstLongKey : Frame → Option StoredRow → ℕ → Type 0
 IsFirstLongKey f None index = ⊥
 IsFirstLongKey f (Some row) index = HasLongKey f row index × ((j : ℕ) → j < index → ¬ HasLongKey f row j)
 

@@ -7,9 +7,10 @@ use Rattle.abl_base.specs.declared.value.Kind.TheVariants.{Character, Integer}
 use Rattle.abl_base.specs.declared.schema.TableDef.{TableDef}
 use Rattle.abl_base.specs.Keys.{key_bytes, unique_key}
 use Rattle.abl_base.specs.Rows.{bytes_of_row}
+use Rattle.database_meaning.specs.declared.state.Key.{Key}
 use Rattle.database_meaning.specs.declared.operation.Op.TheVariants.{Enter, Leave, Insert, Lock, End}
 use Rattle.database_meaning.specs.declared.operation.Answer.TheVariants.{Refused, Blocked, Busy, Done, NoMemory, Committed}
-use Rattle.database_meaning.specs.Frame.{Frame, Key, unique_keys, fragments}
+use Rattle.database_meaning.specs.Frame.{Frame, unique_keys, fragments}
 use Rattle.database_meaning.specs.Waiting.{row_in}
 use Rattle.database_meaning.specs.Search.{place_cmp, MatchesPrefix}
 use Rattle.database_meaning.specs.Counts.{event_size, is_counted}

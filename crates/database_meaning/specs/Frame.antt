@@ -5,6 +5,8 @@ use Rattle.abl_base.specs.declared.value.Kind.{Kind}
 use Rattle.abl_base.specs.declared.schema.Part.{Part}
 use Rattle.abl_base.specs.declared.schema.IndexDef.{IndexDef}
 use Rattle.abl_base.specs.declared.schema.SequenceDef.{SequenceDef}
+use Rattle.database_meaning.specs.declared.state.StoredRow.{StoredRow}
+use Rattle.database_meaning.specs.declared.state.Key.{Key}
 use Rattle.abl_base.specs.Rows.{FitsFields, bytes_of_row, fragments_of}
 use Rattle.abl_base.specs.Keys.{key_bytes, unique_key}
 use Rattle.abl_base.specs.Schema.{SchemaData, fields_of, indexes_of, field_kinds}
@@ -13,17 +15,6 @@ use Rattle.abl_base.specs.Schema.{SchemaData, fields_of, indexes_of, field_kinds
 pub record Frame : Type 0 where
   pub schema : SchemaData
   pub clients : ℕ
-
--- a row with the table that it stands in
-pub record Stored : Type 0 where
-  pub table : ℕ
-  pub values : List Value
-
--- a key in an index of a table
-pub record Key : Type 0 where
-  pub table : ℕ
-  pub index : ℕ
-  pub bytes : List ℕ
 
 -- ---- tables, indexes and sequences by number
 
@@ -73,7 +64,7 @@ keys_from table i [] values = []
 keys_from table i (index ∷ indexes) values = key_at table i (unique_key index.unique index.parts values) ++ keys_from table (i + 1) indexes values
 
 -- the unique keys of a row: one for each unique index in which no component is `?`. Where no row is there are none
-unfoldable pub unique_keys : SchemaData → Option Stored → List Key
+unfoldable pub unique_keys : SchemaData → Option StoredRow → List Key
 unique_keys schema None = []
 unique_keys schema (Some row) = keys_from row.table 0 (indexes_of schema row.table) row.values
 
@@ -103,6 +94,6 @@ abbrev pub row_size : List Value → ℕ
 row_size values = length (bytes_of_row values)
 
 -- how many fragments hold the row. Where no row is there is none
-abbrev pub fragments : Option Stored → ℕ
+abbrev pub fragments : Option StoredRow → ℕ
 fragments None = 0
 fragments (Some row) = fragments_of (row_size row.values)

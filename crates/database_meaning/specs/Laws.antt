@@ -3,13 +3,15 @@ use Rattle.std.specs.Prelude.{IsTrue, ◌≡◌, ◌≢◌, ◌⊎◌, ◌<◌, 
 use Rattle.std.specs.FinMap.{get}
 use Rattle.abl_base.specs.declared.value.Value.{Value}
 use Rattle.abl_base.specs.declared.row.RowId.{RowId}
+use Rattle.database_meaning.specs.declared.state.StoredRow.{StoredRow}
+use Rattle.database_meaning.specs.declared.state.Key.{Key}
 use Rattle.database_meaning.specs.declared.contents.Contents.{Contents}
 use Rattle.database_meaning.specs.declared.operation.Event.{Event}
 use Rattle.database_meaning.specs.declared.operation.Op.{Op}
 use Rattle.database_meaning.specs.declared.operation.Op.TheVariants.{Get, End}
 use Rattle.database_meaning.specs.declared.operation.Answer.{Answer}
 use Rattle.database_meaning.specs.declared.operation.Answer.TheVariants.{Row as RowAnswer, Inserted, Committed, Deadlock, TraceFull}
-use Rattle.database_meaning.specs.Frame.{Frame, Stored, Key, has_key}
+use Rattle.database_meaning.specs.Frame.{Frame, has_key}
 use Rattle.database_meaning.specs.State.{State, view, lock_of, depth_of}
 use Rattle.database_meaning.specs.Waiting.{row_in}
 use Rattle.database_meaning.specs.Answers.{ByTable}
@@ -24,7 +26,7 @@ IsExclusive s = (c d row : ℕ) → c ≢ d → lock_of s c row ≡ Some true �
 
 -- no row stands in the overlays of two clients
 abbrev pub HasApartOverlays : State → Type 0
-HasApartOverlays s = (c d row : ℕ) (change : Option Stored) → c ≢ d → get (s.client c).overlay row ≡ Some change → get (s.client d).overlay row ≡ None
+HasApartOverlays s = (c d row : ℕ) (change : Option StoredRow) → c ≢ d → get (s.client c).overlay row ≡ Some change → get (s.client d).overlay row ≡ None
 
 -- ---- keys
 

@@ -2,26 +2,25 @@
 use Rattle.std.specs.Prelude.{◌≡◌, ℕ, zero, suc, Bool, true, List, length, Option, Some, None, ℤ}
 use Rattle.std.specs.Ordering.{nat_cmp}
 use Rattle.std.specs.FinMap.{FinMap, get}
-use Rattle.database_meaning.specs.Frame.{Frame, Stored, Key}
+use Rattle.database_meaning.specs.declared.state.StoredRow.{StoredRow}
+use Rattle.database_meaning.specs.declared.state.Key.{Key}
+use Rattle.database_meaning.specs.declared.state.Want.{Want}
+use Rattle.database_meaning.specs.Frame.{Frame}
 use Rattle.database_meaning.specs.declared.operation.Op.{Op}
 
 -- rows by their identities
 abbrev pub Rows : Type 0
-Rows = FinMap nat_cmp Stored
+Rows = FinMap nat_cmp StoredRow
 
 -- what a client changed: at each identity the new row, or None where the row is deleted
 abbrev pub Overlay : Type 0
-Overlay = FinMap nat_cmp (Option Stored)
+Overlay = FinMap nat_cmp (Option StoredRow)
 
 -- the rows that a client holds, with true where it holds them exclusively
 abbrev pub Held : Type 0
 Held = FinMap nat_cmp Bool
 
--- an operation that was answered Blocked, with the value of frees at that answer
-pub record Want : Type 0 where
-  pub op : Op
-  pub frees : ℕ
-
+-- a client
 pub record Client : Type 0 where
   pub overlay : Overlay  -- empty where no level is open
   pub levels : List Overlay  -- for each open level a whole copy of the overlay as it stood at the level's Enter, the outermost first
@@ -40,17 +39,17 @@ pub record State : Type 0 where
   pub closed : Bool
 
 -- a change covers what lies below it
-abbrev pub over : Option (Option Stored) → Option Stored → Option Stored
+abbrev pub over : Option (Option StoredRow) → Option StoredRow → Option StoredRow
 over None below = below
 over (Some change) below = change
 
 -- the overlays of the first n clients laid over the rows
-abbrev pub laid : ℕ → (ℕ → Client) → Rows → ℕ → Option Stored
+abbrev pub laid : ℕ → (ℕ → Client) → Rows → ℕ → Option StoredRow
 laid zero client rows row = get rows row
 laid (suc n) client rows row = over (get (client n).overlay row) (laid n client rows row)
 
 -- the view: what stands at an identity for everyone who looks, unfinished changes of others included
-abbrev pub view : Frame → State → ℕ → Option Stored
+abbrev pub view : Frame → State → ℕ → Option StoredRow
 view f s row = laid f.clients s.client s.committed row
 
 -- the client's lock on the row: None, or true where it is exclusive

@@ -3,24 +3,27 @@ use Rattle.std.specs.Prelude.{◌≡◌, ℕ, ◌+◌, ◌-◌, ◌==◌, Bool, 
 use Rattle.std.specs.List.{list_any}
 use Rattle.std.specs.FinMap.{insert, remove, empty, entries, from_entries, retain_keys, contains_key}
 use Rattle.abl_base.specs.declared.row.RowId.{RowId}
+use Rattle.database_meaning.specs.declared.state.StoredRow.{StoredRow}
+use Rattle.database_meaning.specs.declared.state.Key.{Key}
+use Rattle.database_meaning.specs.declared.state.Want.{Want}
 use Rattle.database_meaning.specs.declared.operation.Op.{Op}
 use Rattle.database_meaning.specs.declared.operation.Op.TheVariants.{Enter, Leave, Back, Lock, Insert, Put, Delete, Drop as DropLock, NextValue, End}
 use Rattle.database_meaning.specs.declared.operation.Answer.{Answer}
 use Rattle.database_meaning.specs.declared.operation.Answer.TheVariants.{Refused, Closed, Blocked, Done, Committed, Found, Row as RowAnswer, Granted, Inserted, Value as ValueAnswer}
-use Rattle.database_meaning.specs.Frame.{Frame, Stored, Key, unique_keys, keys_without}
-use Rattle.database_meaning.specs.State.{State, Client, Want, Rows, Overlay, Held, view, lock_of, depth_of}
+use Rattle.database_meaning.specs.Frame.{Frame, unique_keys, keys_without}
+use Rattle.database_meaning.specs.State.{State, Client, Rows, Overlay, Held, view, lock_of, depth_of}
 use Rattle.database_meaning.specs.Waiting.{row_in}
 use Rattle.database_meaning.specs.Counts.{draws, writes, event_size, is_counted}
 use Rattle.database_meaning.specs.Answers.{Answers, next_value}
 
 -- ---- a commit
 
-abbrev pub put_row : Rows → ℕ → Option Stored → Rows
+abbrev pub put_row : Rows → ℕ → Option StoredRow → Rows
 put_row rows row None = remove rows row
 put_row rows row (Some r) = insert rows row r
 
 -- the changes laid on the rows
-abbrev pub laid_on : List (ℕ × Option Stored) → Rows → Rows
+abbrev pub laid_on : List (ℕ × Option StoredRow) → Rows → Rows
 laid_on [] rows = rows
 laid_on (change ∷ changes) rows = put_row (laid_on changes rows) change.0 change.1
 
@@ -59,7 +62,7 @@ or_exclusive None exclusive = exclusive
 or_exclusive (Some held) exclusive = held || exclusive
 
 -- unique keys that the row enters or leaves join those that are kept. A key that both rows have does not
-abbrev pub keeping : Frame → Option Stored → Option Stored → List Key → List Key
+abbrev pub keeping : Frame → Option StoredRow → Option StoredRow → List Key → List Key
 keeping f old new kept = keys_without (unique_keys f.schema new) (unique_keys f.schema old) ++ (keys_without (unique_keys f.schema old) (unique_keys f.schema new) ++ kept)
 
 abbrev pub own_after_commit : State → ℕ → List RowId → Client

@@ -1,6 +1,8 @@
 -- Contents of a database, legal traces, and what the commits of a trace leave.
 use Rattle.std.specs.Prelude.{◌≡◌, ℕ, ◌≤◌, ◌==◌, Bool, true, false, not, ◌&&◌, IsTrue, if◌then◌else◌, List, [], ◌∷◌, length, map, filter, nat_le, None, slice_index_or}
 use Rattle.std.specs.FinMap.{get, empty, entries, from_entries}
+use Rattle.database_meaning.specs.declared.state.StoredRow.{StoredRow}
+use Rattle.database_meaning.specs.declared.state.Key.{Key}
 use Rattle.database_meaning.specs.declared.limits.TheConstants.{MAX_KEY_BYTES}
 use Rattle.database_meaning.specs.declared.contents.Contents.{Contents}
 use Rattle.database_meaning.specs.declared.contents.ContentRow.{ContentRow}
@@ -9,7 +11,7 @@ use Rattle.database_meaning.specs.declared.operation.Op.TheVariants.{Leave}
 use Rattle.database_meaning.specs.declared.operation.Answer.{Answer}
 use Rattle.database_meaning.specs.declared.operation.Answer.TheVariants.{Committed}
 use Rattle.database_meaning.specs.declared.operation.Event.{Event}
-use Rattle.database_meaning.specs.Frame.{Frame, Stored, Key, unique_keys, has_key, HasTable, HasIndex, FitsTable, key_in}
+use Rattle.database_meaning.specs.Frame.{Frame, unique_keys, has_key, HasTable, HasIndex, FitsTable, key_in}
 use Rattle.database_meaning.specs.State.{State, Client, Rows}
 use Rattle.database_meaning.specs.Waiting.{IsAscending}
 use Rattle.database_meaning.specs.Answers.{Answers}
@@ -20,14 +22,14 @@ use Rattle.database_meaning.specs.Steps.{after, committed_after, is_outermost, i
 abbrev pub identity_of : ContentRow → ℕ
 identity_of r = r.row.0
 
-abbrev pub stored_of : ContentRow → Stored
+abbrev pub stored_of : ContentRow → StoredRow
 stored_of r = record { table = r.table; values = r.values }
 
 -- the rows of the contents as a map
 abbrev pub rows_of : List ContentRow → Rows
 rows_of rows = from_entries (map (λ r. (identity_of r, stored_of r)) rows)
 
-abbrev pub content_row : ℕ × Stored → ContentRow
+abbrev pub content_row : ℕ × StoredRow → ContentRow
 content_row e = record { row = record { 0 = e.0 }; table = e.1.table; values = e.1.values }
 
 -- the committed rows and the sequence values of a state, as contents
@@ -40,7 +42,7 @@ HasUniqueKeys f rows =
     (r q : ℕ) (k : Key) → IsTrue (has_key (unique_keys f.schema (get rows r)) k) → IsTrue (has_key (unique_keys f.schema (get rows q)) k) → r ≡ q
 
 -- the row's table exists, its values fit, and none of its keys is too long
-abbrev pub IsSoundRow : Frame → Stored → Type 0
+abbrev pub IsSoundRow : Frame → StoredRow → Type 0
 IsSoundRow f row =
     HasTable f.schema row.table × FitsTable f.schema row.table row.values × ((index : ℕ) → HasIndex f.schema row.table index → length (key_in f.schema row.table index row.values) ≤ MAX_KEY_BYTES)
 

@@ -2,10 +2,13 @@
 use Rattle.std.specs.Prelude.{◌≡◌, ◌≢◌, ◌⊎◌, ◌↔◌, ℕ, ◌<◌, Bool, true, false, IsTrue, IsFalse, List, [], ◌∷◌, Option, Some, None}
 use Rattle.std.specs.List.{Contains}
 use Rattle.abl_base.specs.declared.value.Value.{Value}
+use Rattle.database_meaning.specs.declared.state.StoredRow.{StoredRow}
+use Rattle.database_meaning.specs.declared.state.Key.{Key}
+use Rattle.database_meaning.specs.declared.state.Want.{Want}
 use Rattle.database_meaning.specs.declared.operation.Op.{Op}
 use Rattle.database_meaning.specs.declared.operation.Op.TheVariants.{Lock, Insert, Put}
-use Rattle.database_meaning.specs.Frame.{Frame, Stored, Key, unique_keys, has_key}
-use Rattle.database_meaning.specs.State.{State, Want, view, lock_of}
+use Rattle.database_meaning.specs.Frame.{Frame, unique_keys, has_key}
+use Rattle.database_meaning.specs.State.{State, view, lock_of}
 
 -- ---- conflicts
 
@@ -20,10 +23,10 @@ abbrev pub LockConflicts : (ℕ → Option Bool) → ℕ → Bool → ℕ → Ty
 LockConflicts locks c exclusive d = (d ≢ c) × StandsAgainst (locks d) exclusive
 
 -- the client keeps a unique key that the new row has and the old one has not
-abbrev pub KeepsEntered : Frame → State → ℕ → Option Stored → Option Stored → Type 0
+abbrev pub KeepsEntered : Frame → State → ℕ → Option StoredRow → Option StoredRow → Type 0
 KeepsEntered f s d old new = (k : Key) × IsTrue (has_key (unique_keys f.schema new) k) × IsFalse (has_key (unique_keys f.schema old) k) × IsTrue (has_key (s.client d).kept k)
 
-abbrev pub row_in : ℕ → List Value → Option Stored
+abbrev pub row_in : ℕ → List Value → Option StoredRow
 row_in table values = Some (record { table = table; values = values })
 
 -- the operation of client c conflicts with client d
