@@ -1,2 +1,3 @@
 pub mod Trailing
 pub mod Compared
+pub mod Fields

@@ -3,11 +3,11 @@ use Rattle.std.specs.Prelude.{◌≡◌, ℕ, ◌+◌, ◌-◌, ◌^◌, Bool, t
 use Rattle.std.specs.Ordering.{nat_cmp, ordering_then, ordering_reverse}
 use Rattle.std.specs.declared.cmp.Ordering.{Ordering}
 use Rattle.std.specs.declared.cmp.Ordering.TheVariants.{Less, Equal, Greater}
-use Rattle.byteorder.specs.Endian.{big_bytes}
 use Rattle.abl_base.specs.declared.value.Value.{Value}
 use Rattle.abl_base.specs.declared.value.Value.TheVariants.{Text, Int, Int64, Dec, Logical, Date, Unknown}
 use Rattle.abl_base.specs.declared.schema.Part.{Part}
 use Rattle.abl_base.specs.Order.{compared_text, value_order}
+use Rattle.abl_base.specs.Rows.{number_bytes}
 
 -- ---- bytes
 
@@ -24,12 +24,12 @@ turned_over bits n = unsigned_abs (n +ℤ pos (2 ^ (bits - 1)))
 abbrev pub ascending_bytes : Value → List ℕ
 ascending_bytes Unknown = 2 ∷ []
 ascending_bytes (Text t) = 1 ∷ escaped (compared_text t) ++ 0 ∷ 0 ∷ []
-ascending_bytes (Int n) = 1 ∷ big_bytes 8 (turned_over 64 n)
-ascending_bytes (Int64 n) = 1 ∷ big_bytes 8 (turned_over 64 n)
-ascending_bytes (Dec n) = 1 ∷ big_bytes 16 (turned_over 128 n)
+ascending_bytes (Int n) = 1 ∷ number_bytes 8 (turned_over 64 n)
+ascending_bytes (Int64 n) = 1 ∷ number_bytes 8 (turned_over 64 n)
+ascending_bytes (Dec n) = 1 ∷ number_bytes 16 (turned_over 128 n)
 ascending_bytes (Logical false) = 1 ∷ 0 ∷ []
 ascending_bytes (Logical true) = 1 ∷ 1 ∷ []
-ascending_bytes (Date d) = 1 ∷ big_bytes 4 (turned_over 32 d)
+ascending_bytes (Date d) = 1 ∷ number_bytes 4 (turned_over 32 d)
 
 -- the bytes of a component: in a descending one each byte b stands as 255 - b
 abbrev pub component_bytes : Bool → Value → List ℕ

@@ -5,11 +5,13 @@
 
 pub mod arithmetic;
 pub mod items;
+pub mod laws;
 pub mod order;
 pub mod place;
 pub mod row;
 pub mod rule;
 pub mod schema;
+pub mod stored;
 pub mod value;
 
 pub use arithmetic::ArithFault;
@@ -19,4 +21,5 @@ pub use place::Place;
 pub use row::{Cursor, Cycle, Holders, Numbers, Row, RowId, Rows};
 pub use rule::Rule;
 pub use schema::{FieldDef, IndexDef, Part, Parts, SequenceDef, TableDef};
+pub use stored::row_bytes;
 pub use value::{Bytes, Kind, MAX_TEXT_BYTES, Value};
