@@ -1,3 +1,4 @@
 pub mod Trailing
 pub mod Compared
 pub mod Fields
+pub mod RowReads

@@ -4,6 +4,7 @@
 #![tactic(auto)]
 
 pub mod arithmetic;
+pub mod dates;
 pub mod items;
 pub mod laws;
 pub mod order;
@@ -12,6 +13,7 @@ pub mod row;
 pub mod rule;
 pub mod schema;
 pub mod stored;
+pub mod stored_read;
 pub mod value;
 
 pub use arithmetic::ArithFault;
@@ -22,4 +24,5 @@ pub use row::{Cursor, Cycle, Holders, Numbers, Row, RowId, Rows};
 pub use rule::Rule;
 pub use schema::{FieldDef, IndexDef, Part, Parts, SequenceDef, TableDef};
 pub use stored::row_bytes;
+pub use stored_read::row_of;
 pub use value::{Bytes, Kind, MAX_TEXT_BYTES, Value};
