@@ -2,3 +2,5 @@ pub mod Trailing
 pub mod Compared
 pub mod Fields
 pub mod RowReads
+pub mod Numbers
+pub mod RowLaws

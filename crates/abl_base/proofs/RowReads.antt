@@ -18,11 +18,11 @@ before-first vs v None = refl
 before-first vs v (Some ws) = ap (λ (xs : List Value). Some xs) (sym (append_assoc vs (v ∷ []) ws))
 
 -- the first field is read, or is not there
-row_in-read : (kind : Option Kind) (kinds : List (Option Kind)) (bytes : List ℕ) (v : Value) (rest : List ℕ) → field_in kind bytes ≡ Some (v, rest) → row_in (kind ∷ kinds) bytes ≡ with_first v (row_in kinds rest)
+pub row_in-read : (kind : Option Kind) (kinds : List (Option Kind)) (bytes : List ℕ) (v : Value) (rest : List ℕ) → field_in kind bytes ≡ Some (v, rest) → row_in (kind ∷ kinds) bytes ≡ with_first v (row_in kinds rest)
 unfolding row_in
 row_in-read kind kinds bytes v rest e = rw (e, row_in) refl
 
-row_in-none : (kind : Option Kind) (kinds : List (Option Kind)) (bytes : List ℕ) → field_in kind bytes ≡ None → row_in (kind ∷ kinds) bytes ≡ None
+pub row_in-none : (kind : Option Kind) (kinds : List (Option Kind)) (bytes : List ℕ) → field_in kind bytes ≡ None → row_in (kind ∷ kinds) bytes ≡ None
 unfolding row_in
 row_in-none kind kinds bytes e = rw (e, row_in) refl
 

@@ -1,5 +1,5 @@
 -- The key bytes of a row in an index, and its unique keys.
-use Rattle.std.specs.Prelude.{◌≡◌, ℕ, ◌+◌, ◌-◌, ◌^◌, Bool, true, false, not, ◌&&◌, ◌||◌, ◌==◌, if◌then◌else◌, List, [], ◌∷◌, ◌++◌, map, slice_index_or, Option, Some, None, ℤ, pos, ◌+ℤ◌, unsigned_abs}
+use Rattle.std.specs.Prelude.{◌≡◌, ℕ, ◌+◌, ◌-◌, ◌^◌, ◌<◌, Bool, true, false, not, ◌&&◌, ◌||◌, ◌==◌, if◌then◌else◌, List, [], ◌∷◌, ◌++◌, map, slice_index_or, Option, Some, None, ℤ, pos, ◌+ℤ◌, unsigned_abs}
 use Rattle.std.specs.Ordering.{nat_cmp, ordering_then, ordering_reverse}
 use Rattle.std.specs.declared.cmp.Ordering.{Ordering}
 use Rattle.std.specs.declared.cmp.Ordering.TheVariants.{Less, Equal, Greater}
@@ -57,6 +57,22 @@ unfoldable pub key_order : List Part → List Value → List Value → Ordering
 key_order [] a b = Equal
 key_order (part ∷ parts) a b =
     ordering_then (component_order part.descending (component part a) (component part b)) (key_order parts a b)
+
+-- ---- bytes
+
+-- each number of the list is a byte
+abbrev pub AreBytes : List ℕ → Type 0
+AreBytes [] = Unit {0}
+AreBytes (b ∷ bs) = (b < 256) × AreBytes bs
+
+-- the text of a value has bytes, as every text of a program
+abbrev pub HasBytes : Value → Type 0
+HasBytes (Text t) = AreBytes t
+HasBytes v = Unit {0}
+
+abbrev pub HaveBytes : List Value → Type 0
+HaveBytes [] = Unit {0}
+HaveBytes (v ∷ vs) = HasBytes v × HaveBytes vs
 
 -- ---- unique keys
 
