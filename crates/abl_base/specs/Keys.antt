@@ -1,5 +1,6 @@
 -- The key bytes of a row in an index, and its unique keys.
 use Rattle.std.specs.Prelude.{◌≡◌, ℕ, ◌+◌, ◌-◌, ◌^◌, ◌<◌, Bool, true, false, not, ◌&&◌, ◌||◌, ◌==◌, if◌then◌else◌, List, [], ◌∷◌, ◌++◌, map, slice_index_or, Option, Some, None, ℤ, pos, ◌+ℤ◌, unsigned_abs}
+use Rattle.std.specs.List.{flat_map}
 use Rattle.std.specs.Ordering.{nat_cmp, ordering_then, ordering_reverse}
 use Rattle.std.specs.declared.cmp.Ordering.{Ordering}
 use Rattle.std.specs.declared.cmp.Ordering.TheVariants.{Less, Equal, Greater}
@@ -12,9 +13,11 @@ use Rattle.abl_base.specs.Rows.{number_bytes}
 -- ---- bytes
 
 -- a zero byte of a text as 0 and 255, any other byte as it is
+abbrev pub escaped_byte : ℕ → List ℕ
+escaped_byte b = if b == 0 then 0 ∷ 255 ∷ [] else b ∷ []
+
 abbrev pub escaped : List ℕ → List ℕ
-escaped [] = []
-escaped (b ∷ bs) = if b == 0 then 0 ∷ 255 ∷ escaped bs else b ∷ escaped bs
+escaped text = flat_map escaped_byte text
 
 -- a signed number of so many bits with its highest bit turned over: the number plus half its range
 abbrev pub turned_over : ℕ → ℤ → ℕ
@@ -31,10 +34,13 @@ ascending_bytes (Logical false) = 1 ∷ 0 ∷ []
 ascending_bytes (Logical true) = 1 ∷ 1 ∷ []
 ascending_bytes (Date d) = 1 ∷ number_bytes 4 (turned_over 32 d)
 
--- the bytes of a component: in a descending one each byte b stands as 255 - b
+-- a byte of a component: in a descending one each byte b stands as 255 - b
+abbrev pub turned_byte : Bool → ℕ → ℕ
+turned_byte descending b = if descending then 255 - b else b
+
+-- the bytes of a component
 abbrev pub component_bytes : Bool → Value → List ℕ
-component_bytes false v = ascending_bytes v
-component_bytes true v = map (λ b. 255 - b) (ascending_bytes v)
+component_bytes descending v = map (turned_byte descending) (ascending_bytes v)
 
 -- the value of a component in a row
 abbrev pub component : Part → List Value → Value
@@ -42,8 +48,8 @@ component part values = slice_index_or values part.field Unknown
 
 -- the key bytes of a row in an index with these components: their bytes one after the other
 unfoldable pub key_bytes : List Part → List Value → List ℕ
-key_bytes [] values = []
-key_bytes (part ∷ parts) values = component_bytes part.descending (component part values) ++ key_bytes parts values
+key_bytes parts values =
+    flat_map (λ part. component_bytes part.descending (component part values)) parts
 
 -- ---- order
 

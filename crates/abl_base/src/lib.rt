@@ -6,6 +6,7 @@
 pub mod arithmetic;
 pub mod dates;
 pub mod items;
+pub mod keys;
 pub mod laws;
 pub mod order;
 pub mod place;
@@ -18,6 +19,7 @@ pub mod value;
 
 pub use arithmetic::ArithFault;
 pub use items::Items;
+pub use keys::key_bytes;
 pub use order::compare;
 pub use place::Place;
 pub use row::{Cursor, Cycle, Holders, Numbers, Row, RowId, Rows};
