@@ -11,7 +11,7 @@ use Rattle.abl_base.specs.Order.{value_order}
 use Rattle.abl_base.specs.Dates.{CivilDate, day_number, date_from, date_of_day, date_after}
 use Rattle.abl_base.specs.Arithmetic.{sum_of, difference_of, product_of, quotient_of, remainder_of}
 use Rattle.abl_base.specs.Fit.{fitted}
-use Rattle.abl_base.specs.Rows.{bytes_of_row, row_in, fragments_of}
+use Rattle.abl_base.specs.Rows.{bytes_of_row, row_in, fragments_of, number_bytes, number_at_head}
 use Rattle.abl_base.specs.Keys.{key_bytes, unique_key}
 use Rattle.abl_base.specs.Texts.{plain_text, export_text}
 use Rattle.abl_base.specs.Masks.{mask_is_for}
@@ -103,23 +103,23 @@ stored_whole = refl
 -- ---- rows and keys
 a_row : bytes_of_row (Int (pos 258) ∷ Unknown ∷ Text (codes "ab") ∷ Logical true ∷ [])
     ≡ 1 ∷ 0 ∷ 0 ∷ 1 ∷ 2 ∷ 0 ∷ 1 ∷ 0 ∷ 2 ∷ 97 ∷ 98 ∷ 1 ∷ 1 ∷ []
-unfolding bytes_of_row
+unfolding bytes_of_row number_bytes
 a_row = refl
 
 the_row_again : row_in (Some Integer ∷ None ∷ Some Character ∷ Some Truth ∷ [])
     (1 ∷ 0 ∷ 0 ∷ 1 ∷ 2 ∷ 0 ∷ 1 ∷ 0 ∷ 2 ∷ 97 ∷ 98 ∷ 1 ∷ 1 ∷ [])
     ≡ Some (Int (pos 258) ∷ Unknown ∷ Text (codes "ab") ∷ Logical true ∷ [])
-unfolding row_in
+unfolding row_in number_at_head
 the_row_again = refl
 
 no_row : row_in (Some Truth ∷ []) (1 ∷ 2 ∷ []) ≡ None
-unfolding row_in
+unfolding row_in number_at_head
 no_row = refl
 
 a_key : key_bytes (record { field = 1; descending = false } ∷ record { field = 0; descending = true } ∷ [])
     (Date (negsuc 0) ∷ Text (65 ∷ 0 ∷ 32 ∷ []) ∷ [])
     ≡ 1 ∷ 97 ∷ 0 ∷ 255 ∷ 0 ∷ 0 ∷ 254 ∷ 128 ∷ 0 ∷ 0 ∷ 0 ∷ []
-unfolding key_bytes
+unfolding key_bytes number_bytes
 a_key = refl
 
 two_fragments : fragments_of 241 ≡ 2

@@ -1,20 +1,23 @@
 -- The key bytes of a row in an index, and its unique keys.
-use Rattle.std.specs.Prelude.{◌≡◌, ℕ, ◌+◌, ◌-◌, ◌^◌, Bool, true, false, not, ◌&&◌, ◌||◌, ◌==◌, if◌then◌else◌, List, [], ◌∷◌, ◌++◌, map, slice_index_or, Option, Some, None, ℤ, pos, ◌+ℤ◌, unsigned_abs}
+use Rattle.std.specs.Prelude.{◌≡◌, ℕ, ◌+◌, ◌-◌, ◌^◌, ◌<◌, Bool, true, false, not, ◌&&◌, ◌||◌, ◌==◌, if◌then◌else◌, List, [], ◌∷◌, ◌++◌, map, slice_index_or, Option, Some, None, ℤ, pos, ◌+ℤ◌, unsigned_abs}
+use Rattle.std.specs.List.{flat_map}
 use Rattle.std.specs.Ordering.{nat_cmp, ordering_then, ordering_reverse}
 use Rattle.std.specs.declared.cmp.Ordering.{Ordering}
 use Rattle.std.specs.declared.cmp.Ordering.TheVariants.{Less, Equal, Greater}
-use Rattle.byteorder.specs.Endian.{big_bytes}
 use Rattle.abl_base.specs.declared.value.Value.{Value}
 use Rattle.abl_base.specs.declared.value.Value.TheVariants.{Text, Int, Int64, Dec, Logical, Date, Unknown}
 use Rattle.abl_base.specs.declared.schema.Part.{Part}
 use Rattle.abl_base.specs.Order.{compared_text, value_order}
+use Rattle.abl_base.specs.Rows.{number_bytes}
 
 -- ---- bytes
 
 -- a zero byte of a text as 0 and 255, any other byte as it is
+abbrev pub escaped_byte : ℕ → List ℕ
+escaped_byte b = if b == 0 then 0 ∷ 255 ∷ [] else b ∷ []
+
 abbrev pub escaped : List ℕ → List ℕ
-escaped [] = []
-escaped (b ∷ bs) = if b == 0 then 0 ∷ 255 ∷ escaped bs else b ∷ escaped bs
+escaped text = flat_map escaped_byte text
 
 -- a signed number of so many bits with its highest bit turned over: the number plus half its range
 abbrev pub turned_over : ℕ → ℤ → ℕ
@@ -24,17 +27,20 @@ turned_over bits n = unsigned_abs (n +ℤ pos (2 ^ (bits - 1)))
 abbrev pub ascending_bytes : Value → List ℕ
 ascending_bytes Unknown = 2 ∷ []
 ascending_bytes (Text t) = 1 ∷ escaped (compared_text t) ++ 0 ∷ 0 ∷ []
-ascending_bytes (Int n) = 1 ∷ big_bytes 8 (turned_over 64 n)
-ascending_bytes (Int64 n) = 1 ∷ big_bytes 8 (turned_over 64 n)
-ascending_bytes (Dec n) = 1 ∷ big_bytes 16 (turned_over 128 n)
+ascending_bytes (Int n) = 1 ∷ number_bytes 8 (turned_over 64 n)
+ascending_bytes (Int64 n) = 1 ∷ number_bytes 8 (turned_over 64 n)
+ascending_bytes (Dec n) = 1 ∷ number_bytes 16 (turned_over 128 n)
 ascending_bytes (Logical false) = 1 ∷ 0 ∷ []
 ascending_bytes (Logical true) = 1 ∷ 1 ∷ []
-ascending_bytes (Date d) = 1 ∷ big_bytes 4 (turned_over 32 d)
+ascending_bytes (Date d) = 1 ∷ number_bytes 4 (turned_over 32 d)
 
--- the bytes of a component: in a descending one each byte b stands as 255 - b
+-- a byte of a component: in a descending one each byte b stands as 255 - b
+abbrev pub turned_byte : Bool → ℕ → ℕ
+turned_byte descending b = if descending then 255 - b else b
+
+-- the bytes of a component
 abbrev pub component_bytes : Bool → Value → List ℕ
-component_bytes false v = ascending_bytes v
-component_bytes true v = map (λ b. 255 - b) (ascending_bytes v)
+component_bytes descending v = map (turned_byte descending) (ascending_bytes v)
 
 -- the value of a component in a row
 abbrev pub component : Part → List Value → Value
@@ -42,8 +48,8 @@ component part values = slice_index_or values part.field Unknown
 
 -- the key bytes of a row in an index with these components: their bytes one after the other
 unfoldable pub key_bytes : List Part → List Value → List ℕ
-key_bytes [] values = []
-key_bytes (part ∷ parts) values = component_bytes part.descending (component part values) ++ key_bytes parts values
+key_bytes parts values =
+    flat_map (λ part. component_bytes part.descending (component part values)) parts
 
 -- ---- order
 
@@ -57,6 +63,22 @@ unfoldable pub key_order : List Part → List Value → List Value → Ordering
 key_order [] a b = Equal
 key_order (part ∷ parts) a b =
     ordering_then (component_order part.descending (component part a) (component part b)) (key_order parts a b)
+
+-- ---- bytes
+
+-- each number of the list is a byte
+abbrev pub AreBytes : List ℕ → Type 0
+AreBytes [] = Unit {0}
+AreBytes (b ∷ bs) = (b < 256) × AreBytes bs
+
+-- the text of a value has bytes, as every text of a program
+abbrev pub HasBytes : Value → Type 0
+HasBytes (Text t) = AreBytes t
+HasBytes v = Unit {0}
+
+abbrev pub HaveBytes : List Value → Type 0
+HaveBytes [] = Unit {0}
+HaveBytes (v ∷ vs) = HasBytes v × HaveBytes vs
 
 -- ---- unique keys
 

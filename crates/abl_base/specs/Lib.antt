@@ -4,6 +4,7 @@ pub mod Dates
 pub mod Arithmetic
 pub mod Fit
 pub mod Rows
+pub mod Reads
 pub mod Keys
 pub mod Texts
 pub mod Masks

@@ -1,6 +1,7 @@
 -- The bytes of a row, and how they are read.
 use Rattle.std.specs.Prelude.{◌≡◌, ℕ, zero, suc, ◌+◌, ◌*◌, ◌/◌, ◌≤◌, ◌<◌, max, Bool, true, false, nat_le, ◌==◌, if◌then◌else◌, List, [], ◌∷◌, ◌++◌, length, take, drop, Option, Some, None, ℤ, IsTrue}
 use Rattle.std.specs.Int.{w32, w64, w128, cast_signed, cast_unsigned}
+use Rattle.std.specs.List.{flat_map}
 use Rattle.byteorder.specs.Endian.{big_bytes, big_number}
 use Rattle.abl_base.specs.declared.value.Value.{Value}
 use Rattle.abl_base.specs.declared.value.Value.TheVariants.{Text, Int, Int64, Dec, Logical, Date, Unknown}
@@ -10,23 +11,32 @@ use Rattle.abl_base.specs.declared.value.TheConstants.{MAX_TEXT_BYTES}
 use Rattle.abl_base.specs.Dates.{is_day}
 use Rattle.abl_base.specs.Fit.{IsOfField}
 
+-- ---- numbers
+
+-- the lowest n bytes of a number, the highest of them first
+unfoldable pub number_bytes : ℕ → ℕ → List ℕ
+number_bytes n x = big_bytes n x
+
+-- the number in the first n bytes, the highest first
+unfoldable pub number_at_head : ℕ → List ℕ → ℕ
+number_at_head n bytes = big_number n bytes
+
 -- ---- writing
 
 -- the bytes of a field: 0 for `?`, or 1 and the value, numbers with the highest byte first
 abbrev pub field_bytes : Value → List ℕ
 field_bytes Unknown = 0 ∷ []
-field_bytes (Text t) = 1 ∷ big_bytes 2 (length t) ++ t
-field_bytes (Int n) = 1 ∷ big_bytes 4 (cast_unsigned w32 n)
-field_bytes (Int64 n) = 1 ∷ big_bytes 8 (cast_unsigned w64 n)
-field_bytes (Dec n) = 1 ∷ big_bytes 16 (cast_unsigned w128 n)
+field_bytes (Text t) = 1 ∷ number_bytes 2 (length t) ++ t
+field_bytes (Int n) = 1 ∷ number_bytes 4 (cast_unsigned w32 n)
+field_bytes (Int64 n) = 1 ∷ number_bytes 8 (cast_unsigned w64 n)
+field_bytes (Dec n) = 1 ∷ number_bytes 16 (cast_unsigned w128 n)
 field_bytes (Logical false) = 1 ∷ 0 ∷ []
 field_bytes (Logical true) = 1 ∷ 1 ∷ []
-field_bytes (Date d) = 1 ∷ big_bytes 4 (cast_unsigned w32 d)
+field_bytes (Date d) = 1 ∷ number_bytes 4 (cast_unsigned w32 d)
 
 -- the bytes of a row are those of its fields, one after the other
 unfoldable pub bytes_of_row : List Value → List ℕ
-bytes_of_row [] = []
-bytes_of_row (v ∷ vs) = field_bytes v ++ bytes_of_row vs
+bytes_of_row values = flat_map field_bytes values
 
 -- the row has a value for each field, and each is one that the field holds
 abbrev pub FitsFields : List (Option Kind) → List Value → Type 0
@@ -34,6 +44,11 @@ FitsFields [] [] = Unit {0}
 FitsFields (kind ∷ kinds) (v ∷ vs) = IsOfField kind v × FitsFields kinds vs
 FitsFields [] (v ∷ vs) = ⊥
 FitsFields (kind ∷ kinds) [] = ⊥
+
+-- the text has no more bytes than a text may have
+abbrev pub IsShort : Value → Type 0
+IsShort (Text t) = length t ≤ MAX_TEXT_BYTES
+IsShort v = Unit {0}
 
 -- ---- reading
 
@@ -44,7 +59,7 @@ Found = Option (Value × List ℕ)
 -- n bytes as a value, where there are so many
 abbrev pub number_in : ℕ → (ℕ → Value) → List ℕ → Found
 number_in n value bytes =
-    if nat_le n (length bytes) then Some (value (big_number n bytes), drop n bytes) else None
+    if nat_le n (length bytes) then Some (value (number_at_head n bytes), drop n bytes) else None
 
 -- a day that is none of the years 1 to 9999 is no value
 abbrev pub day_in : Found → Found
@@ -61,7 +76,7 @@ text_in n bytes =
 -- a value of the kind at the head of the bytes
 abbrev pub value_in : Kind → List ℕ → Found
 value_in Character bytes =
-    if nat_le 2 (length bytes) then text_in (big_number 2 bytes) (drop 2 bytes) else None
+    if nat_le 2 (length bytes) then text_in (number_at_head 2 bytes) (drop 2 bytes) else None
 value_in Integer bytes = number_in 4 (λ n. Int (cast_signed w32 n)) bytes
 value_in Whole64 bytes = number_in 8 (λ n. Int64 (cast_signed w64 n)) bytes
 value_in Decimal bytes = number_in 16 (λ n. Dec (cast_signed w128 n)) bytes

@@ -4,19 +4,27 @@
 #![tactic(auto)]
 
 pub mod arithmetic;
+pub mod dates;
 pub mod items;
+pub mod keys;
+pub mod laws;
 pub mod order;
 pub mod place;
 pub mod row;
 pub mod rule;
 pub mod schema;
+pub mod stored;
+pub mod stored_read;
 pub mod value;
 
 pub use arithmetic::ArithFault;
 pub use items::Items;
+pub use keys::key_bytes;
 pub use order::compare;
 pub use place::Place;
 pub use row::{Cursor, Cycle, Holders, Numbers, Row, RowId, Rows, copy_row};
 pub use rule::Rule;
 pub use schema::{FieldDef, IndexDef, Part, Parts, SequenceDef, TableDef};
+pub use stored::row_bytes;
+pub use stored_read::row_of;
 pub use value::{Bytes, Kind, MAX_TEXT_BYTES, Value};

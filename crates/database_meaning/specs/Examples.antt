@@ -6,7 +6,7 @@ use Rattle.abl_base.specs.declared.value.Value.TheVariants.{Text, Int, Unknown}
 use Rattle.abl_base.specs.declared.value.Kind.TheVariants.{Character, Integer}
 use Rattle.abl_base.specs.declared.schema.TableDef.{TableDef}
 use Rattle.abl_base.specs.Keys.{key_bytes, unique_key}
-use Rattle.abl_base.specs.Rows.{bytes_of_row}
+use Rattle.abl_base.specs.Rows.{bytes_of_row, number_bytes}
 use Rattle.database_meaning.specs.declared.state.Key.{Key}
 use Rattle.database_meaning.specs.declared.operation.Op.TheVariants.{Enter, Leave, Insert, Lock, End}
 use Rattle.database_meaning.specs.declared.operation.Answer.TheVariants.{Refused, Blocked, Busy, Done, NoMemory, Committed}
@@ -46,35 +46,35 @@ key_of_one = record { table = 0; index = 0; bytes = 1 ∷ 128 ∷ 0 ∷ 0 ∷ 0 
 
 -- a row has one unique key for each unique index
 ann_has_one_key : unique_keys bank.schema (row_in 0 ann) ≡ key_of_one ∷ []
-unfolding unique_keys unique_key key_bytes bank customer ann key_of_one
+unfolding unique_keys unique_key key_bytes number_bytes bank customer ann key_of_one
 ann_has_one_key = refl
 
 -- a key with `?` is no unique key
 unknown_is_no_key : unique_keys bank.schema (row_in 0 nobody) ≡ []
-unfolding unique_keys unique_key key_bytes bank customer nobody
+unfolding unique_keys unique_key key_bytes number_bytes bank customer nobody
 unknown_is_no_key = refl
 
 -- a key that a Put leaves as it was is not kept, one that a row enters is
 renaming_keeps_none : keeping bank (row_in 0 ann) (row_in 0 renamed) [] ≡ []
-unfolding unique_keys unique_key key_bytes bank customer ann renamed
+unfolding unique_keys unique_key key_bytes number_bytes bank customer ann renamed
 renaming_keeps_none = refl
 
 inserting_keeps_one : keeping bank None (row_in 0 ann) [] ≡ key_of_one ∷ []
-unfolding unique_keys unique_key key_bytes bank customer ann key_of_one
+unfolding unique_keys unique_key key_bytes number_bytes bank customer ann key_of_one
 inserting_keeps_one = refl
 
 deleting_keeps_one : keeping bank (row_in 0 ann) None [] ≡ key_of_one ∷ []
-unfolding unique_keys unique_key key_bytes bank customer ann key_of_one
+unfolding unique_keys unique_key key_bytes number_bytes bank customer ann key_of_one
 deleting_keeps_one = refl
 
 -- a short row is one fragment, and no row is none
 short_row_is_one_fragment : fragments (row_in 0 ann) ≡ 1
-unfolding bytes_of_row ann
+unfolding bytes_of_row number_bytes ann
 short_row_is_one_fragment = refl
 
 -- 64 bytes, and those of the row: five of the number, six of the text
 inserting_ann_counts_75 : event_size (Insert 0 ann) Done ≡ 75
-unfolding bytes_of_row ann
+unfolding bytes_of_row number_bytes ann
 inserting_ann_counts_75 = refl
 
 -- 4 bytes for each number of keep and holders
