@@ -1,0 +1,12 @@
+pub mod Frame
+pub mod State
+pub mod Waiting
+pub mod Search
+pub mod Counts
+pub mod Answers
+pub mod Fits
+pub mod Steps
+pub mod Traces
+pub mod Reserved
+pub mod Laws
+pub mod Examples

@@ -4,7 +4,11 @@
 #![tactic(auto)]
 
 pub mod contents;
+pub mod laws;
+pub mod limits;
 pub mod operation;
+pub mod state;
 
 pub use contents::{ContentRow, ContentRows, Contents};
 pub use operation::{Answer, Event, Op, Trace};
+pub use state::{Key, StoredRow, Want};

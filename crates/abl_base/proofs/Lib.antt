@@ -1,0 +1,6 @@
+pub mod Trailing
+pub mod Compared
+pub mod Fields
+pub mod RowReads
+pub mod Numbers
+pub mod RowLaws

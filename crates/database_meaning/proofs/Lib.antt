@@ -1,0 +1,14 @@
+mod Maps
+mod TableRows
+mod Own
+mod Clash
+mod Chains
+mod Good
+mod LockedReads
+mod Keys
+mod Kept
+mod Shortest
+mod Unchanged
+mod RowsFit
+mod AnswersFit
+mod OneAnswer

@@ -1,0 +1,9 @@
+pub mod Chains
+pub mod Places
+pub mod Settling
+pub mod Tables
+pub mod Listing
+pub mod PathLemmas
+pub mod Deciding
+pub mod Apart
+pub mod Waiting

@@ -1,0 +1,4 @@
+pub mod Settled
+pub mod Table
+pub mod Requests
+pub mod Paths

@@ -1,0 +1,312 @@
+//! The locks of all clients, and what clients wait for.
+
+ghost use Rattle.std.specs.Prelude.{◌≡◌, ◌≢◌, ◌↔◌, ◌<◌, ◌≤◌, ◌+◌, ℕ, Bool, List, length, true, false, IsTrue, IsSome, is_some, None, OnOk, OnErr, IfOk, MatchOption};
+ghost use Rattle.std.specs.FinMap as map;
+ghost use Rattle.database_meaning.specs.Waiting.{Chain, IsCycleFrom, ListsAll, WithAsked};
+ghost use Rattle.std.specs.List.{Contains};
+ghost use Rattle.record_locks.specs.Settled.{IsFreed, has_row, settled};
+ghost use Rattle.record_locks.specs.Table.{client_of, lock_of, no_client, AreApart, IsSame, OnlyChanges, Settles, StandsInWay, WaitsAgainst};
+ghost use Rattle.record_locks.specs.Requests.{AfterRequest, AnswersRequest, granted};
+
+use crate::held::Held;
+use crate::search::{Search, find_cycle, holders};
+use abl_base::{Cycle, Holders, Items, RowId, Rows};
+use std::alloc::{AllocError, Global};
+use std::marker::Model;
+
+/// The lock that a client waits for.
+#[derive(Clone, Copy, Debug, PartialEq, Eq)]
+pub struct Want {
+    pub row: RowId,
+    pub exclusive: bool,
+}
+
+/// What one client holds, and what it waits for.
+#[derive(Drop)]
+pub struct Client {
+    pub held: Held,
+    pub want: Option<Want>,
+}
+
+/// The clients that stand against the key that a client waits for, ascending.
+#[derive(Drop)]
+pub struct KeyedWant {
+    pub client: u16,
+    pub holders: Holders,
+}
+
+/// The wants for keys of all other clients.
+pub type Keyed = Items<KeyedWant>;
+
+/// What a request for a lock is answered.
+#[derive(Drop)]
+pub enum LockAnswer {
+    /// The client has the lock.
+    Granted,
+    /// Others stand against it, and the client does not wait.
+    Busy(Holders),
+    /// Others stand against it, and the client waits.
+    Blocked(Holders),
+    /// To wait would close a cycle of waiting clients; the cycle begins with the client.
+    Deadlock(Cycle),
+    /// Memory is wanting; nothing is changed.
+    NoMemory,
+}
+
+/// The locks of all clients, and what clients wait for. Contracts see a record for each client
+/// number, and beyond the last one clients that hold nothing and wait for nothing.
+#[derive(Drop)]
+pub struct Locks {
+    clients: Vec<Client>,
+}
+
+impl Model for Locks {
+    ghost use Rattle.std.specs.Prelude.{List, length, ◌≤◌};
+    ghost use Rattle.record_locks.specs.declared.locks.Client.{Client};
+    ghost use Rattle.std.specs.Coded.{coded_list};
+    ghost use Rattle.record_locks.specs.contracts.locks.Client as client;
+
+    ghost Value = { List Client };
+
+    ghost coded = { coded_list client.the_row.coded };
+
+    ghost view = { λ locks. locks.clients.items };
+
+    ghost invariant = { λ locks. length locks.clients.items ≤ 65536 };
+}
+
+impl Locks {
+    /// No lock. It takes no memory yet.
+    pub fn new(alloc: Global) -> Locks
+        ensures { (c : ℕ) → client_of result c ≡ no_client }
+    {
+        Locks {
+            clients: Vec::new(alloc),
+        }
+    }
+
+    /// The client's lock on the row: None, or true where it is exclusive.
+    pub fn held(&self, client: u16, row: RowId) -> Option<bool>
+        ensures { result ≡ lock_of self.now client row.0 }
+    {
+        match self.clients.get(usize::from(client)) {
+            Some(client) => client.held.lock(row.0),
+            None => None,
+        }
+    }
+
+    /// Takes the client's lock on the row away, and tells whether there was one.
+    pub fn release(&mut self, client: u16, row: RowId) -> bool
+        ensures freed { result ≡ is_some (lock_of self.old client row.0) }
+        ensures left { OnlyChanges self.old client (record (client_of self.old client) { held = map.remove (client_of self.old client).held row.0 }) self.new }
+    {
+        let at = usize::from(client);
+        if at >= self.clients.len() {
+            return false;
+        }
+        self.clients[at].held.free(row.0)
+    }
+
+    /// Ends the client's transaction: its locks on rows outside `keep` go, and its exclusive locks
+    /// on rows of `keep` become share locks. Tells whether that freed a lock; one that became a
+    /// share lock counts as freed.
+    pub fn end_transaction(&mut self, client: u16, keep: &Rows) -> bool
+        ensures freed { IsTrue result ↔ ((row : ℕ) × IsFreed (has_row keep.now row) (lock_of self.old client row)) }
+        ensures left { Settles self.old client keep.now self.new }
+    {
+        let at = usize::from(client);
+        if at >= self.clients.len() {
+            return false;
+        }
+        self.clients[at].held.settle(keep.as_slice())
+    }
+
+    /// Ends the client: all its locks go, and its want. Tells whether that freed a lock.
+    pub fn end(&mut self, client: u16) -> bool
+        ensures freed { IsTrue result ↔ ((row : ℕ) × IsSome (lock_of self.old client row)) }
+        ensures left { OnlyChanges self.old client no_client self.new }
+    {
+        let at = usize::from(client);
+        if at >= self.clients.len() {
+            return false;
+        }
+        let ended = &mut self.clients[at];
+        ended.want = None;
+        ended.held.free_all()
+    }
+
+    /// Ends the client's want.
+    pub fn unwant(&mut self, client: u16)
+        ensures { OnlyChanges self.old client (record (client_of self.old client) { want = None }) self.new }
+    {
+        let at = usize::from(client);
+        if at < self.clients.len() {
+            self.clients[at].want = None;
+        }
+    }
+
+    /// Asks for a share lock on the row, or an exclusive one. `wait` says that the client waits where
+    /// others stand against it; `keyed` has the wants for keys of all other clients. The lock is
+    /// granted exactly where nobody stands against it. Blocked leaves the client's want; each other
+    /// answer but NoMemory ends an earlier one. NoMemory may come at any request.
+    pub fn request(
+        &mut self,
+        client: u16,
+        row: RowId,
+        exclusive: bool,
+        wait: bool,
+        keyed: &Keyed,
+    ) -> LockAnswer
+        ensures answer { AnswersRequest self.old keyed.now client row.0 exclusive wait result }
+        ensures after { AfterRequest self.old client row exclusive result self.new }
+    {
+        let answer = match self.decide(client, row, exclusive, wait, keyed) {
+            Ok(answer) => answer,
+            Err(_) => return LockAnswer::NoMemory,
+        };
+        if self
+            .apply(keyed.allocator(), client, row, exclusive, &answer)
+            .is_err()
+        {
+            return LockAnswer::NoMemory;
+        }
+        answer
+    }
+
+    /// A cycle that would close if the client waited for these, None where there is none: different
+    /// clients of which each waits for the next and the last for the first, the client first. Want
+    /// of memory is the only refusal.
+    pub fn would_cycle(
+        &self,
+        client: u16,
+        holders: &Holders,
+        keyed: &Keyed,
+    ) -> Result<Option<Cycle>, AllocError>
+        ensures { IfOk result (λ found. MatchOption found ((others : List ℕ) → ¬ Chain (WaitsAgainst self.now keyed.now client holders.now) client others client)
+            (IsCycleFrom (WaitsAgainst self.now keyed.now client holders.now) client)) }
+    {
+        let search = Search {
+            table: self.clients.as_slice(),
+            keyed: keyed.as_slice(),
+            client,
+            against: holders.as_slice(),
+        };
+        match find_cycle(holders.allocator(), search)? {
+            Some(cycle) => Ok(Some(Items::from_vec(cycle))),
+            None => Ok(None),
+        }
+    }
+
+    /// What the request is answered. It changes nothing.
+    fn decide(
+        &self,
+        client: u16,
+        row: RowId,
+        exclusive: bool,
+        wait: bool,
+        keyed: &Keyed,
+    ) -> Result<LockAnswer, AllocError>
+        ensures { IfOk result (λ answer. AnswersRequest self.now keyed.now client row.0 exclusive wait answer) }
+    {
+        let against = self.against(keyed.allocator(), client, row, exclusive)?;
+        if against.len() == 0 {
+            return Ok(LockAnswer::Granted);
+        }
+        if !wait {
+            return Ok(LockAnswer::Busy(against));
+        }
+        let closing = self.would_cycle(client, &against, keyed)?;
+        match closing {
+            Some(cycle) => Ok(LockAnswer::Deadlock(cycle)),
+            None => Ok(LockAnswer::Blocked(against)),
+        }
+    }
+
+    /// The clients that stand against the lock, ascending.
+    fn against(
+        &self,
+        alloc: Global,
+        client: u16,
+        row: RowId,
+        exclusive: bool,
+    ) -> Result<Holders, AllocError>
+        ensures { IfOk result (λ against. ListsAll against (StandsInWay self.now client row.0 exclusive)) }
+    {
+        let listed = holders(alloc, self.clients.as_slice(), client, row, exclusive)?;
+        Ok(Items::from_vec(listed))
+    }
+
+    /// Makes the change of an answer.
+    fn apply(
+        &mut self,
+        alloc: Global,
+        client: u16,
+        row: RowId,
+        exclusive: bool,
+        answer: &LockAnswer,
+    ) -> Result<(), AllocError>
+        ensures ok { OnOk result (AfterRequest self.old client row exclusive answer.now self.new) }
+        ensures err { OnErr result (IsSame self.old self.new) }
+    {
+        match answer {
+            LockAnswer::Granted => self.grant(alloc, client, row, exclusive),
+            LockAnswer::Blocked(_) => self.block(alloc, client, Want { row, exclusive }),
+            LockAnswer::Busy(_) | LockAnswer::Deadlock(_) => {
+                self.unwant(client);
+                Ok(())
+            }
+            LockAnswer::NoMemory => Ok(()),
+        }
+    }
+
+    /// Gives the client the lock, and ends its want.
+    fn grant(
+        &mut self,
+        alloc: Global,
+        client: u16,
+        row: RowId,
+        exclusive: bool,
+    ) -> Result<(), AllocError>
+        ensures ok { OnOk result (OnlyChanges self.old client (record { held = map.insert (client_of self.old client).held row.0 (granted (lock_of self.old client row.0) exclusive); want = None }) self.new) }
+        ensures err { OnErr result (IsSame self.old self.new) }
+    {
+        self.make_room(alloc, client)?;
+        let asked = &mut self.clients[usize::from(client)];
+        let lock = granted(asked.held.lock(row.0), exclusive);
+        asked.held.set(row.0, lock)?;
+        asked.want = None;
+        Ok(())
+    }
+
+    /// Leaves the client's want.
+    fn block(&mut self, alloc: Global, client: u16, want: Want) -> Result<(), AllocError>
+        ensures ok { OnOk result (OnlyChanges self.old client (record { held = (client_of self.old client).held; want = Some want }) self.new) }
+        ensures err { OnErr result (IsSame self.old self.new) }
+    {
+        self.make_room(alloc, client)?;
+        self.clients[usize::from(client)].want = Some(want);
+        Ok(())
+    }
+
+    /// Makes room for the client. Want of memory is the only refusal; each client stays as it was.
+    fn make_room(&mut self, alloc: Global, client: u16) -> Result<(), AllocError>
+        ensures same { IsSame self.old self.new }
+        ensures room { OnOk result (client < length self.new) }
+    {
+        let end = usize::from(client) + 1;
+        while self.clients.len() < end {
+            self.clients.push(Client {
+                held: Held::new(alloc),
+                want: None,
+            })?;
+        }
+        Ok(())
+    }
+}
+
+/// The lock after a grant: exclusive where it was asked so or was so before.
+fn granted(before: Option<bool>, exclusive: bool) -> bool
+    ensures { result ≡ granted before exclusive }
+{
+    before.unwrap_or(false) || exclusive
+}
