@@ -30,7 +30,7 @@ steps_of_forest forest os tokens d e f =
     subst (λ n. Steps 0 source n tokens) (append-nil (openings 0 full forest) ∙ e) (
     subst (λ t. Steps 0 source (openings 0 full forest ++ []) t) (append-nil (spelt forest) ∙ f) x)
 
-no_more : {at : ℕ} {os : List Opening} {ts : List TokenKind} → Steps at [] os ts → (os ≡ []) × (ts ≡ [])
+pub no_more : {at : ℕ} {os : List Opening} {ts : List TokenKind} → Steps at [] os ts → (os ≡ []) × (ts ≡ [])
 no_more done = (refl, refl)
 
 -- a forest that is read
@@ -199,7 +199,7 @@ open_after tokens at d stack rest t e s h =
     let k = slice_index_or tokens at d in
     sym (chosen_false (same_kind k EndOfSource) (is_nil (plain rest)) (ends_once (plain rest)) (kinds_differ k EndOfSource (text_before tokens at d t h))) ∙ sym (ap (λ x. ends_once (plain x)) s) ∙ e
 
-plain_nil : (stack : List Entry) → plain stack ≡ [] → stack ≡ []
+pub plain_nil : (stack : List Entry) → plain stack ≡ [] → stack ≡ []
 plain_nil [] e = refl
 plain_nil (x ∷ xs) e = cc
 
