@@ -1,5 +1,5 @@
 -- The bytes that tokens are made of. Letters and digits are those of ASCII.
-use Rattle.std.specs.Prelude.{ℕ, Bool, true, false, ◌&&◌, ◌||◌, ◌==◌, nat_le, List, [], ◌∷◌}
+use Rattle.std.specs.Prelude.{ℕ, Bool, false, ◌&&◌, ◌||◌, ◌==◌, nat_le, nat_lt, ◌+◌, List, [], ◌∷◌, length, slice_index}
 
 abbrev pub line_feed : ℕ
 line_feed = 10
@@ -47,6 +47,10 @@ abbrev pub starts : ℕ → List ℕ → Bool
 starts c [] = false
 starts c (b ∷ bs) = b == c
 
+abbrev pub starts_letter : List ℕ → Bool
+starts_letter [] = false
+starts_letter (b ∷ bs) = is_letter b
+
 abbrev pub starts_quote : List ℕ → Bool
 starts_quote [] = false
 starts_quote (b ∷ bs) = is_quote b
@@ -59,3 +63,11 @@ starts_digit (b ∷ bs) = is_digit b
 abbrev pub starts_gap : List ℕ → Bool
 starts_gap [] = false
 starts_gap (b ∷ bs) = is_white b || (b == slash && starts star bs)
+
+-- these two bytes stand at this place
+abbrev pub pair_at : List ℕ → ℕ → ℕ → ℕ → Bool
+pair_at text i c d = slice_index text i == c && slice_index text (i + 1) == d
+
+-- a comment opens at this place
+abbrev pub comment_at : List ℕ → ℕ → Bool
+comment_at text i = nat_lt (i + 1) (length text) && pair_at text i slash star

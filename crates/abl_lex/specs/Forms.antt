@@ -1,5 +1,5 @@
 -- The forms of tokens, and which of them is the longest at a place.
-use Rattle.std.specs.Prelude.{ℕ, zero, suc, ◌+◌, ◌<◌, ◌≤◌, ◌≡◌, Bool, true, false, not, ◌&&◌, ◌||◌, ◌==◌, if◌then◌else◌, List, [], ◌∷◌, length, take, drop, Option, Some, None, is_some}
+use Rattle.std.specs.Prelude.{ℕ, suc, ◌+◌, ◌<◌, ◌≤◌, ◌≡◌, Bool, true, false, not, ◌&&◌, ◌||◌, ◌==◌, if◌then◌else◌, List, [], ◌∷◌, length, take, drop, Option, Some, None, is_some}
 use Rattle.std.specs.List.{list_all, prefix_len}
 use Rattle.abl_tree.specs.Keywords.{keyword_of}
 use Rattle.abl_lex.specs.declared.form.Form.{Form}
@@ -36,14 +36,20 @@ one_or_two w = length w == 1 || length w == 2
 abbrev pub two_or_four : List ℕ → Bool
 two_or_four w = length w == 2 || length w == 4
 
+-- day / year
+abbrev pub is_day_year : List ℕ → Bool
+is_day_year w = (parted is_digit slash w && one_or_two (front is_digit w))
+    && (is_digits (behind is_digit w) && two_or_four (behind is_digit w))
+
 -- month / day / year, of one or two, one or two, and two or four digits
 abbrev pub is_dated : List ℕ → Bool
 is_dated w = (parted is_digit slash w && one_or_two (front is_digit w))
     && (is_day_year (behind is_digit w))
 
-abbrev pub is_day_year : List ℕ → Bool
-is_day_year w = (parted is_digit slash w && one_or_two (front is_digit w))
-    && (is_digits (behind is_digit w) && two_or_four (behind is_digit w))
+-- n more than the number, where there is one
+abbrev pub plus : ℕ → Option ℕ → Option ℕ
+plus n None = None
+plus n (Some m) = Some (n + m)
 
 -- How many bytes there are up to the end of the text whose opening quote stands in front. A byte
 -- behind ~ is passed over, and so is the own quote where it is doubled.
@@ -54,11 +60,6 @@ closing quote false (b ∷ bs) =
     if b == tilde then plus 1 (closing quote true bs)
     else if b == quote then (if starts quote bs then plus 1 (closing quote true bs) else Some 1)
     else plus 1 (closing quote false bs)
-
--- n more than the number, where there is one
-abbrev pub plus : ℕ → Option ℕ → Option ℕ
-plus n None = None
-plus n (Some m) = Some (n + m)
 
 abbrev pub is_at : Option ℕ → ℕ → Bool
 is_at None n = false
@@ -76,6 +77,11 @@ ends_here (b ∷ bs) = starts_gap (b ∷ bs)
 -- <> <= >=
 abbrev pub is_pair : ℕ → ℕ → Bool
 is_pair b c = (b == 60 && (c == 62 || c == 61)) || (b == 62 && c == 61)
+
+abbrev pub starts_pair : List ℕ → Bool
+starts_pair [] = false
+starts_pair (b ∷ []) = false
+starts_pair (b ∷ c ∷ bs) = is_pair b c
 
 -- the byte is a symbol in front of what follows: / opens no comment, and behind the period stands
 -- white space, a comment or nothing
@@ -109,3 +115,15 @@ pub record Longest (f : Form) (n : ℕ) (text : List ℕ) : Type 0 where
 -- no bytes in front of the text are of any form
 abbrev pub NoForm : List ℕ → Type 0
 NoForm text = (g : Form) (m : ℕ) → m ≤ length text → form g (take m text) (drop m text) ≡ true → ⊥
+
+-- a date is the m bytes in front of the text, and no digit follows
+pub record DatedAt (text : List ℕ) (m : ℕ) : Type 0 where
+  pub within : m ≤ length text
+  pub matches : is_dated (take m text) ≡ true
+  pub apart : starts_digit (drop m text) ≡ false
+
+-- the same of a day and a year
+pub record DayYearAt (text : List ℕ) (m : ℕ) : Type 0 where
+  pub within : m ≤ length text
+  pub matches : is_day_year (take m text) ≡ true
+  pub apart : starts_digit (drop m text) ≡ false

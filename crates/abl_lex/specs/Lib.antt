@@ -3,3 +3,4 @@ pub mod Forms
 pub mod Gaps
 pub mod Meanings
 pub mod Texts
+pub mod Examples

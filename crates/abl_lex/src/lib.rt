@@ -1,13 +1,20 @@
-// A library with one function.
+//! Cuts a source into its tokens, or names the first rule of tokens that it breaks and the place.
+//! It stands on `abl_tree`, whose `Tokens` it makes. `Texts` in specs/ says which tokens a text
+//! has and where it breaks a rule; the layer above needs the source no more.
 #![tactic(auto)]
 
-ghost use Rattle.std.specs.Prelude.{◌≡◌};
-ghost use Rattle.abl_lex.specs.Echo.{echo_of};
+mod bytes;
+mod form;
+mod gap;
+pub mod laws;
+mod meaning;
+mod misfit;
+mod number;
+mod place;
+mod source;
+#[cfg(test)]
+mod tests;
+mod word;
 
-// The `ensures` clause is the contract: what `echo` returns is `echo_of` of its argument, a definition
-// in `specs/Echo.antt`, which a caller's clause can cite too.
-pub fn echo(x: usize) -> usize
-    ensures { result ≡ echo_of x }
-{
-    x
-}
+pub use form::Form;
+pub use source::{LexRefusal, lex};

@@ -1,0 +1,16 @@
+pub mod Bools
+pub mod Comments
+pub mod Gaps
+pub mod Prefixes
+pub mod Shapes
+pub mod Names
+pub mod Numbers
+pub mod Symbols
+pub mod Closings
+pub mod Insides
+pub mod Values
+pub mod Places
+pub mod Misfits
+pub mod OneForm
+pub mod Runs
+pub mod Told

@@ -1,0 +1,84 @@
+//! Words that break a rule: names and numbers that are too long, and dates that are none.
+
+ghost use Rattle.std.specs.Prelude.{◌≡◌, ℕ, List, true, IfNone, IfSome};
+ghost use Rattle.abl_lex.specs.Forms.{form};
+ghost use Rattle.abl_lex.specs.Texts.{IsFirstMisfit, IsFit};
+ghost use Rattle.abl_lex.specs.declared.form.Form.TheVariants.{Qualified, Fractional};
+
+use crate::form::Form;
+use crate::number::{date, is_date};
+use crate::word::{digits_len, name_len};
+use abl_base::Rule;
+
+/// How many bytes a name, or each part of a qualified one, has at most.
+pub const MAX_NAME_BYTES: usize = 32;
+
+/// How many digits a number has before the point at most.
+pub const MAX_WHOLE_DIGITS: usize = 18;
+
+/// How many digits a number has behind the point at most.
+pub const MAX_DECIMALS: usize = 10;
+
+fn long_part(word: &[u8]) -> Option<(Rule, usize)>
+    ensures none { IfNone result (IsFit Qualified word.now) }
+    ensures some { IfSome result (λ found. IsFirstMisfit Qualified word.now found.0 found.1) }
+{
+    let n = name_len(word);
+    if n > MAX_NAME_BYTES {
+        return Some((Rule::L4, 0));
+    }
+    if word.len().saturating_sub(n + 1) > MAX_NAME_BYTES {
+        return Some((Rule::L4, n + 1));
+    }
+    None
+}
+
+fn long_fraction(word: &[u8]) -> Option<(Rule, usize)>
+    ensures none { IfNone result (IsFit Fractional word.now) }
+    ensures some { IfSome result (λ found. IsFirstMisfit Fractional word.now found.0 found.1) }
+{
+    let n = digits_len(word);
+    if n > MAX_WHOLE_DIGITS {
+        return Some((Rule::L5, 0));
+    }
+    if word.len().saturating_sub(n + 1) > MAX_DECIMALS {
+        return Some((Rule::L5, 0));
+    }
+    None
+}
+
+/// The first rule that a word of this form breaks, and how many bytes behind its start: L4 for a
+/// part of a name above 32 bytes; L5 for more than 18 digits before or 10 behind the point, and
+/// for no date of the years 1 to 9999.
+pub fn misfit(shape: Form, word: &[u8]) -> Option<(Rule, usize)>
+    requires { (after : List ℕ) × (form shape word.now after ≡ true) }
+    ensures none { IfNone result (IsFit shape word.now) }
+    ensures some { IfSome result (λ found. IsFirstMisfit shape word.now found.0 found.1) }
+{
+    match shape {
+        Form::Word => {
+            if word.len() > MAX_NAME_BYTES {
+                Some((Rule::L4, 0))
+            } else {
+                None
+            }
+        }
+        Form::Qualified => long_part(word),
+        Form::Digits => {
+            if word.len() > MAX_WHOLE_DIGITS {
+                Some((Rule::L5, 0))
+            } else {
+                None
+            }
+        }
+        Form::Fractional => long_fraction(word),
+        Form::Dated => {
+            if is_date(date(word)) {
+                None
+            } else {
+                Some((Rule::L5, 0))
+            }
+        }
+        Form::Quoted | Form::Symbol => None,
+    }
+}
