@@ -13,15 +13,9 @@ use Rattle.abl_parse.specs.Grammar.{Forest, spelt, Derives, whole, nodes, Viable
 use Rattle.abl_parse.specs.Table.{ends_once, is_nil}
 use Rattle.abl_parse.specs.Completing.{suits, weigh}
 use Rattle.abl_parse.specs.Engine.{plain, source, Steps, done, take_one, Leads, Went, plainly, looking, FirstIs, Stuck, IsTaking, Reached, IsRead}
-use Rattle.abl_parse.proofs.Flags.{chosen_true, chosen_false, nil_is, kinds_differ, kinds_equal}
+use Rattle.abl_parse.proofs.Flags.{chosen_true, chosen_false, nil_is, kinds_differ, kinds_equal, same_first, same_rest}
 use Rattle.abl_parse.proofs.Trees.{taken, steps_of, split, Split}
 use Rattle.abl_parse.proofs.Completes.{complete}
-
-same_first : {a b : TokenKind} {xs ys : List TokenKind} → a ∷ xs ≡ b ∷ ys → a ≡ b
-same_first e = cc
-
-same_rest : {a b : TokenKind} {xs ys : List TokenKind} → a ∷ xs ≡ b ∷ ys → xs ≡ ys
-same_rest e = cc
 
 -- a tree of a source is a run of the reader
 pub steps_of_forest : (forest : Forest) (os : List Opening) (tokens : List TokenKind) → Derives forest whole [] → openings 0 full forest ≡ os → spelt forest ≡ tokens → Steps 0 source os tokens
