@@ -16,7 +16,7 @@ use Rattle.abl_parse.specs.Table.{has, vanishes_as, some, is_nil, each, of_part}
 use Rattle.abl_parse.specs.Engine.{body, plain, source, Steps, done, take_one, open_one}
 use Rattle.abl_parse.specs.Completions.{short, first_of, expects, size}
 use Rattle.abl_parse.specs.Completing.{head, before, weigh, is_head, no_head, part_ok, suits}
-use Rattle.abl_parse.proofs.Flags.{and_left, and_right, and_both, not_true, parts_same, kinds_same, each_has, each_at, implied}
+use Rattle.abl_parse.proofs.Flags.{and_left, and_right, and_both, not_true, parts_same, kinds_same, each_has, each_at, implied, same_first, no_first}
 use Rattle.abl_parse.proofs.Sound.{starts_are, rule_part}
 use Rattle.abl_parse.proofs.Steps.{plain_append}
 
@@ -28,9 +28,6 @@ suited = refl
 pub suited_whole : (k : TokenKind) → suits table whole k ≡ true
 unfolding table row parts symbols symbols_from starts starts_from empty same_kind same_part
 suited_whole k = refl
-
-none_some : {A B : Type 0} → (a : A) → None ≡ Some a → B
-none_some a e = absurd (let z : None ≡ Some a = e in cc)
 
 through : (v : Bool) (x y : Option TokenKind) (f k j : TokenKind) → before x k ≡ before y j → before (cond v x (Some f)) k ≡ before (cond v y (Some f)) j
 through true x y f k j e = e
@@ -96,12 +93,6 @@ pub record Completed (at : ℕ) (stack : List Entry) (k : TokenKind) : Type 0 wh
   pub ts : List TokenKind
   pub steps : Steps at stack os ts
   pub begins : (t : TokenKind) (rest : List TokenKind) → ts ≡ t ∷ rest → t ≡ before (head table (plain stack)) k
-
-same_first : {a b : TokenKind} {xs ys : List TokenKind} → a ∷ xs ≡ b ∷ ys → a ≡ b
-same_first e = cc
-
-no_first : {b : TokenKind} {ys : List TokenKind} → [] ≡ b ∷ ys → ⊥
-no_first e = cc
 
 heads_agree : (v : Bool) (h : Option TokenKind) (f : TokenKind) (o : Option TokenKind) (k : TokenKind) → cond v (no_head h) (is_head h f) ≡ true → before h (before o k) ≡ before (cond v o (Some f)) k
 heads_agree true None f o k e = refl

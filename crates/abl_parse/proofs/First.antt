@@ -8,6 +8,7 @@ use Rattle.abl_parse.specs.declared.symbol.Entry.{Entry}
 use Rattle.abl_parse.specs.declared.symbol.Opening.{Opening}
 use Rattle.abl_parse.specs.Grammar.{rule, inside, Vanishes, nothing, both, Begins, here, inside_part, past}
 use Rattle.abl_parse.specs.Engine.{entries, Steps}
+use Rattle.abl_parse.proofs.Flags.{same_first, no_first}
 use Rattle.abl_parse.proofs.Trees.{taken, opened}
 
 -- the symbols stand for nothing, and the derivation goes on behind them
@@ -20,12 +21,9 @@ pub record Passed (at : ℕ) (symbols : List Symbol) (stack : List Entry) (os : 
 abbrev pub First : ℕ → List Symbol → List Entry → List Opening → TokenKind → List TokenKind → Type 0
 First at symbols stack os k ts = Begins symbols k ⊎ Passed at symbols stack os (k ∷ ts)
 
-same_head : {a b : TokenKind} {xs ys : List TokenKind} → a ∷ xs ≡ b ∷ ys → a ≡ b
-same_head e = cc
-
 pub first : (n at : ℕ) (room : Room) (symbols : List Symbol) (stack : List Entry) (os : List Opening) (k : TokenKind) (ts : List TokenKind) → length os ≤ n → Steps at (entries room symbols ++ stack) os (k ∷ ts) → First at symbols stack os k ts
 first n at room [] stack os k ts h d = inr (record { vanishes = nothing; more = os; shorter = omega arith; then' = d })
-first n at room (Take w ∷ symbols) stack os k ts h d = inl (subst (λ x. Begins (Take w ∷ symbols) x) (sym (same_head (taken d).is)) here)
+first n at room (Take w ∷ symbols) stack os k ts h d = inl (subst (λ x. Begins (Take w ∷ symbols) x) (sym (same_first (taken d).is)) here)
 first zero at room (Open a ∷ symbols) stack os k ts h d =
     let o = opened d in
     let e : length os ≡ suc (length o.rest) = ap length o.is in
@@ -41,9 +39,6 @@ first (suc n) at room (Open a ∷ symbols) stack os k ts h d =
             | inr q ↦ inr (record { vanishes = both o.r o.within p.vanishes q.vanishes o.part; more = q.more; shorter = (let s = p.shorter in let s' = q.shorter in omega arith); then' = q.then' })
           ]
     ]
-
-no_first : {k : TokenKind} {ts : List TokenKind} → [] ≡ k ∷ ts → ⊥
-no_first e = cc
 
 -- before no token the symbols stand for nothing
 pub silent : (n at : ℕ) (room : Room) (symbols : List Symbol) (stack : List Entry) (os : List Opening) → length os ≤ n → Steps at (entries room symbols ++ stack) os [] → Passed at symbols stack os []

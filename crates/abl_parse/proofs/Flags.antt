@@ -32,10 +32,6 @@ pub or_right : (a b : Bool) → b ≡ true → a || b ≡ true
 or_right true b e = refl
 or_right false b e = e
 
-pub or_neither : (a b : Bool) → a ≡ false → b ≡ false → a || b ≡ false
-or_neither true b e h = cc
-or_neither false b e h = h
-
 pub implied : (a b : Bool) → not a || b ≡ true → a ≡ true → b ≡ true
 implied true b e h = e
 implied false b e h = cc
@@ -126,6 +122,15 @@ found p (x ∷ xs) d e = elim (or_cases (p x) (some p xs) e) [
 ]
 
 -- lists of kinds
+pub same_first : {a b : TokenKind} {xs ys : List TokenKind} → a ∷ xs ≡ b ∷ ys → a ≡ b
+same_first e = cc
+
+pub same_rest : {a b : TokenKind} {xs ys : List TokenKind} → a ∷ xs ≡ b ∷ ys → xs ≡ ys
+same_rest e = cc
+
+pub no_first : {k : TokenKind} {ts : List TokenKind} → [] ≡ k ∷ ts → ⊥
+no_first e = cc
+
 pub has_append : (xs ys : List TokenKind) (k : TokenKind) → has (xs ++ ys) k ≡ true → (has xs k ≡ true) ⊎ (has ys k ≡ true)
 has_append [] ys k e = inr e
 has_append (x ∷ xs) ys k e = elim (or_cases (same_kind x k) (has (xs ++ ys) k) e) [

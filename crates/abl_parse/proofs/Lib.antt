@@ -13,3 +13,5 @@ pub mod Nesting
 pub mod Places
 pub mod Unique
 pub mod NodeOrder
+pub mod Ending
+pub mod Inside

@@ -16,7 +16,7 @@ use Rattle.abl_parse.specs.Same.{same_kind, same_part}
 use Rattle.abl_parse.specs.Grammar.{Production, row, parts, symbols, symbols_from, starts, starts_from, empty, rule, rules as table, rule_count, Greedy, inside, opening}
 use Rattle.abl_parse.specs.Table.{has, starts_with}
 use Rattle.abl_parse.specs.Engine.{entries, body, Steps, open_one, OnlyRule}
-use Rattle.abl_parse.proofs.Flags.{and_left, and_right, and_both, or_cases, refuted, implied, parts_equal}
+use Rattle.abl_parse.proofs.Flags.{and_left, and_right, and_both, or_cases, refuted, implied, parts_equal, same_first, same_rest}
 use Rattle.abl_parse.proofs.Trees.{opened, Opened, taken}
 use Rattle.abl_parse.proofs.Checks.{only_named, named_hold, never_empty, label_row, assign_row}
 use Rattle.abl_parse.proofs.Sound.{rule_empty}
@@ -88,9 +88,6 @@ pub target_only : OnlyRule Target Name TARGET_NAME
 target_only = by_start Target Name TARGET_NAME (λ e f. target_apart f) (let h = rows_there in omega arith) target_starts
 
 -- two tokens of a label, two tokens of an assignment
-tails : {a b : TokenKind} {xs ys : List TokenKind} → a ∷ xs ≡ b ∷ ys → xs ≡ ys
-tails e = cc
-
 -- what stands behind a name where these two tokens are awaited
 pub record Behind (k : TokenKind) (ts : List TokenKind) : Type 0 where
   pub rest : List TokenKind
@@ -100,7 +97,7 @@ after_two : (at : ℕ) (j k : TokenKind) (stack : List Entry) (os : List Opening
 after_two at j k stack os ts d =
     let x = taken d in
     let y = taken x.then' in
-    record { rest = y.rest; is = tails x.is ∙ y.is }
+    record { rest = y.rest; is = same_rest x.is ∙ y.is }
 
 pub label_next : (at : ℕ) (room : Room) (rest : List Entry) (os : List Opening) (ts : List TokenKind) → Steps at (body label_row room ++ rest) os (Name ∷ ts) → Behind Colon ts
 label_next at room rest os ts d =
@@ -117,9 +114,6 @@ assign_next at room rest os ts d =
 
 no_colon : {xs ys : List TokenKind} → Colon ∷ xs ≡ Equals ∷ ys → ⊥
 no_colon e = cc
-
-same_first : {a b : TokenKind} {xs ys : List TokenKind} → a ∷ xs ≡ b ∷ ys → a ≡ b
-same_first e = cc
 
 some_symbols : (r : ℕ) (x : Symbol) (xs : List Symbol) (ts : List TokenKind) → (rule r).symbols ≡ x ∷ xs → Greedy r ts
 some_symbols r x xs ts e nil = let q : x ∷ xs ≡ [] = sym e ∙ nil in cc

@@ -13,15 +13,9 @@ use Rattle.abl_parse.specs.Grammar.{Forest, spelt, Derives, whole, nodes, Viable
 use Rattle.abl_parse.specs.Table.{ends_once, is_nil}
 use Rattle.abl_parse.specs.Completing.{suits, weigh}
 use Rattle.abl_parse.specs.Engine.{plain, source, Steps, done, take_one, Leads, Went, plainly, looking, FirstIs, Stuck, IsTaking, Reached, IsRead}
-use Rattle.abl_parse.proofs.Flags.{chosen_true, chosen_false, nil_is, kinds_differ, kinds_equal}
+use Rattle.abl_parse.proofs.Flags.{chosen_true, chosen_false, nil_is, kinds_differ, kinds_equal, same_first, same_rest}
 use Rattle.abl_parse.proofs.Trees.{taken, steps_of, split, Split}
 use Rattle.abl_parse.proofs.Completes.{complete}
-
-same_first : {a b : TokenKind} {xs ys : List TokenKind} → a ∷ xs ≡ b ∷ ys → a ≡ b
-same_first e = cc
-
-same_rest : {a b : TokenKind} {xs ys : List TokenKind} → a ∷ xs ≡ b ∷ ys → xs ≡ ys
-same_rest e = cc
 
 -- a tree of a source is a run of the reader
 pub steps_of_forest : (forest : Forest) (os : List Opening) (tokens : List TokenKind) → Derives forest whole [] → openings 0 full forest ≡ os → spelt forest ≡ tokens → Steps 0 source os tokens
@@ -30,7 +24,7 @@ steps_of_forest forest os tokens d e f =
     subst (λ n. Steps 0 source n tokens) (append-nil (openings 0 full forest) ∙ e) (
     subst (λ t. Steps 0 source (openings 0 full forest ++ []) t) (append-nil (spelt forest) ∙ f) x)
 
-no_more : {at : ℕ} {os : List Opening} {ts : List TokenKind} → Steps at [] os ts → (os ≡ []) × (ts ≡ [])
+pub no_more : {at : ℕ} {os : List Opening} {ts : List TokenKind} → Steps at [] os ts → (os ≡ []) × (ts ≡ [])
 no_more done = (refl, refl)
 
 -- a forest that is read
@@ -199,7 +193,7 @@ open_after tokens at d stack rest t e s h =
     let k = slice_index_or tokens at d in
     sym (chosen_false (same_kind k EndOfSource) (is_nil (plain rest)) (ends_once (plain rest)) (kinds_differ k EndOfSource (text_before tokens at d t h))) ∙ sym (ap (λ x. ends_once (plain x)) s) ∙ e
 
-plain_nil : (stack : List Entry) → plain stack ≡ [] → stack ≡ []
+pub plain_nil : (stack : List Entry) → plain stack ≡ [] → stack ≡ []
 plain_nil [] e = refl
 plain_nil (x ∷ xs) e = cc
 

@@ -15,14 +15,11 @@ use Rattle.abl_parse.specs.Grammar.{rule, rules as table, rule_count, Begins, in
 use Rattle.abl_parse.specs.Completions.{rank}
 use Rattle.abl_parse.specs.Table.{has, starts_with, vanishes_as, some, front, is_nil, ends_free, ends_once}
 use Rattle.abl_parse.specs.Engine.{entry, entries, body, plain, symbol_of, Steps, open_one, OnlyRule, Stuck, Leads, AllAt, Named, Went, looking, IsTaking}
-use Rattle.abl_parse.proofs.Flags.{and_left, and_right, and_both, refuted, not_so, chosen_false, parts_same, parts_equal}
+use Rattle.abl_parse.proofs.Flags.{and_left, and_right, and_both, refuted, not_so, chosen_false, parts_same, parts_equal, same_first}
 use Rattle.abl_parse.proofs.Checks.{all_vanish}
 use Rattle.abl_parse.proofs.Trees.{opened, Opened}
 use Rattle.abl_parse.proofs.First.{first, silent}
 use Rattle.abl_parse.proofs.Sound.{row_holds, rule_empty, vanishing_is, starts_are, starts_begin, alike}
-
-same_first : {a b : TokenKind} {xs ys : List TokenKind} → a ∷ xs ≡ b ∷ ys → a ≡ b
-same_first e = cc
 
 first_opening : {a b : Opening} {xs ys : List Opening} → a ∷ xs ≡ b ∷ ys → a ≡ b
 first_opening e = cc
@@ -30,9 +27,6 @@ first_opening e = cc
 -- one opening, one production
 pub same_rule : (q r at : ℕ) (room : Room) (xs ys : List Opening) → opening q at room ∷ xs ≡ opening r at room ∷ ys → q ≡ r
 same_rule q r at room xs ys e = ap (λ o. o.production) (first_opening e)
-
-pub same_openings : {a b : Opening} {xs ys : List Opening} → a ∷ xs ≡ b ∷ ys → xs ≡ ys
-same_openings e = cc
 
 nothing_begins : {k : TokenKind} → Begins [] k → ⊥
 nothing_begins b = elim b [ ]

@@ -9,6 +9,7 @@ use Rattle.abl_parse.specs.declared.symbol.Entry.{Entry}
 use Rattle.abl_parse.specs.declared.symbol.Opening.{Opening}
 use Rattle.abl_parse.specs.Grammar.{opening}
 use Rattle.abl_parse.specs.Engine.{body, Steps, done, take_one, open_one}
+use Rattle.abl_parse.proofs.Flags.{same_rest}
 use Rattle.abl_parse.proofs.Checks.{label_row, assign_row}
 use Rattle.abl_parse.proofs.Trees.{opened, Opened, taken}
 use Rattle.abl_parse.proofs.Sound.{alike, starts_begin}
@@ -61,14 +62,11 @@ same_row at room a stack os os' (k ∷ ts) o p = elim (alike o.r p.r o.within p.
 none_left : {at : ℕ} {os : List Opening} {ts : List TokenKind} → Steps at [] os ts → os ≡ []
 none_left done = refl
 
-rest_same : {a b : TokenKind} {xs ys : List TokenKind} → a ∷ xs ≡ b ∷ ys → xs ≡ ys
-rest_same e = cc
-
 pub unique : {at : ℕ} {stack : List Entry} {os : List Opening} {ts : List TokenKind} → Steps at stack os ts → (os' : List Opening) → Steps at stack os' ts → os ≡ os'
 unique done os' e = sym (none_left e)
 unique (take_one {at} {stack} {os} {k} {ts} d) os' e =
     let t = taken e in
-    unique d os' (subst (λ x. Steps (at + 1) stack os' x) (sym (rest_same t.is)) t.then')
+    unique d os' (subst (λ x. Steps (at + 1) stack os' x) (sym (same_rest t.is)) t.then')
 unique (open_one {at} {stack} {os} {ts} {a} {room} r w p g d) os' e =
     let o = opened e in
     let own : Opened at room stack (opening r at room ∷ os) a ts = record { r = r; rest = os; is = refl; within = w; part = p; greedy = g; then' = d } in

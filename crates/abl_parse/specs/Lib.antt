@@ -1,6 +1,8 @@
 pub mod Same
 pub mod Grammar
+pub mod Examples
 pub mod Violations
+pub mod Within
 pub mod Table
 pub mod Engine
 pub mod Completions
