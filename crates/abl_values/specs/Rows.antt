@@ -21,16 +21,6 @@ number_bytes n x = big_bytes n x
 unfoldable pub number_at_head : ℕ → List ℕ → ℕ
 number_at_head n bytes = big_number n bytes
 
--- ---- numbers
-
--- the lowest n bytes of a number, the highest of them first
-unfoldable pub number_bytes : ℕ → ℕ → List ℕ
-number_bytes n x = big_bytes n x
-
--- the number in the first n bytes, the highest first
-unfoldable pub number_at_head : ℕ → List ℕ → ℕ
-number_at_head n bytes = big_number n bytes
-
 -- ---- writing
 
 -- the bytes of a field: 0 for `?`, or 1 and the value, numbers with the highest byte first

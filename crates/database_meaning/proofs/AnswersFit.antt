@@ -3,9 +3,9 @@ use Rattle.std.proofs.Common.{◌≡◌, ◌≢◌, ℕ, ◌+◌, ◌<◌, ◌�
 use Rattle.std.specs.Prelude.{IsTrue, IsFalse}
 use Rattle.abl_base.specs.declared.value.Value.{Value}
 use Rattle.abl_base.specs.declared.row.RowId.{RowId}
-use Rattle.abl_base.specs.declared.schema.IndexDef.{IndexDef}
-use Rattle.abl_base.specs.Keys.{unique_key}
-use Rattle.abl_base.specs.Schema.{indexes_of}
+use Rattle.abl_values.specs.declared.schema.IndexDef.{IndexDef}
+use Rattle.abl_values.specs.Keys.{unique_key}
+use Rattle.abl_values.specs.Schema.{indexes_of}
 use Rattle.database_meaning.specs.declared.state.Key.{Key}
 use Rattle.database_meaning.specs.declared.contents.Contents.{Contents}
 use Rattle.database_meaning.specs.Frame.{Frame, key_at, keys_from, unique_keys, FitsTable}

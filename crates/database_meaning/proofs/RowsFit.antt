@@ -8,8 +8,8 @@ use Rattle.abl_base.specs.declared.value.Value.{Value}
 use Rattle.abl_base.specs.declared.value.Value.TheVariants.{Text, Int, Int64, Dec, Logical, Date, Unknown}
 use Rattle.abl_base.specs.declared.value.Kind.{Kind}
 use Rattle.abl_base.specs.declared.value.Kind.TheVariants.{Character, Integer, Int64 as Whole64, Decimal, Logical as Truth, Date as Day}
-use Rattle.abl_base.specs.Fit.{IsOfKind, IsOfField}
-use Rattle.abl_base.specs.Rows.{FitsFields}
+use Rattle.abl_values.specs.Fit.{IsOfKind, IsOfField}
+use Rattle.abl_values.specs.Rows.{FitsFields}
 use Rattle.database_meaning.specs.declared.state.StoredRow.{StoredRow}
 use Rattle.database_meaning.specs.declared.contents.Contents.{Contents}
 use Rattle.database_meaning.specs.declared.contents.ContentRow.{ContentRow}

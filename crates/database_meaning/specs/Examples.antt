@@ -4,9 +4,9 @@ use Rattle.std.specs.declared.cmp.Ordering.TheVariants.{Less, Greater}
 use Rattle.abl_base.specs.declared.value.Value.{Value}
 use Rattle.abl_base.specs.declared.value.Value.TheVariants.{Text, Int, Unknown}
 use Rattle.abl_base.specs.declared.value.Kind.TheVariants.{Character, Integer}
-use Rattle.abl_base.specs.declared.schema.TableDef.{TableDef}
-use Rattle.abl_base.specs.Keys.{key_bytes, unique_key}
-use Rattle.abl_base.specs.Rows.{bytes_of_row, number_bytes}
+use Rattle.abl_values.specs.declared.schema.TableDef.{TableDef}
+use Rattle.abl_values.specs.Keys.{key_bytes, unique_key}
+use Rattle.abl_values.specs.Rows.{bytes_of_row, number_bytes}
 use Rattle.database_meaning.specs.declared.state.Key.{Key}
 use Rattle.database_meaning.specs.declared.operation.Op.TheVariants.{Enter, Leave, Insert, Lock, End}
 use Rattle.database_meaning.specs.declared.operation.Answer.TheVariants.{Refused, Blocked, Busy, Done, NoMemory, Committed}

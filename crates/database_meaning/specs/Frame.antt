@@ -2,14 +2,14 @@
 use Rattle.std.specs.Prelude.{ℕ, ◌+◌, Bool, true, false, ◌&&◌, ◌||◌, ◌==◌, ◌<◌, if◌then◌else◌, List, [], ◌∷◌, ◌++◌, length, slice_index_or, Option, Some, None, ℤ, pos}
 use Rattle.abl_base.specs.declared.value.Value.{Value}
 use Rattle.abl_base.specs.declared.value.Kind.{Kind}
-use Rattle.abl_base.specs.declared.schema.Part.{Part}
-use Rattle.abl_base.specs.declared.schema.IndexDef.{IndexDef}
-use Rattle.abl_base.specs.declared.schema.SequenceDef.{SequenceDef}
+use Rattle.abl_values.specs.declared.schema.Part.{Part}
+use Rattle.abl_values.specs.declared.schema.IndexDef.{IndexDef}
+use Rattle.abl_values.specs.declared.schema.SequenceDef.{SequenceDef}
 use Rattle.database_meaning.specs.declared.state.StoredRow.{StoredRow}
 use Rattle.database_meaning.specs.declared.state.Key.{Key}
-use Rattle.abl_base.specs.Rows.{FitsFields, bytes_of_row, fragments_of}
-use Rattle.abl_base.specs.Keys.{key_bytes, unique_key}
-use Rattle.abl_base.specs.Schema.{SchemaData, fields_of, indexes_of, field_kinds}
+use Rattle.abl_values.specs.Rows.{FitsFields, bytes_of_row, fragments_of}
+use Rattle.abl_values.specs.Keys.{key_bytes, unique_key}
+use Rattle.abl_values.specs.Schema.{SchemaData, fields_of, indexes_of, field_kinds}
 
 -- the tables and sequences, and how many clients the database has, numbered from 0
 pub record Frame : Type 0 where

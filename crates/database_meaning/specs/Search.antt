@@ -10,9 +10,9 @@ use Rattle.abl_base.specs.declared.row.RowId.{RowId}
 use Rattle.abl_base.specs.declared.row.Cursor.{Cursor}
 use Rattle.database_meaning.specs.declared.operation.Op.{Op}
 use Rattle.database_meaning.specs.declared.operation.Op.TheVariants.{Next}
-use Rattle.abl_base.specs.declared.schema.Part.{Part}
-use Rattle.abl_base.specs.Fit.{IsOfField}
-use Rattle.abl_base.specs.Keys.{component, component_bytes}
+use Rattle.abl_values.specs.declared.schema.Part.{Part}
+use Rattle.abl_values.specs.Fit.{IsOfField}
+use Rattle.abl_values.specs.Keys.{component, component_bytes}
 use Rattle.database_meaning.specs.Frame.{Frame, kinds_of, parts_of, key_in}
 use Rattle.database_meaning.specs.State.{State, view}
 use Rattle.database_meaning.specs.Waiting.{row_in}

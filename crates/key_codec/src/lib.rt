@@ -4,9 +4,10 @@
 #![tactic(auto)]
 
 ghost use Rattle.std.specs.Prelude.{◌≡◌, ◌<◌, ◌≤◌, length, IfOk, OnOk};
-ghost use Rattle.abl_base.specs.Keys.{component_bytes, key_bytes};
+ghost use Rattle.abl_values.specs.Keys.{component_bytes, key_bytes};
 
-use abl_base::{Bytes, IndexDef, Items, Part, Row, Value, key_bytes};
+use abl_base::{Bytes, Items, Row, Value};
+use abl_values::{IndexDef, Part, key_bytes};
 use std::alloc::{AllocError, Global};
 
 /// The greatest length of a key, in bytes (this project's choice).

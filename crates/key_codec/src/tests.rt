@@ -1,5 +1,6 @@
 use super::*;
-use abl_base::{Bytes, IndexDef, Items, Part, Row, Value};
+use abl_base::{Bytes, Items, Row, Value};
+use abl_values::{IndexDef, Part};
 use std::alloc::{AllocError, Global};
 use std::test::Fail;
 

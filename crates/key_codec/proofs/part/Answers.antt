@@ -1,7 +1,7 @@
 use Rattle.std.proofs.Common.{◌≡◌, ◌++◌, ◌∷◌, [], Bool, List, ap, ◌∙◌}
 use Rattle.std.proofs.lemmas.List.{append-nil}
 use Rattle.abl_base.specs.declared.value.Value.{Value}
-use Rattle.abl_base.specs.Keys.{component_bytes, key_bytes}
+use Rattle.abl_values.specs.Keys.{component_bytes, key_bytes}
 use Rattle.key_codec.proofs.part.Goals as goal
 
 -- the key of one component is that component's bytes

@@ -1,6 +1,0 @@
-pub mod Trailing
-pub mod Compared
-pub mod Fields
-pub mod RowReads
-pub mod Numbers
-pub mod RowLaws

@@ -1,7 +1,0 @@
-use Rattle.std.proofs.Common.{◌≡◌, ◌++◌, map, take}
-use Rattle.abl_base.specs.Keys.{turned_byte}
-use Rattle.abl_base.proofs.keys.push_bytes.Given as goal
-
-abbrev pub invariant-loop-byte : goal.invariant-loop-byte
-invariant-loop-byte l =
-    l.bytes.items ≡ l.initial.bytes.items ++ map (turned_byte l.descending) (take l.byte-index l.value)
