@@ -4,3 +4,5 @@ pub mod Fields
 pub mod RowReads
 pub mod Numbers
 pub mod RowLaws
+pub mod Settled
+pub mod KeyLaws
