@@ -1,8 +1,10 @@
 pub mod Trailing
 pub mod Compared
+pub mod OrderLaws
 pub mod Fields
 pub mod RowReads
 pub mod Numbers
 pub mod RowLaws
 pub mod Settled
 pub mod KeyLaws
+pub mod RowKeys
