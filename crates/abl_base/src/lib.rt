@@ -11,6 +11,7 @@ pub mod laws;
 pub mod order;
 pub mod place;
 pub mod row;
+mod rounding;
 pub mod rule;
 pub mod schema;
 pub mod stored;
