@@ -5,6 +5,7 @@
 
 pub mod arithmetic;
 pub mod dates;
+pub mod fitting;
 pub mod items;
 pub mod keys;
 pub mod laws;
@@ -18,7 +19,8 @@ pub mod stored;
 pub mod stored_read;
 pub mod value;
 
-pub use arithmetic::ArithFault;
+pub use arithmetic::{add, ArithFault, divide, modulo, multiply, subtract};
+pub use fitting::fit;
 pub use items::Items;
 pub use keys::key_bytes;
 pub use order::compare;
