@@ -8,3 +8,4 @@ pub mod RowLaws
 pub mod Settled
 pub mod KeyLaws
 pub mod RowKeys
+pub mod Days

@@ -1,0 +1,160 @@
+-- The day numbers of the definitions are those that the calendar counts.
+use Rattle.std.proofs.Common.{◌≡◌, ℕ, zero, suc, ◌+◌, ◌-◌, ◌*◌, ◌/◌, ◌%◌, ◌<◌, ◌≤◌, Bool, true, false, cond, ◌&&◌, nat_le, if◌then◌else◌, List, [], ◌∷◌, Option, Some, None, ℤ, pos, negsuc, ◌+ℤ◌, ◌-ℤ◌, ◌≤ℤ◌, unsigned_abs, refl, sym, ap, ◌∙◌, arith, subst}
+use Rattle.std.proofs.lemmas.Bool.{false≢true}
+use Rattle.std.proofs.lemmas.Bool.Decides.{nat_tests}
+use borrow.Author.Differences.{up, down}
+use Rattle.jiff_core.specs.Calendar.{IsDate, IsCivilDate, days_from_civil, day_count, day_of_year, days_of_months, days_in_month, days_in_year, is_leap_year}
+use Rattle.jiff_core.proofs.CalendarLemmas.{days_in_month_bounds, days_from_civil-day_count, day_count-day_of_year, day_count-next_year}
+use Rattle.jiff_core.proofs.MarchLemmas.{day_count-early}
+use Rattle.jiff_core.proofs.SignedLemmas.{signed_arith}
+use Rattle.abl_base.specs.Dates.{CivilDate, is_leap, months_of, days_of_years, days_of_first, length_at, days_before, day_number, is_civil, date_from}
+
+-- 1 January of the year 1, from 1 January of the year -10000
+first_year : day_count (pos 1) 1 1 ≡ 3_652_791
+first_year = day_count-early (pos 1) 10000 1 1 refl (omega arith) (omega arith) (omega arith)
+
+leap_of : Bool → ℕ
+leap_of b = cond b 366 365
+
+days_of_years-suc : (n : ℕ) → days_of_years (suc n) ≡ days_of_years n + days_in_year (pos (suc n))
+days_of_years-suc n = grind (arith, nat_tests)
+
+year_count : (n : ℕ) → day_count (pos (suc n)) 1 1 ≡ 3_652_791 + days_of_years n
+year_count zero = first_year
+year_count (suc n) =
+    day_count-next_year (pos (suc n)) (pos (suc (suc n))) (omega (arith, signed_arith)) (omega (arith, signed_arith))
+    ∙ ap (λ (k : ℕ). k + days_in_year (pos (suc n))) (year_count n) ∙ omega (arith, days_of_years-suc n)
+
+month_count : (y n : ℕ) → n < 12 → days_of_months (pos y) n ≡ days_of_first (months_of y) n
+unfolding days_of_months
+month_count y zero h = refl
+month_count y (suc zero) h = omega arith
+month_count y (suc (suc zero)) h = omega arith
+month_count y (suc (suc (suc zero))) h = omega arith
+month_count y (suc (suc (suc (suc zero)))) h = omega arith
+month_count y (suc (suc (suc (suc (suc zero))))) h = omega arith
+month_count y (suc (suc (suc (suc (suc (suc zero)))))) h = omega arith
+month_count y (suc (suc (suc (suc (suc (suc (suc zero))))))) h = omega arith
+month_count y (suc (suc (suc (suc (suc (suc (suc (suc zero)))))))) h = omega arith
+month_count y (suc (suc (suc (suc (suc (suc (suc (suc (suc zero))))))))) h = omega arith
+month_count y (suc (suc (suc (suc (suc (suc (suc (suc (suc (suc zero)))))))))) h = omega arith
+month_count y (suc (suc (suc (suc (suc (suc (suc (suc (suc (suc (suc zero))))))))))) h = omega arith
+month_count y (suc (suc (suc (suc (suc (suc (suc (suc (suc (suc (suc (suc n)))))))))))) h = absurd (omega arith)
+
+counted_from : (z : ℤ) (c b : ℕ) → up z + 4_371_953 ≡ down z + c → c ≡ 3_652_791 + b → z ≡ pos b -ℤ pos 719162
+counted_from z c b h e = omega (arith, signed_arith)
+
+before_is : (y m d : ℕ) → days_before (record { year = suc y; month = suc m; day = suc d }) ≡ days_of_years y + days_of_first (months_of (suc y)) m + d
+before_is y m d =
+    let ey : suc y - 1 ≡ y = omega arith in
+    let em : suc m - 1 ≡ m = omega arith in
+    let ed : suc d - 1 ≡ d = omega arith in
+    rw (ey, em, ed) refl
+
+count_is : (y m d : ℕ) → m < 12 → day_count (pos (suc y)) (suc m) (suc d) ≡ 3_652_791 + (days_of_years y + days_of_first (months_of (suc y)) m + d)
+count_is y m d h =
+    let em : suc m - 1 ≡ m = omega arith in
+    let place : day_of_year (pos (suc y)) (suc m) (suc d) ≡ days_of_first (months_of (suc y)) m + suc d =
+        ap (λ (k : ℕ). days_of_months (pos (suc y)) k + suc d) em ∙ ap (λ (k : ℕ). k + suc d) (month_count (suc y) m h) in
+    let whole = day_count-day_of_year (pos (suc y)) (suc m) (suc d) (omega arith) in
+    omega (arith, year_count y)
+
+-- the calendar's day number of a date is the definition's
+pub days_from_civil-day_number : (y m d : ℕ) → 1 ≤ y → 1 ≤ m → m ≤ 12 → 1 ≤ d → days_from_civil (pos y) m d ≡ day_number (record { year = y; month = m; day = d })
+unfolding day_number
+days_from_civil-day_number (suc y) (suc m) (suc d) hy hm hl hd =
+    counted_from (days_from_civil (pos (suc y)) (suc m) (suc d)) (day_count (pos (suc y)) (suc m) (suc d)) (days_before (record { year = suc y; month = suc m; day = suc d }))
+    (days_from_civil-day_count (pos (suc y)) (suc m) (suc d)) (count_is y m d (omega arith) ∙ ap (λ (k : ℕ). 3_652_791 + k) (sym (before_is y m d)))
+days_from_civil-day_number zero m d hy hm hl hd = absurd (omega arith)
+days_from_civil-day_number (suc y) zero d hy hm hl hd = absurd (omega arith)
+days_from_civil-day_number (suc y) (suc m) zero hy hm hl hd = absurd (omega arith)
+
+-- ---- which numbers are a date
+
+length_is : (y m : ℕ) → 1 ≤ m → m ≤ 12 → length_at (months_of y) (m - 1) ≡ days_in_month (pos y) m
+length_is y (suc zero) l h = refl
+length_is y (suc (suc zero)) l h = refl
+length_is y (suc (suc (suc zero))) l h = refl
+length_is y (suc (suc (suc (suc zero)))) l h = refl
+length_is y (suc (suc (suc (suc (suc zero))))) l h = refl
+length_is y (suc (suc (suc (suc (suc (suc zero)))))) l h = refl
+length_is y (suc (suc (suc (suc (suc (suc (suc zero))))))) l h = refl
+length_is y (suc (suc (suc (suc (suc (suc (suc (suc zero)))))))) l h = refl
+length_is y (suc (suc (suc (suc (suc (suc (suc (suc (suc zero))))))))) l h = refl
+length_is y (suc (suc (suc (suc (suc (suc (suc (suc (suc (suc zero)))))))))) l h = refl
+length_is y (suc (suc (suc (suc (suc (suc (suc (suc (suc (suc (suc zero))))))))))) l h = refl
+length_is y (suc (suc (suc (suc (suc (suc (suc (suc (suc (suc (suc (suc zero)))))))))))) l h = refl
+length_is y zero l h = absurd (omega arith)
+length_is y (suc (suc (suc (suc (suc (suc (suc (suc (suc (suc (suc (suc (suc n))))))))))))) l h = absurd (omega arith)
+
+all_tests : (a b c d e f : Bool) → a ≡ true → b ≡ true → c ≡ true → d ≡ true → e ≡ true → f ≡ true → ((a && b) && (c && d)) && (e && f) ≡ true
+all_tests a b c d e f ha hb hc hd he hf = rw (ha, hb, hc, hd, he, hf) refl
+
+le_test : (m n : ℕ) → m ≤ n → nat_le m n ≡ true
+le_test m n h = grind (arith, nat_tests)
+
+test_le : (m n : ℕ) → nat_le m n ≡ true → m ≤ n
+test_le m n h = grind (arith, nat_tests)
+
+both_tests : (a b : Bool) → (a && b) ≡ true → (a ≡ true) × (b ≡ true)
+both_tests true b h = (refl, h)
+both_tests false b h = absurd (false≢true h)
+
+civil_test : (y m d : ℕ) → 1 ≤ y → y ≤ 9999 → 1 ≤ m → m ≤ 12 → 1 ≤ d → d ≤ days_in_month (pos y) m → is_civil (record { year = y; month = m; day = d }) ≡ true
+civil_test y m d y1 y2 m1 m2 d1 d2 =
+    let len : d ≤ length_at (months_of y) (m - 1) = subst (λ (k : ℕ). d ≤ k) (sym (length_is y m m1 m2)) d2 in
+    all_tests (nat_le 1 y) (nat_le y 9999) (nat_le 1 m) (nat_le m 12) (nat_le 1 d) (nat_le d (length_at (months_of y) (m - 1)))
+    (le_test 1 y y1) (le_test y 9999 y2) (le_test 1 m m1) (le_test m 12 m2) (le_test 1 d d1) (le_test d (length_at (months_of y) (m - 1)) len)
+
+-- three numbers that the calendar takes
+pub date_found : (yr : ℤ) (mo da : ℕ) (month day year : ℤ) → pos 1 ≤ℤ year → year ≤ℤ pos 9999 → yr ≡ year → pos mo ≡ month → pos da ≡ day → 1 ≤ mo → mo ≤ 12 → 1 ≤ da → da ≤ days_in_month yr mo → date_from month day year ≡ Some (days_from_civil yr mo da)
+unfolding date_from
+date_found (negsuc n) mo da month day year y1 y2 ey em ed m1 m2 d1 d2 = absurd (omega (arith, signed_arith))
+date_found (pos y) mo da month day year y1 y2 ey em ed m1 m2 d1 d2 =
+    let low : 1 ≤ y = omega (arith, signed_arith) in
+    let high : y ≤ 9999 = omega (arith, signed_arith) in
+    let test = civil_test y mo da low high m1 m2 d1 d2 in
+    subst (λ z. date_from month day z ≡ Some (days_from_civil (pos y) mo da)) ey
+    (subst (λ z. date_from z day (pos y) ≡ Some (days_from_civil (pos y) mo da)) em
+        (subst (λ z. date_from (pos mo) z (pos y) ≡ Some (days_from_civil (pos y) mo da)) ed
+            (ap (λ b. if b then Some (day_number (record { year = y; month = mo; day = da })) else None) test
+                ∙ ap (λ z. Some z) (sym (days_from_civil-day_number y mo da low m1 m2 d1)))))
+
+civil_facts : (y m d : ℕ) → is_civil (record { year = y; month = m; day = d }) ≡ true → IsDate (pos y) (pos m) (pos d)
+civil_facts y m d h =
+    let a = both_tests ((nat_le 1 y && nat_le y 9999) && (nat_le 1 m && nat_le m 12)) (nat_le 1 d && nat_le d (length_at (months_of y) (m - 1))) h in
+    let b = both_tests (nat_le 1 y && nat_le y 9999) (nat_le 1 m && nat_le m 12) a.0 in
+    let ys = both_tests (nat_le 1 y) (nat_le y 9999) b.0 in
+    let ms = both_tests (nat_le 1 m) (nat_le m 12) b.1 in
+    let ds = both_tests (nat_le 1 d) (nat_le d (length_at (months_of y) (m - 1))) a.1 in
+    let m1 = test_le 1 m ms.0 in
+    let m2 = test_le m 12 ms.1 in
+    let y2 = test_le y 9999 ys.1 in
+    let d1 = test_le 1 d ds.0 in
+    let d2 : d ≤ days_in_month (pos y) m = subst (λ (k : ℕ). d ≤ k) (length_is y m m1 m2) (test_le d (length_at (months_of y) (m - 1)) ds.1) in
+    ((omega (arith, signed_arith), omega (arith, signed_arith)), (omega (arith, signed_arith), omega (arith, signed_arith)), (omega (arith, signed_arith), omega (arith, signed_arith)))
+
+civil_year : (y m d : ℕ) → is_civil (record { year = y; month = m; day = d }) ≡ true → pos 1 ≤ℤ pos y
+civil_year y m d h =
+    let a = both_tests ((nat_le 1 y && nat_le y 9999) && (nat_le 1 m && nat_le m 12)) (nat_le 1 d && nat_le d (length_at (months_of y) (m - 1))) h in
+    let b = both_tests (nat_le 1 y && nat_le y 9999) (nat_le 1 m && nat_le m 12) a.0 in
+    let y1 = test_le 1 y (both_tests (nat_le 1 y) (nat_le y 9999) b.0).0 in
+    omega (arith, signed_arith)
+
+-- a month has at most 31 days, whatever its number
+pub no_long_month : (month day year : ℤ) → IsDate year month day → day ≤ℤ pos 31
+no_long_month month day year h =
+    let bound = (days_in_month_bounds year (unsigned_abs month)).0 in
+    omega (arith, signed_arith, h.2.1)
+
+-- three numbers that the calendar does not take
+pub date_missing : (month day year : ℤ) → (IsDate year month day → pos 1 ≤ℤ year → ⊥) → date_from month day year ≡ None
+unfolding date_from
+date_missing (pos m) (pos d) (pos y) h = by_test (is_civil (record { year = y; month = m; day = d })) refl
+  where
+    by_test : (b : Bool) → is_civil (record { year = y; month = m; day = d }) ≡ b → (if b then Some (day_number (record { year = y; month = m; day = d })) else None) ≡ None
+    by_test true e = absurd (h (civil_facts y m d e) (civil_year y m d e))
+    by_test false e = refl
+date_missing (negsuc m) day year h = refl
+date_missing (pos m) (negsuc d) year h = refl
+date_missing (pos m) (pos d) (negsuc y) h = refl
