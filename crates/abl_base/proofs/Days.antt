@@ -1,5 +1,5 @@
 -- The day numbers of the definitions are those that the calendar counts.
-use Rattle.std.proofs.Common.{◌≡◌, ℕ, zero, suc, ◌+◌, ◌-◌, ◌*◌, ◌/◌, ◌%◌, ◌<◌, ◌≤◌, Bool, true, false, cond, ◌&&◌, nat_le, if◌then◌else◌, List, [], ◌∷◌, Option, Some, None, ℤ, pos, negsuc, ◌+ℤ◌, ◌-ℤ◌, ◌≤ℤ◌, unsigned_abs, refl, sym, ap, ◌∙◌, arith, subst}
+use Rattle.std.proofs.Common.{◌≡◌, ◌⊎◌, min, nat_lt, ℕ, zero, suc, ◌+◌, ◌-◌, ◌*◌, ◌/◌, ◌%◌, ◌<◌, ◌≤◌, Bool, true, false, cond, ◌&&◌, nat_le, if◌then◌else◌, List, [], ◌∷◌, Option, Some, None, ℤ, pos, negsuc, ◌+ℤ◌, ◌-ℤ◌, ◌≤ℤ◌, unsigned_abs, refl, sym, ap, ◌∙◌, arith, subst}
 use Rattle.std.proofs.lemmas.Bool.{false≢true}
 use Rattle.std.proofs.lemmas.Bool.Decides.{nat_tests}
 use borrow.Author.Differences.{up, down}
@@ -7,7 +7,7 @@ use Rattle.jiff_core.specs.Calendar.{IsDate, IsCivilDate, days_from_civil, day_c
 use Rattle.jiff_core.proofs.CalendarLemmas.{days_in_month_bounds, days_from_civil-day_count, day_count-day_of_year, day_count-next_year}
 use Rattle.jiff_core.proofs.MarchLemmas.{day_count-early}
 use Rattle.jiff_core.proofs.SignedLemmas.{signed_arith}
-use Rattle.abl_base.specs.Dates.{CivilDate, is_leap, months_of, days_of_years, days_of_first, length_at, days_before, day_number, is_civil, date_from}
+use Rattle.abl_base.specs.Dates.{CivilDate, is_leap, months_of, days_of_years, days_of_first, length_at, days_before, day_number, is_civil, date_from, month_and_day, date_after, date_of_day, nearest_day}
 
 -- 1 January of the year 1, from 1 January of the year -10000
 first_year : day_count (pos 1) 1 1 ≡ 3_652_791
@@ -158,3 +158,29 @@ date_missing (pos m) (pos d) (pos y) h = by_test (is_civil (record { year = y; m
 date_missing (negsuc m) day year h = refl
 date_missing (pos m) (negsuc d) year h = refl
 date_missing (pos m) (pos d) (negsuc y) h = refl
+
+-- ---- the date of a day number
+
+pair_of : (a b c d : ℕ) → a ≡ c → b ≡ d → ◌≡◌ {A = ℕ × ℕ} (a, b) (c, d)
+pair_of a b c d e f = ap (λ (k : ℕ). (k, b)) e ∙ ap (λ (k : ℕ). (c, k)) f
+
+-- the n-th day of a year, counted from 0, is found in its month
+month_found : (months : List ℕ) (first j i : ℕ) → i < length_at months j → month_and_day months first (days_of_first months j + i) ≡ (first + j, i + 1)
+month_found [] first j i h = absurd (omega arith)
+month_found (days ∷ months) first zero i h =
+    let test : nat_lt (0 + i) days ≡ true = grind (arith, nat_tests) in
+    rw test (pair_of first ((0 + i) + 1) (first + 0) (i + 1) (omega arith) (omega arith))
+month_found (days ∷ months) first (suc j) i h =
+    let test : nat_lt ((days + days_of_first months j) + i) days ≡ false = grind (arith, nat_tests) in
+    let left : ((days + days_of_first months j) + i) - days ≡ days_of_first months j + i = omega arith in
+    rw (test, left) (month_found months (first + 1) j i h ∙ pair_of ((first + 1) + j) (i + 1) (first + suc j) (i + 1) (omega arith) refl)
+
+-- the cycles of years
+centuries : (b c e doy : ℕ) → b < 4 → c < 25 → e < 4 → doy < 366 → (doy ≡ 365 → (e ≡ 3) × ((c < 24) ⊎ (b ≡ 3))) → min 3 ((36524 * b + (1461 * c + (365 * e + doy))) / 36524) ≡ b
+centuries b c e doy hb hc he hd leap = omega arith
+
+fours : (c e doy : ℕ) → c < 25 → e < 4 → doy < 366 → (doy ≡ 365 → e ≡ 3) → (1461 * c + (365 * e + doy)) / 1461 ≡ c
+fours c e doy hc he hd leap = omega arith
+
+ones_of : (e doy : ℕ) → e < 4 → doy < 366 → (doy ≡ 365 → e ≡ 3) → min 3 ((365 * e + doy) / 365) ≡ e
+ones_of e doy he hd leap = omega arith

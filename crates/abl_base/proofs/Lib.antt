@@ -9,3 +9,4 @@ pub mod Settled
 pub mod KeyLaws
 pub mod RowKeys
 pub mod Days
+pub mod SameNames

@@ -1,5 +1,6 @@
 -- A schema as data, what its readers find, and its canonical text.
-use Rattle.std.specs.Prelude.{ℕ, zero, suc, ◌+◌, Bool, true, false, ◌&&◌, ◌==◌, if◌then◌else◌, List, [], ◌∷◌, ◌++◌, length, codes, slice_index_or, Option, Some, None}
+use Rattle.std.specs.Prelude.{◌≤◌, ℕ, zero, suc, ◌+◌, Bool, true, false, ◌&&◌, ◌==◌, if◌then◌else◌, List, [], ◌∷◌, ◌++◌, length, codes, slice_index_or, Option, Some, None}
+use Rattle.std.specs.List.{All}
 use Rattle.std.specs.Fmt.{signed_decimal}
 use Rattle.abl_base.specs.declared.value.Value.{Value}
 use Rattle.abl_base.specs.declared.value.Value.TheVariants.{Unknown}
@@ -58,6 +59,13 @@ table_named s name = number_of_name 0 (table_names s.tables) name
 -- the number of a table's field with this name, in any case
 unfoldable pub field_named : SchemaData → ℕ → List ℕ → Option ℕ
 field_named s t name = number_of_name 0 (field_names (table_at s t).fields) name
+
+-- at most 256 tables, each with at most 256 fields
+abbrev pub IsWithinLimits : List TableDef → Type 0
+IsWithinLimits tables = (length tables ≤ 256) × All (λ t. length t.fields ≤ 256) tables
+
+abbrev pub name_of : SchemaData → ℕ → List ℕ
+name_of s t = (table_at s t).name
 
 abbrev pub fields_of : SchemaData → ℕ → List FieldDef
 fields_of s t = (table_at s t).fields
