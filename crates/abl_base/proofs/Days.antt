@@ -1,5 +1,5 @@
 -- The day numbers of the definitions are those that the calendar counts.
-use Rattle.std.proofs.Common.{◌≡◌, ◌⊎◌, min, nat_lt, ℕ, zero, suc, ◌+◌, ◌-◌, ◌*◌, ◌/◌, ◌%◌, ◌<◌, ◌≤◌, Bool, true, false, cond, ◌&&◌, nat_le, if◌then◌else◌, List, [], ◌∷◌, Option, Some, None, ℤ, pos, negsuc, ◌+ℤ◌, ◌-ℤ◌, ◌≤ℤ◌, unsigned_abs, refl, sym, ap, ◌∙◌, arith, subst}
+use Rattle.std.proofs.Common.{◌≡◌, ◌≢◌, ◌⊎◌, inl, inr, not, ◌||◌, ◌==◌, min, nat_lt, ℕ, zero, suc, ◌+◌, ◌-◌, ◌*◌, ◌/◌, ◌%◌, ◌<◌, ◌≤◌, Bool, true, false, cond, ◌&&◌, nat_le, if◌then◌else◌, List, [], ◌∷◌, Option, Some, None, ℤ, pos, negsuc, ◌+ℤ◌, ◌-ℤ◌, ◌≤ℤ◌, unsigned_abs, refl, sym, ap, ◌∙◌, arith, subst}
 use Rattle.std.proofs.lemmas.Bool.{false≢true}
 use Rattle.std.proofs.lemmas.Bool.Decides.{nat_tests}
 use borrow.Author.Differences.{up, down}
@@ -175,12 +175,106 @@ month_found (days ∷ months) first (suc j) i h =
     let left : ((days + days_of_first months j) + i) - days ≡ days_of_first months j + i = omega arith in
     rw (test, left) (month_found months (first + 1) j i h ∙ pair_of ((first + 1) + j) (i + 1) (first + suc j) (i + 1) (omega arith) refl)
 
--- the cycles of years
-centuries : (b c e doy : ℕ) → b < 4 → c < 25 → e < 4 → doy < 366 → (doy ≡ 365 → (e ≡ 3) × ((c < 24) ⊎ (b ≡ 3))) → min 3 ((36524 * b + (1461 * c + (365 * e + doy))) / 36524) ≡ b
-centuries b c e doy hb hc he hd leap = omega arith
+-- the cycles of years. The 366th day of a year is one of a leap year
+abbrev MayEnd : ℕ → ℕ → ℕ → ℕ → Type 0
+MayEnd b c e doy = (doy < 365) ⊎ ((e ≡ 3) × ((c < 24) ⊎ (b ≡ 3)))
 
-fours : (c e doy : ℕ) → c < 25 → e < 4 → doy < 366 → (doy ≡ 365 → e ≡ 3) → (1461 * c + (365 * e + doy)) / 1461 ≡ c
-fours c e doy hc he hd leap = omega arith
+centuries : (b c e doy : ℕ) → b < 4 → c < 25 → e < 4 → doy < 366 → MayEnd b c e doy → min 3 ((36524 * b + (1461 * c + (365 * e + doy))) / 36524) ≡ b
+centuries b c e doy hb hc he hd leap = elim leap [ inl h ↦ omega arith | inr h ↦ elim h.1 [ inl k ↦ omega arith | inr k ↦ omega arith ] ]
 
-ones_of : (e doy : ℕ) → e < 4 → doy < 366 → (doy ≡ 365 → e ≡ 3) → min 3 ((365 * e + doy) / 365) ≡ e
-ones_of e doy he hd leap = omega arith
+fours : (c e doy : ℕ) → c < 25 → e < 4 → doy < 366 → 365 * e + doy < 1461 → (1461 * c + (365 * e + doy)) / 1461 ≡ c
+fours c e doy hc he hd room = omega arith
+
+fours_rest : (c e doy : ℕ) → 365 * e + doy < 1461 → (1461 * c + (365 * e + doy)) % 1461 ≡ 365 * e + doy
+fours_rest c e doy room = omega arith
+
+ones_of : (b c e doy : ℕ) → e < 4 → doy < 366 → MayEnd b c e doy → min 3 ((365 * e + doy) / 365) ≡ e
+ones_of b c e doy he hd leap = elim leap [ inl h ↦ omega arith | inr h ↦ omega (arith, h.0) ]
+
+-- the years before a year, by cycles
+by_cycles : (k : ℕ) → days_of_years k ≡ 146097 * (k / 400) + (36524 * (k % 400 / 100) + (1461 * (k % 100 / 4) + 365 * (k % 4)))
+by_cycles k = omega arith
+
+year_of : (k : ℕ) → 400 * (k / 400) + 100 * (k % 400 / 100) + 4 * (k % 100 / 4) + k % 4 ≡ k
+year_of k = omega arith
+
+february : ℕ → ℕ
+february y = if is_leap y then 29 else 28
+
+year_bound : (y j : ℕ) → j < 12 → days_of_first (months_of y) j + length_at (months_of y) j ≤ 337 + february y
+unfolding february
+year_bound y zero h = omega arith
+year_bound y (suc zero) h = omega arith
+year_bound y (suc (suc zero)) h = omega arith
+year_bound y (suc (suc (suc zero))) h = omega arith
+year_bound y (suc (suc (suc (suc zero)))) h = omega arith
+year_bound y (suc (suc (suc (suc (suc zero))))) h = omega arith
+year_bound y (suc (suc (suc (suc (suc (suc zero)))))) h = omega arith
+year_bound y (suc (suc (suc (suc (suc (suc (suc zero))))))) h = omega arith
+year_bound y (suc (suc (suc (suc (suc (suc (suc (suc zero)))))))) h = omega arith
+year_bound y (suc (suc (suc (suc (suc (suc (suc (suc (suc zero))))))))) h = omega arith
+year_bound y (suc (suc (suc (suc (suc (suc (suc (suc (suc (suc zero)))))))))) h = omega arith
+year_bound y (suc (suc (suc (suc (suc (suc (suc (suc (suc (suc (suc zero))))))))))) h = omega arith
+year_bound y (suc (suc (suc (suc (suc (suc (suc (suc (suc (suc (suc (suc n)))))))))))) h = absurd (omega arith)
+
+either_true : (a b : Bool) → (not a || b) ≡ true → (a ≡ false) ⊎ (b ≡ true)
+either_true false b h = inl refl
+either_true true b h = inr h
+
+eq_of_test : (m n : ℕ) → (m == n) ≡ true → m ≡ n
+eq_of_test m n h = grind (arith, nat_tests)
+
+ne_of_test : (m n : ℕ) → (m == n) ≡ false → m ≢ n
+ne_of_test m n h = grind (arith, nat_tests)
+
+leap_cases : (y : ℕ) → is_leap y ≡ true → (y % 4 ≡ 0) × ((y % 100 ≢ 0) ⊎ (y % 400 ≡ 0))
+leap_cases y h =
+    let both = both_tests (y % 4 == 0) (not (y % 100 == 0) || (y % 400 == 0)) h in
+    (eq_of_test (y % 4) 0 both.0, elim (either_true (y % 100 == 0) (y % 400 == 0) both.1) [ inl e ↦ inl (ne_of_test (y % 100) 0 e) | inr e ↦ inr (eq_of_test (y % 400) 0 e) ])
+
+-- a date of this year, from a month and a day
+made : ℕ → ℕ × ℕ → CivilDate
+made y found = record { year = y; month = found.0; day = found.1 }
+
+february_ends : (k doy : ℕ) → doy < 337 + february (suc k) → (doy < 366) × MayEnd (k % 400 / 100) (k % 100 / 4) (k % 4) doy
+unfolding february
+february_ends k doy h = by_leap (is_leap (suc k)) refl h
+  where
+    by_leap : (t : Bool) → is_leap (suc k) ≡ t → doy < 337 + (if t then 29 else 28) → (doy < 366) × MayEnd (k % 400 / 100) (k % 100 / 4) (k % 4) doy
+    by_leap false e h = (omega arith, inl (omega arith))
+    by_leap true e h =
+        let t = leap_cases (suc k) e in
+        let four : k % 4 ≡ 3 = omega (arith, t.0) in
+        (omega arith, inr (four, elim t.1 [ inl f ↦ inl (omega (arith, f)) | inr f ↦ inr (omega (arith, f)) ]))
+
+-- a date found by the cycles
+by_cycle : (n a b c e doy : ℕ) → n ≡ 146097 * a + (36524 * b + (1461 * c + (365 * e + doy))) → b < 4 → c < 25 → e < 4 → doy < 366 → MayEnd b c e doy
+    → date_after n ≡ record { year = (400 * a + 100 * b + 4 * c + e) + 1; month = (month_and_day (months_of ((400 * a + 100 * b + 4 * c + e) + 1)) 1 doy).0; day = (month_and_day (months_of ((400 * a + 100 * b + 4 * c + e) + 1)) 1 doy).1 }
+unfolding date_after
+by_cycle n a b c e doy is hb hc he hd leap =
+    let r : ℕ = 36524 * b + (1461 * c + (365 * e + doy)) in
+    let s : ℕ = 1461 * c + (365 * e + doy) in
+    let t : ℕ = 365 * e + doy in
+    let small : t < 1461 = elim leap [ inl h ↦ omega arith | inr h ↦ omega (arith, h.0) ] in
+    let whole : r < 146097 = elim leap [ inl h ↦ omega arith | inr h ↦ elim h.1 [ inl k ↦ omega arith | inr k ↦ omega arith ] ] in
+    let e1 : n / 146097 ≡ a = omega arith in
+    let e2 : n % 146097 ≡ r = omega arith in
+    let e3 : min 3 (r / 36524) ≡ b = centuries b c e doy hb hc he hd leap in
+    let e4 : r - b * 36524 ≡ s = omega arith in
+    let e5 : s / 1461 ≡ c = fours c e doy hc he hd small in
+    let e6 : s % 1461 ≡ t = fours_rest c e doy small in
+    let e7 : min 3 (t / 365) ≡ e = ones_of b c e doy he hd leap in
+    let e8 : t - e * 365 ≡ doy = omega arith in
+    rw (e1, e2, e3, e4, e5, e6, e7, e8) refl
+
+-- the date so many days after 1 January of the year 1
+pub date_after-days_before : (k j i : ℕ) → j < 12 → i < length_at (months_of (suc k)) j → date_after (days_of_years k + days_of_first (months_of (suc k)) j + i) ≡ record { year = suc k; month = suc j; day = suc i }
+unfolding made
+date_after-days_before k j i hj hi =
+    let doy : ℕ = days_of_first (months_of (suc k)) j + i in
+    let ends = february_ends k doy (omega (arith, year_bound (suc k) j hj)) in
+    let found = by_cycle (days_of_years k + days_of_first (months_of (suc k)) j + i) (k / 400) (k % 400 / 100) (k % 100 / 4) (k % 4) doy
+        (omega (arith, by_cycles k)) (omega arith) (omega arith) (omega arith) ends.0 ends.1 in
+    let same : (400 * (k / 400) + 100 * (k % 400 / 100) + 4 * (k % 100 / 4) + k % 4) + 1 ≡ suc k = omega (arith, year_of k) in
+    let day = month_found (months_of (suc k)) 1 j i hi ∙ pair_of (1 + j) (i + 1) (suc j) (suc i) (omega arith) (omega arith) in
+    found ∙ ap (λ (y : ℕ). made y (month_and_day (months_of y) 1 doy)) same ∙ ap (made (suc k)) day
