@@ -1,13 +1,13 @@
 -- The day numbers of the definitions are those that the calendar counts.
-use Rattle.std.proofs.Common.{◌≡◌, ◌≢◌, ◌⊎◌, inl, inr, not, ◌||◌, ◌==◌, min, nat_lt, ℕ, zero, suc, ◌+◌, ◌-◌, ◌*◌, ◌/◌, ◌%◌, ◌<◌, ◌≤◌, Bool, true, false, cond, ◌&&◌, nat_le, if◌then◌else◌, List, [], ◌∷◌, Option, Some, None, ℤ, pos, negsuc, ◌+ℤ◌, ◌-ℤ◌, ◌≤ℤ◌, unsigned_abs, refl, sym, ap, ◌∙◌, arith, subst}
+use Rattle.std.proofs.Common.{◌≡◌, ◌≢◌, ◌⊎◌, inl, inr, not, ◌||◌, ◌==◌, min, nat_lt, ℕ, zero, suc, ◌+◌, ◌-◌, ◌*◌, ◌/◌, ◌%◌, ◌<◌, ◌≤◌, Bool, true, false, cond, ◌&&◌, nat_le, if◌then◌else◌, List, [], ◌∷◌, Option, Some, None, ℤ, pos, negsuc, ◌+ℤ◌, ◌-ℤ◌, ◌≤ℤ◌, ◌<ℤ◌, unsigned_abs, refl, sym, ap, ◌∙◌, arith, subst}
 use Rattle.std.proofs.lemmas.Bool.{false≢true}
 use Rattle.std.proofs.lemmas.Bool.Decides.{nat_tests}
 use borrow.Author.Differences.{up, down}
 use Rattle.jiff_core.specs.Calendar.{IsDate, IsCivilDate, days_from_civil, day_count, day_of_year, days_of_months, days_in_month, days_in_year, is_leap_year}
-use Rattle.jiff_core.proofs.CalendarLemmas.{days_in_month_bounds, days_from_civil-day_count, day_count-day_of_year, day_count-next_year}
+use Rattle.jiff_core.proofs.CalendarLemmas.{day_count-lt_year, days_in_month_bounds, days_from_civil-day_count, day_count-day_of_year, day_count-next_year}
 use Rattle.jiff_core.proofs.MarchLemmas.{day_count-early}
 use Rattle.jiff_core.proofs.SignedLemmas.{signed_arith}
-use Rattle.abl_base.specs.Dates.{CivilDate, is_leap, months_of, days_of_years, days_of_first, length_at, days_before, day_number, is_civil, date_from, month_and_day, date_after, date_of_day, nearest_day}
+use Rattle.abl_base.specs.Dates.{CivilDate, is_leap, months_of, days_of_years, days_of_first, length_at, days_before, day_number, is_civil, date_from, month_and_day, date_after, date_in_years}
 
 -- 1 January of the year 1, from 1 January of the year -10000
 first_year : day_count (pos 1) 1 1 ≡ 3_652_791
@@ -278,3 +278,36 @@ date_after-days_before k j i hj hi =
     let same : (400 * (k / 400) + 100 * (k % 400 / 100) + 4 * (k % 100 / 4) + k % 4) + 1 ≡ suc k = omega (arith, year_of k) in
     let day = month_found (months_of (suc k)) 1 j i hi ∙ pair_of (1 + j) (i + 1) (suc j) (suc i) (omega arith) (omega arith) in
     found ∙ ap (λ (y : ℕ). made y (month_and_day (months_of y) 1 doy)) same ∙ ap (made (suc k)) day
+
+-- ---- the calendar's date of a day number
+
+from_day : (z : ℤ) (c : ℕ) (n : ℤ) → up z + 4_371_953 ≡ down z + c → z ≡ n → negsuc 719161 ≤ℤ n → 3_652_791 ≤ c
+from_day z c n h e low = omega (arith, signed_arith)
+
+-- a day from 1 January of the year 1 on is one of a year from 1 on
+year_is_after : (y : ℤ) (m d : ℕ) (n : ℤ) → IsCivilDate y m d → days_from_civil y m d ≡ n → negsuc 719161 ≤ℤ n → y <ℤ pos 1 → ⊥
+year_is_after y m d n h e low before =
+    let count = from_day (days_from_civil y m d) (day_count y m d) n (days_from_civil-day_count y m d) e low in
+    omega (arith, day_count-lt_year y m d (pos 1) 1 1 h (omega arith) before, first_year)
+
+abs_of_day : (b : ℕ) → unsigned_abs ((pos b -ℤ pos 719162) +ℤ pos 719162) ≡ b
+abs_of_day b =
+    let same : (pos b -ℤ pos 719162) +ℤ pos 719162 ≡ pos b = omega (arith, signed_arith) in
+    ap unsigned_abs same
+
+pub date_is : (y : ℤ) (m d : ℕ) (n : ℤ) → IsCivilDate y m d → days_from_civil y m d ≡ n → negsuc 719161 ≤ℤ n → (y ≡ pos (date_in_years n).year) × (m ≡ (date_in_years n).month) × (d ≡ (date_in_years n).day)
+unfolding date_in_years day_number
+date_is (negsuc y) m d n h e low = absurd (year_is_after (negsuc y) m d n h e low (omega (arith, signed_arith)))
+date_is (pos zero) m d n h e low = absurd (year_is_after (pos zero) m d n h e low (omega (arith, signed_arith)))
+date_is (pos (suc k)) zero d n h e low = absurd (omega (arith, h.1.0))
+date_is (pos (suc k)) (suc j) zero n h e low = absurd (omega (arith, h.2.0))
+date_is (pos (suc k)) (suc j) (suc i) n h e low =
+    let jm : suc j - 1 ≡ j = omega arith in
+    let len = length_is (suc k) (suc j) (omega arith) h.1.1 in
+    let room : i < length_at (months_of (suc k)) j = omega (arith, h.2.1, ap (λ (z : ℕ). length_at (months_of (suc k)) z) (sym jm) ∙ len) in
+    let b : ℕ = days_before (record { year = suc k; month = suc j; day = suc i }) in
+    let number : n ≡ pos b -ℤ pos 719162 = sym e ∙ days_from_civil-day_number (suc k) (suc j) (suc i) (omega arith) (omega arith) h.1.1 (omega arith) in
+    let found : date_after (unsigned_abs (n +ℤ pos 719162)) ≡ record { year = suc k; month = suc j; day = suc i } =
+        ap (λ z. date_after (unsigned_abs (z +ℤ pos 719162))) number ∙ ap date_after (abs_of_day b ∙ before_is k j i)
+        ∙ date_after-days_before k j i (omega (arith, h.1.1)) room in
+    (sym (ap (λ x. pos x.year) found), sym (ap (λ x. x.month) found), sym (ap (λ x. x.day) found))

@@ -8,7 +8,7 @@ use Rattle.abl_base.specs.declared.arithmetic.ArithFault.TheVariants.{Overflow}
 use Rattle.abl_base.specs.declared.schema.TableDef.{TableDef}
 use Rattle.std.specs.Fmt.{digits}
 use Rattle.abl_base.specs.Order.{value_order}
-use Rattle.abl_base.specs.Dates.{CivilDate, day_number, date_from, date_of_day, date_after}
+use Rattle.abl_base.specs.Dates.{CivilDate, day_number, date_from, date_of_day, date_in_years, date_after}
 use Rattle.abl_base.specs.Arithmetic.{sum_of, difference_of, product_of, quotient_of, remainder_of}
 use Rattle.abl_base.specs.Fit.{fitted}
 use Rattle.abl_base.specs.Rows.{bytes_of_row, row_in, fragments_of, number_bytes, number_at_head}
@@ -64,11 +64,11 @@ unfolding date_from day_number
 no_leap_day = refl
 
 back_from_a_day : date_of_day (pos 11016) ≡ record { year = 2000; month = 2; day = 29 }
-unfolding date_of_day date_after
+unfolding date_of_day date_in_years date_after
 back_from_a_day = refl
 
 before_the_first_day : date_of_day (negsuc 999999) ≡ record { year = 1; month = 1; day = 1 }
-unfolding date_of_day date_after
+unfolding date_of_day date_in_years date_after
 before_the_first_day = refl
 
 -- ---- arithmetic: rounding away from zero, zero divisors, the remainder's sign, overflow
@@ -131,7 +131,7 @@ unfolding plain_text digits
 a_decimal = refl
 
 an_old_date : plain_text (Date (negsuc 719161)) ≡ codes "01/01/0001"
-unfolding plain_text date_of_day date_after
+unfolding plain_text date_of_day date_in_years date_after
 an_old_date = refl
 
 a_quoted_text : export_text (Text (codes "a\"b")) ≡ codes "\"a\"\"b\""

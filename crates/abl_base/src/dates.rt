@@ -1,7 +1,8 @@
 //! Dates and their day numbers, counted by `jiff`'s calendar.
 
-ghost use Rattle.std.specs.Prelude.{◌≡◌, ◌≤ℤ◌, pos};
-ghost use Rattle.abl_base.specs.Dates.{date_from, is_day};
+ghost use Rattle.std.specs.Prelude.{◌≡◌, ◌≤ℤ◌, negsuc, pos};
+ghost use Rattle.abl_base.specs.Dates.{date_from, date_in_years, date_of_day, is_day, nearest_day};
+ghost use Rattle.jiff_core.specs.Date.{epoch_day};
 
 use jiff_core::civil::Date;
 
@@ -41,4 +42,54 @@ pub(crate) fn is_day(day: i64) -> bool
     ensures { result ≡ is_day day }
 {
     FIRST_DAY <= day && day <= LAST_DAY
+}
+
+/// The month, the day and the year of a day number. A day outside the years 1 to 9999 has those of
+/// the nearest day inside.
+pub fn date_parts(day: i32) -> (i64, i64, i64)
+    ensures month { result.0 ≡ pos (date_of_day day).month }
+    ensures day { result.1 ≡ pos (date_of_day day).day }
+    ensures year { result.2 ≡ pos (date_of_day day).year }
+{
+    parts_of(nearest_day(i64::from(day)))
+}
+
+/// The day itself, or the nearest one of the years 1 to 9999.
+fn nearest_day(day: i64) -> i64
+    ensures nearest { result ≡ nearest_day day }
+    ensures first { negsuc 719161 ≤ℤ result }
+    ensures last { result ≤ℤ pos 2932896 }
+{
+    if day < FIRST_DAY {
+        FIRST_DAY
+    } else if LAST_DAY < day {
+        LAST_DAY
+    } else {
+        day
+    }
+}
+
+/// The month, the day and the year of a day of the years 1 to 9999.
+fn parts_of(day: i64) -> (i64, i64, i64)
+    requires first { negsuc 719161 ≤ℤ day }
+    requires last { day ≤ℤ pos 2932896 }
+    ensures month { result.0 ≡ pos (date_in_years day).month }
+    ensures day { result.1 ≡ pos (date_in_years day).day }
+    ensures year { result.2 ≡ pos (date_in_years day).year }
+{
+    let date = date_at(day);
+    (
+        i64::from(date.month),
+        i64::from(date.day),
+        i64::from(date.year),
+    )
+}
+
+/// The calendar's date of a day of the years 1 to 9999.
+fn date_at(day: i64) -> Date
+    requires first { negsuc 719161 ≤ℤ day }
+    requires last { day ≤ℤ pos 2932896 }
+    ensures { epoch_day result ≡ day }
+{
+    Date::from_unix_epoch_day(day).unwrap()
 }

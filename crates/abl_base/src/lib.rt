@@ -22,7 +22,7 @@ pub mod stored_read;
 pub mod value;
 
 pub use arithmetic::{add, ArithFault, divide, modulo, multiply, subtract};
-pub use dates::date_of;
+pub use dates::{date_of, date_parts};
 pub use fitting::fit;
 pub use items::Items;
 pub use keys::key_bytes;
