@@ -10,3 +10,4 @@ pub mod KeyLaws
 pub mod RowKeys
 pub mod Days
 pub mod SameNames
+pub mod Digits

@@ -19,6 +19,7 @@ pub mod rule;
 pub mod schema;
 pub mod stored;
 pub mod stored_read;
+pub mod texts;
 pub mod value;
 
 pub use arithmetic::{add, ArithFault, divide, modulo, multiply, subtract};
@@ -35,4 +36,5 @@ pub use rule::Rule;
 pub use schema::{FieldDef, IndexDef, Part, Parts, Schema, SequenceDef, TableDef};
 pub use stored::row_bytes;
 pub use stored_read::row_of;
+pub use texts::export_value;
 pub use value::{Bytes, Kind, MAX_TEXT_BYTES, Value};
