@@ -15,7 +15,7 @@ use Rattle.abl_base.specs.Rows.{bytes_of_row, row_in, fragments_of, number_bytes
 use Rattle.abl_base.specs.Keys.{key_bytes, unique_key}
 use Rattle.abl_base.specs.Texts.{plain_text, export_text}
 use Rattle.abl_base.specs.Masks.{mask_is_for}
-use Rattle.abl_base.specs.Schema.{SchemaData, canonical_text, table_named, field_named}
+use Rattle.abl_base.specs.Schema.{SchemaData, canonical_text, lines_in_order, table_named, field_named}
 
 -- ---- order: letters in any case, trailing blanks, numbers of different kinds, no and yes, `?` above all
 case_and_blanks : value_order (Text (codes "Ab  ")) (Text (codes "aB")) ≡ Equal
@@ -162,7 +162,7 @@ items = record {
 
 its_canonical_text : canonical_text items
     ≡ codes "T item\nF itemnum INTEGER M 0\nF sizes - O ?\nI itemnum U P itemnum A\n"
-unfolding canonical_text export_text plain_text digits
+unfolding canonical_text lines_in_order export_text plain_text digits
 its_canonical_text = refl
 
 its_second_field : field_named items 0 (codes "SIZES") ≡ Some 1

@@ -4,6 +4,7 @@
 #![tactic(auto)]
 
 pub mod arithmetic;
+mod canonical;
 pub mod dates;
 pub mod fitting;
 pub mod items;

@@ -1,11 +1,13 @@
 //! Tables with their fields and indexes, and sequences.
 
-ghost use Rattle.std.specs.Prelude.{◌≡◌, ◌<◌, ◌≤◌, length};
+ghost use Rattle.std.specs.Prelude.{◌≡◌, ◌<◌, ◌≤◌, length, IfOk};
 ghost use Rattle.abl_base.specs.Schema.{field_names, number_of_name, table_names};
 
 use crate::items::Items;
 use crate::names::same_name;
 use crate::value::{Bytes, Kind, Value};
+use crate::canonical::lines_in_order;
+use std::alloc::AllocError;
 use std::marker::Model;
 
 /// A field of a table. A field of an unsupported kind has none, and always holds `?`.
@@ -73,7 +75,7 @@ impl Model for Schema {
 }
 
 impl Schema {
-    ghost use Rattle.abl_base.specs.Schema.{IsWithinLimits, fields_of, field_named, indexes_of, name_of, primary_of, table_named};
+    ghost use Rattle.abl_base.specs.Schema.{IsWithinLimits, canonical_text, fields_of, field_named, indexes_of, name_of, primary_of, table_named};
 
     /// The schema with these tables and sequences, each in the order of the file. `order` has true
     /// for a table and false for a sequence, as they stand there one after the other.
@@ -142,6 +144,24 @@ impl Schema {
         ensures { result ≡ primary_of self.now table }
     {
         self.tables.as_slice()[usize::from(table)].primary
+    }
+
+    /// The canonical text, with names folded: a line `T name` for a table, then `F name kind M|O
+    /// initial` for each field, with `-` for an unsupported kind, M for a mandatory field and the
+    /// initial value as EXPORT writes it, then `I name U|N P|N` for each index, with U for a unique
+    /// and P for the primary one and each of its fields with A or D; `S name initial increment` for
+    /// a sequence. Want of memory is the only refusal. (This project's choice.)
+    #[tactic(auto, unfolding(crate::specs::Schema::canonical_text))]
+    pub fn canonical(&self) -> Result<Bytes, AllocError>
+        ensures { IfOk result (λ text. text ≡ canonical_text self.now) }
+    {
+        let lines = lines_in_order(
+            self.tables.allocator(),
+            self.order.as_slice(),
+            self.tables.as_slice(),
+            self.sequences.as_slice(),
+        )?;
+        Ok(Items::from_vec(lines))
     }
 
     /// The sequences in order.
