@@ -11,3 +11,4 @@ pub mod RowKeys
 pub mod Days
 pub mod SameNames
 pub mod Digits
+pub mod Sums

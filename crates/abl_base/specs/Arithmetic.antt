@@ -152,3 +152,10 @@ abbrev pub IsUnlessNoMemory : Result Value ArithFault → Result Value ArithFaul
 IsUnlessNoMemory (Ok v) wanted = Ok v ≡ wanted
 IsUnlessNoMemory (Err Overflow) wanted = Err Overflow ≡ wanted
 IsUnlessNoMemory (Err NoMemory) wanted = IsOk wanted
+
+-- the value is a number
+abbrev pub IsNumber : Value → Type 0
+IsNumber (Int n) = Unit {0}
+IsNumber (Int64 n) = Unit {0}
+IsNumber (Dec n) = Unit {0}
+IsNumber v = ⊥

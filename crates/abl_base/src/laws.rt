@@ -1,6 +1,6 @@
 //! What holds of the definitions alone. Each law is what its function ensures.
 
-ghost use Rattle.std.specs.Prelude.{◌≡◌, ◌≤◌, ◌*◌, ◌↔◌, ℕ, List, Option, Some};
+ghost use Rattle.std.specs.Prelude.{◌≡◌, ◌≤◌, ◌<◌, ◌+◌, ◌*◌, ◌+ℤ◌, ◌-ℤ◌, ◌↔◌, ℕ, List, Option, Ok, Some};
 ghost use Rattle.std.specs.Cmp.{IsTotalOrder};
 ghost use Rattle.std.specs.Cmp.Lexicographic.{slice_cmp};
 ghost use Rattle.std.specs.Ordering.{nat_cmp};
@@ -8,8 +8,9 @@ ghost use Rattle.std.specs.declared.cmp.Ordering.TheVariants.{Equal};
 ghost use Rattle.abl_base.specs.declared.schema.Part.{Part};
 ghost use Rattle.abl_base.specs.declared.value.Kind.{Kind};
 ghost use Rattle.abl_base.specs.declared.value.Value.{Value};
+ghost use Rattle.abl_base.specs.Arithmetic.{difference_of, IsNumber, rounded, sum_of};
 ghost use Rattle.abl_base.specs.Keys.{AreBytes, HaveBytes, key_bytes, key_order};
-ghost use Rattle.abl_base.specs.Order.{value_order};
+ghost use Rattle.abl_base.specs.Order.{rank_of, value_order};
 ghost use Rattle.abl_base.specs.Rows.{bytes_of_row, FitsFields, fragments_of, row_in};
 
 /// The index order is total and transitive.
@@ -36,6 +37,23 @@ pub fn key_bytes_stand_as_keys()
     ensures order { (kinds : List (Option Kind)) (parts : List Part) (a b : List Value)
         → FitsFields kinds a → FitsFields kinds b → HaveBytes a → HaveBytes b
         → slice_cmp nat_cmp (key_bytes parts a) (key_bytes parts b) ≡ key_order parts a b }
+{
+}
+
+/// Sums and differences of numbers are those of the integers where they do not overflow, and so is
+/// what is stored of them: decimals are counted in units of 10^-10.
+pub fn sums_are_those_of_integers()
+    ensures sum { (a b v : Value) → IsNumber a → IsNumber b → sum_of a b ≡ Ok v
+        → rank_of v ≡ rank_of a +ℤ rank_of b }
+    ensures difference { (a b v : Value) → IsNumber a → IsNumber b → difference_of a b ≡ Ok v
+        → rank_of v ≡ rank_of a -ℤ rank_of b }
+{
+}
+
+/// A rounded quotient is the nearest natural number, and a half goes up.
+pub fn quotients_are_the_nearest()
+    ensures low { (n d : ℕ) → 0 < d → 2 * (rounded n d * d) ≤ 2 * n + d }
+    ensures high { (n d : ℕ) → 0 < d → 2 * n < 2 * (rounded n d * d) + d }
 {
 }
 

@@ -32,7 +32,7 @@ pub use masks::mask_fits;
 pub use names::same_name;
 pub use order::compare;
 pub use place::Place;
-pub use row::{Cursor, Cycle, Holders, Numbers, Row, RowId, Rows};
+pub use row::{copy_row, Cursor, Cycle, Holders, Numbers, Row, RowId, Rows};
 pub use rule::Rule;
 pub use schema::{FieldDef, IndexDef, Part, Parts, Schema, SequenceDef, TableDef};
 pub use stored::row_bytes;

@@ -13,6 +13,17 @@ pub struct RowId(pub u32);
 /// The values of a row, in the order of the table's fields.
 pub type Row = Items<Value>;
 
+/// The same row again. Want of memory is the only refusal.
+pub fn copy_row(row: &Row) -> Result<Row, AllocError>
+    ensures { IfOk result (λ copy. copy ≡ row.now) }
+{
+    let mut values = Vec::with_capacity(row.allocator(), row.len())?;
+    for value in row.as_slice() {
+        values.push(value.copy()?)?;
+    }
+    Ok(Items::from_vec(values))
+}
+
 /// Row identities.
 pub type Rows = Items<RowId>;
 
