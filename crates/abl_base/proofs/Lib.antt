@@ -1,6 +1,14 @@
 pub mod Trailing
 pub mod Compared
+pub mod OrderLaws
 pub mod Fields
 pub mod RowReads
 pub mod Numbers
 pub mod RowLaws
+pub mod Settled
+pub mod KeyLaws
+pub mod RowKeys
+pub mod Days
+pub mod SameNames
+pub mod Digits
+pub mod Sums

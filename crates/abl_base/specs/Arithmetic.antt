@@ -1,11 +1,11 @@
 -- The operators `+ - * / MODULO` on values, and exactly where each overflows.
-use Rattle.std.specs.Prelude.{ℕ, zero, suc, ◌+◌, ◌*◌, ◌/◌, ◌^◌, ◌≤◌, Bool, true, false, nat_lt, nat_le, if◌then◌else◌, List, ◌++◌, length, Result, Ok, Err, ℤ, pos, negsuc, neg_ℤ, ◌+ℤ◌, ◌-ℤ◌, ◌*ℤ◌, int_rem, unsigned_abs}
+use Rattle.std.specs.Prelude.{◌≡◌, IsOk, ℕ, zero, suc, ◌+◌, ◌*◌, ◌/◌, ◌^◌, ◌≤◌, Bool, true, false, nat_lt, nat_le, if◌then◌else◌, List, ◌++◌, length, Result, Ok, Err, ℤ, pos, negsuc, neg_ℤ, ◌+ℤ◌, ◌-ℤ◌, ◌*ℤ◌, int_rem, unsigned_abs}
 use Rattle.std.specs.Int.{is_negative}
 use Rattle.abl_base.specs.declared.value.Value.{Value}
 use Rattle.abl_base.specs.declared.value.Value.TheVariants.{Text, Int, Int64, Dec, Logical, Date, Unknown}
 use Rattle.abl_base.specs.declared.value.TheConstants.{MAX_TEXT_BYTES}
 use Rattle.abl_base.specs.declared.arithmetic.ArithFault.{ArithFault}
-use Rattle.abl_base.specs.declared.arithmetic.ArithFault.TheVariants.{Overflow}
+use Rattle.abl_base.specs.declared.arithmetic.ArithFault.TheVariants.{Overflow, NoMemory}
 use Rattle.abl_base.specs.Order.{scaled}
 use Rattle.abl_base.specs.Dates.{is_day}
 
@@ -146,3 +146,16 @@ quotient_of a b = quotient (operand a) (operand b)
 -- what a MODULO b is
 unfoldable pub remainder_of : Value → Value → Result Value ArithFault
 remainder_of a b = remainder (operand a) (operand b)
+
+-- the answer of a call that may want memory: it is the one that is wanted, or memory was wanting where there is a value
+abbrev pub IsUnlessNoMemory : Result Value ArithFault → Result Value ArithFault → Type 0
+IsUnlessNoMemory (Ok v) wanted = Ok v ≡ wanted
+IsUnlessNoMemory (Err Overflow) wanted = Err Overflow ≡ wanted
+IsUnlessNoMemory (Err NoMemory) wanted = IsOk wanted
+
+-- the value is a number
+abbrev pub IsNumber : Value → Type 0
+IsNumber (Int n) = Unit {0}
+IsNumber (Int64 n) = Unit {0}
+IsNumber (Dec n) = Unit {0}
+IsNumber v = ⊥

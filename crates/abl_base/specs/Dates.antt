@@ -90,6 +90,10 @@ date_after n =
     let found : ℕ × ℕ = month_and_day (months_of year) 1 (in_4 - ones * 365) in
     record { year = year; month = found.0; day = found.1 })
 
+-- the date of a day of the years 1 to 9999
+unfoldable pub date_in_years : ℤ → CivilDate
+date_in_years day = date_after (unsigned_abs (day +ℤ pos 719162))
+
 -- the date of a day number, or of the nearest day of the years 1 to 9999
 unfoldable pub date_of_day : ℤ → CivilDate
-date_of_day day = date_after (unsigned_abs (nearest_day day +ℤ pos 719162))
+date_of_day day = date_in_years (nearest_day day)

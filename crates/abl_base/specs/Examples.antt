@@ -8,14 +8,14 @@ use Rattle.abl_base.specs.declared.arithmetic.ArithFault.TheVariants.{Overflow}
 use Rattle.abl_base.specs.declared.schema.TableDef.{TableDef}
 use Rattle.std.specs.Fmt.{digits}
 use Rattle.abl_base.specs.Order.{value_order}
-use Rattle.abl_base.specs.Dates.{CivilDate, day_number, date_from, date_of_day, date_after}
+use Rattle.abl_base.specs.Dates.{CivilDate, day_number, date_from, date_of_day, date_in_years, date_after}
 use Rattle.abl_base.specs.Arithmetic.{sum_of, difference_of, product_of, quotient_of, remainder_of}
 use Rattle.abl_base.specs.Fit.{fitted}
 use Rattle.abl_base.specs.Rows.{bytes_of_row, row_in, fragments_of, number_bytes, number_at_head}
 use Rattle.abl_base.specs.Keys.{key_bytes, unique_key}
 use Rattle.abl_base.specs.Texts.{plain_text, export_text}
 use Rattle.abl_base.specs.Masks.{mask_is_for}
-use Rattle.abl_base.specs.Schema.{SchemaData, canonical_text, table_named, field_named}
+use Rattle.abl_base.specs.Schema.{SchemaData, canonical_text, lines_in_order, table_named, field_named}
 
 -- ---- order: letters in any case, trailing blanks, numbers of different kinds, no and yes, `?` above all
 case_and_blanks : value_order (Text (codes "Ab  ")) (Text (codes "aB")) ≡ Equal
@@ -64,11 +64,11 @@ unfolding date_from day_number
 no_leap_day = refl
 
 back_from_a_day : date_of_day (pos 11016) ≡ record { year = 2000; month = 2; day = 29 }
-unfolding date_of_day date_after
+unfolding date_of_day date_in_years date_after
 back_from_a_day = refl
 
 before_the_first_day : date_of_day (negsuc 999999) ≡ record { year = 1; month = 1; day = 1 }
-unfolding date_of_day date_after
+unfolding date_of_day date_in_years date_after
 before_the_first_day = refl
 
 -- ---- arithmetic: rounding away from zero, zero divisors, the remainder's sign, overflow
@@ -131,7 +131,7 @@ unfolding plain_text digits
 a_decimal = refl
 
 an_old_date : plain_text (Date (negsuc 719161)) ≡ codes "01/01/0001"
-unfolding plain_text date_of_day date_after
+unfolding plain_text date_of_day date_in_years date_after
 an_old_date = refl
 
 a_quoted_text : export_text (Text (codes "a\"b")) ≡ codes "\"a\"\"b\""
@@ -162,7 +162,7 @@ items = record {
 
 its_canonical_text : canonical_text items
     ≡ codes "T item\nF itemnum INTEGER M 0\nF sizes - O ?\nI itemnum U P itemnum A\n"
-unfolding canonical_text export_text plain_text digits
+unfolding canonical_text lines_in_order export_text plain_text digits
 its_canonical_text = refl
 
 its_second_field : field_named items 0 (codes "SIZES") ≡ Some 1

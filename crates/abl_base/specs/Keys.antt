@@ -30,8 +30,7 @@ ascending_bytes (Text t) = 1 ∷ escaped (compared_text t) ++ 0 ∷ 0 ∷ []
 ascending_bytes (Int n) = 1 ∷ number_bytes 8 (turned_over 64 n)
 ascending_bytes (Int64 n) = 1 ∷ number_bytes 8 (turned_over 64 n)
 ascending_bytes (Dec n) = 1 ∷ number_bytes 16 (turned_over 128 n)
-ascending_bytes (Logical false) = 1 ∷ 0 ∷ []
-ascending_bytes (Logical true) = 1 ∷ 1 ∷ []
+ascending_bytes (Logical b) = 1 ∷ (if b then 1 else 0) ∷ []
 ascending_bytes (Date d) = 1 ∷ number_bytes 4 (turned_over 32 d)
 
 -- a byte of a component: in a descending one each byte b stands as 255 - b

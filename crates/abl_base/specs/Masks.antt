@@ -4,6 +4,17 @@ use Rattle.std.specs.List.{list_all, list_any}
 use Rattle.abl_base.specs.declared.value.Kind.{Kind}
 use Rattle.abl_base.specs.declared.value.Kind.TheVariants.{Character, Integer, Int64, Decimal, Logical, Date}
 
+-- what is left after the longest run of bytes that pass
+abbrev pub after_run : (ℕ → Bool) → List ℕ → List ℕ
+after_run passes [] = []
+after_run passes (b ∷ bs) = if passes b then after_run passes bs else b ∷ bs
+
+abbrev pub same_bytes : List ℕ → List ℕ → Bool
+same_bytes [] [] = true
+same_bytes [] (b ∷ bs) = false
+same_bytes (a ∷ as_) [] = false
+same_bytes (a ∷ as_) (b ∷ bs) = (a == b) && same_bytes as_ bs
+
 -- ---- CHARACTER: `x(n)` with n from 1 to 999, or a run of `x`; capitals too
 
 abbrev pub is_x : ℕ → Bool
@@ -12,71 +23,69 @@ is_x b = (b == 120) || (b == 88)
 abbrev pub is_digit : ℕ → Bool
 is_digit b = nat_le 48 b && nat_le b 57
 
--- one to three digits that are not all zero, and then a closing parenthesis and nothing more
-abbrev pub is_width : ℕ → Bool → List ℕ → Bool
-is_width room counts [] = false
-is_width zero counts (b ∷ bs) = (counts && (b == 41)) && (length bs == 0)
-is_width (suc room) counts (b ∷ bs) =
-    if is_digit b then is_width room (counts || not (b == 48)) bs else (counts && (b == 41)) && (length bs == 0)
+-- a digit, and whether the number is not zero
+abbrev pub is_digit_but : ℕ → ℕ → Bool
+is_digit_but a b = is_digit b && not ((a == 48) && (b == 48))
+
+-- one to three digits that are not all zero, and a closing parenthesis
+abbrev pub is_width : List ℕ → Bool
+is_width (a ∷ b ∷ []) = (is_digit a && not (a == 48)) && (b == 41)
+is_width (a ∷ b ∷ c ∷ []) = (is_digit a && is_digit_but a b) && (c == 41)
+is_width (a ∷ b ∷ c ∷ d ∷ []) =
+    ((is_digit a && is_digit b) && (is_digit c && not ((a == 48) && ((b == 48) && (c == 48))))) && (d == 41)
+is_width bs = false
 
 abbrev pub is_text_mask : List ℕ → Bool
 is_text_mask [] = false
 is_text_mask (b ∷ []) = is_x b
-is_text_mask (b ∷ c ∷ cs) = is_x b && ((if c == 40 then is_width 3 false cs else list_all is_x (c ∷ cs)))
+is_text_mask (b ∷ c ∷ cs) = is_x b && (if c == 40 then is_width cs else list_all is_x (c ∷ cs))
 
 -- ---- LOGICAL: two words with one `/` between them
 
-abbrev pub is_last_word : List ℕ → Bool
-is_last_word [] = false
-is_last_word (b ∷ bs) = list_all (λ c. not (c == 47)) (b ∷ bs)
+abbrev pub is_letter : ℕ → Bool
+is_letter b = not (b == 47)
 
-abbrev pub is_rest_of_words : List ℕ → Bool
-is_rest_of_words [] = false
-is_rest_of_words (b ∷ bs) = if b == 47 then is_last_word bs else is_rest_of_words bs
+-- a `/` and a word
+abbrev pub is_second_word : List ℕ → Bool
+is_second_word [] = false
+is_second_word (b ∷ []) = false
+is_second_word (b ∷ c ∷ cs) = list_all is_letter (c ∷ cs)
 
 abbrev pub is_word_mask : List ℕ → Bool
 is_word_mask [] = false
-is_word_mask (b ∷ bs) = not (b == 47) && is_rest_of_words bs
+is_word_mask (b ∷ bs) = is_letter b && is_second_word (after_run is_letter bs)
 
 -- ---- numbers: an optional `-`, then `>`, `z` and commas, then `9` and commas, then for a DECIMAL
 -- an optional point and `9`s, with at least one sign of a digit, in at most 40 bytes
 
-abbrev pub is_floating : ℕ → Bool
-is_floating b = (b == 62) || (b == 122) || (b == 90)
-
 abbrev pub is_digit_sign : ℕ → Bool
-is_digit_sign b = is_floating b || (b == 57)
+is_digit_sign b = (b == 62) || ((b == 122) || ((b == 90) || (b == 57)))
 
-abbrev pub are_decimals : List ℕ → Bool
-are_decimals [] = false
-are_decimals (b ∷ bs) = list_all (λ c. c == 57) (b ∷ bs)
+abbrev pub is_floating : ℕ → Bool
+is_floating b = (b == 62) || ((b == 122) || ((b == 90) || (b == 44)))
 
-abbrev pub are_nines : Bool → List ℕ → Bool
-are_nines decimals [] = true
-are_nines decimals (b ∷ bs) =
-    if (b == 57) || (b == 44) then are_nines decimals bs else decimals && ((b == 46) && are_decimals bs)
+abbrev pub is_fixed : ℕ → Bool
+is_fixed b = (b == 57) || (b == 44)
 
-abbrev pub are_digit_signs : Bool → List ℕ → Bool
-are_digit_signs decimals [] = true
-are_digit_signs decimals (b ∷ bs) =
-    if is_floating b || (b == 44) then are_digit_signs decimals bs else are_nines decimals (b ∷ bs)
+abbrev pub is_nine : ℕ → Bool
+is_nine b = b == 57
 
-abbrev pub is_signed_number : Bool → List ℕ → Bool
-is_signed_number decimals [] = false
-is_signed_number decimals (b ∷ bs) =
-    if b == 45 then are_digit_signs decimals bs else are_digit_signs decimals (b ∷ bs)
+abbrev pub without_minus : List ℕ → List ℕ
+without_minus [] = []
+without_minus (b ∷ bs) = if b == 45 then bs else b ∷ bs
+
+-- nothing more, or for a DECIMAL a point and at least one `9`
+abbrev pub is_fraction : Bool → List ℕ → Bool
+is_fraction decimals [] = true
+is_fraction decimals (b ∷ []) = false
+is_fraction decimals (b ∷ c ∷ cs) = decimals && ((b == 46) && list_all is_nine (c ∷ cs))
 
 abbrev pub is_number_mask : Bool → List ℕ → Bool
 is_number_mask decimals mask =
-    nat_le (length mask) 40 && (list_any is_digit_sign mask && is_signed_number decimals mask)
+    nat_le (length mask) 40 && (list_any is_digit_sign mask
+        && is_fraction decimals (after_run is_fixed (after_run is_floating (without_minus mask))))
 
 -- ---- DATE
-
-abbrev pub same_bytes : List ℕ → List ℕ → Bool
-same_bytes [] [] = true
-same_bytes [] (b ∷ bs) = false
-same_bytes (a ∷ as_) [] = false
-same_bytes (a ∷ as_) (b ∷ bs) = (a == b) && same_bytes as_ bs
 
 abbrev pub is_date_mask : List ℕ → Bool
 is_date_mask mask = same_bytes mask (codes "99/99/99") || same_bytes mask (codes "99/99/9999")

@@ -1,5 +1,6 @@
 -- A schema as data, what its readers find, and its canonical text.
-use Rattle.std.specs.Prelude.{ℕ, zero, suc, ◌+◌, Bool, true, false, ◌&&◌, ◌==◌, if◌then◌else◌, List, [], ◌∷◌, ◌++◌, length, codes, slice_index_or, Option, Some, None}
+use Rattle.std.specs.Prelude.{◌≤◌, ℕ, zero, suc, ◌+◌, Bool, true, false, ◌&&◌, ◌==◌, if◌then◌else◌, List, [], ◌∷◌, ◌++◌, length, codes, slice_index_or, Option, Some, None}
+use Rattle.std.specs.List.{All, flat_map}
 use Rattle.std.specs.Fmt.{signed_decimal}
 use Rattle.abl_base.specs.declared.value.Value.{Value}
 use Rattle.abl_base.specs.declared.value.Value.TheVariants.{Unknown}
@@ -59,6 +60,13 @@ table_named s name = number_of_name 0 (table_names s.tables) name
 unfoldable pub field_named : SchemaData → ℕ → List ℕ → Option ℕ
 field_named s t name = number_of_name 0 (field_names (table_at s t).fields) name
 
+-- at most 256 tables, each with at most 256 fields
+abbrev pub IsWithinLimits : List TableDef → Type 0
+IsWithinLimits tables = (length tables ≤ 256) × All (λ t. length t.fields ≤ 256) tables
+
+abbrev pub name_of : SchemaData → ℕ → List ℕ
+name_of s t = (table_at s t).name
+
 abbrev pub fields_of : SchemaData → ℕ → List FieldDef
 fields_of s t = (table_at s t).fields
 
@@ -88,34 +96,33 @@ abbrev pub field_line : FieldDef → List ℕ
 field_line f =
     codes "F " ++ folded f.name ++ 32 ∷ kind_text f.kind ++ 32 ∷ letter f.mandatory 77 79 ++ 32 ∷ export_text f.initial ++ 10 ∷ []
 
-abbrev pub field_lines : List FieldDef → List ℕ
-field_lines [] = []
-field_lines (f ∷ fs) = field_line f ++ field_lines fs
-
 abbrev pub no_field : FieldDef
 no_field = record { name = []; kind = None; initial = Unknown; mandatory = false; mask = [] }
 
 -- ` field A|D`
-abbrev pub part_texts : List FieldDef → List Part → List ℕ
-part_texts fields [] = []
-part_texts fields (p ∷ ps) =
-    32 ∷ folded (slice_index_or fields p.field no_field).name ++ 32 ∷ letter p.descending 68 65 ++ part_texts fields ps
+abbrev pub part_text : List FieldDef → Part → List ℕ
+part_text fields p = 32 ∷ folded (slice_index_or fields p.field no_field).name ++ 32 ∷ letter p.descending 68 65
 
 abbrev pub is_number : Option ℕ → ℕ → Bool
 is_number None n = false
 is_number (Some k) n = k == n
 
 -- `I name U|N P|N` and its parts
+abbrev pub index_line : List FieldDef → Bool → IndexDef → List ℕ
+index_line fields primary i =
+    codes "I " ++ folded i.name ++ 32 ∷ letter i.unique 85 78 ++ 32 ∷ letter primary 80 78
+    ++ flat_map (part_text fields) i.parts ++ 10 ∷ []
+
+-- the lines of the indexes from the n-th on
 abbrev pub index_lines : List FieldDef → Option ℕ → ℕ → List IndexDef → List ℕ
 index_lines fields primary n [] = []
 index_lines fields primary n (i ∷ is) =
-    codes "I " ++ folded i.name ++ 32 ∷ letter i.unique 85 78 ++ 32 ∷ letter (is_number primary n) 80 78
-    ++ part_texts fields i.parts ++ 10 ∷ index_lines fields primary (n + 1) is
+    index_line fields (is_number primary n) i ++ index_lines fields primary (n + 1) is
 
 -- `T name`, the lines of the fields, and those of the indexes
 abbrev pub table_lines : TableDef → List ℕ
 table_lines t =
-    codes "T " ++ folded t.name ++ 10 ∷ field_lines t.fields ++ index_lines t.fields t.primary 0 t.indexes
+    codes "T " ++ folded t.name ++ 10 ∷ flat_map field_line t.fields ++ index_lines t.fields t.primary 0 t.indexes
 
 -- `S name initial increment`
 abbrev pub sequence_line : SequenceDef → List ℕ
@@ -123,7 +130,7 @@ sequence_line s =
     codes "S " ++ folded s.name ++ 32 ∷ signed_decimal s.initial ++ 32 ∷ signed_decimal s.increment ++ 10 ∷ []
 
 -- tables and sequences as they stand in the file
-abbrev pub lines_in_order : List Bool → List TableDef → List SequenceDef → List ℕ
+unfoldable pub lines_in_order : List Bool → List TableDef → List SequenceDef → List ℕ
 lines_in_order [] tables sequences = []
 lines_in_order (true ∷ order) [] sequences = lines_in_order order [] sequences
 lines_in_order (true ∷ order) (t ∷ tables) sequences = table_lines t ++ lines_in_order order tables sequences

@@ -1,6 +1,7 @@
 -- The plain text of a value, and the text that EXPORT writes of it.
 use Rattle.std.specs.Prelude.{ℕ, zero, suc, ◌+◌, ◌/◌, ◌%◌, Bool, true, false, ◌&&◌, ◌==◌, nat_le, if◌then◌else◌, List, [], ◌∷◌, ◌++◌, codes, ℤ, unsigned_abs}
 use Rattle.std.specs.Int.{is_negative}
+use Rattle.std.specs.List.{flat_map}
 use Rattle.std.specs.Fmt.{decimal, signed_decimal}
 use Rattle.abl_base.specs.declared.value.Value.{Value}
 use Rattle.abl_base.specs.declared.value.Value.TheVariants.{Text, Int, Int64, Dec, Logical, Date, Unknown}
@@ -21,17 +22,22 @@ abbrev pub after_point : List ℕ → List ℕ
 after_point [] = []
 after_point (d ∷ ds) = 46 ∷ d ∷ ds
 
--- a decimal: at least one digit before the point, up to ten after it without trailing zeros
-abbrev pub decimal_text : ℤ → List ℕ
-decimal_text n =
-    minus_sign n ++ decimal (unsigned_abs n / 10000000000)
-    ++ after_point (without_trailing 48 (last_digits 10 (unsigned_abs n % 10000000000)))
+-- a decimal's magnitude: at least one digit before the point, up to ten after it without trailing zeros
+abbrev pub magnitude_text : ℕ → List ℕ
+magnitude_text n =
+    decimal (n / 10000000000) ++ after_point (without_trailing 48 (last_digits 10 (n % 10000000000)))
 
--- a date: the year with two digits from 1950 to 2049, else with four
+abbrev pub decimal_text : ℤ → List ℕ
+decimal_text n = minus_sign n ++ magnitude_text (unsigned_abs n)
+
+-- the year with two digits from 1950 to 2049, else with four
+abbrev pub year_text : ℕ → List ℕ
+year_text year =
+    if nat_le 1950 year && nat_le year 2049 then last_digits 2 year else last_digits 4 year
+
+-- month, day and year
 abbrev pub date_text : CivilDate → List ℕ
-date_text d =
-    last_digits 2 d.month ++ 47 ∷ last_digits 2 d.day
-    ++ 47 ∷ (if nat_le 1950 d.year && nat_le d.year 2049 then last_digits 2 d.year else last_digits 4 d.year)
+date_text d = last_digits 2 d.month ++ 47 ∷ last_digits 2 d.day ++ 47 ∷ year_text d.year
 
 -- the plain text of a value
 unfoldable pub plain_text : Value → List ℕ
@@ -45,9 +51,11 @@ plain_text (Date d) = date_text (date_of_day d)
 plain_text Unknown = 63 ∷ []
 
 -- a text with each quotation mark doubled
+abbrev pub doubled_byte : ℕ → List ℕ
+doubled_byte b = if b == 34 then 34 ∷ 34 ∷ [] else b ∷ []
+
 abbrev pub doubled : List ℕ → List ℕ
-doubled [] = []
-doubled (b ∷ bs) = if b == 34 then 34 ∷ 34 ∷ doubled bs else b ∷ doubled bs
+doubled text = flat_map doubled_byte text
 
 -- a text in quotation marks, any other value plain
 unfoldable pub export_text : Value → List ℕ

@@ -82,7 +82,7 @@ fn push_text(bytes: &mut Vec<u8>, descending: bool, text: &[u8]) -> Result<(), A
         ≡ bytes.old.items ++ map (turned_byte descending) (1 ∷ escaped (compared_text text.now) ++ 0 ∷ 0 ∷ [])) }
 {
     push_bytes(bytes, descending, &[1])?;
-    push_escaped(bytes, descending, trimmed(text))?;
+    push_escaped(bytes, descending, trimmed(text, b' '))?;
     push_bytes(bytes, descending, &[0, 0])
 }
 

@@ -4,27 +4,38 @@
 #![tactic(auto)]
 
 pub mod arithmetic;
+mod canonical;
 pub mod dates;
+pub mod fitting;
 pub mod items;
 pub mod keys;
 pub mod laws;
+pub mod masks;
+pub mod names;
 pub mod order;
 pub mod place;
 pub mod row;
+mod rounding;
 pub mod rule;
 pub mod schema;
 pub mod stored;
 pub mod stored_read;
+pub mod texts;
 pub mod value;
 
-pub use arithmetic::ArithFault;
+pub use arithmetic::{add, ArithFault, divide, modulo, multiply, subtract};
+pub use dates::{date_of, date_parts};
+pub use fitting::fit;
 pub use items::Items;
 pub use keys::key_bytes;
+pub use masks::mask_fits;
+pub use names::same_name;
 pub use order::compare;
 pub use place::Place;
-pub use row::{Cursor, Cycle, Holders, Numbers, Row, RowId, Rows, copy_row};
+pub use row::{copy_row, Cursor, Cycle, Holders, Numbers, Row, RowId, Rows};
 pub use rule::Rule;
-pub use schema::{FieldDef, IndexDef, Part, Parts, SequenceDef, TableDef};
+pub use schema::{FieldDef, IndexDef, Part, Parts, Schema, SequenceDef, TableDef};
 pub use stored::row_bytes;
 pub use stored_read::row_of;
+pub use texts::export_value;
 pub use value::{Bytes, Kind, MAX_TEXT_BYTES, Value};

@@ -68,15 +68,15 @@ fn rank(value: &Value) -> i128
 fn compare_texts(s: &[u8], t: &[u8]) -> Ordering
     ensures { result ≡ slice_cmp nat_cmp (compared_text s.now) (compared_text t.now) }
 {
-    compare_folded(trimmed(s), trimmed(t))
+    compare_folded(trimmed(s, b' '), trimmed(t, b' '))
 }
 
-/// The text without its trailing blanks.
-pub(crate) fn trimmed(text: &[u8]) -> &[u8]
-    ensures { result.now ≡ without_trailing 32 text.now }
+/// The text without the run of this byte at its end.
+pub(crate) fn trimmed(text: &[u8], dropped: u8) -> &[u8]
+    ensures { result.now ≡ without_trailing dropped text.now }
 {
     let mut end = text.len();
-    while end > 0 && text[end - 1] == b' ' {
+    while end > 0 && text[end - 1] == dropped {
         end -= 1;
     }
     &text[..end]

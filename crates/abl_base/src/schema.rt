@@ -1,7 +1,14 @@
 //! Tables with their fields and indexes, and sequences.
 
+ghost use Rattle.std.specs.Prelude.{◌≡◌, ◌<◌, ◌≤◌, length, IfOk};
+ghost use Rattle.abl_base.specs.Schema.{field_names, number_of_name, table_names};
+
 use crate::items::Items;
+use crate::names::same_name;
 use crate::value::{Bytes, Kind, Value};
+use crate::canonical::lines_in_order;
+use std::alloc::AllocError;
+use std::marker::Model;
 
 /// A field of a table. A field of an unsupported kind has none, and always holds `?`.
 #[derive(Drop)]
@@ -46,4 +53,147 @@ pub struct SequenceDef {
     pub name: Bytes,
     pub initial: i64,
     pub increment: i64,
+}
+
+/// The tables and sequences of a database, as they stand in its schema file. Names are spelt as
+/// there, and found in any case.
+#[derive(Drop)]
+pub struct Schema {
+    tables: Items<TableDef>,
+    sequences: Items<SequenceDef>,
+    order: Items<bool>,
+}
+
+impl Model for Schema {
+    ghost use Rattle.abl_base.specs.Schema.{SchemaData, IsWithinLimits};
+
+    ghost Value = { SchemaData };
+
+    ghost view = { λ s. record { tables = s.tables; sequences = s.sequences; order = s.order } };
+
+    ghost invariant = { λ s. IsWithinLimits s.tables };
+}
+
+impl Schema {
+    ghost use Rattle.abl_base.specs.Schema.{IsWithinLimits, canonical_text, fields_of, field_named, indexes_of, name_of, primary_of, table_named};
+
+    /// The schema with these tables and sequences, each in the order of the file. `order` has true
+    /// for a table and false for a sequence, as they stand there one after the other.
+    pub fn of(tables: Items<TableDef>, sequences: Items<SequenceDef>, order: Items<bool>) -> Schema
+        requires { IsWithinLimits tables }
+        ensures { result ≡ record { tables = tables; sequences = sequences; order = order } }
+    {
+        Schema {
+            tables,
+            sequences,
+            order,
+        }
+    }
+
+    /// How many tables there are.
+    pub fn tables(&self) -> u16
+        ensures { result ≡ length self.now.tables }
+    {
+        self.tables.len() as u16
+    }
+
+    /// The number of the table with this name, in any case.
+    #[tactic(auto, unfolding(crate::specs::Schema::table_named))]
+    pub fn table(&self, name: &[u8]) -> Option<u16>
+        ensures { result ≡ table_named self.now name.now }
+    {
+        table_number(self.tables.as_slice(), name)
+    }
+
+    /// The number of the table's field with this name, in any case.
+    #[tactic(auto, unfolding(crate::specs::Schema::field_named))]
+    pub fn field(&self, table: u16, name: &[u8]) -> Option<u16>
+        requires { table < length self.now.tables }
+        ensures { result ≡ field_named self.now table name.now }
+    {
+        field_number(self.tables.as_slice()[usize::from(table)].fields.as_slice(), name)
+    }
+
+    /// The table's name as it is spelt.
+    pub fn table_name(&self, table: u16) -> &[u8]
+        requires { table < length self.now.tables }
+        ensures { result.now ≡ name_of self.now table }
+    {
+        self.tables.as_slice()[usize::from(table)].name.as_slice()
+    }
+
+    /// The table's fields in order.
+    pub fn fields(&self, table: u16) -> &[FieldDef]
+        requires { table < length self.now.tables }
+        ensures { result.now ≡ fields_of self.now table }
+    {
+        self.tables.as_slice()[usize::from(table)].fields.as_slice()
+    }
+
+    /// The table's usable indexes in order.
+    pub fn indexes(&self, table: u16) -> &[IndexDef]
+        requires { table < length self.now.tables }
+        ensures { result.now ≡ indexes_of self.now table }
+    {
+        self.tables.as_slice()[usize::from(table)].indexes.as_slice()
+    }
+
+    /// The number of the table's primary index, where it has one.
+    pub fn primary(&self, table: u16) -> Option<u16>
+        requires { table < length self.now.tables }
+        ensures { result ≡ primary_of self.now table }
+    {
+        self.tables.as_slice()[usize::from(table)].primary
+    }
+
+    /// The canonical text, with names folded: a line `T name` for a table, then `F name kind M|O
+    /// initial` for each field, with `-` for an unsupported kind, M for a mandatory field and the
+    /// initial value as EXPORT writes it, then `I name U|N P|N` for each index, with U for a unique
+    /// and P for the primary one and each of its fields with A or D; `S name initial increment` for
+    /// a sequence. Want of memory is the only refusal. (This project's choice.)
+    #[tactic(auto, unfolding(crate::specs::Schema::canonical_text))]
+    pub fn canonical(&self) -> Result<Bytes, AllocError>
+        ensures { IfOk result (λ text. text ≡ canonical_text self.now) }
+    {
+        let lines = lines_in_order(
+            self.tables.allocator(),
+            self.order.as_slice(),
+            self.tables.as_slice(),
+            self.sequences.as_slice(),
+        )?;
+        Ok(Items::from_vec(lines))
+    }
+
+    /// The sequences in order.
+    pub fn sequences(&self) -> &[SequenceDef]
+        ensures { result.now ≡ self.now.sequences }
+    {
+        self.sequences.as_slice()
+    }
+}
+
+/// The number of the first table with this name.
+fn table_number(tables: &[TableDef], name: &[u8]) -> Option<u16>
+    requires { length tables.now ≤ 256 }
+    ensures { result ≡ number_of_name 0 (table_names tables.now) name.now }
+{
+    for i in 0..tables.len() {
+        if same_name(tables[i].name.as_slice(), name) {
+            return Some(i as u16);
+        }
+    }
+    None
+}
+
+/// The number of the first field with this name.
+fn field_number(fields: &[FieldDef], name: &[u8]) -> Option<u16>
+    requires { length fields.now ≤ 256 }
+    ensures { result ≡ number_of_name 0 (field_names fields.now) name.now }
+{
+    for i in 0..fields.len() {
+        if same_name(fields[i].name.as_slice(), name) {
+            return Some(i as u16);
+        }
+    }
+    None
 }

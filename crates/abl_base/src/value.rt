@@ -23,7 +23,7 @@ pub enum Kind {
 }
 
 /// A value; `Unknown` is `?`.
-#[derive(Drop)]
+#[derive(Debug, Drop, PartialEq)]
 pub enum Value {
     Text(Bytes),
     Int(i32),

@@ -1,8 +1,5 @@
-use Rattle.std.proofs.lemmas.Cmp.{then_total, on_total, nat_cmp_total, int_cmp_total, nat_list_cmp_total}
-use Rattle.abl_base.specs.Order.{class_of, rank_of, letters_of, value_order}
+use Rattle.abl_base.proofs.OrderLaws.{value_order_total}
 use Rattle.abl_base.proofs.laws.value_order_is_total.Goals as goal
 
 pub returns : goal.returns
-unfolding value_order
-returns c =
-    then_total (on_total class_of nat_cmp_total) (then_total (on_total rank_of int_cmp_total) (on_total letters_of nat_list_cmp_total))
+returns c = value_order_total
