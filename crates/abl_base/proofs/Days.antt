@@ -55,7 +55,7 @@ count_is : (y m d : ℕ) → m < 12 → day_count (pos (suc y)) (suc m) (suc d) 
 count_is y m d h =
     let em : suc m - 1 ≡ m = omega arith in
     let place : day_of_year (pos (suc y)) (suc m) (suc d) ≡ days_of_first (months_of (suc y)) m + suc d =
-        ap (λ (k : ℕ). days_of_months (pos (suc y)) k + suc d) em ∙ ap (λ (k : ℕ). k + suc d) (month_count (suc y) m h) in
+    ap (λ (k : ℕ). days_of_months (pos (suc y)) k + suc d) em ∙ ap (λ (k : ℕ). k + suc d) (month_count (suc y) m h) in
     let whole = day_count-day_of_year (pos (suc y)) (suc m) (suc d) (omega arith) in
     omega (arith, year_count y)
 
@@ -116,9 +116,9 @@ date_found (pos y) mo da month day year y1 y2 ey em ed m1 m2 d1 d2 =
     let test = civil_test y mo da low high m1 m2 d1 d2 in
     subst (λ z. date_from month day z ≡ Some (days_from_civil (pos y) mo da)) ey
     (subst (λ z. date_from z day (pos y) ≡ Some (days_from_civil (pos y) mo da)) em
-        (subst (λ z. date_from (pos mo) z (pos y) ≡ Some (days_from_civil (pos y) mo da)) ed
-            (ap (λ b. if b then Some (day_number (record { year = y; month = mo; day = da })) else None) test
-                ∙ ap (λ z. Some z) (sym (days_from_civil-day_number y mo da low m1 m2 d1)))))
+    (subst (λ z. date_from (pos mo) z (pos y) ≡ Some (days_from_civil (pos y) mo da)) ed
+    (ap (λ b. if b then Some (day_number (record { year = y; month = mo; day = da })) else None) test
+    ∙ ap (λ z. Some z) (sym (days_from_civil-day_number y mo da low m1 m2 d1)))))
 
 civil_facts : (y m d : ℕ) → is_civil (record { year = y; month = m; day = d }) ≡ true → IsDate (pos y) (pos m) (pos d)
 civil_facts y m d h =
@@ -274,7 +274,7 @@ date_after-days_before k j i hj hi =
     let doy : ℕ = days_of_first (months_of (suc k)) j + i in
     let ends = february_ends k doy (omega (arith, year_bound (suc k) j hj)) in
     let found = by_cycle (days_of_years k + days_of_first (months_of (suc k)) j + i) (k / 400) (k % 400 / 100) (k % 100 / 4) (k % 4) doy
-        (omega (arith, by_cycles k)) (omega arith) (omega arith) (omega arith) ends.0 ends.1 in
+    (omega (arith, by_cycles k)) (omega arith) (omega arith) (omega arith) ends.0 ends.1 in
     let same : (400 * (k / 400) + 100 * (k % 400 / 100) + 4 * (k % 100 / 4) + k % 4) + 1 ≡ suc k = omega (arith, year_of k) in
     let day = month_found (months_of (suc k)) 1 j i hi ∙ pair_of (1 + j) (i + 1) (suc j) (suc i) (omega arith) (omega arith) in
     found ∙ ap (λ (y : ℕ). made y (month_and_day (months_of y) 1 doy)) same ∙ ap (made (suc k)) day
@@ -308,6 +308,6 @@ date_is (pos (suc k)) (suc j) (suc i) n h e low =
     let b : ℕ = days_before (record { year = suc k; month = suc j; day = suc i }) in
     let number : n ≡ pos b -ℤ pos 719162 = sym e ∙ days_from_civil-day_number (suc k) (suc j) (suc i) (omega arith) (omega arith) h.1.1 (omega arith) in
     let found : date_after (unsigned_abs (n +ℤ pos 719162)) ≡ record { year = suc k; month = suc j; day = suc i } =
-        ap (λ z. date_after (unsigned_abs (z +ℤ pos 719162))) number ∙ ap date_after (abs_of_day b ∙ before_is k j i)
-        ∙ date_after-days_before k j i (omega (arith, h.1.1)) room in
+    ap (λ z. date_after (unsigned_abs (z +ℤ pos 719162))) number ∙ ap date_after (abs_of_day b ∙ before_is k j i)
+    ∙ date_after-days_before k j i (omega (arith, h.1.1)) room in
     (sym (ap (λ x. pos x.year) found), sym (ap (λ x. x.month) found), sym (ap (λ x. x.day) found))

@@ -61,15 +61,15 @@ module _ (f : ℤ → ℕ) (Holds : ℤ → Type 0) (keeps : (x y : ℤ) → Hol
   nat_cmp-kept x y hx hy =
       by_lt_z x y (λ h. nat_cmp-less (f x) (f y) (keeps x y hx hy h) ∙ sym (int_cmp-less x y h))
       (λ h. by_lt_z y x (λ k. nat_cmp-greater (f x) (f y) (keeps y x hy hx k) ∙ sym (int_cmp-greater x y k))
-          (λ k. let e : x ≡ y = omega (arith, ints) in
-              nat_cmp-same (f x) (f y) (ap f e) ∙ sym (int_cmp-same x y e)))
+      (λ k. let e : x ≡ y = omega (arith, ints) in
+      nat_cmp-same (f x) (f y) (ap f e) ∙ sym (int_cmp-same x y e)))
 
 int_cmp-scaled : (x y : ℤ) → int_cmp (scaled x) (scaled y) ≡ int_cmp x y
 int_cmp-scaled x y =
     by_lt_z x y (λ h. int_cmp-less (scaled x) (scaled y) (scaled-less x y h) ∙ sym (int_cmp-less x y h))
     (λ h. by_lt_z y x (λ k. int_cmp-greater (scaled x) (scaled y) (scaled-less y x k) ∙ sym (int_cmp-greater x y k))
-        (λ k. let e : x ≡ y = omega (arith, ints) in
-            int_cmp-same (scaled x) (scaled y) (ap scaled e) ∙ sym (int_cmp-same x y e)))
+    (λ k. let e : x ≡ y = omega (arith, ints) in
+    int_cmp-same (scaled x) (scaled y) (ap scaled e) ∙ sym (int_cmp-same x y e)))
 
 -- numbers of n bytes are settled by their order
 settles-numbers : (n x y : ℕ) → x < 256 ^ n → y < 256 ^ n → settles (number_bytes n x) (number_bytes n y) ≡ Some (nat_cmp x y)

@@ -36,9 +36,9 @@ pub nat_cmp-digit : (b x y r s : ℕ) → r < b → s < b → nat_cmp (x * b + r
 nat_cmp-digit b x y r s hr hs =
     ⊎_elim (λ h. nat_cmp-less (x * b + r) (y * b + s) (above b x y r s h hr) ∙ sym (ap (λ o. ordering_then o (nat_cmp r s)) (nat_cmp-less x y h)))
     (λ h. ⊎_elim (λ k. nat_cmp-greater (x * b + r) (y * b + s) (above b y x s r k hs) ∙ sym (ap (λ o. ordering_then o (nat_cmp r s)) (nat_cmp-greater x y k)))
-        (λ k. let e : x ≡ y = omega arith in
-            ap (λ (z : ℕ). nat_cmp (x * b + r) (z * b + s)) (sym e) ∙ same_top b x r s ∙ sym (ap (λ o. ordering_then o (nat_cmp r s)) (nat_cmp-same x y e)))
-        (cases_lt y x))
+    (λ k. let e : x ≡ y = omega arith in
+    ap (λ (z : ℕ). nat_cmp (x * b + r) (z * b + s)) (sym e) ∙ same_top b x r s ∙ sym (ap (λ o. ordering_then o (nat_cmp r s)) (nat_cmp-same x y e)))
+    (cases_lt y x))
     (cases_lt x y)
   where
     same_top : (b x r s : ℕ) → nat_cmp (x * b + r) (x * b + s) ≡ nat_cmp r s
@@ -120,7 +120,7 @@ bytes-number_at_head n bytes h room =
     let taken : length (take n bytes) ≡ n = omega (arith, length-take n bytes) in
     slice_cmp-IsAntisymmetric nat_cmp-IsAntisymmetric (bytes_high_first n m) (take n bytes)
     (big_cmp n (bytes_high_first n m) (take n bytes) (length-bytes_high_first n m) taken (bytes_are_bytes n m) (take-AreBytes n bytes h)
-        ∙ nat_cmp-same (big_from 0 n (bytes_high_first n m)) (big_from 0 n (take n bytes)) (read ∙ sym cut))
+    ∙ nat_cmp-same (big_from 0 n (bytes_high_first n m)) (big_from 0 n (take n bytes)) (read ∙ sym cut))
 
 pub drop-number_bytes : (n x : ℕ) (rest : List ℕ) → drop n (number_bytes n x ++ rest) ≡ rest
 drop-number_bytes n x rest =

@@ -60,9 +60,11 @@ escaped_are_bytes (b ∷ bs) h = append_are_bytes (escaped_byte b) (escaped bs) 
 
 ascending_are_bytes : (v : Value) → HasBytes v → AreBytes (ascending_bytes v)
 ascending_are_bytes Unknown h = (omega arith, tt)
-ascending_are_bytes (Text t) h =
-    (omega arith, append_are_bytes (escaped (compared_text t)) (0 ∷ 0 ∷ [])
-        (escaped_are_bytes (compared_text t) (folded_are_bytes (without_trailing 32 t) (trimmed_are_bytes 32 t h))) (omega arith, (omega arith, tt)))
+ascending_are_bytes (Text t) h = (
+  omega arith,
+  append_are_bytes (escaped (compared_text t)) (0 ∷ 0 ∷ [])
+      (escaped_are_bytes (compared_text t) (folded_are_bytes (without_trailing 32 t) (trimmed_are_bytes 32 t h))) (omega arith, (omega arith, tt)),
+)
 ascending_are_bytes (Int n) h = (omega arith, number_bytes-AreBytes 8 (turned_over 64 n))
 ascending_are_bytes (Int64 n) h = (omega arith, number_bytes-AreBytes 8 (turned_over 64 n))
 ascending_are_bytes (Dec n) h = (omega arith, number_bytes-AreBytes 16 (turned_over 128 n))
@@ -99,7 +101,7 @@ key_bytes-cmp kinds (part ∷ parts) a b fa fb ha hb =
     let vb = component part b in
     let settled = settles-field (get_or kinds part.field None) va vb (fits_at kinds a part.field fa) (fits_at kinds b part.field fb) in
     let turned = settles-component part.descending (ascending_bytes va) (ascending_bytes vb) (value_order va vb)
-        (ascending_are_bytes va (bytes_at a part.field ha)) (ascending_are_bytes vb (bytes_at b part.field hb)) settled in
+    (ascending_are_bytes va (bytes_at a part.field ha)) (ascending_are_bytes vb (bytes_at b part.field hb)) settled in
     settles-append (component_bytes part.descending va) (component_bytes part.descending vb) (key_bytes parts a) (key_bytes parts b) (turned_order part.descending (value_order va vb)) turned
     ∙ ap (ordering_then (turned_order part.descending (value_order va vb))) (key_bytes-cmp kinds parts a b fa fb ha hb)
     ∙ ap (λ o. ordering_then o (key_order parts a b)) (order_turned part.descending va vb)
@@ -107,6 +109,7 @@ key_bytes-cmp kinds (part ∷ parts) a b fa fb ha hb =
 -- and are the same exactly where the keys are level
 pub key_bytes-same : (kinds : List (Option Kind)) (parts : List Part) (a b : List Value) → FitsFields kinds a → FitsFields kinds b → HaveBytes a → HaveBytes b → (key_bytes parts a ≡ key_bytes parts b) ↔ (key_order parts a b ≡ Equal)
 key_bytes-same kinds parts a b fa fb ha hb =
-    let compared = key_bytes-cmp kinds parts a b fa fb ha hb in
-    (λ e. sym compared ∙ ap (λ (xs : List ℕ). slice_cmp nat_cmp xs (key_bytes parts b)) e ∙ tied_itself nat_list_cmp_total (key_bytes parts b),
-        λ e. slice_cmp-IsAntisymmetric nat_cmp-IsAntisymmetric (key_bytes parts a) (key_bytes parts b) (compared ∙ e))
+    let compared = key_bytes-cmp kinds parts a b fa fb ha hb in (
+      λ e. sym compared ∙ ap (λ (xs : List ℕ). slice_cmp nat_cmp xs (key_bytes parts b)) e ∙ tied_itself nat_list_cmp_total (key_bytes parts b),
+      λ e. slice_cmp-IsAntisymmetric nat_cmp-IsAntisymmetric (key_bytes parts a) (key_bytes parts b) (compared ∙ e),
+    )

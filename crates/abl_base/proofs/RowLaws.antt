@@ -136,6 +136,7 @@ signed_32 n h = ⊎_elim (λ k. low n k) (λ k. high n k h) (cases_lt n (2 ^ 31)
   where
     low : (n : ℕ) → n < 2 ^ 31 → fits_bits 31 (cast_signed w32 n) ≡ true
     low n h = ap (fits_bits 31) (to_z_pos w32 n h) ∙ grind (arith, nat_tests)
+
     high : (n : ℕ) → 2 ^ 31 ≤ n → n < 256 ^ 4 → fits_bits 31 (cast_signed w32 n) ≡ true
     high n h k = grind (arith, nat_tests)
 
@@ -144,6 +145,7 @@ signed_64 n h = ⊎_elim (λ k. low n k) (λ k. high n k h) (cases_lt n (2 ^ 63)
   where
     low : (n : ℕ) → n < 2 ^ 63 → fits_bits 63 (cast_signed w64 n) ≡ true
     low n h = ap (fits_bits 63) (to_z_pos w64 n h) ∙ grind (arith, nat_tests)
+
     high : (n : ℕ) → 2 ^ 63 ≤ n → n < 256 ^ 8 → fits_bits 63 (cast_signed w64 n) ≡ true
     high n h k = grind (arith, nat_tests)
 
@@ -152,6 +154,7 @@ signed_128 n h = ⊎_elim (λ k. low n k) (λ k. high n k h) (cases_lt n (2 ^ 12
   where
     low : (n : ℕ) → n < 2 ^ 127 → fits_bits 127 (cast_signed w128 n) ≡ true
     low n h = ap (fits_bits 127) (to_z_pos w128 n h) ∙ grind (arith, nat_tests)
+
     high : (n : ℕ) → 2 ^ 127 ≤ n → n < 256 ^ 16 → fits_bits 127 (cast_signed w128 n) ≡ true
     high n h k = grind (arith, nat_tests)
 
@@ -196,9 +199,11 @@ back_day bytes v rest h e =
     let read = number_in-found 4 (λ k. Date (cast_signed w32 k)) bytes (Date found.0) rest found.1 in
     let m = number_at_head 4 bytes in
     let small : m < 256 ^ 4 = number_at_head-lt 4 bytes h in
-    subst (λ u. IsBack Day u bytes rest) (sym found.2)
-    (subst (λ u. field_bytes u ++ rest ≡ 1 ∷ bytes) read.is
-        (number_is_back 4 (cast_unsigned w32 (cast_signed w32 m)) bytes rest h read.room (of_z-to_z w32 m small) read.after), found.3)
+    subst (λ u. IsBack Day u bytes rest) (sym found.2) (
+      subst (λ u. field_bytes u ++ rest ≡ 1 ∷ bytes) read.is
+          (number_is_back 4 (cast_unsigned w32 (cast_signed w32 m)) bytes rest h read.room (of_z-to_z w32 m small) read.after),
+      found.3,
+    )
 
 found_if : (b : Bool) (o : Found) (q : Value × List ℕ) → (if b then o else None) ≡ Some q → (b ≡ true) × (o ≡ Some q)
 found_if true o q e = (refl, e)
@@ -239,11 +244,13 @@ back_text bytes v rest h e =
     let room : n ≤ length r = le_from_test n (length r) c.0 in
     let small : n ≤ MAX_TEXT_BYTES = le_from_test n MAX_TEXT_BYTES b.0 in
     let taken : length (take n r) ≡ n = omega (arith, length-take n r) in
-    subst (λ q. IsBack Character q.0 bytes q.1) (pair_of (Text (take n r), drop n r) (v, rest) c.1)
-    (ap (λ (xs : List ℕ). 1 ∷ xs)
-        (append_assoc (number_bytes 2 (length (take n r))) (take n r) (drop n r)
-            ∙ ap (λ (xs : List ℕ). number_bytes 2 (length (take n r)) ++ xs) (take-append-drop n r)
-            ∙ number_back 2 (length (take n r)) bytes r h head taken refl), omega arith)
+    subst (λ q. IsBack Character q.0 bytes q.1) (pair_of (Text (take n r), drop n r) (v, rest) c.1) (
+      ap (λ (xs : List ℕ). 1 ∷ xs)
+          (append_assoc (number_bytes 2 (length (take n r))) (take n r) (drop n r)
+          ∙ ap (λ (xs : List ℕ). number_bytes 2 (length (take n r)) ++ xs) (take-append-drop n r)
+          ∙ number_back 2 (length (take n r)) bytes r h head taken refl),
+      omega arith,
+    )
 
 back_known : (kind : Kind) (bytes : List ℕ) (v : Value) (rest : List ℕ) → AreBytes bytes → value_in kind bytes ≡ Some (v, rest) → IsBack kind v bytes rest
 back_known Character bytes v rest h e = back_text bytes v rest h e

@@ -72,8 +72,8 @@ pub turned_cmp : (x y : ℕ) → x < 256 → y < 256 → nat_cmp (255 - x) (255 
 turned_cmp x y hx hy =
     ⊎_elim (λ h. nat_cmp-greater (255 - x) (255 - y) (omega arith) ∙ sym (ap ordering_reverse (nat_cmp-less x y h)))
     (λ h. ⊎_elim (λ k. nat_cmp-less (255 - x) (255 - y) (omega arith) ∙ sym (ap ordering_reverse (nat_cmp-greater x y k)))
-        (λ k. nat_cmp-same (255 - x) (255 - y) (omega arith) ∙ sym (ap ordering_reverse (nat_cmp-same x y (omega arith))))
-        (cases_lt y x))
+    (λ k. nat_cmp-same (255 - x) (255 - y) (omega arith) ∙ sym (ap ordering_reverse (nat_cmp-same x y (omega arith))))
+    (cases_lt y x))
     (cases_lt x y)
 
 option_reverse : Option Ordering → Option Ordering

@@ -83,7 +83,7 @@ is_fraction decimals (b ∷ c ∷ cs) = decimals && ((b == 46) && list_all is_ni
 abbrev pub is_number_mask : Bool → List ℕ → Bool
 is_number_mask decimals mask =
     nat_le (length mask) 40 && (list_any is_digit_sign mask
-        && is_fraction decimals (after_run is_fixed (after_run is_floating (without_minus mask))))
+    && is_fraction decimals (after_run is_fixed (after_run is_floating (without_minus mask))))
 
 -- ---- DATE
 

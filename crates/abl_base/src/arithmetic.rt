@@ -106,11 +106,9 @@ pub fn modulo(a: &Value, b: &Value) -> Result<Value, ArithFault>
     match a {
         Value::Int(n) => remainder_of_whole(i64::from(*n), b),
         Value::Int64(n) => remainder_of_whole(*n, b),
-        Value::Text(_)
-        | Value::Dec(_)
-        | Value::Logical(_)
-        | Value::Date(_)
-        | Value::Unknown => Ok(Value::Unknown),
+        Value::Text(_) | Value::Dec(_) | Value::Logical(_) | Value::Date(_) | Value::Unknown => Ok(
+            Value::Unknown,
+        ),
     }
 }
 
@@ -164,11 +162,9 @@ fn add_to_day(x: i32, b: &Value) -> Result<Value, ArithFault>
     match b {
         Value::Int(y) => date_in_range(i128::from(x) + i128::from(*y)),
         Value::Int64(y) => date_in_range(i128::from(x) + i128::from(*y)),
-        Value::Text(_)
-        | Value::Dec(_)
-        | Value::Logical(_)
-        | Value::Date(_)
-        | Value::Unknown => Ok(Value::Unknown),
+        Value::Text(_) | Value::Dec(_) | Value::Logical(_) | Value::Date(_) | Value::Unknown => Ok(
+            Value::Unknown,
+        ),
     }
 }
 
@@ -251,11 +247,9 @@ fn remainder_of_whole(x: i64, b: &Value) -> Result<Value, ArithFault>
     match b {
         Value::Int(y) => whole_remainder(x, i64::from(*y)),
         Value::Int64(y) => whole_remainder(x, *y),
-        Value::Text(_)
-        | Value::Dec(_)
-        | Value::Logical(_)
-        | Value::Date(_)
-        | Value::Unknown => Ok(Value::Unknown),
+        Value::Text(_) | Value::Dec(_) | Value::Logical(_) | Value::Date(_) | Value::Unknown => Ok(
+            Value::Unknown,
+        ),
     }
 }
 

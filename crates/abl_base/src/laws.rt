@@ -16,8 +16,7 @@ ghost use Rattle.abl_base.specs.Rows.{bytes_of_row, FitsFields, fragments_of, ro
 /// The index order is total and transitive.
 pub fn value_order_is_total()
     ensures { IsTotalOrder value_order }
-{
-}
+{}
 
 /// The bytes of a row are read back to the row, and bytes that are read to a row are that row's.
 pub fn rows_are_read_back()
@@ -25,8 +24,7 @@ pub fn rows_are_read_back()
         → row_in kinds (bytes_of_row row) ≡ Some row }
     ensures no_other { (kinds : List (Option Kind)) (bytes : List ℕ) (row : List Value) → AreBytes bytes
         → row_in kinds bytes ≡ Some row → (bytes_of_row row ≡ bytes) × FitsFields kinds row }
-{
-}
+{}
 
 /// The key bytes of two rows are the same exactly where their keys are level, and stand in the
 /// order of bytes as the keys do, in descending components too.
@@ -37,8 +35,7 @@ pub fn key_bytes_stand_as_keys()
     ensures order { (kinds : List (Option Kind)) (parts : List Part) (a b : List Value)
         → FitsFields kinds a → FitsFields kinds b → HaveBytes a → HaveBytes b
         → slice_cmp nat_cmp (key_bytes parts a) (key_bytes parts b) ≡ key_order parts a b }
-{
-}
+{}
 
 /// Sums and differences of numbers are those of the integers where they do not overflow, and so is
 /// what is stored of them: decimals are counted in units of 10^-10.
@@ -47,20 +44,17 @@ pub fn sums_are_those_of_integers()
         → rank_of v ≡ rank_of a +ℤ rank_of b }
     ensures difference { (a b v : Value) → IsNumber a → IsNumber b → difference_of a b ≡ Ok v
         → rank_of v ≡ rank_of a -ℤ rank_of b }
-{
-}
+{}
 
 /// A rounded quotient is the nearest natural number, and a half goes up.
 pub fn quotients_are_the_nearest()
     ensures low { (n d : ℕ) → 0 < d → 2 * (rounded n d * d) ≤ 2 * n + d }
     ensures high { (n d : ℕ) → 0 < d → 2 * n < 2 * (rounded n d * d) + d }
-{
-}
+{}
 
 /// The fragments of a row hold it, there is at least one, and no smaller number holds it.
 pub fn fragments_are_the_fewest()
     ensures one { (bytes : ℕ) → 1 ≤ fragments_of bytes }
     ensures hold { (bytes : ℕ) → bytes ≤ 240 * fragments_of bytes }
     ensures fewest { (bytes other : ℕ) → 1 ≤ other → bytes ≤ 240 * other → fragments_of bytes ≤ other }
-{
-}
+{}

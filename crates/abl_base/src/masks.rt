@@ -69,9 +69,7 @@ fn is_width(bytes: &[u8]) -> bool
 {
     match bytes {
         [a, b] => is_digit(*a) && *a != b'0' && *b == b')',
-        [a, b, c] => {
-            is_digit(*a) && is_digit(*b) && !(*a == b'0' && *b == b'0') && *c == b')'
-        }
+        [a, b, c] => { is_digit(*a) && is_digit(*b) && !(*a == b'0' && *b == b'0') && *c == b')' }
         [a, b, c, d] => {
             is_digit(*a)
                 && is_digit(*b)

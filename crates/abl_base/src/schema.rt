@@ -3,10 +3,10 @@
 ghost use Rattle.std.specs.Prelude.{◌≡◌, ◌<◌, ◌≤◌, length, IfOk};
 ghost use Rattle.abl_base.specs.Schema.{field_names, number_of_name, table_names};
 
+use crate::canonical::lines_in_order;
 use crate::items::Items;
 use crate::names::same_name;
 use crate::value::{Bytes, Kind, Value};
-use crate::canonical::lines_in_order;
 use std::alloc::AllocError;
 use std::marker::Model;
 
@@ -111,7 +111,10 @@ impl Schema {
         requires { table < length self.now.tables }
         ensures { result ≡ field_named self.now table name.now }
     {
-        field_number(self.tables.as_slice()[usize::from(table)].fields.as_slice(), name)
+        field_number(
+            self.tables.as_slice()[usize::from(table)].fields.as_slice(),
+            name,
+        )
     }
 
     /// The table's name as it is spelt.
@@ -135,7 +138,9 @@ impl Schema {
         requires { table < length self.now.tables }
         ensures { result.now ≡ indexes_of self.now table }
     {
-        self.tables.as_slice()[usize::from(table)].indexes.as_slice()
+        self.tables.as_slice()[usize::from(table)]
+            .indexes
+            .as_slice()
     }
 
     /// The number of the table's primary index, where it has one.

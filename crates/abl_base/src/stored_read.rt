@@ -23,11 +23,7 @@ struct FieldRead {
 
 /// The row of these fields that has these bytes: `None` exactly where the bytes are those of no
 /// row. Want of memory is the only refusal. (This project's choice.)
-pub fn row_of(
-    alloc: Global,
-    fields: &[FieldDef],
-    bytes: &[u8],
-) -> Result<Option<Row>, AllocError>
+pub fn row_of(alloc: Global, fields: &[FieldDef], bytes: &[u8]) -> Result<Option<Row>, AllocError>
     ensures { IfOk result (λ row. row ≡ row_in (field_kinds fields.now) bytes.now) }
 {
     let mut values = Vec::with_capacity(alloc, fields.len())?;
@@ -84,11 +80,7 @@ fn read_field(
 }
 
 /// Reads a value of the kind at the head of the bytes.
-fn read_value(
-    alloc: Global,
-    kind: Kind,
-    bytes: &[u8],
-) -> Result<Option<FieldRead>, AllocError>
+fn read_value(alloc: Global, kind: Kind, bytes: &[u8]) -> Result<Option<FieldRead>, AllocError>
     ensures { IfOk result (λ read. IsReadAs read bytes.now (value_in kind bytes.now)) }
 {
     match kind {

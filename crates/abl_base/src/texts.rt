@@ -26,7 +26,11 @@ pub fn export_value(alloc: Global, value: &Value) -> Result<Bytes, AllocError>
 
 /// Writes the text that EXPORT writes of a value.
 #[tactic(auto, unfolding(crate::specs::Texts::export_text, crate::specs::Texts::plain_text))]
-pub(crate) fn push_export(alloc: Global, bytes: &mut Vec<u8>, value: &Value) -> Result<(), AllocError>
+pub(crate) fn push_export(
+    alloc: Global,
+    bytes: &mut Vec<u8>,
+    value: &Value,
+) -> Result<(), AllocError>
     ensures { OnOk result (bytes.new.items ≡ bytes.old.items ++ export_text value.now) }
 {
     match value {

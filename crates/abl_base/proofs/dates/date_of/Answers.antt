@@ -7,11 +7,12 @@ use Rattle.abl_base.proofs.dates.date_of.Goals.{then-year-lt1-via-then-year-lt1 
 pub returns-then-year-lt1 : goal.returns-then-year-lt1
 returns-then-year-lt1 c =
     sym (date_missing c.args.month c.args.day c.args.year (λ h k.
-        let most = no_long_month c.args.month c.args.day c.args.year h in
-        elim c.then-year-lt1.branch [
-            early w ↦ omega (arith, ints)
-            | late w ↦ omega (arith, ints, h.0.1)
-            | no_month w ↦ omega (arith, ints, h.1.0)
-            | month_past w ↦ omega (arith, ints, h.1.1)
-            | no_day w ↦ omega (arith, ints, h.2.0)
-            | day_past w ↦ omega (arith, ints) ]))
+    let most = no_long_month c.args.month c.args.day c.args.year h in
+    elim c.then-year-lt1.branch [
+      | early w ↦ omega (arith, ints)
+      | late w ↦ omega (arith, ints, h.0.1)
+      | no_month w ↦ omega (arith, ints, h.1.0)
+      | month_past w ↦ omega (arith, ints, h.1.1)
+      | no_day w ↦ omega (arith, ints, h.2.0)
+      | day_past w ↦ omega (arith, ints)
+    ]))

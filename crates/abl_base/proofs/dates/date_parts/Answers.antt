@@ -11,7 +11,7 @@ returns-clause-month c =
     let wide : FitsSigned w64 c.from.result = search rules in
     let small : FitsSigned w32 c.args.day = c.ranges.day in
     let same = to_z-of_z w64 c.nearest_day.result near ∙ c.nearest_day.ensures.nearest
-        ∙ ap nearest_day (to_z-of_z w64 c.from.result wide ∙ c.from.ensures ∙ to_z-of_z w32 c.args.day small) in
+    ∙ ap nearest_day (to_z-of_z w64 c.from.result wide ∙ c.from.ensures ∙ to_z-of_z w32 c.args.day small) in
     c.parts_of.ensures.month ∙ ap (λ z. pos (date_in_years z).month) same
 
 pub returns-clause-day : goal.returns-clause-day
@@ -21,7 +21,7 @@ returns-clause-day c =
     let wide : FitsSigned w64 c.from.result = search rules in
     let small : FitsSigned w32 c.args.day = c.ranges.day in
     let same = to_z-of_z w64 c.nearest_day.result near ∙ c.nearest_day.ensures.nearest
-        ∙ ap nearest_day (to_z-of_z w64 c.from.result wide ∙ c.from.ensures ∙ to_z-of_z w32 c.args.day small) in
+    ∙ ap nearest_day (to_z-of_z w64 c.from.result wide ∙ c.from.ensures ∙ to_z-of_z w32 c.args.day small) in
     c.parts_of.ensures.day ∙ ap (λ z. pos (date_in_years z).day) same
 
 pub returns-clause-year : goal.returns-clause-year
@@ -31,5 +31,5 @@ returns-clause-year c =
     let wide : FitsSigned w64 c.from.result = search rules in
     let small : FitsSigned w32 c.args.day = c.ranges.day in
     let same = to_z-of_z w64 c.nearest_day.result near ∙ c.nearest_day.ensures.nearest
-        ∙ ap nearest_day (to_z-of_z w64 c.from.result wide ∙ c.from.ensures ∙ to_z-of_z w32 c.args.day small) in
+    ∙ ap nearest_day (to_z-of_z w64 c.from.result wide ∙ c.from.ensures ∙ to_z-of_z w32 c.args.day small) in
     c.parts_of.ensures.year ∙ ap (λ z. pos (date_in_years z).year) same

@@ -9,5 +9,6 @@ loop-end-preserved c =
 
 pub returns : goal.returns
 returns c = elim c.loop-end-test.branch [
-    then-loop-end-test+else-text-end w ↦ trim_kept c.args.dropped c.args.text.now c.loop-end.end (c.loop-end.end - 1) (omega arith) (omega arith) w.if-text-end.false c.loop-end.invariant.1
-    | else-loop-end-test w ↦ trim_none c.args.dropped c.args.text.now c.loop-end.end (omega arith) c.loop-end.invariant.1 ]
+  | then-loop-end-test+else-text-end w ↦ trim_kept c.args.dropped c.args.text.now c.loop-end.end (c.loop-end.end - 1) (omega arith) (omega arith) w.if-text-end.false c.loop-end.invariant.1
+  | else-loop-end-test w ↦ trim_none c.args.dropped c.args.text.now c.loop-end.end (omega arith) c.loop-end.invariant.1
+]
