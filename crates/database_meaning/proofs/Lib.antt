@@ -1,14 +1,14 @@
-mod Maps
-mod TableRows
-mod Own
-mod Clash
-mod Chains
-mod Good
-mod LockedReads
-mod Keys
-mod Kept
-mod Shortest
-mod Unchanged
-mod RowsFit
-mod AnswersFit
-mod OneAnswer
+pub mod Maps
+pub mod TableRows
+pub mod Own
+pub mod Clash
+pub mod Chains
+pub mod Good
+pub mod LockedReads
+pub mod Keys
+pub mod Kept
+pub mod Shortest
+pub mod Unchanged
+pub mod RowsFit
+pub mod AnswersFit
+pub mod OneAnswer

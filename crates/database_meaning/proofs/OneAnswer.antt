@@ -178,7 +178,7 @@ then_reverse Less b = refl
 then_reverse Equal b = refl
 then_reverse Greater b = refl
 
-place_reverse : (key : List ℕ) (row : RowId) (other : List ℕ) (q : RowId) → place_cmp key row other q ≡ ordering_reverse (place_cmp other q key row)
+pub place_reverse : (key : List ℕ) (row : RowId) (other : List ℕ) (q : RowId) → place_cmp key row other q ≡ ordering_reverse (place_cmp other q key row)
 place_reverse key row other q =
     ap (λ o. ordering_then o (nat_cmp row.0 q.0)) (nat_list_cmp_total.antisymm key other)
     ∙ ap (λ o. ordering_then (ordering_reverse (slice_cmp nat_cmp other key)) o) (nat_cmp_total.antisymm row.0 q.0)
@@ -196,7 +196,7 @@ values_in_row : (table : ℕ) (values : List Value) → values_in (row_in table 
 unfolding values_in
 values_in_row table values = refl
 
-same_values : (f : Frame) (s : State) (row : ℕ) (table : ℕ) (values other : List Value) → view f s row ≡ row_in table values → view f s row ≡ row_in table other → values ≡ other
+pub same_values : (f : Frame) (s : State) (row : ℕ) (table : ℕ) (values other : List Value) → view f s row ≡ row_in table values → view f s row ≡ row_in table other → values ≡ other
 same_values f s row table values other x y = sym (values_in_row table values) ∙ ap values_in (sym x ∙ y) ∙ values_in_row table other
 
 module _ (f : Frame) (s : State) (table : ℕ) (index : Option ℕ) (prefix : List Value) (cursor : Option Cursor) (forward : Bool) where

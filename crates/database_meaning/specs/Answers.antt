@@ -1,5 +1,6 @@
 -- Which answers an operation may have: the table of answers, of which the first row that applies counts.
-use Rattle.std.specs.Prelude.{◌≡◌, ◌≢◌, ◌⊎◌, ◌^◌, ◌+◌, ◌-◌, ◌<◌, ◌≤◌, ℕ, IsTrue, List, length, Option, Some, None, ℤ, pos, negsuc, ◌+ℤ◌, ◌≤ℤ◌, ◌<ℤ◌, slice_index_or}
+use Rattle.std.specs.Prelude.{◌≡◌, ◌≢◌, ◌⊎◌, ◌^◌, ◌+◌, ◌-◌, ◌<◌, ◌≤◌, ℕ, IsTrue, List, length, Option, Some, None, ℤ, pos, negsuc, ◌+ℤ◌, FitsSigned, slice_index_or}
+use Rattle.std.specs.Int.{w64}
 use Rattle.std.specs.List.{All}
 use Rattle.std.specs.FinMap.{get}
 use Rattle.abl_base.specs.declared.value.Value.{Value}
@@ -145,7 +146,7 @@ abbrev pub next_value : Frame → State → ℕ → ℤ
 next_value f s sequence = current_value s sequence +ℤ increment_of f.schema sequence
 
 abbrev pub IsI64 : ℤ → Type 0
-IsI64 v = (negsuc (2 ^ 63 - 1) ≤ℤ v) × (v <ℤ pos (2 ^ 63))
+IsI64 v = FitsSigned w64 v
 
 abbrev pub PassesEnd : Frame → State → Op → Type 0
 PassesEnd f s op = (sequence : ℕ) × (op ≡ NextValue sequence) × ¬ IsI64 (next_value f s sequence)
