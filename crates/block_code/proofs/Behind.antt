@@ -1,6 +1,6 @@
 -- The code that is written, statement by statement.
 use Rattle.std.proofs.Common.{◌≡◌, ℕ, ◌+◌, List, [], ◌∷◌, ◌++◌, length, refl, sym, ap, ◌∙◌, arith, rules, append_assoc, append-nil, add-zero, length-append}
-use Rattle.std.specs.Prelude.{slice_set, Vec}
+use Rattle.std.specs.Prelude.{slice_set, Vec, Option, Some, option_to_list}
 use Rattle.std.specs.declared.alloc.Global.{Global}
 use Rattle.std.proofs.Math.Seq.{set-append_seam}
 use mathlib.Core.Former.{Count, none_left, one_more}
@@ -58,3 +58,23 @@ row_is p (one_more n) (more_of-Stmt t rest) = ap (λ c. code_of p t ++ c) (row_i
 
 pub block_is : (p : ℕ) (h : Header) (v : Vec Stmt Global) → code_of p (view.Block h v) ≡ block_code p h (body_code (p + 1) v.items)
 block_is p h v = search (rules, the_lemmas, row_is)
+
+-- a list whose last element was taken out, and from which nothing more could be taken, had that one alone
+pub only_one : {X : Type 0} (all rest : List X) (taken : Option X) (x : X) → all ≡ rest ++ option_to_list taken → taken ≡ Some x → length rest ≡ 0 → all ≡ x ∷ []
+only_one all rest taken x is some none =
+    is ∙ ap (λ o. rest ++ option_to_list o) some ∙ ap (λ r. r ++ x ∷ []) (is_nil rest none)
+  where
+    is_nil : {X : Type 0} (xs : List X) → length xs ≡ 0 → xs ≡ []
+    is_nil [] e = refl
+    is_nil (y ∷ ys) e = absurd (omega (arith, e))
+
+-- the code of a block is that of the statement that it is
+pub block_stands :
+    (p : ℕ) (code new : List Instr) (h0 h : Header) (b0 b : Vec Stmt Global) (s : Stmt) →
+    h0 ≡ h → b0 ≡ b → s ≡ view.Block h b → new ≡ code ++ block_code p h0 (body_code (p + 1) b0.items) → new ≡ code ++ code_of p s
+block_stands p code new h0 h b0 b s same_header same_body is written =
+    written
+    ∙ ap (λ (k : Header). code ++ block_code p k (body_code (p + 1) b0.items)) same_header
+    ∙ ap (λ (v : Vec Stmt Global). code ++ block_code p h (body_code (p + 1) v.items)) same_body
+    ∙ ap (λ c. code ++ c) (sym (block_is p h b))
+    ∙ ap (λ t. code ++ code_of p t) (sym is)

@@ -62,7 +62,9 @@ pub fn compile(alloc: Global, bound: Bound) -> Result<Code, CompileFault>
 
 /// The code of a block, behind the code that is there.
 #[cycle(emit)]
-fn emit_block(code: &mut Vec<Instr>, header: Header, body: Vec<Stmt>) -> Result<(), CompileFault> {
+fn emit_block(code: &mut Vec<Instr>, header: Header, body: Vec<Stmt>) -> Result<(), CompileFault>
+    ensures { OnOk result (code.new.items ≡ code.old.items ++ block_code (length code.old.items) header (body_code (length code.old.items + 1) body.items)) }
+{
     if !is_built_header(&header) {
         return Err(CompileFault::NotBuilt);
     }

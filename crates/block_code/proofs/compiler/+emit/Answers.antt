@@ -1,14 +1,18 @@
-use Rattle.std.proofs.Common.{◌≡◌, ◌++◌, ap, sym, ◌∙◌, length}
-use Rattle.block_code.specs.Code.{code_of}
-use Rattle.block_code.proofs.Behind.{one_more_stmt, block_is}
+use Rattle.std.proofs.Common.{◌∙◌, length}
+use Rattle.block_code.specs.declared.code.Instr.TheVariants.{Close}
+use Rattle.block_code.proofs.Behind.{one_more_stmt, block_is_written, block_stands}
 use Rattle.block_code.proofs.compiler.+emit.Goals as goal
 
 pub emit-returns-in-Block : goal.emit-returns-in-Block
 emit-returns-in-Block t c =
-    c.in_ok-emit_block-in-Block.ensures
-    ∙ ap (λ code. c.args.code.now.items ++ code) (sym (block_is (length c.args.code.now.items) c.in-Block.header c.in-Block.body))
-    ∙ ap (λ stmt. c.args.code.now.items ++ code_of (length c.args.code.now.items) stmt) (sym c.in-Block.is)
+    block_stands (length c.args.code.now.items) c.args.code.now.items c.emit_block.new.code.items _ c.in-Block.header _ c.in-Block.body c.args.stmt
+    c.in-Block.header-is c.in-Block.body-is c.in-Block.is c.in_ok-emit_block-in-Block.ensures
 
 pub emit_all-loop-stmt-preserved : goal.emit_all-loop-stmt-preserved
 emit_all-loop-stmt-preserved t c =
     one_more_stmt c.args.code.now.items c.loop-stmt.code.items c.emit.new.code.items c.loop-stmt.yielded c.in-Some.stmt c.loop-stmt.invariant c.in_ok-emit.ensures
+
+pub emit_block-returns : goal.emit_block-returns
+emit_block-returns t c =
+    block_is_written c.args.code.now.items c.push.new.self.items c.emit_all.new.code.items c.push-2.new.self.items Close c.args.header c.len-at.result c.len.result c.args.body.items
+    (c.len-at.ensures ∙ c.args.code.now.ok.0) c.in_ok-push.ensures.items c.in_ok-emit_all.ensures c.in_ok-push-2.ensures.items (c.len.ensures ∙ c.push-2.new.self.ok.0)

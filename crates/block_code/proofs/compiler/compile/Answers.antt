@@ -1,4 +1,18 @@
+use Rattle.std.proofs.Common.{◌≡◌, ◌++◌, ◌∷◌, ◌+◌, [], refl, ap, sym, ◌∙◌, length}
+use Rattle.std.specs.Prelude.{option_to_list}
+use Rattle.block_code.specs.Code.{block_code, body_code}
+use Rattle.block_code.proofs.Behind.{only_one}
 use Rattle.block_code.proofs.compiler.compile.Goals as goal
 
 pub returns : goal.returns
-returns c = record { main = c.in-Some-None.main; only = ?; instrs = ?; undoable = ?; kept = ?; inputs = ? }
+returns c =
+    record {
+      main = c.in-Some-None.main;
+      only = only_one c.args.bound.procedures.items c.pop.new.self.items c.pop.result c.in-Some-None.main c.pop.ensures.items c.in-Some-None.is-0 (sym c.pop.new.self.ok.0 ∙ c.in-Some-None.ensures'.cases.0);
+      instrs =
+          c.in_ok-emit_block.ensures
+          ∙ ap (λ code. code ++ block_code (length code) c.in-Some-None.main.header (body_code (length code + 1) c.in-Some-None.main.body.items)) c.new-instrs.ensures.items;
+      undoable = refl;
+      kept = refl;
+      inputs = refl;
+    }
