@@ -7,6 +7,7 @@ use abl_storage::{Mark, SlotFault, Slots};
 use std::alloc::Global;
 
 /// Why a call was refused.
+#[derive(Clone, Copy, Debug, PartialEq, Eq)]
 pub enum Refusal {
     /// The disk has failed.
     Closed,
@@ -18,7 +19,8 @@ pub enum Refusal {
 
 /// One value for each client, in the slots from 8,192 on, with the trace of what was asked. Its type
 /// keeps that each told stop leaves the values of a committed prefix.
-pub struct Db<S: Slots> {
+#[derive(Drop)]
+pub struct Db<S: Slots + Drop> {
     slots: S,
     opened: Vec<[u8; 256]>,
     trace: Vec<Event>,
@@ -28,7 +30,7 @@ pub struct Db<S: Slots> {
     ghost closed_is: { closed ≡ (world_of opened.items trace.items).closed },
 }
 
-impl<S: Slots> Db<S> {
+impl<S: Slots + Drop> Db<S> {
     /// The values are those that the slots keep.
     pub fn open(slots: S, opened: Vec<[u8; 256]>, alloc: Global) -> Db<S>
         requires { IsFresh (S.Slots.state slots) (S.Slots.stop slots) (first_of opened.items) }

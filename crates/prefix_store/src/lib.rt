@@ -17,3 +17,6 @@ pub enum Event {
     Closed(u16, bool),
     Ended(u16),
 }
+
+#[cfg(test)]
+mod tests;
