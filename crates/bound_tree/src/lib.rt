@@ -1,6 +1,6 @@
 //! The bound tree: a source in which each name is the number of its variable, buffer, field,
 //! stream, sequence or procedure, each block has its header, and each value is marked with its
-//! kind. It stands on `abl_base`. The binder makes it, the compiler and the definition of what a
+//! kind. It stands on `abl_values`. The binder makes it, the compiler and the definition of what a
 //! client does read it; `specs/Tree.antt` has the tree of that definition and the function from
 //! these types to it.
 #![tactic(auto)]

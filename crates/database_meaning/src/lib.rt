@@ -1,6 +1,6 @@
 //! What clients ask of the database, and what it answers: operations, answers, events and contents
 //! as types, and (in `specs/`) the database machine that says which answers and steps are legal.
-//! It stands on `abl_base`; the client, the runner and the database itself are proved against it.
+//! It stands on `abl_values`; the client, the runner and the database itself are proved against it.
 #![tactic(auto)]
 
 pub mod contents;

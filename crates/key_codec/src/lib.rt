@@ -1,4 +1,4 @@
-//! The key bytes of rows in indexes. It stands on `abl_base`, which says which bytes a value has as
+//! The key bytes of rows in indexes. It stands on `abl_values`, which says which bytes a value has as
 //! a component of an index, and proves that the byte order of keys is the index's order of rows.
 //! The layer above may rely on exactly these bytes, and on keys of at most 200 bytes.
 #![tactic(auto)]

@@ -4,11 +4,11 @@ use std::alloc::{AllocError, Global};
 use std::process::Abort;
 use std::test::Fail;
 
-const R1: RowId = RowId(8192);
+const FIRST: RowId = RowId(8192);
 
-const R2: RowId = RowId(8193);
+const SECOND: RowId = RowId(8193);
 
-const R3: RowId = RowId(8194);
+const THIRD: RowId = RowId(8194);
 
 /// An answer as a letter and the numbers that it carries: G, B busy, W blocked, D deadlock, N.
 fn told(alloc: Global, answer: &LockAnswer) -> Result<(char, Items<u16>), AllocError> {
@@ -42,14 +42,21 @@ fn ask(
 fn three_clients_close_a_cycle(rt: HostRuntime) -> Result<(), Fail> {
     let alloc = rt.alloc();
     let mut locks = Locks::new(alloc);
-    ask(&rt, alloc, &mut locks, (0, R1, true, true), 'G', &[])?;
-    ask(&rt, alloc, &mut locks, (1, R2, true, true), 'G', &[])?;
-    ask(&rt, alloc, &mut locks, (2, R3, true, true), 'G', &[])?;
-    ask(&rt, alloc, &mut locks, (0, R2, true, true), 'W', &[1])?;
-    ask(&rt, alloc, &mut locks, (1, R3, false, true), 'W', &[2])?;
-    ask(&rt, alloc, &mut locks, (2, R1, true, true), 'D', &[2, 0, 1])?;
+    ask(&rt, alloc, &mut locks, (0, FIRST, true, true), 'G', &[])?;
+    ask(&rt, alloc, &mut locks, (1, SECOND, true, true), 'G', &[])?;
+    ask(&rt, alloc, &mut locks, (2, THIRD, true, true), 'G', &[])?;
+    ask(&rt, alloc, &mut locks, (0, SECOND, true, true), 'W', &[1])?;
+    ask(&rt, alloc, &mut locks, (1, THIRD, false, true), 'W', &[2])?;
+    ask(
+        &rt,
+        alloc,
+        &mut locks,
+        (2, FIRST, true, true),
+        'D',
+        &[2, 0, 1],
+    )?;
     locks.unwant(0);
-    ask(&rt, alloc, &mut locks, (2, R1, true, true), 'W', &[0])?;
+    ask(&rt, alloc, &mut locks, (2, FIRST, true, true), 'W', &[0])?;
     Ok(())
 }
 
@@ -57,26 +64,33 @@ fn three_clients_close_a_cycle(rt: HostRuntime) -> Result<(), Fail> {
 fn requests_of_three_clients_over_two_rows(rt: HostRuntime) -> Result<(), Fail> {
     let alloc = rt.alloc();
     let mut locks = Locks::new(alloc);
-    ask(&rt, alloc, &mut locks, (2, R1, false, false), 'G', &[])?;
-    ask(&rt, alloc, &mut locks, (0, R1, false, true), 'G', &[])?;
-    ask(&rt, alloc, &mut locks, (1, R1, true, false), 'B', &[0, 2])?;
-    ask(&rt, alloc, &mut locks, (0, R1, true, true), 'W', &[2])?;
-    ask(&rt, alloc, &mut locks, (1, R2, true, true), 'G', &[])?;
-    ask(&rt, alloc, &mut locks, (1, R2, false, true), 'G', &[])?;
-    assert_eq!(rt; locks.held(1, R2), Some(true));
-    ask(&rt, alloc, &mut locks, (2, R1, true, true), 'D', &[2, 0])?;
-    assert!(rt; locks.release(2, R1));
-    assert!(rt; !locks.release(2, R1));
-    ask(&rt, alloc, &mut locks, (0, R1, true, true), 'G', &[])?;
-    assert_eq!(rt; locks.held(0, R1), Some(true));
-    ask(&rt, alloc, &mut locks, (2, R1, false, false), 'B', &[0])?;
-    let keep = Rows::of(alloc, &[R1])?;
+    ask(&rt, alloc, &mut locks, (2, FIRST, false, false), 'G', &[])?;
+    ask(&rt, alloc, &mut locks, (0, FIRST, false, true), 'G', &[])?;
+    ask(
+        &rt,
+        alloc,
+        &mut locks,
+        (1, FIRST, true, false),
+        'B',
+        &[0, 2],
+    )?;
+    ask(&rt, alloc, &mut locks, (0, FIRST, true, true), 'W', &[2])?;
+    ask(&rt, alloc, &mut locks, (1, SECOND, true, true), 'G', &[])?;
+    ask(&rt, alloc, &mut locks, (1, SECOND, false, true), 'G', &[])?;
+    assert_eq!(rt; locks.held(1, SECOND), Some(true));
+    ask(&rt, alloc, &mut locks, (2, FIRST, true, true), 'D', &[2, 0])?;
+    assert!(rt; locks.release(2, FIRST));
+    assert!(rt; !locks.release(2, FIRST));
+    ask(&rt, alloc, &mut locks, (0, FIRST, true, true), 'G', &[])?;
+    assert_eq!(rt; locks.held(0, FIRST), Some(true));
+    ask(&rt, alloc, &mut locks, (2, FIRST, false, false), 'B', &[0])?;
+    let keep = Rows::of(alloc, &[FIRST])?;
     assert!(rt; locks.end_transaction(0, &keep));
     assert!(rt; !locks.end_transaction(0, &keep));
-    assert_eq!(rt; locks.held(0, R1), Some(false));
-    ask(&rt, alloc, &mut locks, (2, R1, false, false), 'G', &[])?;
+    assert_eq!(rt; locks.held(0, FIRST), Some(false));
+    ask(&rt, alloc, &mut locks, (2, FIRST, false, false), 'G', &[])?;
     assert!(rt; locks.end(0));
-    assert_eq!(rt; locks.held(0, R1), None);
+    assert_eq!(rt; locks.held(0, FIRST), None);
     assert!(rt; locks.end_transaction(1, &keep));
     assert!(rt; !locks.end(1));
     Ok(())
@@ -86,13 +100,13 @@ fn requests_of_three_clients_over_two_rows(rt: HostRuntime) -> Result<(), Fail> 
 fn wants_for_keys_close_cycles(rt: HostRuntime) -> Result<(), Fail> {
     let alloc = rt.alloc();
     let mut locks = Locks::new(alloc);
-    ask(&rt, alloc, &mut locks, (0, R1, true, true), 'G', &[])?;
+    ask(&rt, alloc, &mut locks, (0, FIRST, true, true), 'G', &[])?;
     let want = KeyedWant {
         client: 0,
         holders: Items::of(alloc, &[3])?,
     };
     let keyed = Keyed::from_vec(vec![in alloc; want]?);
-    let (kind, cycle) = told(alloc, &locks.request(3, R1, false, true, &keyed))?;
+    let (kind, cycle) = told(alloc, &locks.request(3, FIRST, false, true, &keyed))?;
     assert_eq!(rt; kind, 'D');
     assert_eq!(rt; cycle.as_slice(), [3, 0].as_slice());
     let holders = Items::of(alloc, &[5])?;
