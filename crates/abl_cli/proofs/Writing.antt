@@ -9,7 +9,7 @@ use Rattle.std.specs.Prelude.{IsTrue}
 use Rattle.abl_outside.specs.declared.out.Stream.{Stream}
 use Rattle.abl_outside.specs.declared.out.Stream.TheVariants.{Output, Diagnostics}
 use Rattle.abl_outside.specs.Out.{Texts, appended, AppendsPrefix}
-use Rattle.abl_outside.specs.Faults.{Rose}
+use Rattle.fault_count.specs.Faults.{Rose}
 use Rattle.abl_cli.specs.Writes.{Written, Writes}
 
 appended-nothing : (stream : Stream) (t : Texts) → appended stream [] t ≡ t

@@ -2,7 +2,7 @@
 use Rattle.std.specs.Prelude.{◌≡◌, ◌≤◌, ℕ, Bool, true, false, IsTrue, List}
 use Rattle.abl_outside.specs.declared.out.Stream.{Stream}
 use Rattle.abl_outside.specs.Out.{Texts, appended, AppendsPrefix}
-use Rattle.abl_outside.specs.Faults.{Rose}
+use Rattle.fault_count.specs.Faults.{Rose}
 
 -- what an output tells, what stands on it, and how often a write to it has failed
 pub record Written : Type 0 where
