@@ -4,7 +4,7 @@ use Rattle.std.specs.Fmt.{digits}
 use Rattle.abl_base.specs.declared.value.Value.TheVariants.{Text, Int, Int64, Dec, Logical, Unknown}
 use Rattle.abl_base.specs.declared.value.Kind.TheVariants as kind
 use Rattle.abl_values.specs.Arithmetic.{sum_of, difference_of, product_of, quotient_of, remainder_of}
-use Rattle.abl_values.specs.Dates.{date_from, date_of_day, date_after, day_number}
+use Rattle.abl_values.specs.Dates.{date_from, date_of_day, date_in_years, date_after, day_number}
 use Rattle.abl_values.specs.Fit.{fitted}
 use Rattle.abl_values.specs.Order.{value_order}
 use Rattle.abl_values.specs.Texts.{plain_text}
@@ -252,7 +252,7 @@ unfolding sum_of difference_of product_of quotient_of remainder_of fitted value_
 the_whole_delimiter = refl
 
 a_leap_day : gives (One one.Day (Three three.DateOf (n 2) (n 29) (n 2024))) ≡ Ok (Int64 (pos 29))
-unfolding sum_of difference_of product_of quotient_of remainder_of fitted value_order plain_text digits date_from date_of_day date_after day_number
+unfolding sum_of difference_of product_of quotient_of remainder_of fitted value_order plain_text digits date_from date_of_day date_in_years date_after day_number
 a_leap_day = refl
 
 no_leap_day : gives (Three three.DateOf (n 2) (n 29) (n 2023)) ≡ Err Argument
