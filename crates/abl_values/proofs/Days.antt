@@ -1,9 +1,9 @@
 -- The day numbers of the definitions are those that the calendar counts.
-use Rattle.std.proofs.Common.{◌≡◌, ◌≢◌, ◌⊎◌, inl, inr, not, ◌||◌, ◌==◌, min, nat_lt, ℕ, zero, suc, ◌+◌, ◌-◌, ◌*◌, ◌/◌, ◌%◌, ◌<◌, ◌≤◌, Bool, true, false, cond, ◌&&◌, nat_le, if◌then◌else◌, List, [], ◌∷◌, Option, Some, None, ℤ, pos, negsuc, ◌+ℤ◌, ◌-ℤ◌, ◌≤ℤ◌, ◌<ℤ◌, unsigned_abs, refl, sym, ap, ◌∙◌, arith, subst}
+use Rattle.std.proofs.Common.{◌≡◌, ◌≢◌, ◌⊎◌, inl, inr, not, ◌||◌, ◌==◌, min, nat_lt, ℕ, zero, suc, ◌+◌, ◌-◌, ◌*◌, ◌/◌, ◌%◌, ◌<◌, ◌≤◌, Bool, true, false, cond, ◌&&◌, nat_le, if◌then◌else◌, List, [], ◌∷◌, Some, None, ℤ, pos, negsuc, ◌+ℤ◌, ◌-ℤ◌, ◌≤ℤ◌, ◌<ℤ◌, unsigned_abs, refl, sym, ap, ◌∙◌, arith, subst}
 use Rattle.std.proofs.lemmas.Bool.{false≢true}
 use Rattle.std.proofs.lemmas.Bool.Decides.{nat_tests}
 use borrow.Author.Differences.{up, down}
-use Rattle.jiff_core.specs.Calendar.{IsDate, IsCivilDate, days_from_civil, day_count, day_of_year, days_of_months, days_in_month, days_in_year, is_leap_year}
+use Rattle.jiff_core.specs.Calendar.{IsDate, IsCivilDate, days_from_civil, day_count, day_of_year, days_of_months, days_in_month, days_in_year}
 use Rattle.jiff_core.proofs.CalendarLemmas.{day_count-lt_year, days_in_month_bounds, days_from_civil-day_count, day_count-day_of_year, day_count-next_year}
 use Rattle.jiff_core.proofs.MarchLemmas.{day_count-early}
 use Rattle.jiff_core.proofs.SignedLemmas.{signed_arith}
@@ -44,7 +44,7 @@ month_count y (suc (suc (suc (suc (suc (suc (suc (suc (suc (suc (suc (suc n)))))
 counted_from : (z : ℤ) (c b : ℕ) → up z + 4_371_953 ≡ down z + c → c ≡ 3_652_791 + b → z ≡ pos b -ℤ pos 719162
 counted_from z c b h e = omega (arith, signed_arith)
 
-before_is : (y m d : ℕ) → days_before (record { year = suc y; month = suc m; day = suc d }) ≡ days_of_years y + days_of_first (months_of (suc y)) m + d
+pub before_is : (y m d : ℕ) → days_before (record { year = suc y; month = suc m; day = suc d }) ≡ days_of_years y + days_of_first (months_of (suc y)) m + d
 before_is y m d =
     let ey : suc y - 1 ≡ y = omega arith in
     let em : suc m - 1 ≡ m = omega arith in
@@ -93,10 +93,10 @@ all_tests a b c d e f ha hb hc hd he hf = rw (ha, hb, hc, hd, he, hf) refl
 le_test : (m n : ℕ) → m ≤ n → nat_le m n ≡ true
 le_test m n h = grind (arith, nat_tests)
 
-test_le : (m n : ℕ) → nat_le m n ≡ true → m ≤ n
+pub test_le : (m n : ℕ) → nat_le m n ≡ true → m ≤ n
 test_le m n h = grind (arith, nat_tests)
 
-both_tests : (a b : Bool) → (a && b) ≡ true → (a ≡ true) × (b ≡ true)
+pub both_tests : (a b : Bool) → (a && b) ≡ true → (a ≡ true) × (b ≡ true)
 both_tests true b h = (refl, h)
 both_tests false b h = absurd (false≢true h)
 
@@ -176,7 +176,7 @@ month_found (days ∷ months) first (suc j) i h =
     rw (test, left) (month_found months (first + 1) j i h ∙ pair_of ((first + 1) + j) (i + 1) (first + suc j) (i + 1) (omega arith) refl)
 
 -- the cycles of years. The 366th day of a year is one of a leap year
-abbrev MayEnd : ℕ → ℕ → ℕ → ℕ → Type 0
+abbrev pub MayEnd : ℕ → ℕ → ℕ → ℕ → Type 0
 MayEnd b c e doy = (doy < 365) ⊎ ((e ≡ 3) × ((c < 24) ⊎ (b ≡ 3)))
 
 centuries : (b c e doy : ℕ) → b < 4 → c < 25 → e < 4 → doy < 366 → MayEnd b c e doy → min 3 ((36524 * b + (1461 * c + (365 * e + doy))) / 36524) ≡ b
@@ -198,10 +198,10 @@ by_cycles k = omega arith
 year_of : (k : ℕ) → 400 * (k / 400) + 100 * (k % 400 / 100) + 4 * (k % 100 / 4) + k % 4 ≡ k
 year_of k = omega arith
 
-february : ℕ → ℕ
+pub february : ℕ → ℕ
 february y = if is_leap y then 29 else 28
 
-year_bound : (y j : ℕ) → j < 12 → days_of_first (months_of y) j + length_at (months_of y) j ≤ 337 + february y
+pub year_bound : (y j : ℕ) → j < 12 → days_of_first (months_of y) j + length_at (months_of y) j ≤ 337 + february y
 unfolding february
 year_bound y zero h = omega arith
 year_bound y (suc zero) h = omega arith
@@ -236,7 +236,7 @@ leap_cases y h =
 made : ℕ → ℕ × ℕ → CivilDate
 made y found = record { year = y; month = found.0; day = found.1 }
 
-february_ends : (k doy : ℕ) → doy < 337 + february (suc k) → (doy < 366) × MayEnd (k % 400 / 100) (k % 100 / 4) (k % 4) doy
+pub february_ends : (k doy : ℕ) → doy < 337 + february (suc k) → (doy < 366) × MayEnd (k % 400 / 100) (k % 100 / 4) (k % 4) doy
 unfolding february
 february_ends k doy h = by_leap (is_leap (suc k)) refl h
   where
@@ -290,7 +290,7 @@ year_is_after y m d n h e low before =
     let count = from_day (days_from_civil y m d) (day_count y m d) n (days_from_civil-day_count y m d) e low in
     omega (arith, day_count-lt_year y m d (pos 1) 1 1 h (omega arith) before, first_year)
 
-abs_of_day : (b : ℕ) → unsigned_abs ((pos b -ℤ pos 719162) +ℤ pos 719162) ≡ b
+pub abs_of_day : (b : ℕ) → unsigned_abs ((pos b -ℤ pos 719162) +ℤ pos 719162) ≡ b
 abs_of_day b =
     let same : (pos b -ℤ pos 719162) +ℤ pos 719162 ≡ pos b = omega (arith, signed_arith) in
     ap unsigned_abs same

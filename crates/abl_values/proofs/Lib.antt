@@ -10,5 +10,8 @@ pub mod KeyLaws
 pub mod RowKeys
 pub mod Days
 pub mod SameNames
+pub mod FoundNames
 pub mod Digits
 pub mod Sums
+pub mod Products
+pub mod DateLaws

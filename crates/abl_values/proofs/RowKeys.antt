@@ -1,24 +1,22 @@
 -- Keys of rows, component by component.
-use Rattle.std.proofs.Common.{◌≡◌, ◌↔◌, if◌then◌else◌, ◌==◌, ℕ, zero, suc, ◌+◌, ◌-◌, ◌<◌, ◌≤◌, Bool, true, false, List, [], ◌∷◌, ◌++◌, length, get_or, map, Option, Some, None, refl, sym, ap, ◌∙◌, arith, subst}
+use Rattle.std.proofs.Common.{◌≡◌, ◌↔◌, if◌then◌else◌, ◌==◌, ℕ, zero, suc, ◌<◌, Bool, true, false, List, [], ◌∷◌, ◌++◌, get_or, Option, None, refl, sym, ap, ◌∙◌, arith}
 use Rattle.std.proofs.lemmas.Bool.Decides.{nat_tests}
-use Rattle.std.specs.List.{flat_map}
 use Rattle.std.specs.FinSet.{nat_cmp-IsAntisymmetric, slice_cmp-IsAntisymmetric}
 use Rattle.std.specs.Cmp.Lexicographic.{slice_cmp}
 use Rattle.std.proofs.lemmas.Cmp.{tied_itself, nat_list_cmp_total}
-use Rattle.std.specs.Ordering.{nat_cmp, ordering_then, ordering_reverse}
-use Rattle.std.specs.declared.cmp.Ordering.{Ordering}
-use Rattle.std.specs.declared.cmp.Ordering.TheVariants.{Less, Equal, Greater}
+use Rattle.std.specs.Ordering.{nat_cmp, ordering_then}
+use Rattle.std.specs.declared.cmp.Ordering.TheVariants.{Equal}
 use Rattle.abl_base.specs.declared.value.Value.{Value}
 use Rattle.abl_base.specs.declared.value.Value.TheVariants.{Text, Int, Int64, Dec, Logical, Date, Unknown}
 use Rattle.abl_base.specs.declared.value.Kind.{Kind}
 use Rattle.abl_values.specs.declared.schema.Part.{Part}
 use Rattle.abl_values.specs.Order.{value_order, compared_text, folded, folded_byte, kept_before, without_trailing}
 use Rattle.abl_values.specs.Fit.{IsOfField}
-use Rattle.abl_values.specs.Rows.{FitsFields, number_bytes}
-use Rattle.abl_values.specs.Keys.{ascending_bytes, component, component_bytes, component_order, escaped, escaped_byte, key_bytes, key_order, turned_byte, turned_over, AreBytes, HasBytes, HaveBytes}
+use Rattle.abl_values.specs.Rows.{FitsFields}
+use Rattle.abl_values.specs.Keys.{ascending_bytes, component, component_bytes, component_order, escaped, escaped_byte, key_bytes, key_order, turned_over, AreBytes, HasBytes, HaveBytes}
 use Rattle.abl_values.proofs.Numbers.{number_bytes-AreBytes}
 use Rattle.abl_values.proofs.OrderLaws.{value_order_total}
-use Rattle.abl_values.proofs.Settled.{settles, settles-append, settles-component, turned_order}
+use Rattle.abl_values.proofs.Settled.{settles-append, settles-component, turned_order}
 use Rattle.abl_values.proofs.KeyLaws.{settles-field}
 
 -- ---- bytes stay bytes

@@ -1,12 +1,12 @@
 -- A row is read back from its bytes, and no other bytes give it.
-use Rattle.std.proofs.Common.{◌≡◌, ℕ, zero, suc, ◌+◌, ◌-◌, ◌^◌, ◌<◌, ◌≤◌, Bool, true, false, nat_le, eqb, ◌==◌, List, [], ◌∷◌, ◌++◌, length, take, drop, Option, Some, None, ℤ, pos, negsuc, refl, sym, ap, ◌∙◌, arith, subst, ⊎_elim, FitsSigned, length-append, length-take, append_assoc, if◌then◌else◌}
+use Rattle.std.proofs.Common.{◌≡◌, ℕ, zero, suc, ◌^◌, ◌<◌, ◌≤◌, Bool, true, false, nat_le, ◌==◌, List, [], ◌∷◌, ◌++◌, length, take, drop, Option, Some, None, ℤ, pos, negsuc, refl, sym, ap, ◌∙◌, arith, subst, ⊎_elim, FitsSigned, length-append, length-take, append_assoc, if◌then◌else◌}
 use Rattle.std.proofs.lemmas.Bool.{false≢true, cases_lt}
 use Rattle.std.proofs.lemmas.Bool.Decides.{nat_tests}
 use Rattle.std.proofs.lemmas.List.{take-append-drop}
 use Rattle.std.proofs.Math.Seq.{take-append_seam, drop-append_seam}
-use Rattle.std.proofs.lemmas.Int.{to_z-of_z, of_z-to_z, to_z_pos, ints}
+use Rattle.std.proofs.lemmas.Int.{to_z-of_z, of_z-to_z, to_z_pos}
 use Rattle.std.specs.Int.{Width, w32, w64, w128, cast_signed, cast_unsigned}
-use mir.Val.{hbits, bits}
+use mir.Val.{hbits}
 use Rattle.std.specs.List.{flat_map}
 use Rattle.abl_base.specs.declared.value.Value.{Value}
 use Rattle.abl_base.specs.declared.value.Value.TheVariants.{Text, Int, Int64, Dec, Logical, Date, Unknown}
@@ -18,7 +18,7 @@ use Rattle.abl_values.specs.Arithmetic.{fits_bits}
 use Rattle.abl_values.specs.Fit.{IsOfKind, IsOfField}
 use Rattle.abl_values.specs.Keys.{AreBytes}
 use Rattle.abl_values.specs.Rows.{number_bytes, number_at_head, field_bytes, bytes_of_row, FitsFields, Found, number_in, day_in, text_in, value_in, field_in, with_first, row_in}
-use Rattle.abl_values.proofs.Numbers.{length-number_bytes, number_at_head-bytes, number_at_head-lt, bytes-number_at_head, drop-number_bytes, drop-AreBytes}
+use Rattle.abl_values.proofs.Numbers.{length-number_bytes, number_at_head-bytes, number_at_head-lt, bytes-number_at_head, drop-number_bytes}
 use Rattle.abl_values.proofs.RowReads.{row_in-read, row_in-none}
 
 -- ---- signed numbers

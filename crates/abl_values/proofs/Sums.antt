@@ -1,24 +1,22 @@
 -- What sums and differences are in units of stored decimals.
-use Rattle.std.proofs.Common.{◌≡◌, Bool, true, false, Result, Ok, Err, ℤ, pos, negsuc, ◌+ℤ◌, ◌-ℤ◌, refl, sym, ap, ◌∙◌, arith, subst}
+use Rattle.std.proofs.Common.{◌≡◌, Bool, true, false, Ok, ℤ, ◌+ℤ◌, ◌-ℤ◌, refl, sym, ap, ◌∙◌, arith}
 use Rattle.std.proofs.lemmas.Int.{ints}
 use Rattle.abl_base.specs.declared.value.Value.{Value}
-use Rattle.abl_base.specs.declared.value.Value.TheVariants.{Text, Int, Int64, Dec, Logical, Date, Unknown}
-use Rattle.abl_values.specs.declared.arithmetic.ArithFault.{ArithFault}
-use Rattle.abl_values.specs.declared.arithmetic.ArithFault.TheVariants.{Overflow}
+use Rattle.abl_base.specs.declared.value.Value.TheVariants.{Int, Int64, Dec}
 use Rattle.abl_values.specs.Order.{rank_of, scaled}
 use Rattle.abl_values.specs.Arithmetic.{in_range, fits_bits, sum_of, difference_of, IsNumber}
 
-kept : (b : Bool) (u v : Value) → in_range b u ≡ Ok v → u ≡ v
+pub kept : (b : Bool) (u v : Value) → in_range b u ≡ Ok v → u ≡ v
 kept true u v h = cc
 kept false u v h = cc
 
-ranked : (b : Bool) (u v : Value) (z : ℤ) → rank_of u ≡ z → in_range b u ≡ Ok v → rank_of v ≡ z
+pub ranked : (b : Bool) (u v : Value) (z : ℤ) → rank_of u ≡ z → in_range b u ≡ Ok v → rank_of v ≡ z
 ranked b u v z e h = sym (ap rank_of (kept b u v h)) ∙ e
 
-scaled-sum : (x y : ℤ) → scaled (x +ℤ y) ≡ scaled x +ℤ scaled y
+pub scaled-sum : (x y : ℤ) → scaled (x +ℤ y) ≡ scaled x +ℤ scaled y
 scaled-sum x y = omega (arith, ints)
 
-scaled-difference : (x y : ℤ) → scaled (x -ℤ y) ≡ scaled x -ℤ scaled y
+pub scaled-difference : (x y : ℤ) → scaled (x -ℤ y) ≡ scaled x -ℤ scaled y
 scaled-difference x y = omega (arith, ints)
 
 pub sum_rank : (a b v : Value) → IsNumber a → IsNumber b → sum_of a b ≡ Ok v → rank_of v ≡ rank_of a +ℤ rank_of b

@@ -1,5 +1,5 @@
 -- The operators `+ - * / MODULO` on values, and exactly where each overflows.
-use Rattle.std.specs.Prelude.{◌≡◌, IsOk, ℕ, zero, suc, ◌+◌, ◌*◌, ◌/◌, ◌^◌, ◌≤◌, Bool, true, false, nat_lt, nat_le, if◌then◌else◌, List, ◌++◌, length, Result, Ok, Err, ℤ, pos, negsuc, neg_ℤ, ◌+ℤ◌, ◌-ℤ◌, ◌*ℤ◌, int_rem, unsigned_abs}
+use Rattle.std.specs.Prelude.{◌≡◌, IsOk, ℕ, zero, suc, ◌+◌, ◌*◌, ◌/◌, ◌^◌, Bool, true, false, nat_lt, nat_le, if◌then◌else◌, List, ◌++◌, length, Result, Ok, Err, ℤ, pos, negsuc, neg_ℤ, ◌+ℤ◌, ◌-ℤ◌, ◌*ℤ◌, int_rem, unsigned_abs}
 use Rattle.std.specs.Int.{is_negative}
 use Rattle.abl_base.specs.declared.value.Value.{Value}
 use Rattle.abl_base.specs.declared.value.Value.TheVariants.{Text, Int, Int64, Dec, Logical, Date, Unknown}
@@ -159,3 +159,9 @@ IsNumber (Int n) = Unit {0}
 IsNumber (Int64 n) = Unit {0}
 IsNumber (Dec n) = Unit {0}
 IsNumber v = ⊥
+
+-- the value is a whole number
+abbrev pub IsWhole : Value → Type 0
+IsWhole (Int n) = Unit {0}
+IsWhole (Int64 n) = Unit {0}
+IsWhole v = ⊥

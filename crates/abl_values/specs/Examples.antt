@@ -1,21 +1,19 @@
 -- Worked examples, each computed from the definitions.
-use Rattle.std.specs.Prelude.{◌≡◌, refl, ℕ, Bool, true, false, List, [], ◌∷◌, ◌++◌, codes, Option, Some, None, Result, Ok, Err, ℤ, pos, negsuc}
+use Rattle.std.specs.Prelude.{◌≡◌, refl, true, false, [], ◌∷◌, codes, Some, None, Ok, Err, pos, negsuc}
 use Rattle.std.specs.declared.cmp.Ordering.TheVariants.{Less, Equal, Greater}
-use Rattle.abl_base.specs.declared.value.Value.{Value}
 use Rattle.abl_base.specs.declared.value.Value.TheVariants.{Text, Int, Int64, Dec, Logical, Date, Unknown}
-use Rattle.abl_base.specs.declared.value.Kind.TheVariants.{Integer, Decimal, Character, Logical as Truth, Date as Day}
+use Rattle.abl_base.specs.declared.value.Kind.TheVariants.{Integer, Character, Logical as Truth}
 use Rattle.abl_values.specs.declared.arithmetic.ArithFault.TheVariants.{Overflow}
-use Rattle.abl_values.specs.declared.schema.TableDef.{TableDef}
 use Rattle.std.specs.Fmt.{digits}
 use Rattle.abl_values.specs.Order.{value_order}
-use Rattle.abl_values.specs.Dates.{CivilDate, day_number, date_from, date_of_day, date_in_years, date_after}
+use Rattle.abl_values.specs.Dates.{day_number, date_from, date_of_day, date_in_years, date_after}
 use Rattle.abl_values.specs.Arithmetic.{sum_of, difference_of, product_of, quotient_of, remainder_of}
 use Rattle.abl_values.specs.Fit.{fitted}
 use Rattle.abl_values.specs.Rows.{bytes_of_row, row_in, fragments_of, number_bytes, number_at_head}
-use Rattle.abl_values.specs.Keys.{key_bytes, unique_key}
+use Rattle.abl_values.specs.Keys.{key_bytes}
 use Rattle.abl_values.specs.Texts.{plain_text, export_text}
 use Rattle.abl_values.specs.Masks.{mask_is_for}
-use Rattle.abl_values.specs.Schema.{SchemaData, canonical_text, lines_in_order, table_named, field_named}
+use Rattle.abl_values.specs.Schema.{SchemaData, canonical_text, lines_in_order, field_named}
 
 -- ---- order: letters in any case, trailing blanks, numbers of different kinds, no and yes, `?` above all
 case_and_blanks : value_order (Text (codes "Ab  ")) (Text (codes "aB")) ≡ Equal

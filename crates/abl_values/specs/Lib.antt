@@ -7,5 +7,6 @@ pub mod Reads
 pub mod Keys
 pub mod Texts
 pub mod Masks
+pub mod Names
 pub mod Schema
 pub mod Examples

@@ -1,5 +1,5 @@
 -- The bytes of a row, and how they are read.
-use Rattle.std.specs.Prelude.{◌≡◌, ℕ, zero, suc, ◌+◌, ◌*◌, ◌/◌, ◌≤◌, ◌<◌, max, Bool, true, false, nat_le, ◌==◌, if◌then◌else◌, List, [], ◌∷◌, ◌++◌, length, take, drop, Option, Some, None, ℤ, IsTrue}
+use Rattle.std.specs.Prelude.{ℕ, ◌+◌, ◌/◌, ◌≤◌, max, true, false, nat_le, ◌==◌, if◌then◌else◌, List, [], ◌∷◌, ◌++◌, length, take, drop, Option, Some, None}
 use Rattle.std.specs.Int.{w32, w64, w128, cast_signed, cast_unsigned}
 use Rattle.std.specs.List.{flat_map}
 use Rattle.byteorder.specs.Endian.{big_bytes, big_number}

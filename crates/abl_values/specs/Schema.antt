@@ -1,8 +1,7 @@
 -- A schema as data, what its readers find, and its canonical text.
-use Rattle.std.specs.Prelude.{◌≤◌, ℕ, zero, suc, ◌+◌, Bool, true, false, ◌&&◌, ◌==◌, if◌then◌else◌, List, [], ◌∷◌, ◌++◌, length, codes, slice_index_or, Option, Some, None}
+use Rattle.std.specs.Prelude.{◌≤◌, ℕ, ◌+◌, Bool, true, false, ◌==◌, if◌then◌else◌, List, [], ◌∷◌, ◌++◌, length, map, codes, slice_index_or, Option, Some, None}
 use Rattle.std.specs.List.{All, flat_map}
 use Rattle.std.specs.Fmt.{signed_decimal}
-use Rattle.abl_base.specs.declared.value.Value.{Value}
 use Rattle.abl_base.specs.declared.value.Value.TheVariants.{Unknown}
 use Rattle.abl_base.specs.declared.value.Kind.{Kind}
 use Rattle.abl_base.specs.declared.value.Kind.TheVariants.{Character, Integer, Int64, Decimal, Logical, Date}
@@ -34,12 +33,10 @@ number_of_name n [] name = None
 number_of_name n (x ∷ xs) name = if same_name x name then Some n else number_of_name (n + 1) xs name
 
 abbrev pub table_names : List TableDef → List (List ℕ)
-table_names [] = []
-table_names (t ∷ ts) = t.name ∷ table_names ts
+table_names = map (λ t. t.name)
 
 abbrev pub field_names : List FieldDef → List (List ℕ)
-field_names [] = []
-field_names (f ∷ fs) = f.name ∷ field_names fs
+field_names = map (λ f. f.name)
 
 abbrev pub field_kinds : List FieldDef → List (Option Kind)
 field_kinds [] = []

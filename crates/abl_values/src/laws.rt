@@ -1,6 +1,6 @@
 //! What holds of the definitions alone. Each law is what its function ensures.
 
-ghost use Rattle.std.specs.Prelude.{◌≡◌, ◌≤◌, ◌<◌, ◌+◌, ◌*◌, ◌+ℤ◌, ◌-ℤ◌, ◌↔◌, ℕ, List, Option, Ok, Some};
+ghost use Rattle.std.specs.Prelude.{◌≡◌, ◌≢◌, ◌≤◌, ◌<◌, ◌+◌, ◌*◌, ◌+ℤ◌, ◌-ℤ◌, ◌*ℤ◌, ◌↔◌, ℕ, pos, IsTrue, List, Option, Ok, Some};
 ghost use Rattle.std.specs.Cmp.{IsTotalOrder};
 ghost use Rattle.std.specs.Cmp.Lexicographic.{slice_cmp};
 ghost use Rattle.std.specs.Ordering.{nat_cmp};
@@ -8,9 +8,10 @@ ghost use Rattle.std.specs.declared.cmp.Ordering.TheVariants.{Equal};
 ghost use Rattle.abl_values.specs.declared.schema.Part.{Part};
 ghost use Rattle.abl_base.specs.declared.value.Kind.{Kind};
 ghost use Rattle.abl_base.specs.declared.value.Value.{Value};
-ghost use Rattle.abl_values.specs.Arithmetic.{difference_of, IsNumber, rounded, sum_of};
+ghost use Rattle.abl_values.specs.Arithmetic.{difference_of, IsNumber, IsWhole, product_of, quotient_of, rounded, rounded_quotient, rounded_whole, sum_of};
+ghost use Rattle.abl_values.specs.Dates.{CivilDate, date_of_day, day_number, is_civil};
 ghost use Rattle.abl_values.specs.Keys.{AreBytes, HaveBytes, key_bytes, key_order};
-ghost use Rattle.abl_values.specs.Order.{rank_of, value_order};
+ghost use Rattle.abl_values.specs.Order.{rank_of, scaled, value_order};
 ghost use Rattle.abl_values.specs.Rows.{bytes_of_row, FitsFields, fragments_of, row_in};
 
 /// The index order is total and transitive.
@@ -44,6 +45,22 @@ pub fn sums_are_those_of_integers()
         → rank_of v ≡ rank_of a +ℤ rank_of b }
     ensures difference { (a b v : Value) → IsNumber a → IsNumber b → difference_of a b ≡ Ok v
         → rank_of v ≡ rank_of a -ℤ rank_of b }
+{}
+
+/// Products and quotients of numbers are those of the integers where they do not overflow, rounded
+/// once to ten decimals. Whole numbers multiply exactly.
+pub fn products_are_those_of_integers()
+    ensures product { (a b v : Value) → IsNumber a → IsNumber b → product_of a b ≡ Ok v
+        → rank_of v ≡ rounded_whole (rank_of a *ℤ rank_of b) }
+    ensures whole { (a b v : Value) → IsWhole a → IsWhole b → product_of a b ≡ Ok v
+        → scaled (rank_of v) ≡ rank_of a *ℤ rank_of b }
+    ensures quotient { (a b v : Value) → IsNumber a → IsNumber b → rank_of b ≢ pos 0 → quotient_of a b ≡ Ok v
+        → rank_of v ≡ rounded_quotient (scaled (rank_of a)) (rank_of b) }
+{}
+
+/// The day number of a date leads back to the date, so no two dates have one number.
+pub fn dates_are_read_back()
+    ensures { (d : CivilDate) → IsTrue (is_civil d) → date_of_day (day_number d) ≡ d }
 {}
 
 /// A rounded quotient is the nearest natural number, and a half goes up.

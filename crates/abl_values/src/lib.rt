@@ -11,14 +11,13 @@ pub mod fitting;
 pub mod keys;
 pub mod laws;
 pub mod masks;
+pub mod named;
 pub mod names;
 pub mod order;
 mod rounding;
 pub mod schema;
 pub mod stored;
 pub mod stored_read;
-#[cfg(test)]
-mod tests;
 pub mod texts;
 
 pub use arithmetic::{ArithFault, add, divide, modulo, multiply, subtract};
@@ -26,6 +25,7 @@ pub use dates::{date_of, date_parts};
 pub use fitting::fit;
 pub use keys::key_bytes;
 pub use masks::mask_fits;
+pub use named::{HasName, NameFault, Named};
 pub use names::same_name;
 pub use order::compare;
 pub use schema::{FieldDef, IndexDef, Part, Parts, Schema, SequenceDef, TableDef};

@@ -1,10 +1,9 @@
 //! Tables with their fields and indexes, and sequences.
 
 ghost use Rattle.std.specs.Prelude.{◌≡◌, ◌<◌, ◌≤◌, length, IfOk};
-ghost use Rattle.abl_values.specs.Schema.{field_names, number_of_name, table_names};
 
 use crate::canonical::lines_in_order;
-use crate::names::same_name;
+use crate::named::{HasName, Named};
 use abl_base::{Bytes, Items, Kind, Value};
 use std::alloc::AllocError;
 use std::marker::Model;
@@ -41,8 +40,8 @@ pub struct IndexDef {
 #[derive(Drop)]
 pub struct TableDef {
     pub name: Bytes,
-    pub fields: Items<FieldDef>,
-    pub indexes: Items<IndexDef>,
+    pub fields: Named<FieldDef>,
+    pub indexes: Named<IndexDef>,
     pub primary: Option<u16>,
 }
 
@@ -54,12 +53,44 @@ pub struct SequenceDef {
     pub increment: i64,
 }
 
+impl HasName for FieldDef {
+    ghost name_of = { λ item. item.name };
+
+    fn name(&self) -> &[u8] {
+        self.name.as_slice()
+    }
+}
+
+impl HasName for IndexDef {
+    ghost name_of = { λ item. item.name };
+
+    fn name(&self) -> &[u8] {
+        self.name.as_slice()
+    }
+}
+
+impl HasName for TableDef {
+    ghost name_of = { λ item. item.name };
+
+    fn name(&self) -> &[u8] {
+        self.name.as_slice()
+    }
+}
+
+impl HasName for SequenceDef {
+    ghost name_of = { λ item. item.name };
+
+    fn name(&self) -> &[u8] {
+        self.name.as_slice()
+    }
+}
+
 /// The tables and sequences of a database, as they stand in its schema file. Names are spelt as
 /// there, and found in any case.
 #[derive(Drop)]
 pub struct Schema {
-    tables: Items<TableDef>,
-    sequences: Items<SequenceDef>,
+    tables: Named<TableDef>,
+    sequences: Named<SequenceDef>,
     order: Items<bool>,
 }
 
@@ -78,7 +109,7 @@ impl Schema {
 
     /// The schema with these tables and sequences, each in the order of the file. `order` has true
     /// for a table and false for a sequence, as they stand there one after the other.
-    pub fn of(tables: Items<TableDef>, sequences: Items<SequenceDef>, order: Items<bool>) -> Schema
+    pub fn of(tables: Named<TableDef>, sequences: Named<SequenceDef>, order: Items<bool>) -> Schema
         requires { IsWithinLimits tables }
         ensures { result ≡ record { tables = tables; sequences = sequences; order = order } }
     {
@@ -101,7 +132,8 @@ impl Schema {
     pub fn table(&self, name: &[u8]) -> Option<u16>
         ensures { result ≡ table_named self.now name.now }
     {
-        table_number(self.tables.as_slice(), name)
+        let number = self.tables.find(name)?;
+        Some(number as u16)
     }
 
     /// The number of the table's field with this name, in any case.
@@ -110,10 +142,10 @@ impl Schema {
         requires { table < length self.now.tables }
         ensures { result ≡ field_named self.now table name.now }
     {
-        field_number(
-            self.tables.as_slice()[usize::from(table)].fields.as_slice(),
-            name,
-        )
+        let number = self.tables.as_slice()[usize::from(table)]
+            .fields
+            .find(name)?;
+        Some(number as u16)
     }
 
     /// The table's name as it is spelt.
@@ -174,30 +206,4 @@ impl Schema {
     {
         self.sequences.as_slice()
     }
-}
-
-/// The number of the first table with this name.
-fn table_number(tables: &[TableDef], name: &[u8]) -> Option<u16>
-    requires { length tables.now ≤ 256 }
-    ensures { result ≡ number_of_name 0 (table_names tables.now) name.now }
-{
-    for i in 0..tables.len() {
-        if same_name(tables[i].name.as_slice(), name) {
-            return Some(i as u16);
-        }
-    }
-    None
-}
-
-/// The number of the first field with this name.
-fn field_number(fields: &[FieldDef], name: &[u8]) -> Option<u16>
-    requires { length fields.now ≤ 256 }
-    ensures { result ≡ number_of_name 0 (field_names fields.now) name.now }
-{
-    for i in 0..fields.len() {
-        if same_name(fields[i].name.as_slice(), name) {
-            return Some(i as u16);
-        }
-    }
-    None
 }

@@ -1,4 +1,4 @@
-use Rattle.std.proofs.Common.{◌≡◌, ap, ◌∙◌, rules, FitsSigned, pos}
+use Rattle.std.proofs.Common.{ap, ◌∙◌, rules, FitsSigned, pos}
 use Rattle.std.proofs.lemmas.Int.{to_z-of_z}
 use Rattle.std.specs.Int.{w32, w64}
 use Rattle.abl_values.specs.Dates.{date_of_day, date_in_years, nearest_day}

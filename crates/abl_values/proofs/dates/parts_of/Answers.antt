@@ -1,7 +1,6 @@
-use Rattle.std.proofs.Common.{◌≡◌, ap, sym, ◌∙◌, arith, rules, FitsSigned, pos}
+use Rattle.std.proofs.Common.{ap, ◌∙◌, rules, FitsSigned, pos}
 use Rattle.std.proofs.lemmas.Int.{to_z-of_z}
 use Rattle.std.specs.Int.{w16, w64}
-use Rattle.jiff_core.proofs.SignedLemmas.{signed_arith}
 use Rattle.abl_values.proofs.Days.{date_is}
 use Rattle.abl_values.proofs.dates.parts_of.Goals as goal
 

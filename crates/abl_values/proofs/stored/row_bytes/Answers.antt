@@ -1,4 +1,4 @@
-use Rattle.std.proofs.Common.{arith, get_or, sym, ◌∙◌, ap, subst, length, ◌<◌, List}
+use Rattle.std.proofs.Common.{get_or, sym, ◌∙◌, ap, subst, length, ◌<◌, List}
 use Rattle.abl_values.specs.Rows.{IsShort}
 use Rattle.abl_values.specs.Schema.{field_kinds}
 use Rattle.abl_base.specs.declared.value.Value.{Value}

@@ -1,4 +1,4 @@
-use Rattle.std.proofs.Common.{ℕ, ◌+◌, List, drop, Some, sym, ◌∙◌, ap, arith, rules}
+use Rattle.std.proofs.Common.{ℕ, ◌+◌, List, drop, Some, sym, ◌∙◌, ap, rules}
 use Rattle.abl_base.specs.declared.value.Value.{Value}
 use Rattle.abl_values.proofs.RowReads.{left_in, left_in-read, left_in-none, left_in-end, left_in-more, with_before}
 use Rattle.abl_values.proofs.stored_read.row_of.Goals as goal
