@@ -1,0 +1,13 @@
+pub mod Places
+pub mod Ends
+pub mod Beyond
+pub mod KeyedNodes
+pub mod Changes
+pub mod EndedNodes
+pub mod Prefixes
+pub mod Seeks
+pub mod Orders
+pub mod Spans
+pub mod Ranged
+pub mod Nexts
+pub mod Keepers

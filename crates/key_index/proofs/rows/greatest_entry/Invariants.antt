@@ -1,0 +1,14 @@
+use Rattle.std.proofs.Common.{◌≡◌, ℕ, nat_cmp, Some, None}
+use Rattle.std.specs.BTreeMap as tree
+use Rattle.key_index.specs.Standing.{IsBelow}
+use Rattle.key_index.proofs.Beyond.{rows_below}
+use Rattle.key_index.proofs.rows.greatest_entry.Given as goal
+
+-- the search goes on below the given row, and passed no entry
+abbrev pub invariant-loop-row : goal.invariant-loop-row
+invariant-loop-row l =
+    ((q : ℕ) → IsBelow l.from q → IsBelow l.fn.below q)
+    × ((q : ℕ) → IsBelow l.fn.below q → tree.get nat_cmp l.rows q ≡ Some None → IsBelow l.from q)
+
+abbrev pub decreases-loop-row : goal.decreases-loop-row
+decreases-loop-row l = rows_below l.from

@@ -1,0 +1,14 @@
+use Rattle.std.proofs.Common.{◌≡◌, ℕ, nat_cmp, Some, None}
+use Rattle.std.specs.BTreeMap as tree
+use Rattle.key_index.specs.Standing.{IsAbove}
+use Rattle.key_index.proofs.Beyond.{rows_above}
+use Rattle.key_index.proofs.rows.least_entry.Given as goal
+
+-- the search goes on above the given row, and passed no entry
+abbrev pub invariant-loop-row : goal.invariant-loop-row
+invariant-loop-row l =
+    ((q : ℕ) → IsAbove l.from q → IsAbove l.fn.above q)
+    × ((q : ℕ) → IsAbove l.fn.above q → tree.get nat_cmp l.rows q ≡ Some None → IsAbove l.from q)
+
+abbrev pub decreases-loop-row : goal.decreases-loop-row
+decreases-loop-row l = rows_above l.from

@@ -1,0 +1,24 @@
+-- One key of an index: its rows, and its keeper.
+use Rattle.std.specs.Prelude.{◌≡◌, ℕ, Bool, false, if◌then◌else◌, Some, None}
+use Rattle.std.specs.FinMap as map
+use Rattle.key_index.specs.declared.index.Node.{Node}
+use Rattle.key_index.specs.Standing.{without_keeper, without_left}
+
+-- no row, and no keeper
+abbrev pub no_node : Node
+no_node = record { rows = map.empty; keeper = None }
+
+-- after an entry
+abbrev pub node_entered : Node → ℕ → ℕ → Bool → Node
+node_entered node client row unique = record { rows = map.insert node.rows row None; keeper = if unique then Some client else node.keeper }
+
+-- after the client left it
+abbrev pub node_left : Node → ℕ → ℕ → Bool → Node
+node_left node client row unique = record { rows = map.insert node.rows row (Some client); keeper = if unique then Some client else node.keeper }
+
+-- after the client's end: its placeholders and its keeping are gone, and where nothing is told to be left, nothing is
+pub record IsNodeEnded (client : ℕ) (old new : Node) (left : Bool) : Type 0 where
+  pub rows : (row : ℕ) → map.get new.rows row ≡ without_left client (map.get old.rows row)
+  pub keeper : new.keeper ≡ without_keeper client old.keeper
+  pub no_row : left ≡ false → (row : ℕ) → map.get new.rows row ≡ None
+  pub no_keeper : left ≡ false → new.keeper ≡ None

@@ -1,0 +1,306 @@
+//! The index.
+
+ghost use Rattle.std.specs.Prelude.{◌≡◌, ◌≢◌, ◌↔◌, ℕ, Bool, true, false, List, IsTrue, IsSome, IsOk, OnOk, OnErr, IfOk, MatchOption, Option, Some, None};
+ghost use Rattle.std.specs.FinMap as map;
+ghost use Rattle.std.specs.BTreeMap as tree;
+ghost use Rattle.std.specs.List.{list_any};
+ghost use Rattle.std.specs.Ordering.{nat_cmp};
+ghost use Rattle.std.specs.Cmp.Lexicographic.{slice_cmp};
+ghost use Rattle.key_index.specs.Standing.{is_client};
+ghost use Rattle.std.specs.Option.{option_copied};
+ghost use Rattle.key_index.specs.Index.{IsEnded, IsEntry, IsSame, KeepsSome, MayEnter, NoOtherKeeps, Puts, keeper_of, standing};
+ghost use Rattle.key_index.specs.Search.{FindsNone, FindsNoneAmong, IsKeyBeyond, IsNext, IsNextAmong};
+
+use crate::prefix::begins_with;
+use crate::rows::{Rows, is_client};
+use crate::seek::{first_entry, last_entry};
+use crate::span::{ends_ahead, ends_behind};
+use abl_base::{Bytes, Cursor, RowId};
+use std::alloc::{AllocError, Global};
+use std::collections::BTreeMap;
+use std::marker::Model;
+
+/// The rows under one key, and the client that keeps the key.
+#[derive(Drop)]
+pub struct Node {
+    pub rows: Rows,
+    pub keeper: Option<u16>,
+}
+
+impl Node {
+    ghost use Rattle.key_index.specs.Nodes.{no_node, node_entered, node_left, IsNodeEnded};
+
+    /// A node with one entry.
+    fn entered(alloc: Global, client: u16, row: u32, unique: bool) -> Result<Node, AllocError>
+        ensures { IfOk result (λ node. node ≡ node_entered no_node client row unique) }
+    {
+        let mut node = Node {
+            rows: Rows::new(alloc),
+            keeper: None,
+        };
+        node.enter(client, row, unique)?;
+        Ok(node)
+    }
+
+    /// Lets a row stand as an entry, and the client keep the key where it is a unique one.
+    fn enter(&mut self, client: u16, row: u32, unique: bool) -> Result<(), AllocError>
+        ensures ok { OnOk result (self.new ≡ node_entered self.old client row unique) }
+        ensures err { OnErr result (self.new ≡ self.old) }
+        ensures known { IsSome (map.get self.old.rows row) → IsOk result }
+    {
+        self.rows.put(row, None)?;
+        if unique {
+            self.keeper = Some(client);
+        }
+        Ok(())
+    }
+
+    /// Lets a row that stands here stand as a placeholder of the client, which keeps the key where
+    /// it is a unique one.
+    fn leave(&mut self, client: u16, row: u32, unique: bool)
+        requires { IsSome (map.get self.old.rows row) }
+        ensures { self.new ≡ node_left self.old client row unique }
+    {
+        let _ = self.rows.put(row, Some(client));
+        if unique {
+            self.keeper = Some(client);
+        }
+    }
+
+    /// Takes the placeholders of a client away, and frees the key where the client keeps it. Tells
+    /// whether anything is left.
+    fn end(&mut self, client: u16) -> bool
+        ensures { IsNodeEnded client self.old self.new result }
+    {
+        self.rows.end(client);
+        if self.keeper == Some(client) {
+            self.keeper = None;
+        }
+        self.keeper.is_some() || !self.rows.is_empty()
+    }
+}
+
+/// The entries, placeholders and kept keys of an index.
+#[derive(Drop)]
+pub struct Index {
+    nodes: BTreeMap<Vec<u8>, Node>,
+}
+
+impl Model for Index {
+    ghost use Rattle.std.specs.Ordering.{nat_cmp};
+    ghost use Rattle.std.specs.Cmp.Lexicographic.{slice_cmp};
+    ghost use Rattle.std.specs.Coded.{coded_ℕ, coded_list};
+    ghost use Rattle.std.specs.FinMap as map;
+    ghost use Rattle.key_index.specs.declared.index.Node.{Node};
+    ghost use Rattle.key_index.specs.contracts.index.Node as node;
+    ghost use Rattle.key_index.specs.Keyed.{by_bytes};
+
+    ghost Value = { map.FinMap (slice_cmp nat_cmp) Node };
+
+    ghost coded = { map.code (coded_list coded_ℕ) node.the_row.coded };
+
+    ghost view = { λ index. map.from_entries (by_bytes index.nodes.entries) };
+}
+
+impl Index {
+    /// The index with no entry.
+    pub fn new(alloc: Global) -> Index
+        ensures { result ≡ map.empty }
+    {
+        Index {
+            nodes: BTreeMap::new(alloc),
+        }
+    }
+
+    /// The first entry after the cursor whose key begins with the prefix, or the last one before it
+    /// where the search does not go forward; without a cursor the first or the last of all.
+    /// Placeholders are passed over. Want of memory is the only refusal.
+    pub fn next(
+        &self,
+        cursor: Option<&Cursor>,
+        prefix: &Bytes,
+        forward: bool,
+    ) -> Result<Option<Cursor>, AllocError>
+        ensures { IfOk result (λ found. MatchOption found (FindsNone self.now (option_copied cursor.entry) prefix.now forward) (λ f. IsNext self.now (option_copied cursor.entry) prefix.now forward f)) }
+    {
+        let Some(from) = cursor else {
+            return self.beyond(None, prefix, forward);
+        };
+        let Some(row) = self.beside(from, prefix, forward) else {
+            return self.beyond(Some(from), prefix, forward);
+        };
+        Ok(Some(Cursor {
+            key: from.key.copy()?,
+            row: RowId(row),
+        }))
+    }
+
+    /// The row of the first entry beyond the cursor that has the cursor's own key.
+    fn beside(&self, cursor: &Cursor, prefix: &Bytes, forward: bool) -> Option<u32>
+        ensures { MatchOption result (FindsNoneAmong (λ key. key ≡ cursor.now.key) self.now (Some cursor.now) prefix.now forward) (λ row. IsNextAmong (λ key. key ≡ cursor.now.key) self.now (Some cursor.now) prefix.now forward cursor.now.key row) }
+    {
+        let node = self.nodes.get(cursor.key.as_slice())?;
+        if !begins_with(cursor.key.as_slice(), prefix.as_slice()) {
+            return None;
+        }
+        if forward {
+            node.rows.least(Some(cursor.row.0))
+        } else {
+            node.rows.greatest(Some(cursor.row.0))
+        }
+    }
+
+    /// The first entry under a key beyond the cursor's.
+    fn beyond(
+        &self,
+        cursor: Option<&Cursor>,
+        prefix: &Bytes,
+        forward: bool,
+    ) -> Result<Option<Cursor>, AllocError>
+        ensures { IfOk result (λ found. MatchOption found (FindsNoneAmong (IsKeyBeyond (option_copied cursor.entry) forward) self.now (option_copied cursor.entry) prefix.now forward) (λ f. IsNextAmong (IsKeyBeyond (option_copied cursor.entry) forward) self.now (option_copied cursor.entry) prefix.now forward f.key f.row.0)) }
+    {
+        if forward {
+            self.ahead(cursor, prefix)
+        } else {
+            self.behind(cursor, prefix)
+        }
+    }
+
+    /// The first entry under a key after the cursor's.
+    fn ahead(&self, cursor: Option<&Cursor>, prefix: &Bytes) -> Result<Option<Cursor>, AllocError>
+        ensures { IfOk result (λ found. MatchOption found (FindsNoneAmong (IsKeyBeyond (option_copied cursor.entry) true) self.now (option_copied cursor.entry) prefix.now true) (λ f. IsNextAmong (IsKeyBeyond (option_copied cursor.entry) true) self.now (option_copied cursor.entry) prefix.now true f.key f.row.0)) }
+    {
+        let alloc = prefix.allocator();
+        let Some(ends) = ends_ahead(alloc, cursor, prefix.as_slice())? else {
+            return Ok(None);
+        };
+        let Some((key, row)) = first_entry(self.nodes.range(ends), prefix.as_slice()) else {
+            return Ok(None);
+        };
+        Ok(Some(Cursor {
+            key: Bytes::of(alloc, key.as_slice())?,
+            row: RowId(row),
+        }))
+    }
+
+    /// The last entry under a key before the cursor's.
+    fn behind(&self, cursor: Option<&Cursor>, prefix: &Bytes) -> Result<Option<Cursor>, AllocError>
+        ensures { IfOk result (λ found. MatchOption found (FindsNoneAmong (IsKeyBeyond (option_copied cursor.entry) false) self.now (option_copied cursor.entry) prefix.now false) (λ f. IsNextAmong (IsKeyBeyond (option_copied cursor.entry) false) self.now (option_copied cursor.entry) prefix.now false f.key f.row.0)) }
+    {
+        let alloc = prefix.allocator();
+        let Some(ends) = ends_behind(alloc, cursor, prefix.as_slice())? else {
+            return Ok(None);
+        };
+        let Some((key, row)) = last_entry(self.nodes.range(ends), prefix.as_slice()) else {
+            return Ok(None);
+        };
+        Ok(Some(Cursor {
+            key: Bytes::of(alloc, key.as_slice())?,
+            row: RowId(row),
+        }))
+    }
+
+    /// Whether the client may enter here: nothing stands at the place, or a placeholder of its own.
+    pub fn may_enter(&self, client: u16, key: &Bytes, row: RowId) -> bool
+        ensures { IsTrue result ↔ MayEnter self.now client key.now row.0 }
+    {
+        match self.place(key, row) {
+            None => true,
+            Some(owner) => is_client(owner, client),
+        }
+    }
+
+    /// Whether an entry stands at the place.
+    pub fn has_entry(&self, key: &Bytes, row: RowId) -> bool
+        ensures { IsTrue result ↔ IsEntry self.now key.now row.0 }
+    {
+        match self.place(key, row) {
+            None => false,
+            Some(owner) => owner.is_none(),
+        }
+    }
+
+    /// Whether no other client keeps the key.
+    pub fn may_keep(&self, client: u16, key: &Bytes) -> bool
+        ensures { IsTrue result ↔ NoOtherKeeps self.now client key.now }
+    {
+        match self.keeper(key) {
+            None => true,
+            Some(other) => other == client,
+        }
+    }
+
+    /// What stands at the place: None for an entry, or the client that left it.
+    fn place(&self, key: &Bytes, row: RowId) -> Option<Option<u16>>
+        ensures { result ≡ standing self.now key.now row.0 }
+    {
+        self.nodes.get(key.as_slice())?.rows.get(row.0)
+    }
+
+    /// Whether the client keeps a key. It takes no memory.
+    pub fn keeps(&self, client: u16) -> bool
+        ensures { IsTrue result ↔ KeepsSome self.now client }
+    {
+        keeps_one(&self.nodes, client)
+    }
+
+    /// The client that keeps the key. It takes no memory.
+    pub fn keeper(&self, key: &Bytes) -> Option<u16>
+        ensures { result ≡ keeper_of self.now key.now }
+    {
+        self.nodes.get(key.as_slice())?.keeper
+    }
+
+    /// Adds an entry. `unique` says that the key is a unique key, which the client then keeps. Want
+    /// of memory is the only refusal, and does not come where the client takes back what it left.
+    pub fn enter(
+        &mut self,
+        client: u16,
+        key: &Bytes,
+        row: RowId,
+        unique: bool,
+    ) -> Result<(), AllocError>
+        requires free { MayEnter self.old client key.now row.0 }
+        requires unkept { IsTrue unique → NoOtherKeeps self.old client key.now }
+        ensures ok { OnOk result (Puts self.old client key.now row.0 unique None self.new) }
+        ensures err { OnErr result (IsSame self.old self.new) }
+        ensures taken_back { standing self.old key.now row.0 ≡ Some (Some client) → IsOk result }
+    {
+        if let Some(node) = self.nodes.get_mut(key.as_slice()) {
+            return node.enter(client, row.0, unique);
+        }
+        let alloc = key.allocator();
+        let bytes = Vec::from_slice(alloc, key.as_slice())?;
+        let node = Node::entered(alloc, client, row.0, unique)?;
+        self.nodes.insert(bytes, node)?;
+        Ok(())
+    }
+
+    /// Takes an entry out: it stays as a placeholder of the client, which keeps the key where it is
+    /// a unique one. It takes no memory.
+    pub fn leave(&mut self, client: u16, key: &Bytes, row: RowId, unique: bool)
+        requires there { standing self.old key.now row.0 ≡ Some None }
+        requires unkept { IsTrue unique → NoOtherKeeps self.old client key.now }
+        ensures { Puts self.old client key.now row.0 unique (Some client) self.new }
+    {
+        let Some(node) = self.nodes.get_mut(key.as_slice()) else {
+            return;
+        };
+        node.leave(client, row.0, unique);
+    }
+
+    /// Removes the client's placeholders and frees the keys that it keeps. It takes no memory.
+    pub fn end(&mut self, client: u16)
+        ensures { IsEnded client self.old self.new }
+    {
+        self.nodes.retain(|_, node| node.end(client));
+    }
+}
+
+/// Whether the client keeps the key of one of the nodes.
+fn keeps_one(nodes: &BTreeMap<Vec<u8>, Node>, client: u16) -> bool
+    ensures any { result ≡ list_any (λ node. is_client client node.keeper) (tree.values nodes.now) }
+    ensures ordered { tree.IsOrdered (λ x y. slice_cmp nat_cmp x.items y.items) nodes.now }
+{
+    nodes.values().any(|node| is_client(node.keeper, client))
+}
