@@ -3,7 +3,7 @@ use Rattle.std.proofs.Common.{◌≡◌, ◌≢◌, ℕ, zero, Bool, List, [], �
 use Rattle.database_meaning.specs.Waiting.{Chain, IsCycleFrom, ListsAll}
 use Rattle.record_locks.specs.declared.locks.Client.{Client}
 use Rattle.record_locks.specs.declared.locks.KeyedWant.{KeyedWant}
-use Rattle.record_locks.proofs.Chains.{chain_map}
+use Rattle.database_meaning.proofs.Chains.{chain_map}
 use Rattle.record_locks.specs.Table.{StandsInWay, WaitsWith, WaitsAgainst}
 use Rattle.record_locks.specs.Requests.{HasConflict}
 

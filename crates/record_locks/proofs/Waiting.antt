@@ -5,7 +5,7 @@ use Rattle.std.specs.FinMap as map
 use Rattle.std.proofs.lemmas.Bool.{cases_eq}
 use Rattle.abl_base.specs.declared.row.RowId.{RowId}
 use Rattle.database_meaning.specs.Waiting.{Chain, HasNoCycle, StandsAgainst}
-use Rattle.record_locks.proofs.Chains.{chain_map, none_closed}
+use Rattle.database_meaning.proofs.Chains.{chain_map, none_closed}
 use Rattle.record_locks.specs.declared.locks.Want.{Want}
 use Rattle.record_locks.specs.declared.locks.Client.{Client}
 use Rattle.record_locks.specs.declared.locks.KeyedWant.{KeyedWant}
