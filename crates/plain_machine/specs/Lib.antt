@@ -1,0 +1,3 @@
+pub mod Moves
+pub mod Succeeded
+pub mod Requests

@@ -1,0 +1,372 @@
+//! One step of the machine.
+
+ghost use Rattle.std.specs.Prelude.{◌≡◌, ◌+◌, ◌<◌, ◌≤◌, ◌==◌, ◌||◌, IfOk, OnErr, OnOk, if◌then◌else◌, length};
+ghost use Rattle.std.specs.Option.{option_copied};
+ghost use Rattle.database_meaning.specs.Counts.{event_size, is_counted};
+ghost use Rattle.database_meaning.specs.Steps.{Step, after, is_closed, is_success, row_of_answer, want_after};
+ghost use Rattle.plain_machine.specs.Succeeded.{is_trace_full, succeeded};
+ghost use Rattle.plain_state.specs.Plain.{client_of, frame_of, state_of};
+
+use crate::changes::{committed_after, frees_some, sequences_after};
+use crate::own::own_after;
+use database_meaning::{Answer, Op, StoredRow, Want};
+use plain_answer::answer;
+use plain_answer::requests::own;
+use plain_state::counts::event_size;
+use plain_state::{Numbered, PlainClient, PlainMachine};
+use std::alloc::{AllocError, Global};
+
+/// Whether the answer is a success.
+fn is_success(answer: &Answer) -> bool
+    ensures { result ≡ is_success answer.now }
+{
+    match answer {
+        Answer::Done
+        | Answer::Committed { .. }
+        | Answer::Found { .. }
+        | Answer::Row(_)
+        | Answer::Granted
+        | Answer::Inserted { .. }
+        | Answer::Value(_) => true,
+        Answer::Refused
+        | Answer::Closed
+        | Answer::TraceFull
+        | Answer::Gone
+        | Answer::KeyTooLong { .. }
+        | Answer::Busy { .. }
+        | Answer::Blocked { .. }
+        | Answer::Deadlock { .. }
+        | Answer::Duplicate { .. }
+        | Answer::Full
+        | Answer::TxFull
+        | Answer::SequenceEnd
+        | Answer::AtEnd
+        | Answer::NoMemory => false,
+    }
+}
+
+/// Whether the answer says that the database is closed.
+fn is_closed(answer: &Answer) -> bool
+    ensures { result ≡ is_closed answer.now }
+{
+    match answer {
+        Answer::Closed => true,
+        Answer::Done
+        | Answer::Committed { .. }
+        | Answer::Found { .. }
+        | Answer::Row(_)
+        | Answer::Granted
+        | Answer::Inserted { .. }
+        | Answer::Value(_)
+        | Answer::Refused
+        | Answer::TraceFull
+        | Answer::Gone
+        | Answer::KeyTooLong { .. }
+        | Answer::Busy { .. }
+        | Answer::Blocked { .. }
+        | Answer::Deadlock { .. }
+        | Answer::Duplicate { .. }
+        | Answer::Full
+        | Answer::TxFull
+        | Answer::SequenceEnd
+        | Answer::AtEnd
+        | Answer::NoMemory => false,
+    }
+}
+
+/// Whether the answer is TraceFull.
+fn is_trace_full(answer: &Answer) -> bool
+    ensures { result ≡ is_trace_full answer.now }
+{
+    match answer {
+        Answer::TraceFull => true,
+        Answer::Done
+        | Answer::Committed { .. }
+        | Answer::Found { .. }
+        | Answer::Row(_)
+        | Answer::Granted
+        | Answer::Inserted { .. }
+        | Answer::Value(_)
+        | Answer::Refused
+        | Answer::Closed
+        | Answer::Gone
+        | Answer::KeyTooLong { .. }
+        | Answer::Busy { .. }
+        | Answer::Blocked { .. }
+        | Answer::Deadlock { .. }
+        | Answer::Duplicate { .. }
+        | Answer::Full
+        | Answer::TxFull
+        | Answer::SequenceEnd
+        | Answer::AtEnd
+        | Answer::NoMemory => false,
+    }
+}
+
+/// Whether the event is counted.
+fn is_counted(op: &Op, answer: &Answer) -> bool
+    ensures { result ≡ is_counted op.now answer.now }
+{
+    match op {
+        Op::End => false,
+        Op::Enter
+        | Op::Leave { .. }
+        | Op::Back { .. }
+        | Op::Next { .. }
+        | Op::Get { .. }
+        | Op::Lock { .. }
+        | Op::Insert { .. }
+        | Op::Put { .. }
+        | Op::Delete { .. }
+        | Op::Drop { .. }
+        | Op::NextValue { .. }
+        | Op::CurrentValue { .. } => !is_trace_full(answer),
+    }
+}
+
+/// The identity that an Insert was given.
+fn row_of_answer(answer: &Answer) -> u32
+    ensures { result ≡ row_of_answer answer.now }
+{
+    match answer {
+        Answer::Inserted { row } => row.0,
+        Answer::Done
+        | Answer::Committed { .. }
+        | Answer::Found { .. }
+        | Answer::Row(_)
+        | Answer::Granted
+        | Answer::Value(_)
+        | Answer::Refused
+        | Answer::Closed
+        | Answer::TraceFull
+        | Answer::Gone
+        | Answer::KeyTooLong { .. }
+        | Answer::Busy { .. }
+        | Answer::Blocked { .. }
+        | Answer::Deadlock { .. }
+        | Answer::Duplicate { .. }
+        | Answer::Full
+        | Answer::TxFull
+        | Answer::SequenceEnd
+        | Answer::AtEnd
+        | Answer::NoMemory => 0,
+    }
+}
+
+/// The counted bytes of the trace with the event, where the number fits.
+fn size_after(machine: &PlainMachine, op: &Op, answer: &Answer) -> Result<u64, AllocError>
+    ensures { IfOk result (λ size. size ≡ if is_counted op.now answer.now
+        then (state_of machine.now).size + event_size op.now answer.now
+        else (state_of machine.now).size) }
+{
+    if !is_counted(op, answer) {
+        return Ok(machine.size);
+    }
+    match event_size(op, answer) {
+        None => Err(AllocError),
+        Some(bytes) => match machine.size.checked_add(bytes) {
+            None => Err(AllocError),
+            Some(size) => Ok(size),
+        },
+    }
+}
+
+/// The want again.
+fn copy_want(want: Option<&Want>) -> Result<Option<Want>, AllocError>
+    ensures { IfOk result (λ copy. copy ≡ option_copied want.entry) }
+{
+    match want {
+        None => Ok(None),
+        Some(want) => {
+            let op = want.op.copy()?;
+            Ok(Some(Want {
+                op,
+                frees: want.frees,
+            }))
+        }
+    }
+}
+
+/// The client's want after the answer.
+fn want_after(
+    machine: &PlainMachine,
+    client: u16,
+    op: &Op,
+    answer: &Answer,
+) -> Result<Option<Want>, AllocError>
+    requires { client < length machine.now.clients.items }
+    ensures { IfOk result (λ want. want ≡ want_after (state_of machine.now) client op.now answer.now) }
+{
+    match answer {
+        Answer::Refused => copy_want(own(machine, client).want.as_ref()),
+        Answer::Blocked { .. } => {
+            let op = op.copy()?;
+            Ok(Some(Want {
+                op,
+                frees: machine.frees,
+            }))
+        }
+        Answer::Done
+        | Answer::Committed { .. }
+        | Answer::Found { .. }
+        | Answer::Row(_)
+        | Answer::Granted
+        | Answer::Inserted { .. }
+        | Answer::Value(_)
+        | Answer::Closed
+        | Answer::TraceFull
+        | Answer::Gone
+        | Answer::KeyTooLong { .. }
+        | Answer::Busy { .. }
+        | Answer::Deadlock { .. }
+        | Answer::Duplicate { .. }
+        | Answer::Full
+        | Answer::TxFull
+        | Answer::SequenceEnd
+        | Answer::AtEnd
+        | Answer::NoMemory => Ok(None),
+    }
+}
+
+/// The count of frees after a success, where the number fits.
+fn frees_after(machine: &PlainMachine, frees: bool) -> Result<u64, AllocError>
+    ensures { IfOk result (λ n. n ≡ if frees then (state_of machine.now).frees + 1 else (state_of machine.now).frees) }
+{
+    if !frees {
+        return Ok(machine.frees);
+    }
+    match machine.frees.checked_add(1) {
+        None => Err(AllocError),
+        Some(count) => Ok(count),
+    }
+}
+
+/// Puts in what a success changes.
+fn put_in(
+    machine: &mut PlainMachine,
+    client: u16,
+    own: PlainClient,
+    rows: Numbered<StoredRow>,
+    values: Vec<i64>,
+    frees: u64,
+)
+    requires { client < length machine.old.clients.items }
+    ensures frame { frame_of machine.new ≡ frame_of machine.old }
+    ensures state { state_of machine.new ≡ record (state_of machine.old) {
+      committed = rows;
+      sequences = values.items;
+      client = λ d. if d == client then client_of own else (state_of machine.old).client d;
+      frees = frees;
+    } }
+{
+    machine.clients[usize::from(client)] = own;
+    machine.committed = rows;
+    machine.sequences = values;
+    machine.frees = frees;
+}
+
+/// Does what a success changes, save that the event is not counted yet. After an error nothing has
+/// changed.
+fn succeed(
+    alloc: Global,
+    machine: &mut PlainMachine,
+    client: u16,
+    op: &Op,
+    fresh: u32,
+) -> Result<(), AllocError>
+    requires { client < length machine.old.clients.items }
+    ensures frame { frame_of machine.new ≡ frame_of machine.old }
+    ensures ok { OnOk result (state_of machine.new ≡ succeeded (frame_of machine.old) (state_of machine.old) client op.now fresh) }
+    ensures err { OnErr result (state_of machine.new ≡ state_of machine.old) }
+{
+    let rows = committed_after(alloc, machine, client, op)?;
+    let values = sequences_after(alloc, machine, op)?;
+    let some = frees_some(alloc, machine, &rows, client, op)?;
+    let frees = frees_after(machine, some)?;
+    let own = own_after(alloc, machine, &rows, client, op, fresh)?;
+    put_in(machine, client, own, rows, values, frees);
+    Ok(())
+}
+
+/// Gives a client this want.
+fn put_want(machine: &mut PlainMachine, client: u16, want: Option<Want>)
+    requires { client < length machine.old.clients.items }
+    ensures frame { frame_of machine.new ≡ frame_of machine.old }
+    ensures state { state_of machine.new ≡ record (state_of machine.old) {
+      client = λ d. if d == client
+          then record ((state_of machine.old).client client) { want = want }
+          else (state_of machine.old).client d;
+    } }
+{
+    machine.clients[usize::from(client)].want = want;
+}
+
+/// Counts the event, and closes the database where the answer says so.
+fn count(machine: &mut PlainMachine, size: u64, closed: bool)
+    ensures frame { frame_of machine.new ≡ frame_of machine.old }
+    ensures state { state_of machine.new ≡ record (state_of machine.old) {
+      size = size;
+      closed = (state_of machine.old).closed || closed;
+    } }
+{
+    machine.size = size;
+    machine.closed = machine.closed || closed;
+}
+
+/// Changes the machine as the answer says. After an error nothing has changed.
+fn follow(
+    alloc: Global,
+    machine: &mut PlainMachine,
+    client: u16,
+    op: &Op,
+    answer: &Answer,
+) -> Result<(), AllocError>
+    requires { client < length machine.old.clients.items }
+    ensures frame { frame_of machine.new ≡ frame_of machine.old }
+    ensures ok { OnOk result (state_of machine.new ≡ after (frame_of machine.old) (state_of machine.old) client op.now answer.now) }
+    ensures err { OnErr result (state_of machine.new ≡ state_of machine.old) }
+{
+    let size = size_after(machine, op, answer)?;
+    if is_success(answer) {
+        succeed(alloc, machine, client, op, row_of_answer(answer))?;
+    } else {
+        let want = want_after(machine, client, op, answer)?;
+        put_want(machine, client, want);
+    }
+    count(machine, size, is_closed(answer));
+    Ok(())
+}
+
+/// Refuses what a client asks that the database does not have. After an error nothing has changed.
+fn refuse(machine: &mut PlainMachine, client: u16, op: &Op) -> Result<(), AllocError>
+    requires { length machine.old.clients.items ≤ client }
+    ensures frame { frame_of machine.new ≡ frame_of machine.old }
+    ensures ok { OnOk result (Step (frame_of machine.old) (state_of machine.old) client op.now Answer.Refused (state_of machine.new)) }
+    ensures err { OnErr result (state_of machine.new ≡ state_of machine.old) }
+{
+    let size = size_after(machine, op, &Answer::Refused)?;
+    count(machine, size, false);
+    Ok(())
+}
+
+/// One step of the machine: an answer that the definition allows, and the state that this answer
+/// leaves. Where the definition leaves a choice, as of the row that an Insert gets, one is taken.
+/// Want of memory, or a count that passes 64 bits, is the only error, and leaves all as it was.
+pub fn step(
+    alloc: Global,
+    machine: &mut PlainMachine,
+    client: u16,
+    op: &Op,
+) -> Result<Answer, AllocError>
+    ensures frame { frame_of machine.new ≡ frame_of machine.old }
+    ensures step { IfOk result (λ a. Step (frame_of machine.old) (state_of machine.old) client op.now a (state_of machine.new)) }
+    ensures err { OnErr result (state_of machine.new ≡ state_of machine.old) }
+{
+    if usize::from(client) >= machine.clients.len() {
+        refuse(machine, client, op)?;
+        return Ok(Answer::Refused);
+    }
+    let answer = answer(alloc, machine, client, op);
+    follow(alloc, machine, client, op, &answer)?;
+    Ok(answer)
+}

@@ -1,0 +1,5 @@
+pub mod TreeEntries
+pub mod Outcomes
+pub mod Sizes
+pub mod Agreeing
+pub mod MapEntries
