@@ -1,0 +1,4 @@
+pub mod Reached
+pub mod Inside
+pub mod Turns
+pub mod Examples
