@@ -1,0 +1,141 @@
+-- What a loop has read so far: what holds of the tokens that are left holds of those from the start, and the other way round.
+use Rattle.std.proofs.Common.{ℕ, ◌≡◌, List, [], ◌∷◌, ◌++◌, Option, refl, sym, ◌∙◌, ap, subst, append_assoc, append-nil, map}
+use Rattle.std.proofs.lemmas.List.{map-append}
+use Rattle.bound_tree.specs.declared.expression.Variable.{Variable}
+use Rattle.bound_tree.specs.declared.statement.Stmt.{Stmt as SourceStmt}
+use Rattle.bound_tree.specs.Tree.{Item, Stmt, Body, Nothing, Then}
+use Rattle.bound_tree.specs.declared.statement.PutItem.{PutItem}
+use Rattle.bound_tree.specs.Bound.{body_of, item_of, stmt_of}
+use Rattle.built_source.specs.declared.token.Token.{Token}
+use Rattle.built_source.specs.declared.token.Token.TheVariants as t
+use Rattle.built_source.specs.declared.token.Mark.TheVariants as m
+use Rattle.built_source.specs.Form.{IsItem, AreItems, items_end, items_more, IsInner, AreInner, inner_end, inner_more, IsStatement, AreStatements, statements_end, statements_more}
+use Rattle.built_source.proofs.Blocks.{onto, onto-snoc, onto-nothing}
+use Rattle.built_source.proofs.Parts.{item_unique, no_period_item, one_inner, no_inner_end, statement_unique, no_statement_nil}
+
+-- ITEMS
+pub record ItemsSofar (names : List (Option Variable)) (start rest : List Token) (done : List Item) : Type 0 where
+  pub sound : (items : List Item) (behind : List Token) → AreItems names rest items behind → AreItems names start (done ++ items) behind
+  pub complete : (items : List Item) (behind : List Token) → AreItems names start items behind → (more : List Item) × (AreItems names rest more behind × (items ≡ done ++ more))
+
+pub items_begin : (names : List (Option Variable)) (start : List Token) → ItemsSofar names start start []
+items_begin names start = record { sound = λ items behind a. a; complete = λ items behind a. (items, (a, refl)) }
+
+cut_items : {names : List (Option Variable)} {token : Token} {tokens behind : List Token} {item : Item} {items : List Item} → IsItem names token item → AreItems names (token ∷ tokens) items behind →
+    (more : List Item) × (AreItems names tokens more behind × (items ≡ item ∷ more))
+cut_items i items_end = absurd (no_period_item i)
+cut_items {item} i (items_more {items} j a) = (items, (a, ap (λ x. x ∷ items) (item_unique j i)))
+
+pub items_go_on : (names : List (Option Variable)) (start rest behind : List Token) (token : Token) (done : List Item) (item : Item) → ItemsSofar names start rest done → rest ≡ token ∷ behind → IsItem names token item → ItemsSofar names start behind (done ++ item ∷ [])
+items_go_on names start rest behind token done item s e i = record {
+  sound = λ items r a. subst (λ x. AreItems names start x r) (sym (append_assoc done (item ∷ []) items)) (s.sound (item ∷ items) r (subst (λ ts. AreItems names ts (item ∷ items) r) (sym e) (items_more i a)));
+  complete = λ items r a.
+      let found = s.complete items r a in
+      let c = cut_items i (subst (λ ts. AreItems names ts found.0 r) e found.1.0) in
+      (c.0, (c.1.0, found.1.1 ∙ ap (λ x. done ++ x) c.1.1 ∙ sym (append_assoc done (item ∷ []) c.0)));
+}
+
+pub items_found : (names : List (Option Variable)) (start rest behind : List Token) (done : List Item) → ItemsSofar names start rest done → rest ≡ t.Mark m.Period ∷ behind → AreItems names start done behind
+items_found names start rest behind done s e =
+    subst (λ is. AreItems names start is behind) (append-nil done) (s.sound [] behind (subst (λ ts. AreItems names ts [] behind) (sym e) items_end))
+
+-- one item more
+pub items_go_on_with : (names : List (Option Variable)) (start rest behind : List Token) (token : Token) (done new : List PutItem) (item : PutItem) → ItemsSofar names start rest (map item_of done) → rest ≡ token ∷ behind → IsItem names token (item_of item) → new ≡ done ++ item ∷ [] →
+    ItemsSofar names start behind (map item_of new)
+items_go_on_with names start rest behind token done new item s e i n =
+    subst (ItemsSofar names start behind) (sym (ap (map item_of) n ∙ map-append item_of done (item ∷ []))) (items_go_on names start rest behind token (map item_of done) (item_of item) s e i)
+
+no_items_item : {names : List (Option Variable)} {token : Token} {tokens behind : List Token} {items : List Item} → (token ≡ t.Mark m.Period → ⊥) → ((item : Item) → IsItem names token item → ⊥) → AreItems names (token ∷ tokens) items behind → ⊥
+no_items_item p n items_end = p refl
+no_items_item p n (items_more {item} i a) = n item i
+
+pub no_items : (names : List (Option Variable)) (start rest behind : List Token) (token : Token) (done : List Item) → ItemsSofar names start rest done → ((r : List Token) → rest ≡ t.Mark m.Period ∷ r → ⊥) → rest ≡ token ∷ behind → ((item : Item) → IsItem names token item → ⊥) →
+    (items : List Item) (r : List Token) → AreItems names start items r → ⊥
+no_items names start rest behind token done s p e n items r a =
+    let found = s.complete items r a in
+    no_items_item (λ q. p behind (e ∙ ap (λ x. x ∷ behind) q)) n (subst (λ ts. AreItems names ts found.0 r) e found.1.0)
+
+nil_items : {names : List (Option Variable)} {behind : List Token} {items : List Item} → AreItems names [] items behind → ⊥
+nil_items h = elim h [ ]
+
+pub items_open : (names : List (Option Variable)) (start rest : List Token) (done : List Item) → ItemsSofar names start rest done → rest ≡ [] → (items : List Item) (r : List Token) → AreItems names start items r → ⊥
+items_open names start rest done s e items r a = let found = s.complete items r a in nil_items (subst (λ ts. AreItems names ts found.0 r) e found.1.0)
+
+-- THE STATEMENTS OF A BLOCK
+pub record InnerSofar (names : List (Option Variable)) (block : ℕ) (start rest : List Token) (done : List SourceStmt) : Type 0 where
+  pub sound : (body : Body) (behind : List Token) → AreInner names block rest body behind → AreInner names block start (onto done body) behind
+  pub complete : (body : Body) (behind : List Token) → AreInner names block start body behind → (more : Body) × (AreInner names block rest more behind × (body ≡ onto done more))
+
+pub inner_begin : (names : List (Option Variable)) (block : ℕ) (start : List Token) → InnerSofar names block start start []
+inner_begin names block start = record { sound = λ body behind a. a; complete = λ body behind a. (body, (a, refl)) }
+
+cut_inner : {names : List (Option Variable)} {block : ℕ} {tokens behind rest : List Token} {stmt : Stmt} {body : Body} → IsInner names block tokens stmt rest → AreInner names block tokens body behind →
+    (more : Body) × (AreInner names block rest more behind × (body ≡ Then stmt more))
+cut_inner i inner_end = absurd (no_inner_end i)
+cut_inner {names} {block} {behind} i (inner_more {body} j a) =
+    let s = one_inner j i in
+    (body, (subst (λ q. AreInner names block q body behind) s.rest a, ap (λ x. Then x body) s.part))
+
+pub inner_go_on : (names : List (Option Variable)) (block : ℕ) (start rest behind : List Token) (done : List SourceStmt) (stmt : SourceStmt) → InnerSofar names block start rest done → IsInner names block rest (stmt_of stmt) behind → InnerSofar names block start behind (done ++ stmt ∷ [])
+inner_go_on names block start rest behind done stmt s i = record {
+  sound = λ body r a. subst (λ x. AreInner names block start x r) (sym (onto-snoc done stmt body)) (s.sound (Then (stmt_of stmt) body) r (inner_more i a));
+  complete = λ body r a.
+      let found = s.complete body r a in
+      let c = cut_inner i found.1.0 in
+      (c.0, (c.1.0, found.1.1 ∙ ap (λ x. onto done x) c.1.1 ∙ sym (onto-snoc done stmt c.0)));
+}
+
+pub inner_go_on_with : (names : List (Option Variable)) (block : ℕ) (start rest behind : List Token) (done new : List SourceStmt) (stmt : SourceStmt) → InnerSofar names block start rest done → IsInner names block rest (stmt_of stmt) behind → new ≡ done ++ stmt ∷ [] → InnerSofar names block start behind new
+inner_go_on_with names block start rest behind done new stmt s i n = subst (InnerSofar names block start behind) (sym n) (inner_go_on names block start rest behind done stmt s i)
+
+pub inner_found : (names : List (Option Variable)) (block : ℕ) (start rest behind : List Token) (done : List SourceStmt) → InnerSofar names block start rest done → rest ≡ t.Mark m.End ∷ t.Mark m.Period ∷ behind → AreInner names block start (body_of done) behind
+inner_found names block start rest behind done s e =
+    subst (λ b. AreInner names block start b behind) (onto-nothing done) (s.sound Nothing behind (subst (λ ts. AreInner names block ts Nothing behind) (sym e) inner_end))
+
+no_inner_one : {names : List (Option Variable)} {block : ℕ} {tokens behind : List Token} {body : Body} → ((rest : List Token) → tokens ≡ t.Mark m.End ∷ t.Mark m.Period ∷ rest → ⊥) → ((stmt : Stmt) (rest : List Token) → IsInner names block tokens stmt rest → ⊥) → AreInner names block tokens body behind → ⊥
+no_inner_one p n (inner_end {rest}) = p rest refl
+no_inner_one p n (inner_more {behind} {stmt} i a) = n stmt behind i
+
+pub no_inner : (names : List (Option Variable)) (block : ℕ) (start rest : List Token) (done : List SourceStmt) → InnerSofar names block start rest done → ((behind : List Token) → rest ≡ t.Mark m.End ∷ t.Mark m.Period ∷ behind → ⊥) →
+    ((stmt : Stmt) (behind : List Token) → IsInner names block rest stmt behind → ⊥) → (body : Body) (r : List Token) → AreInner names block start body r → ⊥
+no_inner names block start rest done s p n body r a = let found = s.complete body r a in no_inner_one p n found.1.0
+
+-- THE STATEMENTS OF A SOURCE
+pub record StatementsSofar (names : List (Option Variable)) (start rest : List Token) (number : ℕ) (done : List SourceStmt) : Type 0 where
+  pub sound : (body : Body) → AreStatements names number rest body → AreStatements names 1 start (onto done body)
+  pub complete : (body : Body) → AreStatements names 1 start body → (more : Body) × (AreStatements names number rest more × (body ≡ onto done more))
+
+pub statements_begin : (names : List (Option Variable)) (start : List Token) → StatementsSofar names start start 1 []
+statements_begin names start = record { sound = λ body a. a; complete = λ body a. (body, (a, refl)) }
+
+cut_statements : {names : List (Option Variable)} {number after : ℕ} {tokens rest : List Token} {stmt : Stmt} {body : Body} → IsStatement names number tokens stmt after rest → AreStatements names number tokens body →
+    (more : Body) × (AreStatements names after rest more × (body ≡ Then stmt more))
+cut_statements i statements_end = absurd (no_statement_nil i)
+cut_statements {names} {rest} i (statements_more {after = other} {body} j a) =
+    let s = statement_unique j i in
+    (body, (subst (λ n. AreStatements names n rest body) s.after (subst (λ q. AreStatements names other q body) s.rest a), ap (λ x. Then x body) s.part))
+
+pub statements_go_on : (names : List (Option Variable)) (start rest behind : List Token) (number after : ℕ) (done : List SourceStmt) (stmt : SourceStmt) → StatementsSofar names start rest number done → IsStatement names number rest (stmt_of stmt) after behind → StatementsSofar names start behind after (done ++ stmt ∷ [])
+statements_go_on names start rest behind number after done stmt s i = record {
+  sound = λ body a. subst (λ x. AreStatements names 1 start x) (sym (onto-snoc done stmt body)) (s.sound (Then (stmt_of stmt) body) (statements_more i a));
+  complete = λ body a.
+      let found = s.complete body a in
+      let c = cut_statements i found.1.0 in
+      (c.0, (c.1.0, found.1.1 ∙ ap (λ x. onto done x) c.1.1 ∙ sym (onto-snoc done stmt c.0)));
+}
+
+pub statements_go_on_with : (names : List (Option Variable)) (start rest behind : List Token) (number after : ℕ) (done new : List SourceStmt) (stmt : SourceStmt) → StatementsSofar names start rest number done → IsStatement names number rest (stmt_of stmt) after behind → new ≡ done ++ stmt ∷ [] →
+    StatementsSofar names start behind after new
+statements_go_on_with names start rest behind number after done new stmt s i n = subst (StatementsSofar names start behind after) (sym n) (statements_go_on names start rest behind number after done stmt s i)
+
+pub statements_found : (names : List (Option Variable)) (start rest : List Token) (number : ℕ) (done : List SourceStmt) → StatementsSofar names start rest number done → rest ≡ [] → AreStatements names 1 start (body_of done)
+statements_found names start rest number done s e =
+    subst (λ b. AreStatements names 1 start b) (onto-nothing done) (s.sound Nothing (subst (λ ts. AreStatements names number ts Nothing) (sym e) statements_end))
+
+no_statements_one : {names : List (Option Variable)} {number : ℕ} {tokens : List Token} {body : Body} → (tokens ≡ [] → ⊥) → ((stmt : Stmt) (after : ℕ) (rest : List Token) → IsStatement names number tokens stmt after rest → ⊥) → AreStatements names number tokens body → ⊥
+no_statements_one p n statements_end = p refl
+no_statements_one p n (statements_more {after} {rest} {stmt} i a) = n stmt after rest i
+
+pub no_statements : (names : List (Option Variable)) (start rest : List Token) (number : ℕ) (done : List SourceStmt) → StatementsSofar names start rest number done → (rest ≡ [] → ⊥) →
+    ((stmt : Stmt) (after : ℕ) (behind : List Token) → IsStatement names number rest stmt after behind → ⊥) → (body : Body) → AreStatements names 1 start body → ⊥
+no_statements names start rest number done s p n body a = let found = s.complete body a in no_statements_one p n found.1.0

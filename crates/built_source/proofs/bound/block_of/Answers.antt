@@ -1,0 +1,8 @@
+use Rattle.std.proofs.Common.{ap, ◌∙◌}
+use Rattle.bound_tree.specs.Tree.{Inner, Header}
+use Rattle.bound_tree.specs.Bound.{body_of}
+use Rattle.built_source.proofs.Blocks.{block_is}
+use Rattle.built_source.proofs.bound.block_of.Goals as goal
+
+pub returns : goal.returns
+returns c = block_is c.header_with.result c.args.body ∙ ap (λ (h : Header). Inner h (body_of c.args.body.items)) c.header_with.ensures

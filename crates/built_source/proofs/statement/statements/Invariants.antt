@@ -1,0 +1,9 @@
+use Rattle.std.proofs.Common.{length}
+use Rattle.built_source.proofs.Sofar.{StatementsSofar}
+use Rattle.built_source.proofs.statement.statements.Given as goal
+
+abbrev pub invariant-loop-rest : goal.invariant-loop-rest
+invariant-loop-rest l = StatementsSofar l.names l.tokens l.rest l.number l.body.items
+
+abbrev pub decreases-loop-rest : goal.decreases-loop-rest
+decreases-loop-rest l = length l.rest

@@ -1,0 +1,5 @@
+pub mod Text
+pub mod Ahead
+pub mod Form
+pub mod Scope
+pub mod Examples

@@ -1,0 +1,88 @@
+//! The parts of the bound tree.
+
+ghost use Rattle.std.specs.Prelude.{◌≡◌, IfOk, None, true, false};
+ghost use Rattle.bound_tree.specs.Tree.{Inner, Shows, ThenLeave, UndoBlock};
+ghost use Rattle.bound_tree.specs.Bound.{body_of, expr_of, header_of, item_of, stmt_of};
+ghost use Rattle.bound_tree.specs.declared.block.BlockKind.TheVariants.{Do};
+ghost use Rattle.built_source.specs.Form.{assign, header};
+
+use abl_base::Value;
+use bound_tree::{
+    Action, Assignment, BlockKind, Expr, Flags, Header, PutItem, Right, Stmt, Target, Variable,
+};
+use std::alloc::{AllocFailed, Global};
+
+/// The assignment of a number to a variable.
+pub fn assignment(
+    alloc: Global,
+    variable: Variable,
+    number: i32,
+) -> Result<Stmt, AllocFailed<Assignment>>
+    ensures { IfOk result (λ stmt. stmt_of stmt ≡ assign variable number) }
+{
+    let mut pairs = Vec::new(alloc);
+    pairs.push(Assignment {
+        target: Target::Variable(variable),
+        right: Right::Value(Expr::Literal(Value::Int(number))),
+    })?;
+    Ok(Stmt::Assign {
+        pairs,
+        no_error: false,
+    })
+}
+
+/// The plain text of a value, as an item of PUT.
+pub fn shown(value: Expr) -> PutItem
+    ensures { item_of result ≡ Shows (expr_of value) None }
+{
+    PutItem::Shows { value, mask: None }
+}
+
+/// UNDO, LEAVE of the block.
+pub fn undo_of(block: u32) -> Stmt
+    ensures { stmt_of result ≡ UndoBlock block (ThenLeave block) }
+{
+    Stmt::Undo {
+        block,
+        action: Action::Leave(block),
+    }
+}
+
+/// The block DO TRANSACTION with this number, line and body.
+pub fn block_of(alloc: Global, number: u32, line: u32, body: Vec<Stmt>) -> Stmt
+    ensures { stmt_of result ≡ Inner (header number Do true) (body_of body.items) }
+{
+    Stmt::Block {
+        header: header_with(alloc, number, BlockKind::Do, line, true),
+        body,
+    }
+}
+
+/// The header of the external procedure's block, or of DO TRANSACTION.
+pub fn header_with(
+    alloc: Global,
+    number: u32,
+    kind: BlockKind,
+    line: u32,
+    transaction: bool,
+) -> Header
+    ensures { header_of result ≡ header number kind transaction }
+{
+    Header {
+        number,
+        kind,
+        line,
+        transaction,
+        flags: Flags {
+            starts: transaction,
+            undo: true,
+            retry_seen: false,
+        },
+        scoped: Vec::new(alloc),
+        to: None,
+        while_test: None,
+        fetch: None,
+        on_error: None,
+        on_endkey: None,
+    }
+}
