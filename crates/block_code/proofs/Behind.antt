@@ -1,6 +1,6 @@
 -- The code that is written, statement by statement.
 use Rattle.std.proofs.Common.{◌≡◌, ℕ, ◌+◌, List, [], ◌∷◌, ◌++◌, length, refl, sym, ap, ◌∙◌, arith, rules, append_assoc, append-nil, add-zero, length-append}
-use Rattle.std.specs.Prelude.{slice_set, Vec, Option, Some, option_to_list}
+use Rattle.std.specs.Prelude.{slice_set, Vec, Option, Some, option_to_list, Result, Ok, Err, OnOk}
 use Rattle.std.specs.declared.alloc.Global.{Global}
 use Rattle.std.proofs.Math.Seq.{set-append_seam}
 use mathlib.Core.Former.{Count, none_left, one_more}
@@ -50,6 +50,15 @@ block_is_written base c1 c2 c3 y h n1 n2 ts m1 e1 e2 e3 m2 =
     ∙ ap (λ k. slice_set (base ++ y ∷ (sc ++ Close ∷ [])) k (Open h n2)) m1
     ∙ set-append_seam base y (sc ++ Close ∷ []) (Open h n2)
     ∙ ap (λ k. base ++ Open h k ∷ (sc ++ Close ∷ [])) l2
+
+-- a block is closed
+pub block_closed :
+    {E : Type 0} (r : Result Unit E) (base c1 c2 c3 : List Instr) (y : Instr) (h : Header) (n1 : ℕ) (ts : List Stmt) →
+    OnOk r (c3 ≡ slice_set (c2 ++ Close ∷ []) n1 (Open h (length c2 + 1))) → n1 ≡ length base → c1 ≡ base ++ y ∷ [] → c2 ≡ c1 ++ body_code (length c1) ts →
+    OnOk r (c3 ≡ base ++ block_code (length base) h (body_code (length base + 1) ts))
+block_closed (Ok u) base c1 c2 c3 y h n1 ts closed m1 e1 e2 =
+    closed ∙ block_is_written base c1 c2 (c2 ++ Close ∷ []) y h n1 (length c2 + 1) ts m1 e1 e2 refl (sym (length-append c2 (Close ∷ [])))
+block_closed (Err fault) base c1 c2 c3 y h n1 ts closed m1 e1 e2 = tt
 
 -- the statements of a block are the list that its Vec has
 pub row_is : (p : ℕ) (n : Count) (k : Row_of-Stmt n) → row_code p k ≡ body_code p (items-the_row-Stmt n k)

@@ -1,1 +1,3 @@
 pub mod Behind
+pub mod Builds
+pub mod Trees

@@ -1,6 +1,5 @@
 -- The code of statements: what stands for each of them, from the place where it begins.
 use Rattle.std.specs.Prelude.{◌≡◌, ℕ, ◌+◌, List, [], ◌∷◌, ◌++◌, length}
-use Rattle.bound_tree.specs.declared.block.Action.TheVariants as act
 use Rattle.bound_tree.specs.declared.block.Header.{Header}
 use Rattle.bound_tree.specs.declared.statement.Stmt.{Stmt, Row_of-Stmt, end_of-Stmt, more_of-Stmt}
 use Rattle.bound_tree.specs.declared.statement.Stmt.TheVariants as stmt

@@ -1,12 +1,14 @@
 //! From the bound tree to block code.
 
-ghost use Rattle.std.specs.Prelude.{◌≡◌, ◌++◌, ◌∷◌, [], ◌+◌, length, OnOk, IfOk};
+ghost use Rattle.std.specs.Prelude.{◌≡◌, ◌++◌, ◌∷◌, [], ◌+◌, ◌<◌, length, vec_len, slice_set, OnOk, IfOk};
 ghost use Rattle.block_code.specs.Code.{code_of, body_code, block_code, StandsFor};
+ghost use Rattle.block_code.specs.Built.{IsBuilt};
+ghost use Rattle.block_code.specs.declared.code.Instr.TheVariants.{Open, Close};
+ghost use Rattle.block_code.specs.declared.compiler.CompileFault.{CompileFault};
 
+use crate::built::is_built;
 use crate::code::{Code, Instr};
-use bound_tree::{
-    Action, Assignment, BlockKind, Bound, Expr, Header, Procedure, PutItem, Right, Stmt, Target,
-};
+use bound_tree::{Bound, Header, Procedure, Stmt};
 use std::alloc::{AllocError, AllocFailed, Global};
 
 /// Why a bound tree was not compiled.
@@ -30,9 +32,25 @@ impl<T: Drop> From<AllocFailed<T>> for CompileFault {
     }
 }
 
-/// The code of a bound source. `NotBuilt` comes where some statement, header or value has a form
-/// that is not built yet; want of memory may come at any time.
+/// The code of a bound source. `NotBuilt` comes exactly where some statement, header or value has
+/// a form that is not built yet; want of memory may come at any time.
 pub fn compile(alloc: Global, bound: Bound) -> Result<Code, CompileFault>
+    ensures stands { IfOk result (λ code. StandsFor code bound) }
+    ensures built { OnOk result (IsBuilt bound) }
+    ensures not_built { result ≡ Err CompileFault.NotBuilt → ¬ IsBuilt bound }
+{
+    match is_built(alloc, &bound) {
+        Ok(true) => match emit_bound(alloc, bound) {
+            Ok(code) => Ok(code),
+            Err(_) => Err(CompileFault::NoMemory),
+        },
+        Ok(false) => Err(CompileFault::NotBuilt),
+        Err(_) => Err(CompileFault::NoMemory),
+    }
+}
+
+/// The code of a bound source with one procedure.
+fn emit_bound(alloc: Global, bound: Bound) -> Result<Code, CompileFault>
     ensures { IfOk result (λ code. StandsFor code bound) }
 {
     let Bound {
@@ -65,13 +83,18 @@ pub fn compile(alloc: Global, bound: Bound) -> Result<Code, CompileFault>
 fn emit_block(code: &mut Vec<Instr>, header: Header, body: Vec<Stmt>) -> Result<(), CompileFault>
     ensures { OnOk result (code.new.items ≡ code.old.items ++ block_code (length code.old.items) header (body_code (length code.old.items + 1) body.items)) }
 {
-    if !is_built_header(&header) {
-        return Err(CompileFault::NotBuilt);
-    }
     let at = code.len();
     // Its place is kept for the Open, which knows the place behind the Close.
     code.push(Instr::Close)?;
     emit_all(code, body)?;
+    close_block(code, at, header)
+}
+
+/// A Close behind the code that is there, and the Open of its block at the place.
+fn close_block(code: &mut Vec<Instr>, at: usize, header: Header) -> Result<(), CompileFault>
+    requires { at < vec_len code.old }
+    ensures { OnOk result (code.new.items ≡ slice_set (code.old.items ++ Close ∷ []) at (Open header (length code.old.items + 1))) }
+{
     code.push(Instr::Close)?;
     code[at] = Instr::Open {
         header,
@@ -91,7 +114,7 @@ fn emit_all(code: &mut Vec<Instr>, body: Vec<Stmt>) -> Result<(), CompileFault>
     Ok(())
 }
 
-/// The code of a statement, behind the code that is there.
+/// The code of a statement, behind the code that is there. A statement that is not built has none.
 #[cycle(emit)]
 fn emit(code: &mut Vec<Instr>, stmt: Stmt) -> Result<(), CompileFault>
     ensures { OnOk result (code.new.items ≡ code.old.items ++ code_of (length code.old.items) stmt) }
@@ -102,59 +125,17 @@ fn emit(code: &mut Vec<Instr>, stmt: Stmt) -> Result<(), CompileFault>
             Ok(())
         }
         Stmt::Assign { pairs, no_error } => {
-            if no_error || !pairs.iter().all(is_built_assignment) {
-                return Err(CompileFault::NotBuilt);
-            }
             code.push(Instr::Assign { pairs, no_error })?;
             Ok(())
         }
         Stmt::Put { stream, items } => {
-            if stream != 0 || !items.iter().all(is_built_item) {
-                return Err(CompileFault::NotBuilt);
-            }
             code.push(Instr::Put { stream, items })?;
             Ok(())
         }
-        Stmt::Undo {
-            block,
-            action: Action::Leave(target),
-        } => {
-            code.push(Instr::Undo {
-                block,
-                action: Action::Leave(target),
-            })?;
+        Stmt::Undo { block, action } => {
+            code.push(Instr::Undo { block, action })?;
             Ok(())
         }
-        _ => Err(CompileFault::NotBuilt),
-    }
-}
-
-/// Whether blocks with this header are built: the external procedure's, and DO without TO, WHILE,
-/// ON and buffers.
-fn is_built_header(header: &Header) -> bool {
-    let kind = matches!(header.kind, BlockKind::Procedure | BlockKind::Do);
-    kind && header.scoped.is_empty()
-        && header.to.is_none()
-        && header.while_test.is_none()
-        && header.fetch.is_none()
-        && header.on_error.is_none()
-        && header.on_endkey.is_none()
-}
-
-/// Whether the assignment is built: a literal to a variable of the external procedure.
-fn is_built_assignment(pair: &Assignment) -> bool {
-    matches!(pair.target, Target::Variable(_))
-        && matches!(&pair.right, Right::Value(Expr::Literal(_)))
-}
-
-/// Whether the item is built: a literal or a variable without FORMAT, and SKIP.
-fn is_built_item(item: &PutItem) -> bool {
-    match item {
-        PutItem::Shows { value, mask: None } => matches!(
-            value,
-            Expr::Literal(_) | Expr::Variable(_)
-        ),
-        PutItem::Shows { .. } => false,
-        PutItem::Skip(_) | PutItem::Space(_) => true,
+        _ => Ok(()),
     }
 }

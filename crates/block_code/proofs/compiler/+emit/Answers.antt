@@ -1,12 +1,12 @@
-use Rattle.std.proofs.Common.{◌∙◌, length}
+use Rattle.std.proofs.Common.{◌∙◌, length, refl}
 use Rattle.block_code.specs.declared.code.Instr.TheVariants.{Close}
-use Rattle.block_code.proofs.Behind.{one_more_stmt, block_is_written, block_stands}
+use Rattle.block_code.proofs.Behind.{one_more_stmt, block_closed, block_stands}
 use Rattle.block_code.proofs.compiler.+emit.Goals as goal
 
 pub emit-returns-in-Block : goal.emit-returns-in-Block
 emit-returns-in-Block t c =
-    block_stands (length c.args.code.now.items) c.args.code.now.items c.emit_block.new.code.items _ c.in-Block.header _ c.in-Block.body c.args.stmt
-    c.in-Block.header-is c.in-Block.body-is c.in-Block.is c.in_ok-emit_block-in-Block.ensures
+    block_stands (length c.args.code.now.items) c.args.code.now.items c.emit_block.new.code.items c.in-Block.header c.in-Block.header c.in-Block.body c.in-Block.body c.args.stmt
+    refl refl c.in-Block.is c.in_ok-emit_block-in-Block.ensures
 
 pub emit_all-loop-stmt-preserved : goal.emit_all-loop-stmt-preserved
 emit_all-loop-stmt-preserved t c =
@@ -14,5 +14,5 @@ emit_all-loop-stmt-preserved t c =
 
 pub emit_block-returns : goal.emit_block-returns
 emit_block-returns t c =
-    block_is_written c.args.code.now.items c.push.new.self.items c.emit_all.new.code.items c.push-2.new.self.items Close c.args.header c.len-at.result c.len.result c.args.body.items
-    (c.len-at.ensures ∙ c.args.code.now.ok.0) c.in_ok-push.ensures.items c.in_ok-emit_all.ensures c.in_ok-push-2.ensures.items (c.len.ensures ∙ c.push-2.new.self.ok.0)
+    block_closed c.close_block.result c.args.code.now.items c.push.new.self.items c.emit_all.new.code.items c.close_block.new.code.items Close c.args.header c.len-at.result c.args.body.items
+    c.close_block.ensures (c.len-at.ensures ∙ c.args.code.now.ok.0) c.in_ok-push.ensures.items c.in_ok-emit_all.ensures

@@ -1,8 +1,7 @@
-use Rattle.std.proofs.Common.{◌≡◌, ◌++◌, ◌∷◌, ◌+◌, [], refl, ap, sym, ◌∙◌, length}
-use Rattle.std.specs.Prelude.{option_to_list}
+use Rattle.std.proofs.Common.{◌++◌, ◌+◌, refl, ap, sym, ◌∙◌, length}
 use Rattle.block_code.specs.Code.{block_code, body_code}
 use Rattle.block_code.proofs.Behind.{only_one}
-use Rattle.block_code.proofs.compiler.compile.Goals as goal
+use Rattle.block_code.proofs.compiler.emit_bound.Goals as goal
 
 pub returns : goal.returns
 returns c =

@@ -1,0 +1,135 @@
+-- What of a bound source is built so far.
+use Rattle.std.specs.Prelude.{◌≡◌, ◌==◌, nat_le, length, List, [], ◌∷◌, Bool, true, false, ◌&&◌, not, Option, Some, None, Result, Ok, Err}
+use Rattle.abl_base.specs.declared.value.Value.{Value}
+use Rattle.abl_base.specs.declared.value.Value.TheVariants.{Text, Int, Int64, Dec, Logical, Date, Unknown}
+use Rattle.abl_base.specs.declared.value.TheConstants.{MAX_TEXT_BYTES}
+use Rattle.abl_values.specs.declared.arithmetic.ArithFault.{ArithFault}
+use Rattle.abl_values.specs.Fit.{fitted}
+use Rattle.bound_tree.specs.declared.expression.Expr.{Expr}
+use Rattle.bound_tree.specs.declared.expression.Expr.TheVariants as e
+use Rattle.bound_tree.specs.declared.block.BlockKind.{BlockKind}
+use Rattle.bound_tree.specs.declared.block.BlockKind.TheVariants as kind
+use Rattle.bound_tree.specs.declared.block.Action.{Action}
+use Rattle.bound_tree.specs.declared.block.Action.TheVariants as act
+use Rattle.bound_tree.specs.declared.block.Header.{Header}
+use Rattle.bound_tree.specs.declared.statement.Right.{Right}
+use Rattle.bound_tree.specs.declared.statement.Right.TheVariants as right
+use Rattle.bound_tree.specs.declared.statement.Target.{Target}
+use Rattle.bound_tree.specs.declared.statement.Target.TheVariants as target
+use Rattle.bound_tree.specs.declared.statement.Assignment.{Assignment}
+use Rattle.bound_tree.specs.declared.statement.PutItem.{PutItem}
+use Rattle.bound_tree.specs.declared.statement.PutItem.TheVariants as put
+use Rattle.bound_tree.specs.declared.statement.Stmt.{Stmt, Row_of-Stmt, end_of-Stmt, more_of-Stmt}
+use Rattle.bound_tree.specs.declared.statement.Stmt.TheVariants as stmt
+use Rattle.bound_tree.specs.declared.procedure.Procedure.{Procedure}
+use Rattle.bound_tree.specs.declared.procedure.Bound.{Bound}
+
+-- nothing is in the list
+abbrev pub is_nil : {A : Type 0} → List A → Bool
+is_nil [] = true
+is_nil (x ∷ xs) = false
+
+-- it is left out
+abbrev pub is_left_out : {A : Type 0} → Option A → Bool
+is_left_out None = true
+is_left_out (Some x) = false
+
+-- a procedure's block, and DO
+abbrev pub is_built_kind : BlockKind → Bool
+is_built_kind kind.Procedure = true
+is_built_kind kind.Do = true
+is_built_kind kind.Repeat = false
+is_built_kind kind.For = false
+
+-- a header without buffers, TO, WHILE, a record phrase and ON
+abbrev pub is_built_header : Header → Bool
+is_built_header h =
+    is_built_kind h.kind && is_nil h.scoped.items && is_left_out h.to && is_left_out h.while_test && is_left_out h.fetch && is_left_out h.on_error && is_left_out h.on_endkey
+
+-- a literal: a text has at most 30,000 bytes
+abbrev pub is_built_literal : Value → Bool
+is_built_literal (Text t) = nat_le (length t) MAX_TEXT_BYTES
+is_built_literal (Int n) = true
+is_built_literal (Int64 n) = true
+is_built_literal (Dec n) = true
+is_built_literal (Logical b) = true
+is_built_literal (Date d) = true
+is_built_literal Unknown = true
+
+-- there is a value
+abbrev pub is_value : Result Value ArithFault → Bool
+is_value (Ok v) = true
+is_value (Err fault) = false
+
+-- what a target gets: a literal to a variable, whose kind it fits
+abbrev pub is_built_pair : Target → Right → Bool
+is_built_pair (target.Variable x) (right.Value (e.Literal v)) = is_built_literal v && is_value (fitted v x.kind)
+is_built_pair t r = false
+
+-- an assignment
+abbrev pub is_built_assignment : Assignment → Bool
+is_built_assignment x = is_built_pair x.target x.right
+
+-- all of an ASSIGN
+abbrev pub are_built_assignments : List Assignment → Bool
+are_built_assignments [] = true
+are_built_assignments (x ∷ xs) = is_built_assignment x && are_built_assignments xs
+
+-- what is shown: a literal, or a variable
+abbrev pub is_built_shown : Expr → Bool
+is_built_shown (e.Literal v) = is_built_literal v
+is_built_shown (e.Variable x) = true
+is_built_shown other = false
+
+-- an item of PUT: a literal or a variable without a mask, SKIP, and SPACE
+abbrev pub is_built_item : PutItem → Bool
+is_built_item (put.Shows a mask) = is_left_out mask && is_built_shown a
+is_built_item (put.Skip n) = true
+is_built_item (put.Space n) = true
+
+-- all of a PUT
+abbrev pub are_built_items : List PutItem → Bool
+are_built_items [] = true
+are_built_items (x ∷ xs) = is_built_item x && are_built_items xs
+
+-- what comes after an UNDO: LEAVE
+abbrev pub is_built_action : Action → Bool
+is_built_action (act.Leave l) = true
+is_built_action action = false
+
+abbrev mutual
+  -- a statement: a block, an assignment without NO-ERROR, PUT to the unnamed stream, and UNDO with LEAVE
+  pub is_built_stmt : Stmt → Bool
+  is_built_stmt (stmt.Block' h shape body) = is_built_header h && is_built_row body
+  is_built_stmt (stmt.Assign pairs quiet) = not quiet && are_built_assignments pairs.items
+  is_built_stmt (stmt.Put stream items) = (stream == 0) && are_built_items items.items
+  is_built_stmt (stmt.Undo block action) = is_built_action action
+  is_built_stmt t = false
+
+  -- the statements inside a statement
+  pub is_built_row : {m : _} → Row_of-Stmt m → Bool
+  is_built_row end_of-Stmt = true
+  is_built_row (more_of-Stmt t rest) = is_built_stmt t && is_built_row rest
+
+-- the statements of a list
+abbrev pub is_built_body : List Stmt → Bool
+is_built_body [] = true
+is_built_body (t ∷ ts) = is_built_stmt t && is_built_body ts
+
+-- the external procedure, without buffers
+abbrev pub is_built_procedure : Procedure → Bool
+is_built_procedure q = is_nil q.buffers.items && is_built_header q.header && is_built_body q.body.items
+
+-- it is the only one
+abbrev pub are_built_procedures : List Procedure → Bool
+are_built_procedures [] = false
+are_built_procedures (q ∷ []) = is_built_procedure q
+are_built_procedures (q ∷ r ∷ rest) = false
+
+-- a bound source is built
+abbrev pub is_built : Bound → Bool
+is_built b = are_built_procedures b.procedures.items
+
+-- as a fact
+abbrev pub IsBuilt : Bound → Type 0
+IsBuilt b = is_built b ≡ true
