@@ -1,10 +1,10 @@
 -- How much a client has still to do.
-use Rattle.std.specs.Prelude.{◌≡◌, ◌<◌, ◌≤◌, ◌+◌, ◌*◌, ℕ, List, [], length}
+use Rattle.std.specs.Prelude.{◌≡◌, ◌+◌, ◌*◌, ℕ, [], length}
 use Rattle.block_vm.specs.declared.mode.Mode.{Mode}
 use Rattle.block_vm.specs.declared.mode.Mode.TheVariants.{Runs, Turns, Over, AsksEnter, AsksBack, AsksLeave, AsksEnd, Ended}
 use Rattle.block_vm.specs.declared.client.Client.{Client}
-use Rattle.block_vm.specs.declared.client.Wants.{Wants}
-use Rattle.block_vm.specs.declared.client.Wants.TheVariants.{Ask}
+use Rattle.block_meaning.specs.declared.wants.Wants.{Wants}
+use Rattle.block_meaning.specs.declared.wants.Wants.TheVariants.{Ask}
 use Rattle.block_vm.specs.Wants.{IsEnded}
 use Rattle.database_meaning.specs.declared.operation.Op.TheVariants.{Enter, Back, Leave, End}
 

@@ -1,25 +1,27 @@
 //! The plain text of a value.
 
-use abl_base::Value;
-use itoa::Buffer;
-use std::alloc::AllocError;
+ghost use Rattle.std.specs.Prelude.{◌≡◌, ◌++◌, OnOk};
+ghost use Rattle.abl_values.specs.Texts.{plain_text};
 
-/// Adds the plain text of the value. Decimals and dates are not built yet: the compiler refuses
-/// what could hold them, and they add nothing.
-pub fn write_plain(text: &mut Vec<u8>, value: &Value) -> Result<(), AllocError> {
+use abl_base::Value;
+use abl_values::export_value;
+use std::alloc::{AllocError, Global};
+
+/// Adds the plain text of the value: that of EXPORT, but for a text, which has no quotation marks.
+#[tactic(auto, unfolding(abl_values::specs::Texts::export_text, abl_values::specs::Texts::plain_text))]
+pub fn write_plain(alloc: Global, text: &mut Vec<u8>, value: &Value) -> Result<(), AllocError>
+    ensures { OnOk result (text.new.items ≡ text.old.items ++ plain_text value.now) }
+{
     match value {
         Value::Text(bytes) => text.extend_from_slice(bytes.as_slice()),
-        Value::Int(number) => {
-            let mut buffer = Buffer::new();
-            text.extend_from_slice(buffer.format(*number).as_bytes())
+        Value::Int(_)
+        | Value::Int64(_)
+        | Value::Dec(_)
+        | Value::Logical(_)
+        | Value::Date(_)
+        | Value::Unknown => {
+            let bytes = export_value(alloc, value)?;
+            text.extend_from_slice(bytes.as_slice())
         }
-        Value::Int64(number) => {
-            let mut buffer = Buffer::new();
-            text.extend_from_slice(buffer.format(*number).as_bytes())
-        }
-        Value::Logical(true) => text.extend_from_slice(b"yes"),
-        Value::Logical(false) => text.extend_from_slice(b"no"),
-        Value::Unknown => text.extend_from_slice(b"?"),
-        Value::Dec(_) | Value::Date(_) => Ok(()),
     }
 }

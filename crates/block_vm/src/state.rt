@@ -1,11 +1,21 @@
 //! What a client has: its variables, its level, its units and its output.
 
-ghost use Rattle.std.specs.Prelude.{◌≡◌, IfOk};
+ghost use Rattle.std.specs.Prelude.{◌≡◌, ◌+◌, ◌++◌, ◌∷◌, [], ◌-◌, ◌≤◌, List, length, reverse, true, false, nat_lt, replicate, slice_index_or, slice_set, IfOk, OnOk, OnErr};
+ghost use Rattle.abl_base.specs.declared.value.Value.{Value};
+ghost use Rattle.abl_values.specs.Texts.{plain_text};
+ghost use Rattle.block_code.specs.declared.code.Instr.{Instr};
+ghost use Rattle.block_meaning.specs.declared.wants.Piece.{Piece};
+ghost use Rattle.block_vm.specs.declared.mode.Mode.{Mode};
+ghost use Rattle.block_vm.specs.declared.mode.Iteration.{Iteration};
+ghost use Rattle.block_vm.specs.Sections.{first_longer};
+ghost use Rattle.block_vm.specs.Machine.{set_var, set_right, set_all, value_in, item_text, items_text, values_at, olds_at, at_level};
+ghost use Rattle.block_vm.specs.Client.{config_at};
 
 use crate::mode::Mark;
 use crate::output::{MAX_OUTPUT_BYTES, Section};
 use crate::plain_text::write_plain;
 use abl_base::{Bytes, Row, Value};
+use abl_values::{ArithFault, fit};
 use bound_tree::{Assignment, Expr, PutItem, Right, Target, Variable};
 use std::alloc::{AllocError, Global};
 use std::mem;
@@ -35,7 +45,10 @@ pub struct State {
 
 impl State {
     /// The state in which a client begins.
-    pub fn new(alloc: Global, undoable: Row, kept: Row, units: u64) -> Result<State, AllocError> {
+    pub fn new(alloc: Global, undoable: Row, kept: Row, units: u64) -> Result<State, AllocError>
+        ensures config { IfOk result (λ state. (code : List Instr) (mode : Mode) (opened : List Iteration) (written : List Piece) → config_at code mode opened written state ≡ record { code = code; mode = mode; opened = opened; undoable = undoable; kept = kept; olds = []; level = 0; units = units; written = written; size = 0 }) }
+        ensures sections { IfOk result (λ state. state.sections.items ≡ record { name = []; bytes = [] } ∷ []) }
+    {
         let mut sections = Vec::with_capacity(alloc, 1)?;
         sections.push(Section {
             name: Bytes::empty(alloc),
@@ -52,70 +65,72 @@ impl State {
         })
     }
 
-    /// The value of a variable.
-    fn value(&self, variable: Variable) -> Option<&Value> {
-        let number = variable.number as usize;
-        if variable.undoable {
-            self.undoable.get(number)
-        } else {
-            self.kept.get(number)
-        }
-    }
-
     /// Gives a variable a value. The old one is kept where an undo may want it.
     fn set(&mut self, variable: Variable, value: Value) -> Result<(), AllocError>
-        ensures { self.new.units ≡ self.old.units }
+        ensures ok { OnOk result ((code : List Instr) (mode : Mode) (opened : List Iteration) (written : List Piece) → config_at code mode opened written self.new ≡ set_var variable value (config_at code mode opened written self.old)) }
+        ensures units { self.new.units ≡ self.old.units }
+        ensures sections { self.new.sections.items ≡ self.old.sections.items }
     {
         let number = variable.number as usize;
-        if !variable.undoable {
-            if let Some(place) = self.kept.get_mut(number) {
-                *place = value;
+        if variable.undoable {
+            if self.level > 0 {
+                self.olds.reserve(1)?;
             }
-            return Ok(());
-        }
-        let Some(place) = self.undoable.get_mut(number) else {
-            return Ok(());
-        };
-        let old = mem::replace(place, value);
-        if self.level > 0 {
-            self.olds.push(Old { number, value: old })?;
+            let value = set_value(&mut self.undoable, number, value);
+            if self.level > 0 {
+                self.olds.push_reserved(Old { number, value });
+            }
+        } else {
+            let _ = set_value(&mut self.kept, number, value);
         }
         Ok(())
     }
 
+    /// An assignment: the variable gets the value in its own kind.
+    fn assign_one(&mut self, alloc: Global, pair: &Assignment) -> Result<(), AllocError>
+        ensures ok { OnOk result ((code : List Instr) (mode : Mode) (opened : List Iteration) (written : List Piece) → config_at code mode opened written self.new ≡ set_right pair.now.target pair.now.right (config_at code mode opened written self.old)) }
+        ensures units { self.new.units ≡ self.old.units }
+        ensures sections { self.new.sections.items ≡ self.old.sections.items }
+    {
+        match (&pair.target, &pair.right) {
+            (Target::Variable(variable), Right::Value(Expr::Literal(value))) => {
+                match fit(alloc, value, variable.kind) {
+                    Ok(value) => self.set(*variable, value),
+                    Err(ArithFault::Overflow) => Ok(()),
+                    Err(ArithFault::NoMemory) => Err(AllocError),
+                }
+            }
+            _ => Ok(()),
+        }
+    }
+
     /// An assignment, or ASSIGN, from left to right.
-    pub fn assign(&mut self, pairs: &[Assignment]) -> Result<(), AllocError>
-        ensures { self.new.units ≡ self.old.units }
+    pub fn assign(&mut self, alloc: Global, pairs: &[Assignment]) -> Result<(), AllocError>
+        ensures ok { OnOk result ((code : List Instr) (mode : Mode) (opened : List Iteration) (written : List Piece) → config_at code mode opened written self.new ≡ set_all pairs.now (config_at code mode opened written self.old)) }
+        ensures units { self.new.units ≡ self.old.units }
+        ensures sections { self.new.sections.items ≡ self.old.sections.items }
     {
         for pair in pairs {
-            if let (Target::Variable(variable), Right::Value(Expr::Literal(value))) = (
-                &pair.target,
-                &pair.right,
-            ) {
-                let value = value.copy()?;
-                self.set(*variable, value)?;
-            }
+            self.assign_one(alloc, pair)?;
         }
         Ok(())
     }
 
     /// The old values from the mark on go back, the last one first.
     pub fn take_back(&mut self, mark: Mark)
-        ensures { self.new.units ≡ self.old.units }
+        ensures config { (code : List Instr) (mode : Mode) (opened : List Iteration) (written : List Piece) → let old = config_at code mode opened written self.old in config_at code mode opened written self.new ≡ record old { undoable = values_at mark.olds old.olds old.undoable; olds = olds_at mark.olds old.olds; level = mark.depth } }
+        ensures units { self.new.units ≡ self.old.units }
+        ensures sections { self.new.sections.items ≡ self.old.sections.items }
     {
-        while self.olds.len() > mark.olds {
-            if let Some(old) = self.olds.pop()
-                && let Some(place) = self.undoable.get_mut(old.number)
-            {
-                *place = old.value;
-            }
-        }
+        take_back(&mut self.undoable, &mut self.olds, mark.olds);
         self.level = mark.depth;
     }
 
     /// The level is left; after the transaction's own no undo wants an old value.
     pub fn leave(&mut self, depth: u32)
-        ensures { self.new.units ≡ self.old.units }
+        ensures config { (code : List Instr) (mode : Mode) (opened : List Iteration) (written : List Piece) → config_at code mode opened written self.new ≡ at_level (depth - 1) (config_at code mode opened written self.old) }
+        ensures units { self.new.units ≡ self.old.units }
+        ensures sections { self.new.sections.items ≡ self.old.sections.items }
     {
         self.level = depth.saturating_sub(1);
         if self.level == 0 {
@@ -126,42 +141,118 @@ impl State {
     /// PUT to the default output: the items' texts as one piece. False, and nothing is written,
     /// where the output would pass its limit.
     pub fn put(&mut self, alloc: Global, items: &[PutItem]) -> Result<bool, AllocError>
-        ensures { self.new.units ≡ self.old.units }
+        ensures full { result ≡ Ok false → (nat_lt 16777216 (self.old.size + length (items_text items.now self.old.undoable.items self.old.kept.items)) ≡ true) × (self.new ≡ self.old) }
+        ensures fits { result ≡ Ok true → (nat_lt 16777216 (self.old.size + length (items_text items.now self.old.undoable.items self.old.kept.items)) ≡ false) × (self.new.sections.items ≡ first_longer (items_text items.now self.old.undoable.items self.old.kept.items) self.old.sections.items) × (self.new ≡ record self.old { sections = self.new.sections; size = self.old.size + length (items_text items.now self.old.undoable.items self.old.kept.items) }) }
+        ensures err { OnErr result (self.new.sections.items ≡ self.old.sections.items) }
+        ensures units { self.new.units ≡ self.old.units }
     {
-        let mut piece = Vec::new(alloc);
-        for item in items {
-            self.write_item(&mut piece, item)?;
-        }
-        if piece.len() > MAX_OUTPUT_BYTES.saturating_sub(self.size) {
+        let piece = text_of(alloc, &self.undoable, &self.kept, items)?;
+        if self.size.saturating_add(piece.len()) > MAX_OUTPUT_BYTES {
             return Ok(false);
         }
-        if let Some(section) = self.sections.first_mut() {
-            section.bytes.extend_from_slice(&piece)?;
-            self.size += piece.len();
-        }
+        write_first(&mut self.sections, &piece)?;
+        self.size += piece.len();
         Ok(true)
     }
+}
 
-    fn write_item(&self, piece: &mut Vec<u8>, item: &PutItem) -> Result<(), AllocError> {
-        match item {
-            PutItem::Shows { value, .. } => match value {
-                Expr::Literal(value) => write_plain(piece, value),
-                Expr::Variable(variable) => match self.value(*variable) {
-                    Some(value) => write_plain(piece, value),
-                    None => Ok(()),
-                },
-                _ => Ok(()),
-            },
-            PutItem::Skip(count) => write_bytes(piece, b'\n', *count),
-            PutItem::Space(count) => write_bytes(piece, b' ', *count),
+/// Gives a variable a value, and tells the old one.
+fn set_value(values: &mut Vec<Value>, number: usize, value: Value) -> Value
+    ensures old { result ≡ slice_index_or values.old.items number Value.Unknown }
+    ensures new { values.new.items ≡ slice_set values.old.items number value }
+{
+    match values.get_mut(number) {
+        Some(place) => mem::replace(place, value),
+        None => Value::Unknown,
+    }
+}
+
+/// The old values from the place on go back, the last one first.
+fn take_back(values: &mut Vec<Value>, olds: &mut Vec<Old>, at: usize)
+    ensures values { values.new.items ≡ values_at at (reverse olds.old.items) values.old.items }
+    ensures olds { reverse olds.new.items ≡ olds_at at (reverse olds.old.items) }
+{
+    while olds.len() > at {
+        if let Some(old) = olds.pop() {
+            let _ = set_value(values, old.number, old.value);
         }
     }
 }
 
+/// Adds a piece to the first section.
+fn write_first(sections: &mut [Section], piece: &[u8]) -> Result<(), AllocError>
+    ensures ok { OnOk result (sections.new ≡ first_longer piece.now sections.old) }
+    ensures err { OnErr result (sections.new ≡ sections.old) }
+{
+    match sections {
+        [] => Ok(()),
+        [first, ..] => first.bytes.extend_from_slice(piece),
+    }
+}
+
+/// The text of the items of a PUT.
+fn text_of(
+    alloc: Global,
+    undoable: &[Value],
+    kept: &[Value],
+    items: &[PutItem],
+) -> Result<Vec<u8>, AllocError>
+    ensures { IfOk result (λ text. text.items ≡ items_text items.now undoable.now kept.now) }
+{
+    let mut text = Vec::new(alloc);
+    for item in items {
+        write_item(alloc, &mut text, undoable, kept, item)?;
+    }
+    Ok(text)
+}
+
+/// Adds the text of an item.
+fn write_item(
+    alloc: Global,
+    text: &mut Vec<u8>,
+    undoable: &[Value],
+    kept: &[Value],
+    item: &PutItem,
+) -> Result<(), AllocError>
+    ensures { OnOk result (text.new.items ≡ text.old.items ++ item_text item.now undoable.now kept.now) }
+{
+    match item {
+        PutItem::Shows { value, .. } => match value {
+            Expr::Literal(value) => write_plain(alloc, text, value),
+            Expr::Variable(variable) => {
+                let values = if variable.undoable { undoable } else { kept };
+                write_value(alloc, text, values, variable.number as usize)
+            }
+            _ => Ok(()),
+        },
+        PutItem::Skip(count) => write_bytes(text, b'\n', *count),
+        PutItem::Space(count) => write_bytes(text, b' ', *count),
+    }
+}
+
+/// Adds the plain text of a variable.
+fn write_value(
+    alloc: Global,
+    text: &mut Vec<u8>,
+    values: &[Value],
+    number: usize,
+) -> Result<(), AllocError>
+    ensures { OnOk result (text.new.items ≡ text.old.items ++ plain_text (slice_index_or values.now number Value.Unknown)) }
+{
+    match values.get(number) {
+        Some(value) => write_plain(alloc, text, value),
+        None => write_plain(alloc, text, &Value::Unknown),
+    }
+}
+
 /// Adds so many of the byte.
-fn write_bytes(piece: &mut Vec<u8>, byte: u8, count: u32) -> Result<(), AllocError> {
-    for _ in 0..count {
-        piece.push(byte)?;
+fn write_bytes(text: &mut Vec<u8>, byte: u8, count: u32) -> Result<(), AllocError>
+    ensures { OnOk result (text.new.items ≡ text.old.items ++ replicate count byte) }
+{
+    let mut left = count;
+    while left > 0 {
+        text.push(byte)?;
+        left -= 1;
     }
     Ok(())
 }

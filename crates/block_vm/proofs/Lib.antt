@@ -1,0 +1,12 @@
+pub mod Restores
+pub mod Opened
+pub mod Statements
+pub mod Simulates
+pub mod Falls
+pub mod Finishes
+pub mod Hears
+pub mod Resumes
+pub mod Steps
+pub mod Stands
+pub mod Starts
+pub mod Written

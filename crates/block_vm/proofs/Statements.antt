@@ -1,0 +1,159 @@
+-- Assignments and PUT do what their meaning says.
+use Rattle.std.proofs.Common.{◌≡◌, ℕ, List, [], ◌∷◌, length, Bool, true, false, Option, Some, None, refl, ap, ◌∙◌}
+use Rattle.std.specs.Prelude.{◌&&◌, map, Result, Ok, Err, replicate}
+use Rattle.std.proofs.lemmas.Bool.{leb-true, le-ltb}
+use Rattle.abl_base.specs.declared.value.Value.{Value}
+use Rattle.abl_base.specs.declared.value.Value.TheVariants.{Text, Int, Int64, Dec, Logical, Date, Unknown}
+use Rattle.abl_base.specs.declared.value.TheConstants.{MAX_TEXT_BYTES}
+use Rattle.abl_values.specs.declared.arithmetic.ArithFault.{ArithFault}
+use Rattle.abl_values.specs.Fit.{fitted}
+use Rattle.abl_values.specs.Texts.{plain_text}
+use Rattle.database_meaning.specs.declared.operation.Answer.{Answer}
+use Rattle.bound_tree.specs.declared.expression.Variable.{Variable}
+use Rattle.bound_tree.specs.declared.expression.Expr.{Expr}
+use Rattle.bound_tree.specs.declared.expression.Expr.TheVariants as e
+use Rattle.bound_tree.specs.declared.statement.Right.{Right}
+use Rattle.bound_tree.specs.declared.statement.Right.TheVariants as right
+use Rattle.bound_tree.specs.declared.statement.Target.{Target}
+use Rattle.bound_tree.specs.declared.statement.Target.TheVariants as target
+use Rattle.bound_tree.specs.declared.statement.Assignment.{Assignment}
+use Rattle.bound_tree.specs.declared.statement.PutItem.{PutItem}
+use Rattle.bound_tree.specs.declared.statement.PutItem.TheVariants as put
+use Rattle.bound_tree.specs.Bound.{expr_of, right_of, assignment_of, item_of}
+use Rattle.abl_expr.specs.Evaluate.{literal, literal_if}
+use Rattle.block_code.specs.Built.{is_built_literal, is_value, is_built_pair, is_built_assignment, are_built_assignments, is_left_out, is_built_shown, is_built_item, are_built_items}
+use Rattle.block_meaning.specs.Program.{Program}
+use Rattle.block_meaning.specs.State.{State, Stream, Goes, Ran, and_then, assigned, value_of, frame_for, with_frame_for, set_in, value_in as value_in_frame}
+use Rattle.block_meaning.specs.Values.{Text as TextResult, IsText, value_now, as_evaluated, or_range, shown, with_shown, before_text, put_text}
+use Rattle.block_meaning.specs.Changes.{stored_value, stored_if, assigns_one, assigns_each, assigns, buffer_first, buffers_in, or_as_before, locks_all, settles_all}
+use Rattle.block_vm.specs.Machine.{Config, value_as, value_in, set_as, set_var, set_fitted, set_right, set_all, shown_text, items_text}
+use Rattle.block_vm.specs.Follows.{state_of}
+
+both_left : (a b : Bool) → a && b ≡ true → a ≡ true
+both_left true b h = refl
+both_left false b h = absurd (cc)
+
+both_right : (a b : Bool) → a && b ≡ true → b ≡ true
+both_right true b h = h
+both_right false b h = absurd (cc)
+
+-- ---- values
+
+literal_is : (v : Value) → is_built_literal v ≡ true → literal v ≡ Ok v
+literal_is (Text t) h = ap (λ b. literal_if b (Text t)) (le-ltb MAX_TEXT_BYTES (length t) (leb-true (length t) MAX_TEXT_BYTES h))
+literal_is (Int n) h = refl
+literal_is (Int64 n) h = refl
+literal_is (Dec n) h = refl
+literal_is (Logical b) h = refl
+literal_is (Date d) h = refl
+literal_is Unknown h = refl
+
+module _ (streams : List Stream) (p : Program) where
+  abbrev here : Config → State
+  here c = state_of streams c
+
+  -- a variable has its value
+  value_by : (external undoable : Bool) (n : ℕ) (c : Config) → value_in_frame undoable n (frame_for external (here c).frames) ≡ value_as undoable n c.undoable c.kept
+  value_by true true n c = refl
+  value_by true false n c = refl
+  value_by false true n c = refl
+  value_by false false n c = refl
+
+  value_is : (x : Variable) (c : Config) → value_of x (here c) ≡ value_in x c.undoable c.kept
+  value_is x c = value_by x.external x.undoable x.number c
+
+  -- a variable gets a value
+  set_by : (external undoable : Bool) (n : ℕ) (v : Value) (c : Config) → (let s : State = record (here c) { frames = with_frame_for external (set_in undoable n v (frame_for external (here c).frames)) (here c).frames } in s) ≡ here (set_as undoable n v c)
+  set_by true true n v c = refl
+  set_by true false n v c = refl
+  set_by false true n v c = refl
+  set_by false false n v c = refl
+
+  set_is : (x : Variable) (v : Value) (c : Config) → assigned x v (here c) ≡ here (set_var x v c)
+  set_is x v c = set_by x.external x.undoable x.number v c
+
+  -- ---- assignments
+
+  fitted_is : (x : Variable) (r : Result Value ArithFault) (c : Config) (ans : List Answer) → is_value r ≡ true → Goes (stored_value (or_range r) (assigned x) (here c)).way (stored_value (or_range r) (assigned x) (here c)).state ans ≡ Goes Ran (here (set_fitted x r c)) ans
+  fitted_is x (Ok v) c ans h = ap (λ s. Goes Ran s ans) (set_is x v c)
+  fitted_is x (Err fault) c ans h = absurd (cc)
+
+  literal_stored : (x : Variable) (v : Value) (retry : Bool) (c : Config) (ans : List Answer) → is_built_literal v ≡ true → is_value (fitted v x.kind) ≡ true → assigns_one p (target.Variable x) (right_of (right.Value (e.Literal v))) retry (here c) ans ≡ Goes Ran (here (set_fitted x (fitted v x.kind) c)) ans
+  literal_stored x v retry c ans short fits =
+      ap (λ r. let o = stored_if (as_evaluated r) (target.Variable x) (here c) in Goes o.way o.state ans) (literal_is v short)
+      ∙ fitted_is x (fitted v x.kind) c ans fits
+
+  one_is : (t : Target) (r : Right) (retry : Bool) (c : Config) (ans : List Answer) → is_built_pair t r ≡ true → assigns_one p t (right_of r) retry (here c) ans ≡ Goes Ran (here (set_right t r c)) ans
+  one_is (target.Variable x) (right.Value (e.Literal v)) retry c ans h =
+      literal_stored x v retry c ans (both_left (is_built_literal v) (is_value (fitted v x.kind)) h) (both_right (is_built_literal v) (is_value (fitted v x.kind)) h)
+  one_is (target.Variable x) (right.Value (e.Variable y)) retry c ans h = absurd (cc)
+  one_is (target.Variable x) (right.Value (e.Field b f k)) retry c ans h = absurd (cc)
+  one_is (target.Variable x) (right.Value (e.Unary' op p a)) retry c ans h = absurd (cc)
+  one_is (target.Variable x) (right.Value (e.Binary' op p a q b)) retry c ans h = absurd (cc)
+  one_is (target.Variable x) (right.Value (e.Ternary' op p a q b r d)) retry c ans h = absurd (cc)
+  one_is (target.Variable x) (right.Value (e.And' p a q b)) retry c ans h = absurd (cc)
+  one_is (target.Variable x) (right.Value (e.Or' p a q b)) retry c ans h = absurd (cc)
+  one_is (target.Variable x) (right.Value (e.If' p a q b r d k)) retry c ans h = absurd (cc)
+  one_is (target.Variable x) (right.Value (e.Masked' p a mask)) retry c ans h = absurd (cc)
+  one_is (target.Variable x) (right.Value (e.Available b)) retry c ans h = absurd (cc)
+  one_is (target.Variable x) (right.Value (e.Locked b)) retry c ans h = absurd (cc)
+  one_is (target.Variable x) (right.Value e.Retry) retry c ans h = absurd (cc)
+  one_is (target.Variable x) (right.Value e.ErrorStatus) retry c ans h = absurd (cc)
+  one_is (target.Variable x) (right.Value e.ReturnValue) retry c ans h = absurd (cc)
+  one_is (target.Variable x) (right.NextValue q) retry c ans h = absurd (cc)
+  one_is (target.Variable x) (right.CurrentValue q) retry c ans h = absurd (cc)
+  one_is (target.Field b f k) r retry c ans h = absurd (cc)
+
+  each_is : (xs : List Assignment) (c : Config) (retry : Bool) (ans : List Answer) → are_built_assignments xs ≡ true → assigns_each p (map assignment_of xs) retry (here c) ans ≡ Goes Ran (here (set_all xs c)) ans
+  each_is [] c retry ans h = refl
+  each_is (x ∷ xs) c retry ans h =
+      ap (λ r. and_then r (assigns_each p (map assignment_of xs) retry)) (one_is x.target x.right retry c ans (both_left (is_built_assignment x) (are_built_assignments xs) h))
+      ∙ each_is xs (set_right x.target x.right c) retry ans (both_right (is_built_assignment x) (are_built_assignments xs) h)
+
+  -- no buffer is changed
+  target_none : (t : Target) (r : Right) (bs : List ℕ) → is_built_pair t r ≡ true → buffer_first t bs ≡ bs
+  target_none (target.Variable x) r bs h = refl
+  target_none (target.Field b f k) r bs h = absurd (cc)
+
+  buffers_none : (xs : List Assignment) → are_built_assignments xs ≡ true → buffers_in (map assignment_of xs) ≡ []
+  buffers_none [] h = refl
+  buffers_none (x ∷ xs) h =
+      target_none x.target x.right (buffers_in (map assignment_of xs)) (both_left (is_built_assignment x) (are_built_assignments xs) h)
+      ∙ buffers_none xs (both_right (is_built_assignment x) (are_built_assignments xs) h)
+
+  pub assigns_are : (xs : List Assignment) (c : Config) (retry : Bool) (ans : List Answer) → are_built_assignments xs ≡ true → assigns p (map assignment_of xs) retry (here c) ans ≡ Goes Ran (here (set_all xs c)) ans
+  assigns_are xs c retry ans h =
+      ap (λ bs. and_then (or_as_before (here c) bs (and_then (assigns_each p (map assignment_of xs) retry (here c) ans) (locks_all bs))) (settles_all p (here c) bs)) (buffers_none xs h)
+      ∙ ap (λ r. and_then (or_as_before (here c) [] (and_then r (locks_all []))) (settles_all p (here c) [])) (each_is xs c retry ans h)
+
+  -- ---- PUT
+
+  shown_is : (a : Expr) (retry : Bool) (c : Config) (more : TextResult) → is_built_shown a ≡ true → with_shown (value_now p (expr_of a) retry (here c)) (shown p None) more ≡ before_text (shown_text a c.undoable c.kept) more
+  shown_is (e.Literal v) retry c more h = ap (λ r. with_shown (as_evaluated r) (shown p None) more) (literal_is v h)
+  shown_is (e.Variable x) retry c more h = ap (λ v. before_text (plain_text v) more) (value_is x c)
+  shown_is (e.Field b f k) retry c more h = absurd (cc)
+  shown_is (e.Unary' op p a) retry c more h = absurd (cc)
+  shown_is (e.Binary' op p a q b) retry c more h = absurd (cc)
+  shown_is (e.Ternary' op p a q b r d) retry c more h = absurd (cc)
+  shown_is (e.And' p a q b) retry c more h = absurd (cc)
+  shown_is (e.Or' p a q b) retry c more h = absurd (cc)
+  shown_is (e.If' p a q b r d k) retry c more h = absurd (cc)
+  shown_is (e.Masked' p a mask) retry c more h = absurd (cc)
+  shown_is (e.Available b) retry c more h = absurd (cc)
+  shown_is (e.Locked b) retry c more h = absurd (cc)
+  shown_is e.Retry retry c more h = absurd (cc)
+  shown_is e.ErrorStatus retry c more h = absurd (cc)
+  shown_is e.ReturnValue retry c more h = absurd (cc)
+
+  masked_is : (a : Expr) (mask : Option (List ℕ)) (retry : Bool) (c : Config) (more : TextResult) → is_left_out mask ≡ true → is_built_shown a ≡ true → with_shown (value_now p (expr_of a) retry (here c)) (shown p mask) more ≡ before_text (shown_text a c.undoable c.kept) more
+  masked_is a None retry c more none h = shown_is a retry c more h
+  masked_is a (Some mask) retry c more none h = absurd (cc)
+
+  pub put_is : (xs : List PutItem) (c : Config) (retry : Bool) → are_built_items xs ≡ true → put_text p (map item_of xs) retry (here c) ≡ IsText (items_text xs c.undoable c.kept)
+  put_is [] c retry h = refl
+  put_is (put.Shows a mask ∷ xs) c retry h =
+      let one = both_left (is_built_item (put.Shows a mask)) (are_built_items xs) h in
+      masked_is a mask retry c (put_text p (map item_of xs) retry (here c)) (both_left (is_left_out mask) (is_built_shown a) one) (both_right (is_left_out mask) (is_built_shown a) one)
+      ∙ ap (before_text (shown_text a c.undoable c.kept)) (put_is xs c retry (both_right (is_built_item (put.Shows a mask)) (are_built_items xs) h))
+  put_is (put.Skip n ∷ xs) c retry h = ap (before_text (replicate n 10)) (put_is xs c retry h)
+  put_is (put.Space n ∷ xs) c retry h = ap (before_text (replicate n 32)) (put_is xs c retry h)
