@@ -1,14 +1,12 @@
 -- Words that begin the form are those that stand where they may.
-use Rattle.std.proofs.Common.{◌≡◌, ◌≢◌, ◌<◌, ◌≤◌, ◌+◌, ◌^◌, ℕ, suc, List, [], ◌∷◌, ◌++◌, refl, ap, sym, ◌∙◌, subst, arith, length, take, get_or, inl, inr, length-take-le}
-use Rattle.std.proofs.lemmas.Grind.{common_steps}
+use Rattle.std.proofs.Common.{◌≡◌, ◌≢◌, ◌<◌, ◌≤◌, ◌+◌, ℕ, List, [], ◌∷◌, ◌++◌, refl, ap, sym, ◌∙◌, subst, arith, length, take, get_or, inr, length-take-le}
 use Rattle.std.proofs.lemmas.List.{take_all}
 use Rattle.std.proofs.lemmas.List.Elements.{All-cons, All-nil}
-use Rattle.std.specs.Prelude.{codes, All}
+use Rattle.std.specs.Prelude.{codes}
 use Rattle.std.specs.Char.{IsAsciiDigit, IsAsciiAlphanumeric}
 use Rattle.abl_cli.specs.declared.words.Slot.{Slot}
-use Rattle.abl_cli.specs.declared.words.Slot.TheVariants.{TheCommand, TheSchema, TheSteps, TheMode, TheClient}
 use Rattle.abl_cli.specs.Words.{Run, IsRun, IsSteps, IsName, IsProgram, words_of, HaveForm, Begin, IsWrong, at_word, missing}
-use Rattle.abl_cli.specs.Slots.{form, Fits, FitAll, IsClient}
+use Rattle.abl_cli.specs.Slots.{form, FitAll, IsClient}
 
 -- ---- words of the form that some others begin
 

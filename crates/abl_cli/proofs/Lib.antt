@@ -1,5 +1,8 @@
+pub mod Along
+pub mod Causes
 pub mod Endings
 pub mod Forms
+pub mod Judged
 pub mod Numbers
 pub mod Rooms
 pub mod Splits

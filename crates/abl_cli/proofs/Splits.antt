@@ -1,6 +1,5 @@
 -- Where a list splits at its first `=`.
-use Rattle.std.proofs.Common.{◌≡◌, ◌≢◌, ◌<◌, ◌+◌, ℕ, suc, List, [], ◌∷◌, ◌++◌, refl, ap, sym, ◌∙◌, arith, inl, inr, length, get_or, take, drop, subst}
-use Rattle.std.proofs.lemmas.Grind.{common_steps}
+use Rattle.std.proofs.Common.{◌≡◌, ◌≢◌, ◌+◌, ℕ, suc, List, [], ◌∷◌, ◌++◌, refl, sym, ◌∙◌, arith, inl, inr, get_or, take, drop, subst}
 use Rattle.std.specs.Prelude.{All}
 use Rattle.abl_cli.specs.Words.{IsName, IsProgram}
 use Rattle.abl_cli.specs.Slots.{IsClient}

@@ -1,10 +1,9 @@
 -- Texts written one after the other.
-use Rattle.std.proofs.Common.{◌≡◌, ◌≤◌, ◌<◌, ◌+◌, ◌-◌, ◌^◌, ◌⊎◌, ℕ, Bool, true, false, List, [], ◌∷◌, ◌++◌, refl, sym, ap, ◌∙◌, subst, arith, length, take, drop, inl, inr, append_assoc, append-nil, length-append, zero, suc, get_or}
+use Rattle.std.proofs.Common.{◌≡◌, ◌≤◌, ◌<◌, ◌+◌, ◌⊎◌, ℕ, Bool, true, false, List, [], ◌∷◌, ◌++◌, refl, sym, ap, ◌∙◌, subst, arith, length, take, drop, inl, inr, append_assoc, append-nil, length-append, zero, suc, get_or}
 use Rattle.std.specs.List.{flat_map}
 use Rattle.std.proofs.lemmas.Bool.{cases_lt}
 use Rattle.std.proofs.Math.Seq.{take-append-add}
 use Rattle.std.proofs.lemmas.List.{take-append-le}
-use Rattle.std.proofs.lemmas.Grind.{common_steps}
 use Rattle.std.specs.Prelude.{IsTrue}
 use Rattle.abl_outside.specs.declared.out.Stream.{Stream}
 use Rattle.abl_outside.specs.declared.out.Stream.TheVariants.{Output, Diagnostics}
@@ -33,7 +32,7 @@ writes_nothing stream w =
     }
 
 -- a count that rose from a later one rose from an earlier one too
-rose_later : (a b c : ℕ) → a ≤ b → b ≤ c → Rose b c → Rose a c
+pub rose_later : (a b c : ℕ) → a ≤ b → b ≤ c → Rose b c → Rose a c
 rose_later a b c le more (inl lt) = inl (omega (arith, le, lt))
 rose_later a b c le more (inr last) = either (cases_lt a c)
   where

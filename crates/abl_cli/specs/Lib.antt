@@ -1,5 +1,6 @@
 pub mod Words
 pub mod Slots
-pub mod Tokens
 pub mod Report
 pub mod Writes
+pub mod ClientRun
+pub mod Command

@@ -2,16 +2,18 @@
 //! stands on all crates below; `main` gives it the real files and streams.
 #![tactic(auto)]
 
-mod built_source;
-mod built_tokens;
-mod levels;
+mod drive;
+pub mod laws;
+mod perform;
+mod prepare;
 pub mod refusal;
 mod report;
 pub mod run;
 pub mod words;
 
+pub use prepare::MAX_SOURCE_BYTES;
 pub use refusal::Refusal;
-pub use run::{Ends, MAX_SOURCE_BYTES, Report, run_abl};
+pub use run::{Ends, Report, run_abl};
 pub use words::Word;
 
 #[cfg(test)]

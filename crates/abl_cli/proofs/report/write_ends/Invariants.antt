@@ -1,7 +1,7 @@
-use Rattle.std.proofs.Common.{true, take, ◌++◌, ◌∷◌}
+use Rattle.std.proofs.Common.{true, take}
 use Rattle.std.specs.List.{flat_map}
-use Rattle.abl_outside.specs.declared.out.Stream.TheVariants.{Output, Diagnostics}
-use Rattle.abl_cli.specs.Report.{end_line, part_of}
+use Rattle.abl_outside.specs.declared.out.Stream.TheVariants.{Diagnostics}
+use Rattle.abl_cli.specs.Report.{end_line}
 use Rattle.abl_cli.specs.Writes.{Writes}
 use Rattle.abl_cli.proofs.report.write_ends.Given as goal
 

@@ -1,0 +1,40 @@
+-- A command is refused by its words or by what prevents its run; else its client runs.
+use Rattle.std.proofs.Common.{ℕ, List, subst, inl, inr, ◌⊎◌, ◌∙◌}
+use Rattle.abl_cli.specs.declared.refusal.Refusal.TheVariants.{NoMemory}
+use Rattle.abl_cli.specs.declared.run.Report.{Report}
+use Rattle.abl_cli.specs.declared.words.RunWords.{RunWords}
+use Rattle.bound_tree.specs.Bound.{source_of}
+use Rattle.block_code.specs.declared.code.Code.{Code}
+use Rattle.block_code.proofs.Trees.{tree_is_built}
+use Rattle.abl_cli.specs.Words.{Names}
+use Rattle.abl_cli.specs.Writes.{Written}
+use Rattle.abl_cli.specs.Command.{Shelf, Did, Refused, Ran, HasText, IsCodeOf, HasRun, IsRefused}
+use Rattle.abl_cli.proofs.Causes.{run_of, cause_of_prevented}
+use Rattle.abl_cli.proofs.run.run_abl.Goals as goal
+
+pub returns-in-Err : goal.returns-in-Err
+returns-in-Err g c = Refused _ _ c.in-Err.ensures.wrong c.refused.ensures
+
+pub returns-in-Err-prepare : goal.returns-in-Err-prepare
+returns-in-Err-prepare g c =
+    Refused _ _ (cause_of_prevented c.args.words.now _ _ c.in-Ok.run' c.in-Ok.ensures.form c.in-Err-prepare.refusal c.in-Err-prepare.ensures.prevented) c.refused-in-Err-prepare.ensures
+
+-- a run that was performed, or for which memory was wanting
+performed :
+    (words : List (List ℕ)) (shelf : Shelf) (faults : ℕ) (old new : Written) (report : Report) (read : RunWords) →
+    Names words read → (text : List ℕ) → HasText shelf read.program.now text → (code : Code) → IsCodeOf text code →
+    ((text : List ℕ) (is_code : IsCodeOf text code) → HasRun read.name.now read.steps (source_of is_code.bound) old new report ⊎ IsRefused read.name.now NoMemory old new report) →
+    Did words shelf faults old new report
+performed words shelf faults old new report read names text has code is_code ensured = by_case (ensured text is_code)
+  where
+    by_case : HasRun read.name.now read.steps (source_of is_code.bound) old new report ⊎ IsRefused read.name.now NoMemory old new report → Did words shelf faults old new report
+    by_case (inl ran) =
+        Ran (run_of words read names) names.is_run names.words_are text has
+        (source_of is_code.bound) is_code.form (tree_is_built is_code.bound ∙ is_code.built)
+        (subst (λ units. HasRun read.name.now units (source_of is_code.bound) old new report) names.number ran)
+    by_case (inr refused) =
+        Refused read.name.now NoMemory (cause_of_prevented words shelf faults read names NoMemory tt) refused
+
+pub returns-in-Ok-prepare : goal.returns-in-Ok-prepare
+returns-in-Ok-prepare g c =
+    performed c.args.words.now _ _ _ _ _ c.in-Ok.run' c.in-Ok.ensures.form c.in-Ok-prepare.ensures.code.0 c.in-Ok-prepare.ensures.code.2 c.in-Ok-prepare.code c.in-Ok-prepare.ensures.code.1 c.perform.ensures

@@ -1,0 +1,149 @@
+-- What a command did: it was refused by the first cause that stood against it, or it ran.
+use Rattle.std.specs.Prelude.{◌≡◌, ◌<◌, ℕ, Bool, true, false, IsTrue, List, [], ◌∷◌, Option, Some, None}
+use Rattle.fault_count.specs.Faults.{Rose}
+use Rattle.abl_base.specs.declared.rule.Rule.TheVariants.{N1}
+use Rattle.abl_outside.specs.declared.out.Stream.TheVariants.{Output as Standard, Diagnostics}
+use Rattle.abl_outside.specs.Files.{IsLonger}
+use Rattle.database_meaning.specs.Frame.{Frame}
+use Rattle.database_meaning.specs.Traces.{IsSoundContents, IsLegal}
+use Rattle.database_meaning.specs.declared.contents.Contents.{Contents}
+use Rattle.block_meaning.specs.declared.ends.ClientEnd.{ClientEnd}
+use Rattle.block_meaning.specs.declared.ends.ClientEnd.TheVariants as end
+use Rattle.bound_tree.specs.Tree.{Source as Tree}
+use Rattle.built_source.specs.Form.{IsSourceOf}
+use Rattle.bound_tree.specs.Bound.{source_of}
+use Rattle.bound_tree.specs.declared.procedure.Bound.{Bound}
+use Rattle.block_code.specs.declared.code.Code.{Code}
+use Rattle.block_code.specs.Code.{StandsFor}
+use Rattle.block_code.specs.Built.{IsBuilt}
+use Rattle.block_code.specs.BuiltTree.{IsBuiltTree}
+use Rattle.block_meaning.specs.Program.{Program}
+use Rattle.block_meaning.specs.Meaning.{run}
+use Rattle.block_vm.specs.declared.output.Section.{Section}
+use Rattle.abl_cli.specs.declared.refusal.Refusal.{Refusal}
+use Rattle.abl_cli.specs.declared.refusal.Refusal.TheVariants.{Usage, File, TooLong, Source, Client, Output, NoMemory}
+use Rattle.abl_cli.specs.declared.run.Report.{Report}
+use Rattle.abl_cli.specs.declared.prepare.TheConstants.{MAX_SOURCE_BYTES}
+use Rattle.abl_cli.specs.Words.{Run, IsRun, words_of, IsWrong, number_of}
+use Rattle.abl_cli.specs.Report.{report_of, status_lines, status_of}
+use Rattle.abl_cli.specs.ClientRun.{ClientDid}
+use Rattle.abl_cli.specs.Writes.{Written, Writes}
+
+-- what files tell before a call: whether they are told, and sound too; the bytes of each; how often a read has failed
+pub record Shelf : Type 0 where
+  pub told : Bool
+  pub sound : Bool
+  pub file : List ℕ → Option (List ℕ)
+  pub faults : ℕ
+
+-- the words are those of a run of which this holds
+abbrev pub NameRun : List (List ℕ) → (Run → Type 0) → Type 0
+NameRun words holds_of = (run : Run) × IsRun run × (words ≡ words_of run) × holds_of run
+
+-- the files have this text under the name, where they are told
+abbrev pub HasText : Shelf → List ℕ → List ℕ → Type 0
+HasText shelf name text = IsTrue shelf.told → shelf.file name ≡ Some text
+
+-- what may stand against this text of a source: it has not the form that is built, or memory is wanting
+abbrev pub IsOfSource : List ℕ → Refusal → Type 0
+IsOfSource text (Source client rule place) =
+    (client ≡ 0) × (rule ≡ N1) × (place ≡ record { line = 1; column = 1 }) × ((tree : Tree) → IsSourceOf text tree → ¬ IsBuiltTree tree)
+IsOfSource text NoMemory = Unit {0}
+IsOfSource text refusal = ⊥
+
+-- the code is that of the text
+pub record IsCodeOf (text : List ℕ) (code : Code) : Type 0 where
+  pub bound : Bound
+  pub form : IsSourceOf text (source_of bound)
+  pub built : IsBuilt bound
+  pub stands : StandsFor code bound
+  pub no_outputs : bound.outputs.items ≡ []
+
+-- what prevents the run of the source of this name; the files' count of faults is now `faults`. Want of memory may come at any time
+abbrev pub Prevents : Shelf → ℕ → List ℕ → Refusal → Type 0
+Prevents shelf faults program (Usage word) = ⊥
+Prevents shelf faults program (File file) =
+    (file ≡ program) × Rose shelf.faults faults × (IsTrue shelf.sound → shelf.file program ≡ None)
+Prevents shelf faults program (TooLong file most) =
+    (file ≡ program) × (most ≡ MAX_SOURCE_BYTES) × (IsTrue shelf.told → IsLonger (shelf.file program) MAX_SOURCE_BYTES)
+Prevents shelf faults program (Source client rule place) =
+    (text : List ℕ) × HasText shelf program text × IsOfSource text (Source client rule place)
+Prevents shelf faults program (Client first) = ⊥
+Prevents shelf faults program Output = ⊥
+Prevents shelf faults program NoMemory = Unit {0}
+
+-- why a command was refused before a run began: the words have no form, or they name a run that is prevented
+abbrev pub Cause : List (List ℕ) → Shelf → ℕ → List ℕ → Refusal → Type 0
+Cause words shelf faults name (Usage word) = IsWrong words word
+Cause words shelf faults name refusal = NameRun words (λ run. (name ≡ run.name) × Prevents shelf faults run.program refusal)
+
+-- the lines about what stands against a command are on standard error, or a prefix of them where a write failed;
+-- standard output is as it was
+abbrev pub Tells : List ℕ → List ClientEnd → Option Refusal → Written → Written → Type 0
+Tells name ends None old new = new ≡ old
+Tells name ends (Some refusal) old new = (whole : Bool) × Writes whole Diagnostics (status_lines name ends refusal) old new
+
+-- the status of what stands against a command, and 0 where nothing does
+abbrev pub status_after : Option Refusal → ℕ
+status_after None = 0
+status_after (Some refusal) = status_of refusal
+
+-- the report of a command that was refused before a run began
+pub record IsRefused (name : List ℕ) (cause : Refusal) (old new : Written) (report : Report) : Type 0 where
+  pub refusal : report.refusal ≡ Some cause
+  pub status : report.status ≡ status_of cause
+  pub trace : report.trace ≡ []
+  pub ends : report.ends ≡ []
+  pub lines : Tells name [] (Some cause) old new
+
+-- Output, where the report was not written whole
+abbrev pub output_refusal : Bool → Option Refusal
+output_refusal true = None
+output_refusal false = Some Output
+
+-- what stands against a run whose client ended so: want of memory, an end in Error or Stop, and then a fault of the output
+abbrev pub refusal_after : ClientEnd → Bool → Option Refusal
+refusal_after end.Normal whole = output_refusal whole
+refusal_after end.Returned whole = output_refusal whole
+refusal_after (end.Error text) whole = Some (Client 0)
+refusal_after (end.Stop why) whole = Some (Client 0)
+refusal_after end.NoMemory whole = Some NoMemory
+
+-- the report of a run whose client ended so and wrote these sections: they are on standard output, or a prefix where a
+-- write failed, and then the lines on standard error
+pub record IsReported (name : List ℕ) (end : ClientEnd) (sections : List Section) (old new : Written) (report : Report) : Type 0 where
+  pub ends : report.ends ≡ end ∷ []
+  pub whole : Bool
+  pub between : Written
+  pub text : Writes whole Standard (report_of name sections) old between
+  pub refusal : report.refusal ≡ refusal_after end whole
+  pub status : report.status ≡ status_after report.refusal
+  pub lines : Tells name report.ends report.refusal between new
+
+-- a run of the client of this name and source, with so many units, and its report. It does as its source means, whatever
+-- its inputs are and whatever the forms of values in texts, which no source that is built so far speaks of. The trace is
+-- legal whatever the schema and the contents of the database, which no operation of levels looks at
+pub record HasRun (name : List ℕ) (units : ℕ) (tree : Tree) (old new : Written) (report : Report) : Type 0 where
+  pub end : ClientEnd
+  pub sections : List Section
+  pub does : (p : Program) → p.source ≡ tree → ClientDid (run p units) report.trace end sections
+  pub legal : (f : Frame) (contents : Contents) → 0 < f.clients → IsSoundContents f contents → IsLegal f contents report.trace
+  pub reported : IsReported name end sections old new report
+
+-- what a command did: the words, what the files told before it and their count of faults after it, what stood on the streams
+-- before and after it, and its report
+pub data Did (words : List (List ℕ)) (shelf : Shelf) (faults : ℕ) (old new : Written) (report : Report) : Type 0 where
+  -- it was refused before a run began
+  Refused : (name : List ℕ) (refusal : Refusal) → Cause words shelf faults name refusal → IsRefused name refusal old new report →
+      Did words shelf faults old new report
+  -- it ran the source that the words name
+  Ran : (named : Run) → IsRun named → words ≡ words_of named →
+      (text : List ℕ) → HasText shelf named.program text → (tree : Tree) → IsSourceOf text tree → IsBuiltTree tree →
+      HasRun named.name (number_of named.steps) tree old new report → Did words shelf faults old new report
+
+-- ---- for laws
+
+-- the wrong word is told
+abbrev pub IsUsage : Option Refusal → Type 0
+IsUsage (Some (Usage word)) = Unit {0}
+IsUsage refusal = ⊥
