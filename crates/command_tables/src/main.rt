@@ -1,0 +1,18 @@
+//! Runs commands: reads a row a line, which has the words of a command, a tab, and the source `p`,
+//! and writes the row with the status and what then stands on standard output and standard error.
+//! A line feed of a source or a stream is written `|`. The rows that it is run on, and what it must
+//! write, are read off the description of the language and of the program (`docs/language.md`).
+#![tactic(auto)]
+
+mod commands;
+
+use std::io;
+
+fn main(rt: HostRuntime) -> io::Result<()> {
+    for line in rt.lines(rt.alloc()) {
+        let row = line?;
+        let answer = commands::answer(rt.alloc(), row.as_str())?;
+        println!(rt; "{row}\t{answer}")?;
+    }
+    Ok(())
+}
