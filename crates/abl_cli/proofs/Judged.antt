@@ -1,5 +1,5 @@
 -- What follows from what a command did.
-use Rattle.std.proofs.Common.{◌≡◌, ◌⊎◌, inl, inr, ◌≤◌, ◌+◌, ℕ, Bool, true, false, List, ◌∷◌, ◌++◌, Option, Some, None, refl, sym, ap, ◌∙◌, subst, arith, length, take, drop}
+use Rattle.std.proofs.Common.{◌≡◌, ◌⊎◌, inl, inr, ◌<◌, ◌≤◌, ◌+◌, ℕ, Bool, true, false, List, ◌∷◌, ◌++◌, Option, Some, None, refl, sym, ap, ◌∙◌, subst, arith, length, take, drop}
 use Rattle.std.specs.Prelude.{IsTrue}
 use Rattle.std.proofs.lemmas.List.{take-append-drop}
 use Rattle.fault_count.specs.Faults.{Rose}
@@ -19,7 +19,7 @@ use Rattle.abl_cli.specs.declared.prepare.TheConstants.{MAX_SOURCE_BYTES}
 use Rattle.abl_cli.specs.Words.{Run, IsRun, words_of, HaveForm, Begin, IsWrong, at_word, missing}
 use Rattle.abl_cli.specs.Report.{report_of, status_of}
 use Rattle.abl_cli.specs.Writes.{Written}
-use Rattle.abl_cli.specs.Command.{Shelf, Cause, IsReported, Did, Refused, Ran, Tells, refusal_after, status_after, IsUsage}
+use Rattle.abl_cli.specs.Command.{Shelf, HasText, Cause, IsReported, Did, Refused, Ran, Tells, refusal_after, status_after, IsUsage, IsFile, IsTooLong, IsSource, IsNoMemory}
 use Rattle.abl_cli.proofs.Splits.{split_once_only, no_sign}
 
 -- ---- words
@@ -169,7 +169,7 @@ module _ (words : List (List ℕ)) (shelf : Shelf) (faults : ℕ) (old new : Wri
         absurd (omega (arith, above, short))
     only_memory name (Source client rule place) cause =
         let program : cause.0.program ≡ run.program = one_program cause.0 run cause.1 is_run (sym cause.2 ∙ are) in
-        let read : shelf.file cause.0.program ≡ Some cause.3.1.0 = cause.3.1.1 told in
+        let read : shelf.file cause.0.program ≡ Some cause.3.1.0 = cause.3.1.1.told told in
         let same : text ≡ cause.3.1.0 = cc (there, read, program) in
         absurd (cause.3.1.2.3 tree (subst (λ t. IsSourceOf t tree) same form) built)
     only_memory name (Client first) cause = absurd cause.3.1
@@ -182,3 +182,78 @@ module _ (words : List (List ℕ)) (shelf : Shelf) (faults : ℕ) (old new : Wri
         let r = ran.reported in
         subst (λ status. (status ≡ 0) ⊎ ((status ≡ 8) ⊎ (status ≡ 7))) (sym (r.status ∙ ap status_after r.refusal))
         (fine_end r.whole ran.end (λ broken. quiet (rose_in_report named.name ran.end ran.sections r broken)))
+
+  -- ---- a source that does not run
+
+  module _ (run : Run) (is_run : IsRun run) (are : words ≡ words_of run) (told : IsTrue shelf.told) where
+    -- the program of a run that the words name
+    same_program : (other : Run) → IsRun other → words ≡ words_of other → other.program ≡ run.program
+    same_program other is_other are_other = one_program other run is_other is_run (sym are_other ∙ are)
+
+    missing_by : shelf.file run.program ≡ None → (name : List ℕ) (refusal : Refusal) → Cause words shelf faults name refusal → IsFile (Some refusal) ⊎ IsNoMemory (Some refusal)
+    missing_by none name (Usage word) cause = absurd (wrong_or_formed words word cause (run, (is_run, are)))
+    missing_by none name (File file) cause = inl tt
+    missing_by none name (TooLong file most) cause =
+        let here : shelf.file cause.0.program ≡ None = ap shelf.file (same_program cause.0 cause.1 cause.2) ∙ none in
+        absurd (subst (λ file. IsLonger file MAX_SOURCE_BYTES) here (cause.3.1.2 told))
+    missing_by none name (Source client rule place) cause =
+        let read : shelf.file cause.0.program ≡ Some cause.3.1.0 = cause.3.1.1.told told in
+        let program = same_program cause.0 cause.1 cause.2 in
+        absurd (cc (none, read, program))
+    missing_by none name (Client first) cause = absurd cause.3.1
+    missing_by none name Output cause = absurd cause.3.1
+    missing_by none name NoMemory cause = inr tt
+
+    pub missing_is_told : shelf.file run.program ≡ None → Did words shelf faults old new report → IsFile report.refusal ⊎ IsNoMemory report.refusal
+    missing_is_told none (Refused name refusal cause is) = subst (λ r. IsFile r ⊎ IsNoMemory r) (sym is.refusal) (missing_by none name refusal cause)
+    missing_is_told none (Ran named is_named are_named text has tree form built ran) =
+        let read = has.told told in
+        let program = same_program named is_named are_named in
+        absurd (cc (none, read, program))
+
+    module _ (sound : IsTrue shelf.sound) (text : List ℕ) (there : shelf.file run.program ≡ Some text) where
+      -- what was read is what is there
+      same_text : (other : Run) → IsRun other → words ≡ words_of other → (read : List ℕ) → HasText shelf other.program read → text ≡ read
+      same_text other is_other are_other read has =
+          let found = has.told told in
+          let program = same_program other is_other are_other in
+          cc (there, found, program)
+
+      no_file : (other : Run) → IsRun other → words ≡ words_of other → shelf.file other.program ≡ None → ⊥
+      no_file other is_other are_other none = let program = same_program other is_other are_other in cc (there, none, program)
+
+      long_by : MAX_SOURCE_BYTES < length text → (name : List ℕ) (refusal : Refusal) → Cause words shelf faults name refusal → IsTooLong (Some refusal) ⊎ IsNoMemory (Some refusal)
+      long_by long name (Usage word) cause = absurd (wrong_or_formed words word cause (run, (is_run, are)))
+      long_by long name (File file) cause = absurd (no_file cause.0 cause.1 cause.2 (cause.3.1.2 sound))
+      long_by long name (TooLong file most) cause = inl tt
+      long_by long name (Source client rule place) cause =
+          let same = ap length (same_text cause.0 cause.1 cause.2 cause.3.1.0 cause.3.1.1) in
+          let short = cause.3.1.1.short in
+          absurd (omega (arith, long, same, short))
+      long_by long name (Client first) cause = absurd cause.3.1
+      long_by long name Output cause = absurd cause.3.1
+      long_by long name NoMemory cause = inr tt
+
+      pub long_is_told : MAX_SOURCE_BYTES < length text → Did words shelf faults old new report → IsTooLong report.refusal ⊎ IsNoMemory report.refusal
+      long_is_told long (Refused name refusal cause is) = subst (λ r. IsTooLong r ⊎ IsNoMemory r) (sym is.refusal) (long_by long name refusal cause)
+      long_is_told long (Ran named is_named are_named read has tree form built ran) =
+          let same = ap length (same_text named is_named are_named read has) in
+          let short = has.short in
+          absurd (omega (arith, long, same, short))
+
+      formless_by : length text ≤ MAX_SOURCE_BYTES → (name : List ℕ) (refusal : Refusal) → Cause words shelf faults name refusal → IsSource (Some refusal) ⊎ IsNoMemory (Some refusal)
+      formless_by short name (Usage word) cause = absurd (wrong_or_formed words word cause (run, (is_run, are)))
+      formless_by short name (File file) cause = absurd (no_file cause.0 cause.1 cause.2 (cause.3.1.2 sound))
+      formless_by short name (TooLong file most) cause =
+          let here : shelf.file cause.0.program ≡ Some text = ap shelf.file (same_program cause.0 cause.1 cause.2) ∙ there in
+          let above = subst (λ file. IsLonger file MAX_SOURCE_BYTES) here (cause.3.1.2 told) in
+          absurd (omega (arith, above, short))
+      formless_by short name (Source client rule place) cause = inl tt
+      formless_by short name (Client first) cause = absurd cause.3.1
+      formless_by short name Output cause = absurd cause.3.1
+      formless_by short name NoMemory cause = inr tt
+
+      pub formless_source_is_told : length text ≤ MAX_SOURCE_BYTES → ((tree : Tree) → IsSourceOf text tree → IsBuiltTree tree → ⊥) → Did words shelf faults old new report → IsSource report.refusal ⊎ IsNoMemory report.refusal
+      formless_source_is_told short none (Refused name refusal cause is) = subst (λ r. IsSource r ⊎ IsNoMemory r) (sym is.refusal) (formless_by short name refusal cause)
+      formless_source_is_told short none (Ran named is_named are_named read has tree form built ran) =
+          absurd (none tree (subst (λ t. IsSourceOf t tree) (sym (same_text named is_named are_named read has)) form) built)

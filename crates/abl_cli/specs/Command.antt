@@ -1,5 +1,5 @@
 -- What a command did: it was refused by the first cause that stood against it, or it ran.
-use Rattle.std.specs.Prelude.{◌≡◌, ◌<◌, ℕ, Bool, true, false, IsTrue, List, [], ◌∷◌, Option, Some, None}
+use Rattle.std.specs.Prelude.{◌≡◌, ◌<◌, ◌≤◌, ℕ, length, Bool, true, false, IsTrue, List, [], ◌∷◌, Option, Some, None}
 use Rattle.fault_count.specs.Faults.{Rose}
 use Rattle.abl_base.specs.declared.rule.Rule.TheVariants.{N1}
 use Rattle.abl_outside.specs.declared.out.Stream.TheVariants.{Output as Standard, Diagnostics}
@@ -40,9 +40,10 @@ pub record Shelf : Type 0 where
 abbrev pub NameRun : List (List ℕ) → (Run → Type 0) → Type 0
 NameRun words holds_of = (run : Run) × IsRun run × (words ≡ words_of run) × holds_of run
 
--- the files have this text under the name, where they are told
-abbrev pub HasText : Shelf → List ℕ → List ℕ → Type 0
-HasText shelf name text = IsTrue shelf.told → shelf.file name ≡ Some text
+-- the files have this text under the name, where they are told, and it is not too long
+pub record HasText (shelf : Shelf) (name : List ℕ) (text : List ℕ) : Type 0 where
+  pub told : IsTrue shelf.told → shelf.file name ≡ Some text
+  pub short : length text ≤ MAX_SOURCE_BYTES
 
 -- what may stand against this text of a source: it has not the form that is built, or memory is wanting
 abbrev pub IsOfSource : List ℕ → Refusal → Type 0
@@ -142,6 +143,26 @@ pub data Did (words : List (List ℕ)) (shelf : Shelf) (faults : ℕ) (old new :
       HasRun named.name (number_of named.steps) tree old new report → Did words shelf faults old new report
 
 -- ---- for laws
+
+-- the refusal tells that the file cannot be read, or that it is too long
+abbrev pub IsFile : Option Refusal → Type 0
+IsFile (Some (File file)) = Unit {0}
+IsFile refusal = ⊥
+
+-- likewise
+abbrev pub IsTooLong : Option Refusal → Type 0
+IsTooLong (Some (TooLong file most)) = Unit {0}
+IsTooLong refusal = ⊥
+
+-- the refusal tells that the source breaks a rule
+abbrev pub IsSource : Option Refusal → Type 0
+IsSource (Some (Source client rule place)) = Unit {0}
+IsSource refusal = ⊥
+
+-- the refusal tells that memory is wanting
+abbrev pub IsNoMemory : Option Refusal → Type 0
+IsNoMemory (Some NoMemory) = Unit {0}
+IsNoMemory refusal = ⊥
 
 -- the wrong word is told
 abbrev pub IsUsage : Option Refusal → Type 0

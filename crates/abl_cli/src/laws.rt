@@ -1,6 +1,6 @@
 //! What follows from what a command did. Each law is what its function ensures.
 
-ghost use Rattle.std.specs.Prelude.{◌≡◌, ◌≤◌, ◌⊎◌, ℕ, IsTrue, List, Some, length};
+ghost use Rattle.std.specs.Prelude.{◌≡◌, ◌<◌, ◌≤◌, ◌⊎◌, ℕ, IsTrue, List, None, Some, length};
 ghost use Rattle.fault_count.specs.Faults.{Rose};
 ghost use Rattle.abl_outside.specs.Out.{appended};
 ghost use Rattle.abl_outside.specs.declared.out.Stream.TheVariants.{Output as Standard};
@@ -14,13 +14,39 @@ ghost use Rattle.abl_cli.specs.declared.prepare.TheConstants.{MAX_SOURCE_BYTES a
 ghost use Rattle.abl_cli.specs.Words.{Run, IsRun, words_of, HaveForm, IsWrong};
 ghost use Rattle.abl_cli.specs.Report.{report_of};
 ghost use Rattle.abl_cli.specs.Writes.{Written};
-ghost use Rattle.abl_cli.specs.Command.{Shelf, Did, IsUsage};
+ghost use Rattle.abl_cli.specs.Command.{Shelf, Did, IsUsage, IsFile, IsTooLong, IsSource, IsNoMemory};
 
 /// The wrong word is told exactly where the words have no form.
 pub fn wrong_words_are_told()
     ensures wrong { (words : List (List ℕ)) (shelf : Shelf) (faults : ℕ) (old new : Written) (report : Told) (word : ℕ) → Did words shelf faults old new report → report.refusal ≡ Some (Usage word) → IsWrong words word }
     ensures told { (words : List (List ℕ)) (shelf : Shelf) (faults : ℕ) (old new : Written) (report : Told) → Did words shelf faults old new report → (HaveForm words → ⊥) → IsUsage report.refusal }
     ensures formed { (words : List (List ℕ)) (shelf : Shelf) (faults : ℕ) (old new : Written) (report : Told) → Did words shelf faults old new report → HaveForm words → IsUsage report.refusal → ⊥ }
+{}
+
+/// Over sound files that are told, and words that have the form, the file is told to be missing
+/// exactly where it is, to be too long exactly where it is longer than the most, and the source to
+/// break its rule exactly where it is there, is short enough, and stands for no tree that is built;
+/// in each case memory may be wanting instead.
+pub fn a_source_that_does_not_run_is_told()
+    ensures missing { (words : List (List ℕ)) (shelf : Shelf) (faults : ℕ) (old new : Written) (report : Told) →
+        Did words shelf faults old new report →
+        (run : Run) → IsRun run → words ≡ words_of run →
+        IsTrue shelf.told →
+        shelf.file run.program ≡ None →
+        IsFile report.refusal ⊎ IsNoMemory report.refusal }
+    ensures longer { (words : List (List ℕ)) (shelf : Shelf) (faults : ℕ) (old new : Written) (report : Told) →
+        Did words shelf faults old new report →
+        (run : Run) → IsRun run → words ≡ words_of run →
+        IsTrue shelf.told → IsTrue shelf.sound →
+        (text : List ℕ) → shelf.file run.program ≡ Some text → MOST < length text →
+        IsTooLong report.refusal ⊎ IsNoMemory report.refusal }
+    ensures formless { (words : List (List ℕ)) (shelf : Shelf) (faults : ℕ) (old new : Written) (report : Told) →
+        Did words shelf faults old new report →
+        (run : Run) → IsRun run → words ≡ words_of run →
+        IsTrue shelf.told → IsTrue shelf.sound →
+        (text : List ℕ) → shelf.file run.program ≡ Some text → length text ≤ MOST →
+        ((tree : Tree) → IsSourceOf text tree → IsBuiltTree tree → ⊥) →
+        IsSource report.refusal ⊎ IsNoMemory report.refusal }
 {}
 
 /// Where the words have the form, the files are told and sound, the source is there, short enough
