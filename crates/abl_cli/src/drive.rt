@@ -45,7 +45,8 @@ pub fn drive(client: &mut Client, trace: &mut Vec<Event>) -> ClientEnd
 }
 
 /// Whether there is room for the event of the operation and for that of End behind it. As much is
-/// asked for as an undo of all open levels wants besides, and a run goes on without that.
+/// asked for besides as an undo of all levels wants, with one that the operation may open; a run
+/// goes on without that.
 fn has_room(op: &Op, levels: &Levels, trace: &mut Vec<Event>) -> bool
     ensures items { trace.new.items ≡ trace.old.items }
     ensures len { vec_len trace.new ≡ vec_len trace.old }
@@ -53,7 +54,7 @@ fn has_room(op: &Op, levels: &Levels, trace: &mut Vec<Event>) -> bool
     ensures end { op.now ≡ Op.End → IsTrue result }
     ensures room { IsTrue result → op.now ≢ Op.End → vec_len trace.new + 2 ≤ vec_capacity trace.new }
 {
-    is_end(op) || trace.reserve(levels.owed() + 1).is_ok() || trace.capacity() - trace.len() >= 2
+    is_end(op) || trace.reserve(levels.owed() + 3).is_ok() || trace.capacity() - trace.len() >= 2
 }
 
 /// Whether the operation is End.
