@@ -31,10 +31,16 @@ abl --help     this text
 abl --version  the version
 ";
 
+/// What is told where there is no memory for the words.
+const NO_MEMORY: &str = "abl: no memory\n";
+
 const VERSION: &str = "abl 0.1.0\n";
 
 fn main(rt: HostRuntime) -> io::Result<ExitCode> {
-    let words = words(&rt)?;
+    let Ok(words) = words(&rt) else {
+        rt.stderr().write_all(NO_MEMORY.as_bytes())?;
+        return Ok(ExitCode::from(7));
+    };
     match words.as_slice() {
         [word] if word.as_slice() == b"--help".as_slice() => {
             rt.write_all(HELP.as_bytes())?;
