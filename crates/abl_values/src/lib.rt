@@ -1,7 +1,8 @@
 //! What is computed of values: their order in an index, arithmetic, how they fit a kind, dates, and
 //! the texts and masks of one value; the bytes of rows and keys; and schemas, with their readers
 //! and their canonical text. It stands on `abl_base`. Each call computes the definition of its name
-//! in `specs/`; `laws` has what holds of the order, of row bytes and of key bytes.
+//! in `specs/`; `laws` has what holds of the order, of row bytes and key bytes, of arithmetic beside
+//! the integers, and of dates.
 #![tactic(auto)]
 
 pub mod arithmetic;

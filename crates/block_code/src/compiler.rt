@@ -21,12 +21,22 @@ pub enum CompileFault {
 }
 
 impl From<AllocError> for CompileFault {
+    ghost use Rattle.std.specs.Prelude.{◌≡◌};
+    ghost use Rattle.block_code.specs.declared.compiler.CompileFault.TheVariants.{NoMemory};
+
+    ghost from_gives = { λ _ fault. fault ≡ NoMemory };
+
     fn from(_: AllocError) -> CompileFault {
         CompileFault::NoMemory
     }
 }
 
 impl<T: Drop> From<AllocFailed<T>> for CompileFault {
+    ghost use Rattle.std.specs.Prelude.{◌≡◌};
+    ghost use Rattle.block_code.specs.declared.compiler.CompileFault.TheVariants.{NoMemory};
+
+    ghost from_gives = { λ _ fault. fault ≡ NoMemory };
+
     fn from(_: AllocFailed<T>) -> CompileFault {
         CompileFault::NoMemory
     }

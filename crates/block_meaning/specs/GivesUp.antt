@@ -1,9 +1,7 @@
 -- What is written goes on, and where a client may give up for want of memory.
 use Rattle.std.specs.Prelude.{◌≡◌, ℕ, zero, suc, Bool, true, false, List, [], ◌∷◌, ◌++◌}
-use Rattle.database_meaning.specs.declared.operation.Op.TheVariants as op
 use Rattle.database_meaning.specs.declared.operation.Answer.{Answer}
 use Rattle.database_meaning.specs.declared.operation.Answer.TheVariants as answer
-use Rattle.block_meaning.specs.declared.ends.ClientEnd.TheVariants as client
 use Rattle.block_meaning.specs.declared.wants.Piece.{Piece}
 use Rattle.block_meaning.specs.declared.wants.Wants.{Wants}
 use Rattle.block_meaning.specs.declared.wants.Wants.TheVariants.{Ask, Ended}
@@ -49,10 +47,3 @@ pub record GaveUp (m : List Answer → Doing) (ans : List Answer) (written : Lis
   pub asked : IsAsked (m ans).wants
   pub from : Begins (written_at m ans) written
   pub to : Begins written (m ans).written
-
--- what a client may have written and want after these answers, where its run means m: what the meaning says; or it
--- gave up, asks End, and ends once End is answered
-pub data MayDo : (List Answer → Doing) → List Answer → Doing → Type 0 where
-  DoesAsMeant : (m : List Answer → Doing) (ans : List Answer) → MayDo m ans (m ans)
-  AsksEnd : (m : List Answer → Doing) (ans : List Answer) (written : List Piece) → GaveUp m ans written → MayDo m ans (record { written = written; wants = Ask op.End })
-  HasEnded : (m : List Answer → Doing) (ans : List Answer) (a : Answer) (written : List Piece) → GaveUp m ans written → MayDo m (ans ++ a ∷ []) (record { written = written; wants = Ended client.NoMemory })

@@ -11,7 +11,6 @@ ghost use Rattle.block_meaning.specs.declared.wants.Wants.{Wants};
 ghost use Rattle.block_meaning.specs.Program.{Program};
 ghost use Rattle.block_meaning.specs.State.{Doing};
 ghost use Rattle.block_meaning.specs.Meaning.{run as run_of};
-ghost use Rattle.block_meaning.specs.GivesUp.{MayDo};
 ghost use Rattle.block_vm.specs.declared.mode.Mode.{Mode};
 ghost use Rattle.block_vm.specs.declared.mode.Ending.{Ending};
 ghost use Rattle.block_vm.specs.declared.client.Heard.{Heard};

@@ -3,4 +3,3 @@ pub mod Expressions
 pub mod Rows
 pub mod Records
 pub mod Procedures
-pub mod GivesUp
