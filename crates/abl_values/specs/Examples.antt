@@ -12,7 +12,8 @@ use Rattle.abl_values.specs.Fit.{fitted}
 use Rattle.abl_values.specs.Rows.{bytes_of_row, row_in, fragments_of, number_bytes, number_at_head}
 use Rattle.abl_values.specs.Keys.{key_bytes}
 use Rattle.abl_values.specs.Texts.{plain_text, export_text}
-use Rattle.abl_values.specs.Masks.{mask_is_for}
+use Rattle.abl_values.specs.Masks.{is_digit, mask_is_for}
+use Rattle.abl_values.specs.Digits.{from_first_not, number_of}
 use Rattle.abl_values.specs.Schema.{SchemaData, canonical_text, lines_in_order, field_named}
 
 -- ---- order: letters in any case, trailing blanks, numbers of different kinds, no and yes, `?` above all
@@ -166,3 +167,11 @@ its_canonical_text = refl
 its_second_field : field_named items 0 (codes "SIZES") ≡ Some 1
 unfolding field_named
 its_second_field = refl
+
+-- a leading zero counts for nothing
+digits_spell : number_of (codes "0150") ≡ 150
+digits_spell = refl
+
+-- from the first byte that is no digit
+no_digit_in_front : from_first_not is_digit (codes "12x3") ≡ codes "x3"
+no_digit_in_front = refl

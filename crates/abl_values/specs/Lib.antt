@@ -7,6 +7,7 @@ pub mod Reads
 pub mod Keys
 pub mod Texts
 pub mod Masks
+pub mod Digits
 pub mod Names
 pub mod Schema
 pub mod Examples
