@@ -1,7 +1,10 @@
+pub mod Chain
+pub mod Left
 pub mod Standing
 pub mod Nodes
 pub mod Index
 pub mod Keyed
+pub mod Touched
 pub mod Search
 pub mod Span
 pub mod Seeking

@@ -22,3 +22,8 @@ pub record IsNodeEnded (client : ℕ) (old new : Node) (left : Bool) : Type 0 wh
   pub keeper : new.keeper ≡ without_keeper client old.keeper
   pub no_row : left ≡ false → (row : ℕ) → map.get new.rows row ≡ None
   pub no_keeper : left ≡ false → new.keeper ≡ None
+
+-- no client keeps the key, and none left a row under it
+pub record IsUntouched (node : Node) : Type 0 where
+  pub keeper : node.keeper ≡ None
+  pub rows : (row client : ℕ) → ¬ (map.get node.rows row ≡ Some (Some client))

@@ -1,20 +1,17 @@
 //! The index.
 
-ghost use Rattle.std.specs.Prelude.{◌≡◌, ◌≢◌, ◌↔◌, ℕ, Bool, true, false, List, IsTrue, IsSome, IsOk, OnOk, OnErr, IfOk, MatchOption, Option, Some, None};
+ghost use Rattle.std.specs.Prelude.{◌≡◌, ◌↔◌, true, false, IsTrue, IsSome, IsOk, OnOk, OnErr, IfOk, MatchOption, Some, None};
 ghost use Rattle.std.specs.FinMap as map;
-ghost use Rattle.std.specs.BTreeMap as tree;
-ghost use Rattle.std.specs.List.{list_any};
-ghost use Rattle.std.specs.Ordering.{nat_cmp};
-ghost use Rattle.std.specs.Cmp.Lexicographic.{slice_cmp};
-ghost use Rattle.key_index.specs.Standing.{is_client};
 ghost use Rattle.std.specs.Option.{option_copied};
 ghost use Rattle.key_index.specs.Index.{IsEnded, IsEntry, IsSame, KeepsSome, MayEnter, NoOtherKeeps, Puts, keeper_of, standing};
 ghost use Rattle.key_index.specs.Search.{FindsNone, FindsNoneAmong, IsKeyBeyond, IsNext, IsNextAmong};
 
+use crate::chain::Chain;
 use crate::prefix::begins_with;
 use crate::rows::{Rows, is_client};
 use crate::seek::{first_entry, last_entry};
 use crate::span::{ends_ahead, ends_behind};
+use crate::touched::{Keyed, Nodes, end_keys, keeps_one, list};
 use abl_base::{Bytes, Cursor, RowId};
 use std::alloc::{AllocError, Global};
 use std::collections::BTreeMap;
@@ -28,27 +25,31 @@ pub struct Node {
 }
 
 impl Node {
-    ghost use Rattle.key_index.specs.Nodes.{no_node, node_entered, node_left, IsNodeEnded};
+    ghost use Rattle.key_index.specs.Nodes.{no_node, node_entered, node_left, IsNodeEnded, IsUntouched};
 
-    /// A node with one entry.
-    fn entered(alloc: Global, client: u16, row: u32, unique: bool) -> Result<Node, AllocError>
-        ensures { IfOk result (λ node. node ≡ node_entered no_node client row unique) }
+    /// No row, and no keeper.
+    pub(crate) fn new(alloc: Global) -> Node
+        ensures { result ≡ no_node }
     {
-        let mut node = Node {
+        Node {
             rows: Rows::new(alloc),
             keeper: None,
-        };
-        node.enter(client, row, unique)?;
-        Ok(node)
+        }
     }
 
     /// Lets a row stand as an entry, and the client keep the key where it is a unique one.
-    fn enter(&mut self, client: u16, row: u32, unique: bool) -> Result<(), AllocError>
+    pub(crate) fn enter(
+        &mut self,
+        alloc: Global,
+        client: u16,
+        row: u32,
+        unique: bool,
+    ) -> Result<(), AllocError>
         ensures ok { OnOk result (self.new ≡ node_entered self.old client row unique) }
         ensures err { OnErr result (self.new ≡ self.old) }
         ensures known { IsSome (map.get self.old.rows row) → IsOk result }
     {
-        self.rows.put(row, None)?;
+        self.rows.enter(alloc, row)?;
         if unique {
             self.keeper = Some(client);
         }
@@ -56,12 +57,12 @@ impl Node {
     }
 
     /// Lets a row that stands here stand as a placeholder of the client, which keeps the key where
-    /// it is a unique one.
-    fn leave(&mut self, client: u16, row: u32, unique: bool)
+    /// it is a unique one. It takes no memory.
+    pub(crate) fn leave(&mut self, client: u16, row: u32, unique: bool)
         requires { IsSome (map.get self.old.rows row) }
         ensures { self.new ≡ node_left self.old client row unique }
     {
-        let _ = self.rows.put(row, Some(client));
+        self.rows.leave(row, client);
         if unique {
             self.keeper = Some(client);
         }
@@ -69,7 +70,7 @@ impl Node {
 
     /// Takes the placeholders of a client away, and frees the key where the client keeps it. Tells
     /// whether anything is left.
-    fn end(&mut self, client: u16) -> bool
+    pub(crate) fn end(&mut self, client: u16) -> bool
         ensures { IsNodeEnded client self.old self.new result }
     {
         self.rows.end(client);
@@ -78,12 +79,20 @@ impl Node {
         }
         self.keeper.is_some() || !self.rows.is_empty()
     }
+
+    /// Whether a client keeps the key, or may have left a row under it.
+    pub(crate) fn is_touched(&self) -> bool
+        ensures { result ≡ false → IsUntouched self.now }
+    {
+        self.keeper.is_some() || self.rows.has_left()
+    }
 }
 
 /// The entries, placeholders and kept keys of an index.
 #[derive(Drop)]
 pub struct Index {
-    nodes: BTreeMap<Vec<u8>, Node>,
+    nodes: Nodes,
+    touched: Chain<Vec<u8>>,
 }
 
 impl Model for Index {
@@ -94,12 +103,15 @@ impl Model for Index {
     ghost use Rattle.key_index.specs.declared.index.Node.{Node};
     ghost use Rattle.key_index.specs.contracts.index.Node as node;
     ghost use Rattle.key_index.specs.Keyed.{by_bytes};
+    ghost use Rattle.key_index.specs.Touched.{AreKeysListed, nodes_of};
 
     ghost Value = { map.FinMap (slice_cmp nat_cmp) Node };
 
     ghost coded = { map.code (coded_list coded_ℕ) node.the_row.coded };
 
-    ghost view = { λ index. map.from_entries (by_bytes index.nodes.entries) };
+    ghost view = { λ index. map.from_entries (by_bytes (nodes_of index.nodes.entries)) };
+
+    ghost invariant = { λ index. AreKeysListed index.nodes index.touched };
 }
 
 impl Index {
@@ -109,6 +121,7 @@ impl Index {
     {
         Index {
             nodes: BTreeMap::new(alloc),
+            touched: Chain::new(),
         }
     }
 
@@ -139,14 +152,14 @@ impl Index {
     fn beside(&self, cursor: &Cursor, prefix: &Bytes, forward: bool) -> Option<u32>
         ensures { MatchOption result (FindsNoneAmong (λ key. key ≡ cursor.now.key) self.now (Some cursor.now) prefix.now forward) (λ row. IsNextAmong (λ key. key ≡ cursor.now.key) self.now (Some cursor.now) prefix.now forward cursor.now.key row) }
     {
-        let node = self.nodes.get(cursor.key.as_slice())?;
+        let keyed = self.nodes.get(cursor.key.as_slice())?;
         if !begins_with(cursor.key.as_slice(), prefix.as_slice()) {
             return None;
         }
         if forward {
-            node.rows.least(Some(cursor.row.0))
+            keyed.node.rows.least(Some(cursor.row.0))
         } else {
-            node.rows.greatest(Some(cursor.row.0))
+            keyed.node.rows.greatest(Some(cursor.row.0))
         }
     }
 
@@ -234,21 +247,21 @@ impl Index {
     fn place(&self, key: &Bytes, row: RowId) -> Option<Option<u16>>
         ensures { result ≡ standing self.now key.now row.0 }
     {
-        self.nodes.get(key.as_slice())?.rows.get(row.0)
+        self.nodes.get(key.as_slice())?.node.rows.get(row.0)
     }
 
-    /// Whether the client keeps a key. It takes no memory.
+    /// Whether the client keeps a key. It takes no memory, and goes over the same keys as `end`.
     pub fn keeps(&self, client: u16) -> bool
         ensures { IsTrue result ↔ KeepsSome self.now client }
     {
-        keeps_one(&self.nodes, client)
+        keeps_one(&self.nodes, &self.touched, client)
     }
 
     /// The client that keeps the key. It takes no memory.
     pub fn keeper(&self, key: &Bytes) -> Option<u16>
         ensures { result ≡ keeper_of self.now key.now }
     {
-        self.nodes.get(key.as_slice())?.keeper
+        self.nodes.get(key.as_slice())?.node.keeper
     }
 
     /// Adds an entry. `unique` says that the key is a unique key, which the client then keeps. Want
@@ -266,13 +279,17 @@ impl Index {
         ensures err { OnErr result (IsSame self.old self.new) }
         ensures taken_back { standing self.old key.now row.0 ≡ Some (Some client) → IsOk result }
     {
-        if let Some(node) = self.nodes.get_mut(key.as_slice()) {
-            return node.enter(client, row.0, unique);
-        }
         let alloc = key.allocator();
+        if let Some(keyed) = self.nodes.get_mut(key.as_slice()) {
+            let used = keyed.enter(alloc, client, row.0, unique)?;
+            list(&mut self.touched, used);
+            return Ok(());
+        }
         let bytes = Vec::from_slice(alloc, key.as_slice())?;
-        let node = Node::entered(alloc, client, row.0, unique)?;
-        self.nodes.insert(bytes, node)?;
+        let mut keyed = Keyed::new(alloc, key.as_slice())?;
+        let used = keyed.enter(alloc, client, row.0, unique)?;
+        self.nodes.insert(bytes, keyed)?;
+        list(&mut self.touched, used);
         Ok(())
     }
 
@@ -283,24 +300,18 @@ impl Index {
         requires unkept { IsTrue unique → NoOtherKeeps self.old client key.now }
         ensures { Puts self.old client key.now row.0 unique (Some client) self.new }
     {
-        let Some(node) = self.nodes.get_mut(key.as_slice()) else {
+        let Some(keyed) = self.nodes.get_mut(key.as_slice()) else {
             return;
         };
-        node.leave(client, row.0, unique);
+        let used = keyed.leave(client, row.0, unique);
+        list(&mut self.touched, used);
     }
 
-    /// Removes the client's placeholders and frees the keys that it keeps. It takes no memory.
+    /// Removes the client's placeholders and frees the keys that it keeps. It takes no memory, and
+    /// goes over those keys alone that a client keeps or under which one has left a row.
     pub fn end(&mut self, client: u16)
         ensures { IsEnded client self.old self.new }
     {
-        self.nodes.retain(|_, node| node.end(client));
+        end_keys(&mut self.nodes, &mut self.touched, client);
     }
-}
-
-/// Whether the client keeps the key of one of the nodes.
-fn keeps_one(nodes: &BTreeMap<Vec<u8>, Node>, client: u16) -> bool
-    ensures any { result ≡ list_any (λ node. is_client client node.keeper) (tree.values nodes.now) }
-    ensures ordered { tree.IsOrdered (λ x y. slice_cmp nat_cmp x.items y.items) nodes.now }
-{
-    nodes.values().any(|node| is_client(node.keeper, client))
 }

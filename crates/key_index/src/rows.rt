@@ -1,20 +1,23 @@
 //! The rows under one key.
 
-ghost use Rattle.std.specs.Prelude.{◌≡◌, ◌↔◌, ◌≤◌, ℕ, IsTrue, IsSome, IsOk, OnOk, OnErr, IfSome, IfNone, None, Some};
-ghost use Rattle.std.specs.Ordering.{nat_cmp};
-ghost use Rattle.std.specs.BTreeMap as tree;
+ghost use Rattle.std.specs.Prelude.{◌≡◌, ◌↔◌, ◌≤◌, ℕ, IsTrue, IsSome, IsOk, OnOk, OnErr, IfSome, IfNone, None, Some, false};
 ghost use Rattle.std.specs.FinMap as map;
+ghost use Rattle.key_index.specs.Left.{owner_at};
 ghost use Rattle.key_index.specs.Standing.{HasEntry, IsAbove, IsBelow, is_client, without_left};
 
+use crate::chain::{Chain, Room};
+use crate::left::{Seat, Seats, end_rows};
 use std::alloc::{AllocError, Global};
 use std::collections::BTreeMap;
 use std::marker::Model;
 use std::ops::Bound;
 
-/// The rows under one key, each with None for an entry or the client that left it.
+/// The rows under one key, each with None for an entry or the client that left it, and a list that
+/// has each row that was left.
 #[derive(Drop)]
 pub struct Rows {
-    rows: BTreeMap<u32, Option<u16>>,
+    seats: Seats,
+    left: Chain<u32>,
 }
 
 impl Model for Rows {
@@ -22,12 +25,15 @@ impl Model for Rows {
     ghost use Rattle.std.specs.Ordering.{nat_cmp};
     ghost use Rattle.std.specs.Coded.{coded_ℕ, coded_option};
     ghost use Rattle.std.specs.FinMap as map;
+    ghost use Rattle.key_index.specs.Left.{AreListed, owners_of};
 
     ghost Value = { map.FinMap nat_cmp (Option ℕ) };
 
     ghost coded = { map.code coded_ℕ (coded_option coded_ℕ) };
 
-    ghost view = { λ rows. map.from_entries rows.rows.entries };
+    ghost view = { λ rows. map.from_entries (owners_of rows.seats.entries) };
+
+    ghost invariant = { λ rows. AreListed rows.seats rows.left };
 }
 
 impl Rows {
@@ -36,40 +42,71 @@ impl Rows {
         ensures { result ≡ map.empty }
     {
         Rows {
-            rows: BTreeMap::new(alloc),
+            seats: BTreeMap::new(alloc),
+            left: Chain::new(),
         }
     }
 
-    /// Lets a row stand as an entry, or as a placeholder of a client. Want of memory is the only
-    /// refusal, and does not come where the row stands already: nothing is then changed.
-    pub fn put(&mut self, row: u32, owner: Option<u16>) -> Result<(), AllocError>
-        ensures ok { OnOk result (self.new ≡ map.insert self.old row owner) }
+    /// Lets a row stand as an entry. Want of memory is the only refusal, and does not come where
+    /// the row stands already: nothing is then changed.
+    pub fn enter(&mut self, alloc: Global, row: u32) -> Result<(), AllocError>
+        ensures ok { OnOk result (self.new ≡ map.insert self.old row None) }
         ensures err { OnErr result (self.new ≡ self.old) }
         ensures known { IsSome (map.get self.old row) → IsOk result }
     {
-        self.rows.insert(row, owner)?;
+        if let Some(seat) = self.seats.get_mut(&row) {
+            seat.owner = None;
+            return Ok(());
+        }
+        let seat = Seat {
+            owner: None,
+            spare: Some(Room::new(alloc)?),
+        };
+        self.seats.insert(row, seat)?;
         Ok(())
     }
 
-    /// Takes the placeholders of a client away.
+    /// Lets a row that stands here stand as a placeholder of the client. It takes no memory.
+    pub fn leave(&mut self, row: u32, client: u16)
+        requires { IsSome (map.get self.old row) }
+        ensures { self.new ≡ map.insert self.old row (Some client) }
+    {
+        let Some(seat) = self.seats.get_mut(&row) else {
+            return;
+        };
+        let Some(room) = seat.leave(client) else {
+            return;
+        };
+        self.left.add(row, room);
+    }
+
+    /// Takes the placeholders of a client away. It takes no memory.
     pub fn end(&mut self, client: u16)
         ensures { (row : ℕ) → map.get self.new row ≡ without_left client (map.get self.old row) }
     {
-        self.rows.retain(|_, owner| !is_client(*owner, client));
+        end_rows(&mut self.seats, &mut self.left, client);
     }
 
     /// What stands at the row: None for an entry, or the client that left it.
     pub fn get(&self, row: u32) -> Option<Option<u16>>
         ensures { result ≡ map.get self.now row }
     {
-        self.rows.get(&row).copied()
+        let seat = self.seats.get(&row)?;
+        Some(seat.owner)
     }
 
     /// Whether no row stands here.
     pub fn is_empty(&self) -> bool
         ensures { IsTrue result → (row : ℕ) → map.get self.now row ≡ None }
     {
-        self.rows.is_empty()
+        self.seats.is_empty()
+    }
+
+    /// Whether the list has a row: where it has none, no placeholder stands here.
+    pub fn has_left(&self) -> bool
+        ensures { result ≡ false → (row : ℕ) (client : ℕ) → ¬ (map.get self.now row ≡ Some (Some client)) }
+    {
+        !self.left.is_empty()
     }
 
     /// The least row with an entry, above the given one where one is given.
@@ -79,7 +116,7 @@ impl Rows {
         ensures first { IfSome result (λ row. (q : ℕ) → IsAbove above q → HasEntry self.now q → row ≤ q) }
         ensures none { IfNone result ((q : ℕ) → IsAbove above q → ¬ HasEntry self.now q) }
     {
-        least_entry(&self.rows, above)
+        least_entry(&self.seats, above)
     }
 
     /// The greatest row with an entry, below the given one where one is given.
@@ -89,64 +126,62 @@ impl Rows {
         ensures last { IfSome result (λ row. (q : ℕ) → IsBelow below q → HasEntry self.now q → q ≤ row) }
         ensures none { IfNone result ((q : ℕ) → IsBelow below q → ¬ HasEntry self.now q) }
     {
-        greatest_entry(&self.rows, below)
+        greatest_entry(&self.seats, below)
     }
 }
 
-type Owners = BTreeMap<u32, Option<u16>>;
-
 /// The first row above the given one, and what stands there.
-fn next_row(rows: &Owners, above: Option<u32>) -> Option<(u32, Option<u16>)>
-    ensures found { IfSome result (λ next. tree.get nat_cmp rows.now next.0 ≡ Some next.1) }
+fn next_row(seats: &Seats, above: Option<u32>) -> Option<(u32, Option<u16>)>
+    ensures found { IfSome result (λ next. owner_at seats.now next.0 ≡ Some next.1) }
     ensures beyond { IfSome result (λ next. IsAbove above next.0) }
-    ensures first { IfSome result (λ next. (q : ℕ) → IsAbove above q → IsSome (tree.get nat_cmp rows.now q) → next.0 ≤ q) }
-    ensures none { IfNone result ((q : ℕ) → IsAbove above q → tree.get nat_cmp rows.now q ≡ None) }
+    ensures first { IfSome result (λ next. (q : ℕ) → IsAbove above q → IsSome (owner_at seats.now q) → next.0 ≤ q) }
+    ensures none { IfNone result ((q : ℕ) → IsAbove above q → owner_at seats.now q ≡ None) }
 {
     match above {
         Some(from) => {
-            let (row, owner) = rows
+            let (row, seat) = seats
                 .range((Bound::Excluded(from), Bound::Unbounded))
                 .next()?;
-            Some((*row, *owner))
+            Some((*row, seat.owner))
         }
         None => {
-            let (row, owner) = rows.range(..).next()?;
-            Some((*row, *owner))
+            let (row, seat) = seats.range(..).next()?;
+            Some((*row, seat.owner))
         }
     }
 }
 
 /// The last row below the given one, and what stands there.
-fn previous_row(rows: &Owners, below: Option<u32>) -> Option<(u32, Option<u16>)>
-    ensures found { IfSome result (λ next. tree.get nat_cmp rows.now next.0 ≡ Some next.1) }
+fn previous_row(seats: &Seats, below: Option<u32>) -> Option<(u32, Option<u16>)>
+    ensures found { IfSome result (λ next. owner_at seats.now next.0 ≡ Some next.1) }
     ensures beyond { IfSome result (λ next. IsBelow below next.0) }
-    ensures last { IfSome result (λ next. (q : ℕ) → IsBelow below q → IsSome (tree.get nat_cmp rows.now q) → q ≤ next.0) }
-    ensures none { IfNone result ((q : ℕ) → IsBelow below q → tree.get nat_cmp rows.now q ≡ None) }
+    ensures last { IfSome result (λ next. (q : ℕ) → IsBelow below q → IsSome (owner_at seats.now q) → q ≤ next.0) }
+    ensures none { IfNone result ((q : ℕ) → IsBelow below q → owner_at seats.now q ≡ None) }
 {
     match below {
         Some(from) => {
-            let (row, owner) = rows
+            let (row, seat) = seats
                 .range((Bound::Unbounded, Bound::Excluded(from)))
                 .next_back()?;
-            Some((*row, *owner))
+            Some((*row, seat.owner))
         }
         None => {
-            let (row, owner) = rows.range(..).next_back()?;
-            Some((*row, *owner))
+            let (row, seat) = seats.range(..).next_back()?;
+            Some((*row, seat.owner))
         }
     }
 }
 
 /// The least row with an entry, above the given one where one is given.
-fn least_entry(rows: &Owners, above: Option<u32>) -> Option<u32>
-    ensures found { IfSome result (λ row. tree.get nat_cmp rows.now row ≡ Some None) }
+fn least_entry(seats: &Seats, above: Option<u32>) -> Option<u32>
+    ensures found { IfSome result (λ row. owner_at seats.now row ≡ Some None) }
     ensures beyond { IfSome result (λ row. IsAbove above row) }
-    ensures first { IfSome result (λ row. (q : ℕ) → IsAbove above q → tree.get nat_cmp rows.now q ≡ Some None → row ≤ q) }
-    ensures none { IfNone result ((q : ℕ) → IsAbove above q → ¬ (tree.get nat_cmp rows.now q ≡ Some None)) }
+    ensures first { IfSome result (λ row. (q : ℕ) → IsAbove above q → owner_at seats.now q ≡ Some None → row ≤ q) }
+    ensures none { IfNone result ((q : ℕ) → IsAbove above q → ¬ (owner_at seats.now q ≡ Some None)) }
 {
     let mut from = above;
     loop {
-        let Some((row, owner)) = next_row(rows, from) else {
+        let Some((row, owner)) = next_row(seats, from) else {
             return None;
         };
         if owner.is_none() {
@@ -157,15 +192,15 @@ fn least_entry(rows: &Owners, above: Option<u32>) -> Option<u32>
 }
 
 /// The greatest row with an entry, below the given one where one is given.
-fn greatest_entry(rows: &Owners, below: Option<u32>) -> Option<u32>
-    ensures found { IfSome result (λ row. tree.get nat_cmp rows.now row ≡ Some None) }
+fn greatest_entry(seats: &Seats, below: Option<u32>) -> Option<u32>
+    ensures found { IfSome result (λ row. owner_at seats.now row ≡ Some None) }
     ensures beyond { IfSome result (λ row. IsBelow below row) }
-    ensures last { IfSome result (λ row. (q : ℕ) → IsBelow below q → tree.get nat_cmp rows.now q ≡ Some None → q ≤ row) }
-    ensures none { IfNone result ((q : ℕ) → IsBelow below q → ¬ (tree.get nat_cmp rows.now q ≡ Some None)) }
+    ensures last { IfSome result (λ row. (q : ℕ) → IsBelow below q → owner_at seats.now q ≡ Some None → q ≤ row) }
+    ensures none { IfNone result ((q : ℕ) → IsBelow below q → ¬ (owner_at seats.now q ≡ Some None)) }
 {
     let mut from = below;
     loop {
-        let Some((row, owner)) = previous_row(rows, from) else {
+        let Some((row, owner)) = previous_row(seats, from) else {
             return None;
         };
         if owner.is_none() {

@@ -4,20 +4,22 @@ ghost use Rattle.std.specs.Prelude.{◌≤◌, ℕ, IfSome, IfNone, MatchOption}
 ghost use Rattle.key_index.specs.Standing.{HasEntry};
 ghost use Rattle.key_index.specs.Search.{BeginsWith};
 ghost use Rattle.key_index.specs.Seeking.{ArePassed, IsFirst, IsLast, IsPassed};
+ghost use Rattle.key_index.specs.Touched.{nodes_of};
 
 use crate::index::Node;
 use crate::prefix::begins_with;
+use crate::touched::Keyed;
 use std::collections::btree_map::Range;
 
 /// The first key of the range that begins with the prefix and has an entry, and its least row.
 pub(crate) fn first_entry<'a>(
-    mut nodes: Range<'a, Vec<u8>, Node>,
+    mut nodes: Range<'a, Vec<u8>, Keyed>,
     prefix: &[u8],
 ) -> Option<(&'a Vec<u8>, u32)>
-    ensures { MatchOption result (ArePassed prefix.now nodes.entry) (λ found. IsFirst prefix.now nodes.entry found.0.now found.1) }
+    ensures { MatchOption result (ArePassed prefix.now (nodes_of nodes.entry)) (λ found. IsFirst prefix.now (nodes_of nodes.entry) found.0.now found.1) }
 {
-    while let Some((key, node)) = nodes.next() {
-        if let Some(row) = least_with(key, node, prefix) {
+    while let Some((key, keyed)) = nodes.next() {
+        if let Some(row) = least_with(key, &keyed.node, prefix) {
             return Some((key, row));
         }
     }
@@ -26,13 +28,13 @@ pub(crate) fn first_entry<'a>(
 
 /// The last key of the range that begins with the prefix and has an entry, and its greatest row.
 pub(crate) fn last_entry<'a>(
-    mut nodes: Range<'a, Vec<u8>, Node>,
+    mut nodes: Range<'a, Vec<u8>, Keyed>,
     prefix: &[u8],
 ) -> Option<(&'a Vec<u8>, u32)>
-    ensures { MatchOption result (ArePassed prefix.now nodes.entry) (λ found. IsLast prefix.now nodes.entry found.0.now found.1) }
+    ensures { MatchOption result (ArePassed prefix.now (nodes_of nodes.entry)) (λ found. IsLast prefix.now (nodes_of nodes.entry) found.0.now found.1) }
 {
-    while let Some((key, node)) = nodes.next_back() {
-        if let Some(row) = greatest_with(key, node, prefix) {
+    while let Some((key, keyed)) = nodes.next_back() {
+        if let Some(row) = greatest_with(key, &keyed.node, prefix) {
             return Some((key, row));
         }
     }

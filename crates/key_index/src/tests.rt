@@ -20,13 +20,13 @@ fn enter(
     index.enter(client, key, RowId(row), unique)
 }
 
-/// Leaves a unique key where that may be done.
-fn leave(rt: &impl Abort, index: &mut Index, client: u16, key: &Bytes, row: u32) {
+/// Leaves where that may be done.
+fn leave(rt: &impl Abort, index: &mut Index, client: u16, key: &Bytes, row: u32, unique: bool) {
     let there = index.has_entry(key, RowId(row));
     assert!(rt; there);
     let unkept = index.may_keep(client, key);
     assert!(rt; unkept);
-    index.leave(client, key, RowId(row), true);
+    index.leave(client, key, RowId(row), unique);
 }
 
 /// An index without unique keys: these entries by the client 0.
@@ -129,7 +129,7 @@ fn placeholders_are_passed_over_and_taken_back(rt: HostRuntime) -> Result<(), Fa
     assert_eq!(rt; index.keeper(&key), Some(0));
     index.end(0);
     assert_eq!(rt; index.keeper(&key), None);
-    leave(&rt, &mut index, 1, &key, 4);
+    leave(&rt, &mut index, 1, &key, 4, true);
     assert_eq!(rt; index.keeper(&key), Some(1));
     assert!(rt; index.keeps(1));
     assert!(rt; !index.keeps(0));
@@ -137,7 +137,7 @@ fn placeholders_are_passed_over_and_taken_back(rt: HostRuntime) -> Result<(), Fa
     enter(&rt, &mut index, 1, &key, 8, true)?;
     finds(&rt, alloc, &index, None, b"", true, Some((b"k", 8)))?;
     finds(&rt, alloc, &index, Some((b"k", 8)), b"", false, None)?;
-    leave(&rt, &mut index, 1, &key, 8);
+    leave(&rt, &mut index, 1, &key, 8, true);
     enter(&rt, &mut index, 1, &key, 4, true)?;
     finds(&rt, alloc, &index, None, b"k", false, Some((b"k", 4)))?;
     index.end(0);
@@ -147,5 +147,146 @@ fn placeholders_are_passed_over_and_taken_back(rt: HostRuntime) -> Result<(), Fa
     assert_eq!(rt; index.keeper(&key), None);
     finds(&rt, alloc, &index, None, b"k", true, Some((b"k", 4)))?;
     finds(&rt, alloc, &index, Some((b"k", 4)), b"k", true, None)?;
+    Ok(())
+}
+
+/// What a client does with an index, or what is to be told of it.
+enum Step<'a> {
+    Enter(u16, &'a [u8], u32, bool),
+    Leave(u16, &'a [u8], u32, bool),
+    End(u16),
+    HasEntry(&'a [u8], u32, bool),
+    MayEnter(u16, &'a [u8], u32, bool),
+    Keeps(u16, bool),
+    Keeper(&'a [u8], Option<u16>),
+}
+
+/// Does a step, or compares what is told.
+fn perform(
+    rt: &impl Abort,
+    alloc: Global,
+    index: &mut Index,
+    step: &Step<'_>,
+) -> Result<(), AllocError> {
+    match *step {
+        Step::Enter(client, key, row, unique) => {
+            enter(rt, index, client, &Bytes::of(alloc, key)?, row, unique)
+        }
+        Step::Leave(client, key, row, unique) => {
+            leave(rt, index, client, &Bytes::of(alloc, key)?, row, unique);
+            Ok(())
+        }
+        Step::End(client) => {
+            index.end(client);
+            Ok(())
+        }
+        Step::HasEntry(key, row, told) => {
+            let there = index.has_entry(&Bytes::of(alloc, key)?, RowId(row));
+            assert_eq!(rt; there, told, "row {row}");
+            Ok(())
+        }
+        Step::MayEnter(client, key, row, told) => {
+            let free = index.may_enter(client, &Bytes::of(alloc, key)?, RowId(row));
+            assert_eq!(rt; free, told, "client {client}, row {row}");
+            Ok(())
+        }
+        Step::Keeps(client, told) => {
+            assert_eq!(rt; index.keeps(client), told, "client {client}");
+            Ok(())
+        }
+        Step::Keeper(key, told) => {
+            assert_eq!(rt; index.keeper(&Bytes::of(alloc, key)?), told);
+            Ok(())
+        }
+    }
+}
+
+/// Does the steps in turn, from an index with no entry.
+fn does(rt: &impl Abort, alloc: Global, steps: &[Step<'_>]) -> Result<(), AllocError> {
+    let mut index = Index::new(alloc);
+    for step in steps {
+        perform(rt, alloc, &mut index, step)?;
+    }
+    Ok(())
+}
+
+#[test]
+fn an_end_leaves_the_rows_that_others_left(rt: HostRuntime) -> Result<(), Fail> {
+    does(
+        &rt,
+        rt.alloc(),
+        &[
+            Step::Enter(0, b"k", 1, false),
+            Step::Enter(0, b"k", 2, false),
+            Step::Enter(0, b"k", 3, false),
+            Step::Leave(1, b"k", 1, false),
+            Step::Leave(2, b"k", 2, false),
+            Step::End(1),
+            Step::MayEnter(5, b"k", 1, true),
+            Step::MayEnter(2, b"k", 2, true),
+            Step::MayEnter(1, b"k", 2, false),
+            Step::HasEntry(b"k", 3, true),
+            Step::Leave(2, b"k", 3, false),
+            Step::End(1),
+            Step::MayEnter(1, b"k", 2, false),
+            Step::End(2),
+            Step::MayEnter(1, b"k", 2, true),
+            Step::MayEnter(1, b"k", 3, true),
+        ],
+    )?;
+    Ok(())
+}
+
+#[test]
+fn a_row_is_left_again_by_another_client(rt: HostRuntime) -> Result<(), Fail> {
+    does(
+        &rt,
+        rt.alloc(),
+        &[
+            Step::Enter(0, b"k", 1, false),
+            Step::Leave(1, b"k", 1, true),
+            Step::Enter(1, b"k", 1, true),
+            Step::End(1),
+            Step::HasEntry(b"k", 1, true),
+            Step::Leave(2, b"k", 1, true),
+            Step::End(1),
+            Step::MayEnter(2, b"k", 1, true),
+            Step::MayEnter(1, b"k", 1, false),
+            Step::Keeps(2, true),
+            Step::Enter(2, b"k", 1, true),
+            Step::Leave(2, b"k", 1, true),
+            Step::End(2),
+            Step::HasEntry(b"k", 1, false),
+            Step::MayEnter(1, b"k", 1, true),
+            Step::Keeper(b"k", None),
+        ],
+    )?;
+    Ok(())
+}
+
+#[test]
+fn an_end_frees_the_keys_of_its_client_alone(rt: HostRuntime) -> Result<(), Fail> {
+    does(
+        &rt,
+        rt.alloc(),
+        &[
+            Step::Enter(0, b"a", 7, true),
+            Step::Enter(1, b"b", 7, true),
+            Step::Enter(0, b"c", 7, true),
+            Step::Keeps(0, true),
+            Step::End(0),
+            Step::Keeps(0, false),
+            Step::Keeps(1, true),
+            Step::Keeper(b"a", None),
+            Step::Keeper(b"b", Some(1)),
+            Step::Keeper(b"c", None),
+            Step::Leave(2, b"a", 7, true),
+            Step::End(1),
+            Step::Keeps(1, false),
+            Step::Keeper(b"a", Some(2)),
+            Step::End(2),
+            Step::Keeps(2, false),
+        ],
+    )?;
     Ok(())
 }

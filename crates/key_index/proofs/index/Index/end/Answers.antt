@@ -1,7 +1,5 @@
-use Rattle.std.proofs.Common.{rules}
-use Rattle.key_index.proofs.EndedNodes.{ended_nodes}
+use Rattle.key_index.proofs.NodesOf.{index_ended}
 use Rattle.key_index.proofs.index.Index.end.Goals as goal
 
 pub returns : goal.returns
-returns c =
-    ended_nodes _ c.args.client _ (λ k v b w f t. search rules) c.self.inside.nodes.entries c.args.self.now c.self.view_is c.retain.new.self.entries c.retain.ensures.filtered c.retain.ensures.was_ordered
+returns c = index_ended c.args.client c.self.inside.nodes c.end_keys.new.nodes c.args.self.now c.self.view_is c.end_keys.ensures.ended

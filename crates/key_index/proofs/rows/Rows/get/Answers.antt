@@ -1,7 +1,12 @@
 use Rattle.std.proofs.Common.{sym, ap, ◌∙◌}
-use Rattle.std.specs.FinMap as map
-use Rattle.key_index.proofs.Places.{get_at}
+use Rattle.std.specs.Option.{option_map}
+use Rattle.key_index.specs.declared.left.Seat.{Seat}
+use Rattle.key_index.proofs.Owners.{get_owner}
 use Rattle.key_index.proofs.rows.Rows.get.Goals as goal
 
+pub returns-in_err-seat : goal.returns-in_err-seat
+returns-in_err-seat c =
+    c.from_residual.ensures ∙ ap (option_map (λ (s : Seat). s.owner)) c.in_err-seat.ensures.value ∙ sym (get_owner c.self.inside.seats c.args.self.now c.self.view_is c.args.row)
+
 pub returns : goal.returns
-returns c = c.copied.ensures ∙ c.get.ensures.value ∙ sym (get_at c.self.inside.rows.entries c.args.row) ∙ ap (λ m. map.get m c.args.row) c.self.view_is
+returns c = ap (option_map (λ (s : Seat). s.owner)) c.in_ok-seat.ensures.value ∙ sym (get_owner c.self.inside.seats c.args.self.now c.self.view_is c.args.row)

@@ -1,0 +1,110 @@
+//! Lists that grow without memory: an item comes with the room that it is to stand in. The room is a
+//! cell of the list, and each item has one of its own from the moment it may be listed. So there is
+//! no capacity that could be used up, and no other way to go for want of it.
+
+ghost use Rattle.std.specs.Prelude.{◌≡◌, ◌↔◌, [], ◌∷◌, IsTrue, MatchOption};
+ghost use Rattle.key_index.specs.Chain.{items_of};
+
+use std::alloc::{AllocError, Global};
+use std::marker::Model;
+use std::mem;
+
+/// The cells of a chain.
+pub(crate) enum Links<T> {
+    End,
+    More(T, Box<Links<T>>),
+}
+
+/// A loop, so that a long chain does not run out of stack.
+impl<T: Drop> Drop for Links<T> {
+    fn drop(mut self) {
+        loop {
+            match self {
+                Links::End => return,
+                Links::More(_, rest) => self = Box::into_inner(rest),
+            }
+        }
+    }
+}
+
+impl<T: Drop> Links<T> {
+    /// The first item, and the cell of the others.
+    fn apart(self) -> Option<(T, Box<Links<T>>)>
+        ensures { MatchOption result (items_of self ≡ []) (λ first. items_of self ≡ first.0 ∷ items_of first.1.value) }
+    {
+        match self {
+            Links::End => None,
+            Links::More(item, rest) => Some((item, rest)),
+        }
+    }
+}
+
+/// Room for one more item of a chain.
+#[derive(Drop)]
+pub struct Room<T> {
+    cell: Box<Links<T>>,
+}
+
+impl<T: Drop> Room<T> {
+    /// Room for one item.
+    pub fn new(alloc: Global) -> Result<Room<T>, AllocError> {
+        Ok(Room {
+            cell: Box::new(alloc, Links::End)?,
+        })
+    }
+}
+
+/// Items, the latest first.
+#[derive(Drop)]
+pub struct Chain<T> {
+    pub(crate) links: Links<T>,
+}
+
+impl<T> Model for Chain<T> {
+    ghost use Rattle.std.specs.Prelude.{List};
+
+    ghost Value = { List T };
+
+    ghost use Rattle.key_index.specs.Chain.{items_of};
+
+    ghost view = { λ chain. items_of chain.links };
+}
+
+impl<T: Drop> Chain<T> {
+    /// No item.
+    pub fn new() -> Chain<T>
+        ensures { result ≡ [] }
+    {
+        Chain { links: Links::End }
+    }
+
+    /// Whether there is no item.
+    pub fn is_empty(&self) -> bool
+        ensures { IsTrue result ↔ (self.now ≡ []) }
+    {
+        match &self.links {
+            Links::End => true,
+            Links::More(_, _) => false,
+        }
+    }
+
+    /// Puts an item first, in this room. It takes no memory.
+    pub fn add(&mut self, item: T, room: Room<T>)
+        ensures { self.new ≡ item ∷ self.old }
+    {
+        let Room { mut cell } = room;
+        let rest = mem::replace(&mut self.links, Links::End);
+        let _ = Box::replace(&mut cell, rest);
+        self.links = Links::More(item, cell);
+    }
+
+    /// Takes the first item out, and the room that it stood in.
+    pub fn take(&mut self) -> Option<(T, Room<T>)>
+        ensures { MatchOption result (self.old ≡ []) (λ first. self.old ≡ first.0 ∷ self.new) }
+    {
+        let links = mem::replace(&mut self.links, Links::End);
+        let (item, mut cell) = links.apart()?;
+        self.links = Box::replace(&mut cell, Links::End);
+        Some((item, Room { cell }))
+    }
+}

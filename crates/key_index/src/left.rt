@@ -1,0 +1,66 @@
+//! The rows under one key with their owners, and the list of those that were left.
+
+ghost use Rattle.std.specs.Prelude.{◌≡◌, ◌≢◌, ℕ, Some};
+ghost use Rattle.key_index.specs.declared.left.Seat.{Seat as SeatOf};
+ghost use Rattle.key_index.specs.Left.{AreListed, IsListed, Lists, owner_at, seat_at};
+ghost use Rattle.key_index.specs.Standing.{without_left};
+
+use crate::chain::{Chain, Room};
+use std::collections::BTreeMap;
+use std::mem;
+
+/// What stands at a row: None for an entry, or the client that left it; and room for the row in the
+/// list of those that were left, while it is not used.
+#[derive(Drop)]
+pub struct Seat {
+    pub owner: Option<u16>,
+    pub spare: Option<Room<u32>>,
+}
+
+/// The rows with what stands at each.
+pub(crate) type Seats = BTreeMap<u32, Seat>;
+
+impl Seat {
+    /// Lets it stand as a placeholder of the client. Gives the room for its row, if it is unused.
+    pub fn leave(&mut self, client: u16) -> Option<Room<u32>>
+        ensures owner { self.new.owner ≡ Some client }
+        ensures spare { result ≡ self.old.spare }
+    {
+        self.owner = Some(client);
+        self.spare.take()
+    }
+}
+
+/// Takes the placeholders of a client away. It goes over the list alone.
+pub(crate) fn end_rows(seats: &mut Seats, left: &mut Chain<u32>, client: u16)
+    requires { AreListed seats.old left.old }
+    ensures listed { AreListed seats.new left.new }
+    ensures ended { (row : ℕ) → owner_at seats.new row ≡ without_left client (owner_at seats.old row) }
+{
+    let mut rest = mem::replace(left, Chain::new());
+    while let Some((row, room)) = rest.take() {
+        end_row(seats, left, row, room, client);
+    }
+}
+
+/// Takes a row away where it is a placeholder of the client. The list has it again where it is one
+/// of another client, and an entry gets the room for it back.
+fn end_row(seats: &mut Seats, left: &mut Chain<u32>, row: u32, room: Room<u32>, client: u16)
+    ensures others { (q : ℕ) → q ≢ row → seat_at seats.new q ≡ seat_at seats.old q }
+    ensures ended { owner_at seats.new row ≡ without_left client (owner_at seats.old row) }
+    ensures listed { (seat : SeatOf) → seat_at seats.new row ≡ Some seat → IsListed left.new row seat }
+    ensures more { (q : ℕ) → Lists left.old q → Lists left.new q }
+{
+    let Some(seat) = seats.get_mut(&row) else {
+        return;
+    };
+    let Some(owner) = seat.owner else {
+        seat.spare = Some(room);
+        return;
+    };
+    if owner == client {
+        let _ = seats.remove(&row);
+        return;
+    }
+    left.add(row, room);
+}
