@@ -1,0 +1,10 @@
+pub mod Taken
+pub mod Begun
+pub mod Sound
+pub mod Told
+pub mod Once
+pub mod OneImport
+pub mod Spelled
+pub mod NumberTexts
+pub mod DayTexts
+pub mod Exported

@@ -1,0 +1,4 @@
+pub mod Lines
+pub mod Imports
+pub mod Laws
+pub mod Examples

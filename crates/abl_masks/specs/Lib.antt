@@ -1,0 +1,4 @@
+pub mod Put
+pub mod Export
+pub mod Laws
+pub mod Examples

@@ -1,0 +1,63 @@
+//! Magnitudes rounded to the decimals of a mask, a half away from zero.
+
+ghost use Rattle.std.specs.Prelude.{◌≡◌, ◌≤◌, ◌<◌, ◌-◌, ◌++◌, ◌/◌, ◌^◌, nat_lt, replicate};
+ghost use Rattle.abl_values.specs.Arithmetic.{rounded};
+ghost use Rattle.abl_values.specs.Texts.{last_digits};
+ghost use Rattle.abl_masks.specs.Put.{units_of};
+
+/// How many decimals of a number are stored.
+const STORED_DECIMALS: usize = 10;
+
+/// A magnitude rounded to the decimals of a mask.
+#[derive(Clone, Copy)]
+pub(crate) struct Magnitude {
+    /// What stands before the point.
+    pub(crate) whole: u128,
+    /// The magnitude in units of its last digit.
+    pub(crate) units: u128,
+    /// How many of the mask's decimals it has, at most ten: the others are zeros.
+    pub(crate) digits: usize,
+}
+
+impl Magnitude {
+    /// The magnitude of a decimal, as it is stored, with so many digits behind the point, a half
+    /// away from zero.
+    pub(crate) fn of(stored: u128, decimals: usize) -> Magnitude
+        ensures whole { result.whole ≡ units_of decimals stored / 10 ^ decimals }
+        ensures behind { last_digits result.digits result.units ++ replicate (decimals - result.digits) 48
+            ≡ last_digits decimals (units_of decimals stored) }
+        ensures zero { nat_lt 0 result.units ≡ nat_lt 0 (units_of decimals stored) }
+        ensures digits { result.digits ≤ decimals }
+    {
+        let digits = decimals.min(STORED_DECIMALS);
+        let units = rounded(stored, ten_to(STORED_DECIMALS - digits));
+        Magnitude {
+            whole: units / ten_to(digits),
+            units,
+            digits,
+        }
+    }
+}
+
+/// The quotient of two natural numbers, rounded to the nearest one, a half up.
+fn rounded(n: u128, d: u128) -> u128
+    requires { 0 < d }
+    ensures { result ≡ rounded n d }
+{
+    let quotient = n / d;
+    let rest = n % d;
+    if rest < d - rest {
+        quotient
+    } else {
+        quotient + 1
+    }
+}
+
+/// 10 to the power of at most ten.
+fn ten_to(power: usize) -> u128
+    requires { power ≤ 10 }
+    ensures value { result ≡ 10 ^ power }
+    ensures positive { 0 < result }
+{
+    10u128.pow(power as u32)
+}
