@@ -1,0 +1,18 @@
+//! Schema files (`.df`): reads one into the schema that it means, or names the first rule F1 to F12
+//! that it breaks and the line. It stands on `schema_lines`, which tells the items of a file, and on
+//! `abl_values`, whose `Schema` it makes. `Rules` in specs/ says which rules a file breaks and which
+//! comes first, and `Meaning` which schema a file without violation means; the layer above may rely
+//! on both, exactly. `laws` says what the canonical text of a schema tells.
+#![tactic(auto)]
+
+mod census;
+mod conditions;
+pub mod laws;
+pub mod limits;
+mod meaning;
+mod read;
+mod sizes;
+pub mod violation;
+
+pub use abl_values::Schema;
+pub use read::{SchemaRefusal, read_df};
