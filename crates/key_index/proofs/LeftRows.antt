@@ -1,11 +1,11 @@
 -- The walk over the list of the rows that were left, where a client ends.
-use Rattle.std.proofs.Common.{◌≡◌, ◌≢◌, ◌⊎◌, inl, inr, ℕ, Bool, true, false, eqb, cond, List, [], ◌∷◌, Option, Some, None, IsSome, refl, sym, ap, subst, ◌∙◌, arith}
-use Rattle.std.specs.Option.{option_map, is_some}
+use Rattle.std.proofs.Common.{◌≡◌, ◌≢◌, ◌↔◌, ◌⊎◌, inl, inr, ℕ, Bool, true, false, eqb, cond, List, [], ◌∷◌, Option, Some, None, IsSome, refl, sym, ap, subst, ◌∙◌, arith}
+use Rattle.std.specs.Option.{option_map}
 use Rattle.std.specs.BTreeMap.{BTreeMap}
 use Rattle.std.proofs.lemmas.Grind.{common_steps}
 use Rattle.key_index.specs.declared.left.Seat.{Seat}
 use Rattle.key_index.specs.Left.{AreListed, IsListed, Lists, owner_at, seat_at}
-use Rattle.key_index.specs.Standing.{without_left}
+use Rattle.key_index.specs.Standing.{IsLeft, without_left}
 
 pub same_or_other : (a b : ℕ) → (a ≡ b) ⊎ (a ≢ b)
 same_or_other a b = grind (arith, common_steps)
@@ -52,6 +52,32 @@ others_stay client (Some (Some other)) differs = pick (eqb other client) refl
     pick true same = absurd (differs (ap (λ (c : ℕ). Some (Some c)) (is_it same)))
     pick false same = refl
 
+some_owner : (client : ℕ) (owner : Option ℕ) → Some owner ≡ Some (Some client) → IsSome owner
+some_owner client None h = cc
+some_owner client (Some other) h = refl
+
+-- a place is a placeholder where it has an owner
+pub is_left-owner : (owner : Option ℕ) (place : Option (Option ℕ)) → place ≡ Some owner → IsSome owner ↔ IsLeft place
+is_left-owner owner place is = (owned owner is, λ was_left. some_owner was_left.0 owner (sym is ∙ was_left.1))
+  where
+    owned : (o : Option ℕ) → place ≡ Some o → IsSome o → IsLeft place
+    owned None stands some = cc
+    owned (Some client) stands some = (client, stands)
+
+-- the list has each placeholder
+pub left_listed : (seats : BTreeMap ℕ Seat) (left : List ℕ) (row : ℕ) → AreListed seats left → IsLeft (owner_at seats row) → Lists left row
+left_listed seats left row listed was_left = pick (seat_at seats row) refl was_left.1
+  where
+    client : ℕ
+    client = was_left.0
+
+    nothing : None ≡ Some (Some client) → ⊥
+    nothing h = cc
+
+    pick : (o : Option Seat) → seat_at seats row ≡ o → option_map (λ (s : Seat). s.owner) o ≡ Some (Some client) → Lists left row
+    pick None is h = absurd (nothing h)
+    pick (Some seat) is h = (listed row seat is).owned (some_owner client seat.owner h)
+
 -- the rows in the rest of the list are still to be looked at
 pub record EndsRows (client : ℕ) (old now : BTreeMap ℕ Seat) (left rest : List ℕ) : Type 0 where
   pub owned : (row : ℕ) (seat : Seat) → seat_at now row ≡ Some seat → IsSome seat.owner → Lists left row ⊎ Lists rest row
@@ -63,22 +89,9 @@ pub rows_start : (client : ℕ) (seats : BTreeMap ℕ Seat) (left : List ℕ) �
 rows_start client seats left listed = record {
   owned = λ row seat is some. inr ((listed row seat is).owned some);
   used = λ row seat is none. inr ((listed row seat is).used none);
-  mine = λ row is. pick row (seat_at seats row) refl is;
+  mine = λ row is. left_listed seats left row listed (client, is);
   same = λ row. refl;
 }
-  where
-    some_owner : (seat : Seat) → Some seat.owner ≡ Some (Some client) → IsSome seat.owner
-    some_owner seat is = ap is_some (owner_is is)
-      where
-        owner_is : Some seat.owner ≡ Some (Some client) → seat.owner ≡ Some client
-        owner_is h = cc
-
-    pick : (row : ℕ) (o : Option Seat) → seat_at seats row ≡ o → owner_at seats row ≡ Some (Some client) → Lists left row
-    pick row None is mine = absurd (nothing (sym (ap (option_map (λ (s : Seat). s.owner)) is) ∙ mine))
-      where
-        nothing : None ≡ Some (Some client) → ⊥
-        nothing h = cc
-    pick row (Some seat) is mine = (listed row seat is).owned (some_owner seat (sym (ap (option_map (λ (s : Seat). s.owner)) is) ∙ mine))
 
 pub rows_step : (client : ℕ) (old now next : BTreeMap ℕ Seat) (left more rest left_over : List ℕ) (row : ℕ) → EndsRows client old now left rest → rest ≡ row ∷ left_over
     → ((q : ℕ) → q ≢ row → seat_at next q ≡ seat_at now q) → owner_at next row ≡ without_left client (owner_at now row)

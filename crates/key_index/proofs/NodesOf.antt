@@ -1,5 +1,5 @@
 -- The nodes of an index, seen without what puts their keys into the list.
-use Rattle.std.proofs.Common.{◌≡◌, ℕ, Bool, true, false, cond, List, [], ◌∷◌, ◌++◌, Option, Some, None, Vec, refl, sym, ap, subst, ◌∙◌, nat_cmp}
+use Rattle.std.proofs.Common.{◌≡◌, ℕ, Bool, true, false, cond, List, [], ◌∷◌, ◌++◌, Option, Some, None, Vec, refl, sym, ap, subst, ◌∙◌, nat_cmp, inl}
 use Rattle.std.specs.Option.{is_some, option_and_then, option_map}
 use Rattle.std.specs.Ordering.{is_eq}
 use Rattle.std.specs.Cmp.Lexicographic.{slice_cmp}
@@ -85,4 +85,4 @@ module _ {Z : Type 0} where
         where
           none_kept : None ≡ Some client → ⊥
           none_kept e = cc
-      pick (Some keyed) is h = (listed key keyed is).kept (ap is_some h)
+      pick (Some keyed) is h = (listed key keyed is).listed (inl (ap is_some h))

@@ -3,6 +3,9 @@ use Rattle.std.proofs.Common.{◌≡◌, ℕ, Bool, true, false, cond, List, [],
 use Rattle.std.specs.Option.{is_some, option_map}
 use Rattle.std.specs.BTreeMap.{BTreeMap, is_at}
 use Rattle.std.specs.FinMap as map
+use Rattle.std.specs.Ordering.{is_eq}
+use Rattle.std.specs.Cmp.{nat_cmp_total}
+use Rattle.std.proofs.lemmas.Cmp.{tied_itself}
 use Rattle.std.proofs.lemmas.Map.Lookups.{exact_unsigned}
 use Rattle.std.proofs.lemmas.Map.Views.{tells_apart}
 use Rattle.key_index.specs.declared.left.Seat.{Seat}
@@ -66,17 +69,16 @@ no_owner (Some client) is some = cc
 pub entry_listed : (left : List ℕ) (row : ℕ) (seat : Seat) → seat.owner ≡ None → (seat.spare ≡ None → Lists left row) → IsListed left row seat
 entry_listed left row seat is used = record { owned = λ some. absurd (no_owner seat.owner is some); used = used }
 
-some_client : (client : ℕ) (owner : Option ℕ) → Some owner ≡ Some (Some client) → is_some owner ≡ true
-some_client client None is = cc
-some_client client (Some other) is = refl
-
--- a list with no row has no placeholder
-pub none_left : (seats : BTreeMap ℕ Seat) (left : List ℕ) (row client : ℕ) → AreListed seats left → left ≡ [] → owner_at seats row ≡ Some (Some client) → ⊥
-none_left seats left row client listed none = pick (seat_at seats row) refl
+-- where no row stands there is no entry
+pub no_entry : (es : List (ℕ × Seat)) → ((row : ℕ) → option_map (λ (s : Seat). s.owner) (at es row) ≡ None) → es ≡ []
+no_entry [] none = refl
+no_entry (e ∷ es) none = absurd (nothing (sym (none e.0) ∙ first))
   where
-    pick : (o : Option Seat) → seat_at seats row ≡ o → option_map (λ (s : Seat). s.owner) o ≡ Some (Some client) → ⊥
-    pick None is h = cc
-    pick (Some seat) is h = subst (λ (xs : List ℕ). Lists xs row) none ((listed row seat is).owned (some_client client seat.owner h))
+    nothing : None ≡ Some e.1.owner → ⊥
+    nothing h = cc
+
+    first : option_map (λ (s : Seat). s.owner) (at (e ∷ es) e.0) ≡ Some e.1.owner
+    first = ap (λ b. option_map (λ (s : Seat). s.owner) (cond b (Some e.1) (at es e.0))) (ap is_eq (tied_itself nat_cmp_total e.0))
 
 pub some_seat : (o : Option Seat) → is_some (option_map (λ (s : Seat). s.owner) o) ≡ true → is_some o ≡ true
 some_seat None some = some

@@ -1,12 +1,12 @@
 -- The walk over the list of the keys that were touched, where a client ends.
-use Rattle.std.proofs.Common.{◌≡◌, ◌≢◌, ◌⊎◌, inl, inr, ℕ, Bool, true, false, eqb, cond, List, [], ◌∷◌, Option, Some, None, IsSome, IfSome, Vec, refl, sym, ap, subst, ◌∙◌, nat_cmp, arith}
+use Rattle.std.proofs.Common.{◌≡◌, ◌≢◌, ◌⊎◌, inl, inr, ℕ, Bool, true, false, eqb, cond, List, [], ◌∷◌, Option, Some, None, IfSome, Vec, refl, sym, ap, subst, ◌∙◌, nat_cmp, arith}
 use Rattle.std.specs.Option.{is_some}
 use Rattle.std.specs.Ordering.{is_eq}
 use Rattle.std.specs.Cmp.Lexicographic.{slice_cmp}
 use Rattle.std.specs.BTreeMap.{BTreeMap, UpdatesBy, WritesThrough}
-use Rattle.std.specs.FinMap as map
 use Rattle.std.proofs.lemmas.Grind.{common_steps}
 use Rattle.key_index.specs.declared.touched.Keyed.{Keyed}
+use Rattle.key_index.specs.Nodes.{IsNodeEnded, IsTouched}
 use Rattle.key_index.specs.Standing.{without_keeper, without_left}
 use Rattle.key_index.specs.Touched.{AreKeysListed, EndsAt, IsKeyListed, ListsKey, keeper_in, keyed_at, row_of}
 use Rattle.key_index.proofs.KeyedNodes.{node_updated, same_bytes, write_node}
@@ -75,10 +75,20 @@ module _ {Z : Type 0} where
   updated m n slice key w same updates =
       subst (λ (k : List ℕ). (keyed_at n k ≡ w) × ((other : List ℕ) → other ≢ k → keyed_at n other ≡ keyed_at m other)) same (node_updated m n slice w updates)
 
+  -- what an end of the node under a key leaves there
+  pub ends_at : (client : ℕ) (m n : BTreeMap (Vec ℕ Z) Keyed) (slice key : List ℕ) (was w : Keyed) → slice ≡ key → Some was ≡ keyed_at m slice → keyed_at n key ≡ Some w → IsNodeEnded client was.node w.node
+      → EndsAt client (keyed_at m key) (keyed_at n key)
+  ends_at client m n slice key was w same found now ended = record {
+    rows = λ row. ap (λ (o : Option Keyed). row_of o row) now ∙ ended.rows row ∙ ap (λ (o : Option Keyed). without_left client (row_of o row)) old;
+    keeper = ap keeper_in now ∙ ended.keeper ∙ ap (λ (o : Option Keyed). without_keeper client (keeper_in o)) old;
+  }
+    where
+      old : Some was ≡ keyed_at m key
+      old = found ∙ ap (λ (k : List ℕ). keyed_at m k) same
+
   -- the keys in the rest of the list are still to be looked at
   pub record EndsKeys (client : ℕ) (old now : BTreeMap (Vec ℕ Z) Keyed) (touched rest : List (Vec ℕ Z)) : Type 0 where
-    pub kept : (key : List ℕ) (keyed : Keyed) → keyed_at now key ≡ Some keyed → IsSome keyed.node.keeper → ListsKey touched key ⊎ ListsKey rest key
-    pub left : (key : List ℕ) (keyed : Keyed) → keyed_at now key ≡ Some keyed → (row other : ℕ) → map.get keyed.node.rows row ≡ Some (Some other) → ListsKey touched key ⊎ ListsKey rest key
+    pub listed : (key : List ℕ) (keyed : Keyed) → keyed_at now key ≡ Some keyed → IsTouched keyed.node → ListsKey touched key ⊎ ListsKey rest key
     pub used : (key : List ℕ) (keyed : Keyed) → keyed_at now key ≡ Some keyed → keyed.spare ≡ None → ListsKey touched key ⊎ ListsKey rest key
     pub own : (key : List ℕ) (keyed : Keyed) → keyed_at now key ≡ Some keyed → IfSome keyed.spare (λ spare. spare.key.items ≡ key)
     pub my_rows : (key : List ℕ) (row : ℕ) → row_of (keyed_at now key) row ≡ Some (Some client) → ListsKey rest key
@@ -88,8 +98,7 @@ module _ {Z : Type 0} where
 
   pub keys_start : (client : ℕ) (nodes : BTreeMap (Vec ℕ Z) Keyed) (touched : List (Vec ℕ Z)) → AreKeysListed nodes touched → EndsKeys client nodes nodes [] touched
   keys_start client nodes touched listed = record {
-    kept = λ key keyed is some. inr ((listed key keyed is).kept some);
-    left = λ key keyed is row other stands. inr ((listed key keyed is).left row other stands);
+    listed = λ key keyed is is_touched. inr ((listed key keyed is).listed is_touched);
     used = λ key keyed is none. inr ((listed key keyed is).used none);
     own = λ key keyed is. (listed key keyed is).own;
     my_rows = λ key row mine. by_row key row (keyed_at nodes key) refl mine;
@@ -106,22 +115,19 @@ module _ {Z : Type 0} where
 
       by_row : (key : List ℕ) (row : ℕ) (o : Option Keyed) → keyed_at nodes key ≡ o → row_of (keyed_at nodes key) row ≡ Some (Some client) → ListsKey touched key
       by_row key row None is mine = absurd (none_left (sym (ap (λ (o : Option Keyed). row_of o row) is) ∙ mine))
-      by_row key row (Some keyed) is mine = (listed key keyed is).left row client (sym (ap (λ (o : Option Keyed). row_of o row) is) ∙ mine)
+      by_row key row (Some keyed) is mine = (listed key keyed is).listed (inr (row, (client, sym (ap (λ (o : Option Keyed). row_of o row) is) ∙ mine)))
 
       by_keeper : (key : List ℕ) (o : Option Keyed) → keyed_at nodes key ≡ o → keeper_in (keyed_at nodes key) ≡ Some client → ListsKey touched key
       by_keeper key None is mine = absurd (none_kept (sym (ap keeper_in is) ∙ mine))
-      by_keeper key (Some keyed) is mine = (listed key keyed is).kept (ap is_some (sym (ap keeper_in is) ∙ mine))
+      by_keeper key (Some keyed) is mine = (listed key keyed is).listed (inl (ap is_some (sym (ap keeper_in is) ∙ mine)))
 
   pub keys_step : (client : ℕ) (old now next : BTreeMap (Vec ℕ Z) Keyed) (touched more rest left_over : List (Vec ℕ Z)) (key : Vec ℕ Z) → EndsKeys client old now touched rest → rest ≡ key ∷ left_over
       → ((other : List ℕ) → other ≢ key.items → keyed_at next other ≡ keyed_at now other) → EndsAt client (keyed_at now key.items) (keyed_at next key.items)
       → ((keyed : Keyed) → keyed_at next key.items ≡ Some keyed → IsKeyListed more key.items keyed) → ((other : List ℕ) → ListsKey touched other → ListsKey more other) → EndsKeys client old next more left_over
   keys_step client old now next touched more rest left_over key walk is others ended listed grows = record {
-    kept = λ q keyed there some. by_key (ListsKey more q ⊎ ListsKey left_over q) q
-        (λ same. inl (back q same ((listed keyed (to q keyed same there)).kept some)))
-        (λ differ. later q differ (walk.kept q keyed (sym (others q differ) ∙ there) some));
-    left = λ q keyed there row other stands. by_key (ListsKey more q ⊎ ListsKey left_over q) q
-        (λ same. inl (back q same ((listed keyed (to q keyed same there)).left row other stands)))
-        (λ differ. later q differ (walk.left q keyed (sym (others q differ) ∙ there) row other stands));
+    listed = λ q keyed there is_touched. by_key (ListsKey more q ⊎ ListsKey left_over q) q
+        (λ same. inl (back q same ((listed keyed (to q keyed same there)).listed is_touched)))
+        (λ differ. later q differ (walk.listed q keyed (sym (others q differ) ∙ there) is_touched));
     used = λ q keyed there none. by_key (ListsKey more q ⊎ ListsKey left_over q) q
         (λ same. inl (back q same ((listed keyed (to q keyed same there)).used none)))
         (λ differ. later q differ (walk.used q keyed (sym (others q differ) ∙ there) none));
@@ -174,8 +180,7 @@ module _ {Z : Type 0} where
 
   pub keys_listed : (client : ℕ) (old now : BTreeMap (Vec ℕ Z) Keyed) (touched rest : List (Vec ℕ Z)) → EndsKeys client old now touched rest → rest ≡ [] → AreKeysListed now touched
   keys_listed client old now touched rest walk none key keyed is = record {
-    kept = λ some. listed_now touched rest key none (walk.kept key keyed is some);
-    left = λ row other stands. listed_now touched rest key none (walk.left key keyed is row other stands);
+    listed = λ is_touched. listed_now touched rest key none (walk.listed key keyed is is_touched);
     used = λ free. listed_now touched rest key none (walk.used key keyed is free);
     own = walk.own key keyed is;
   }

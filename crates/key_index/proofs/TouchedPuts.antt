@@ -8,7 +8,7 @@ use Rattle.std.specs.FinMap as map
 use Rattle.key_index.specs.declared.index.Node.{Node}
 use Rattle.key_index.specs.declared.touched.Keyed.{Keyed}
 use Rattle.key_index.specs.declared.touched.Spare.{Spare}
-use Rattle.key_index.specs.Nodes.{no_node, node_entered}
+use Rattle.key_index.specs.Nodes.{IsTouched, no_node, node_entered}
 use Rattle.key_index.specs.Standing.{Rows}
 use Rattle.key_index.specs.Touched.{AreKeysListed, IsKeyListed, ListsKey, keyed_at}
 use Rattle.key_index.proofs.TouchedKeys.{same_key_or_other, some_keyed}
@@ -32,6 +32,11 @@ entry_left rows row q client stands = pick (eq_by_cmp nat_cmp q row) (sym (map.g
     pick true h = absurd (nothing h)
     pick false h = h
 
+-- an entry does not touch the key
+entered_touched : (was now : Node) (client row : ℕ) → now ≡ node_entered was client row false → IsTouched now → IsTouched was
+entered_touched was now client row is (inl some) = inl (subst (λ (n : Node). is_some n.keeper ≡ true) is some)
+entered_touched was now client row is (inr has) = inr (has.0, (has.1.0, entry_left was.rows row has.0 has.1.0 (sym (ap (λ (n : Node). map.get n.rows has.0) is) ∙ has.1.1)))
+
 module _ {Z : Type 0} where
   -- a key that is put, where the list grows
   pub put_keyed : (old new : BTreeMap (Vec ℕ Z) Keyed) (key : List ℕ) (w : Keyed) (touched more : List (Vec ℕ Z)) → keyed_at new key ≡ Some w → ((other : List ℕ) → other ≢ key → keyed_at new other ≡ keyed_at old other)
@@ -44,8 +49,7 @@ module _ {Z : Type 0} where
       pick (inr differ) =
           let was = listed q keyed (sym (others q differ) ∙ there) in
           record {
-            kept = λ some. grows q (was.kept some);
-            left = λ row client stands. grows q (was.left row client stands);
+            listed = λ is_touched. grows q (was.listed is_touched);
             used = λ none. grows q (was.used none);
             own = was.own;
           }
@@ -69,7 +73,7 @@ no_own key spare none = subst (λ (o : Option Spare). IfSome o (λ s. s.key.item
 pub listed_there : (touched more : List (Vec ℕ Global)) (key : List ℕ) (was w : Keyed) (used : Option Spare) → IsKeyListed touched key was → used ≡ was.spare → w.spare ≡ None → Comes used touched more → IsKeyListed more key w
 listed_there touched more key was w used listed is none comes =
     let there : ListsKey more key = come_there was.spare touched more key (subst (λ (o : Option Spare). Comes o touched more) is comes) listed.used listed.own in
-    record { kept = λ some. there; left = λ row client stands. there; used = λ free. there; own = no_own key w.spare none }
+    record { listed = λ is_touched. there; used = λ free. there; own = no_own key w.spare none }
 
 -- a key under which an entry was put
 pub entered_listed : (touched more : List (Vec ℕ Global)) (key : List ℕ) (was w : Keyed) (used : Option Spare) (client row : ℕ) (unique : Bool) → IsKeyListed touched key was
@@ -79,8 +83,7 @@ entered_listed touched more key was w used client row false listed node spare is
     let same : more ≡ touched = subst (λ (o : Option Spare). Comes o touched more) is comes in
     let now = λ (h : ListsKey touched key). subst (λ (vs : List (Vec ℕ Global)). ListsKey vs key) (sym same) h in
     record {
-      kept = λ some. now (listed.kept (subst (λ (n : Node). is_some n.keeper ≡ true) node some));
-      left = λ q other stands. now (listed.left q other (entry_left was.node.rows row q other (sym (ap (λ (n : Node). map.get n.rows q) node) ∙ stands)));
+      listed = λ is_touched. now (listed.listed (entered_touched was.node w.node client row node is_touched));
       used = λ none. now (listed.used (sym spare ∙ none));
       own = subst (λ (o : Option Spare). IfSome o (λ s. s.key.items ≡ key)) (sym spare) listed.own;
     }
@@ -88,11 +91,14 @@ entered_listed touched more key was w used client row false listed node spare is
 -- a key that is new
 pub new_listed : (touched : List (Vec ℕ Global)) (key : List ℕ) (keyed : Keyed) → keyed.node ≡ no_node → IsSome keyed.spare → IfSome keyed.spare (λ s. s.key.items ≡ key) → IsKeyListed touched key keyed
 new_listed touched key keyed node some own = record {
-  kept = λ keeps. absurd (no_keeper keyed.node.keeper (ap (λ (n : Node). n.keeper) node) keeps);
-  left = λ row client stands. absurd (nothing client (sym (ap (λ (n : Node). map.get n.rows row) node ∙ map.get-empty nat_cmp row) ∙ stands));
+  listed = λ is_touched. absurd (untouched is_touched);
   used = λ none. absurd (no_spare keyed.spare some none);
   own = own;
 }
   where
     nothing : (client : ℕ) → None ≡ Some (Some client) → ⊥
     nothing client h = cc
+
+    untouched : IsTouched keyed.node → ⊥
+    untouched (inl keeps) = no_keeper keyed.node.keeper (ap (λ (n : Node). n.keeper) node) keeps
+    untouched (inr has) = nothing has.1.0 (sym (ap (λ (n : Node). map.get n.rows has.0) node ∙ map.get-empty nat_cmp has.0) ∙ has.1.1)

@@ -1,8 +1,8 @@
 -- One key of an index: its rows, and its keeper.
-use Rattle.std.specs.Prelude.{◌≡◌, ℕ, Bool, false, if◌then◌else◌, Some, None}
+use Rattle.std.specs.Prelude.{◌≡◌, ◌⊎◌, ℕ, Bool, if◌then◌else◌, Some, None, IsSome}
 use Rattle.std.specs.FinMap as map
 use Rattle.key_index.specs.declared.index.Node.{Node}
-use Rattle.key_index.specs.Standing.{without_keeper, without_left}
+use Rattle.key_index.specs.Standing.{HasLeft, without_keeper, without_left}
 
 -- no row, and no keeper
 abbrev pub no_node : Node
@@ -16,14 +16,16 @@ node_entered node client row unique = record { rows = map.insert node.rows row N
 abbrev pub node_left : Node → ℕ → ℕ → Bool → Node
 node_left node client row unique = record { rows = map.insert node.rows row (Some client); keeper = if unique then Some client else node.keeper }
 
--- after the client's end: its placeholders and its keeping are gone, and where nothing is told to be left, nothing is
-pub record IsNodeEnded (client : ℕ) (old new : Node) (left : Bool) : Type 0 where
+-- after the client's end: its placeholders and its keeping are gone
+pub record IsNodeEnded (client : ℕ) (old new : Node) : Type 0 where
   pub rows : (row : ℕ) → map.get new.rows row ≡ without_left client (map.get old.rows row)
   pub keeper : new.keeper ≡ without_keeper client old.keeper
-  pub no_row : left ≡ false → (row : ℕ) → map.get new.rows row ≡ None
-  pub no_keeper : left ≡ false → new.keeper ≡ None
 
--- no client keeps the key, and none left a row under it
-pub record IsUntouched (node : Node) : Type 0 where
+-- no row stands under the key, and no client keeps it
+pub record IsBare (node : Node) : Type 0 where
+  pub rows : (row : ℕ) → map.get node.rows row ≡ None
   pub keeper : node.keeper ≡ None
-  pub rows : (row client : ℕ) → ¬ (map.get node.rows row ≡ Some (Some client))
+
+-- a client keeps the key, or left a row under it
+abbrev pub IsTouched : Node → Type 0
+IsTouched node = IsSome node.keeper ⊎ HasLeft node.rows

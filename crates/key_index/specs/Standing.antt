@@ -23,6 +23,14 @@ abbrev pub without_keeper : ℕ → Option ℕ → Option ℕ
 without_keeper client None = None
 without_keeper client (Some other) = if other == client then None else Some other
 
+-- what stands at the place is a placeholder
+abbrev pub IsLeft : Option (Option ℕ) → Type 0
+IsLeft place = (client : ℕ) × (place ≡ Some (Some client))
+
+-- some row has a placeholder
+abbrev pub HasLeft : Rows → Type 0
+HasLeft rows = (row : ℕ) × IsLeft (map.get rows row)
+
 -- the row has an entry
 abbrev pub HasEntry : Rows → ℕ → Type 0
 HasEntry rows row = map.get rows row ≡ Some None

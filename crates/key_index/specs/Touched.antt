@@ -1,5 +1,5 @@
 -- The nodes of an index under their keys, and the list of the keys that were touched.
-use Rattle.std.specs.Prelude.{◌≡◌, ◌⊎◌, ℕ, List, [], ◌∷◌, Vec, Option, Some, None, IsSome, IfSome}
+use Rattle.std.specs.Prelude.{◌≡◌, ◌⊎◌, ℕ, List, [], ◌∷◌, Vec, Option, Some, None, IfSome}
 use Rattle.std.specs.Ordering.{nat_cmp}
 use Rattle.std.specs.Option.{option_and_then}
 use Rattle.std.specs.Cmp.Lexicographic.{slice_cmp}
@@ -8,6 +8,7 @@ use Rattle.std.specs.BTreeMap.{BTreeMap}
 use Rattle.std.specs.FinMap as map
 use Rattle.key_index.specs.declared.index.Node.{Node}
 use Rattle.key_index.specs.declared.touched.Keyed.{Keyed}
+use Rattle.key_index.specs.Nodes.{IsTouched}
 use Rattle.key_index.specs.Standing.{without_keeper, without_left}
 
 -- what stands at a row under a key, and who keeps the key
@@ -40,10 +41,9 @@ module _ {Z : Type 0} where
   ListsKey [] key = ⊥
   ListsKey (v ∷ vs) key = (v.items ≡ key) ⊎ ListsKey vs key
 
-  -- the list has the key where a client keeps it or left a row under it, and where what puts it into the list is used; that is made of the key itself
+  -- the list has the key where it is touched, and where what puts it into the list is used; that is made of the key itself
   pub record IsKeyListed (touched : List (Vec ℕ Z)) (key : List ℕ) (keyed : Keyed) : Type 0 where
-    pub kept : IsSome keyed.node.keeper → ListsKey touched key
-    pub left : (row client : ℕ) → map.get keyed.node.rows row ≡ Some (Some client) → ListsKey touched key
+    pub listed : IsTouched keyed.node → ListsKey touched key
     pub used : keyed.spare ≡ None → ListsKey touched key
     pub own : IfSome keyed.spare (λ spare. spare.key.items ≡ key)
 

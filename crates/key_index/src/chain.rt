@@ -2,7 +2,7 @@
 //! cell of the list, and each item has one of its own from the moment it may be listed. So there is
 //! no capacity that could be used up, and no other way to go for want of it.
 
-ghost use Rattle.std.specs.Prelude.{◌≡◌, ◌↔◌, [], ◌∷◌, IsTrue, MatchOption};
+ghost use Rattle.std.specs.Prelude.{◌≡◌, [], ◌∷◌, IfOk, MatchOption};
 ghost use Rattle.key_index.specs.Chain.{items_of};
 
 use std::alloc::{AllocError, Global};
@@ -42,12 +42,14 @@ impl<T: Drop> Links<T> {
 /// Room for one more item of a chain.
 #[derive(Drop)]
 pub struct Room<T> {
-    cell: Box<Links<T>>,
+    pub(crate) cell: Box<Links<T>>,
 }
 
 impl<T: Drop> Room<T> {
-    /// Room for one item.
-    pub fn new(alloc: Global) -> Result<Room<T>, AllocError> {
+    /// Room for one item, with none in it.
+    pub fn new(alloc: Global) -> Result<Room<T>, AllocError>
+        ensures { IfOk result (λ room. items_of room.cell.value ≡ []) }
+    {
         Ok(Room {
             cell: Box::new(alloc, Links::End)?,
         })
@@ -76,16 +78,6 @@ impl<T: Drop> Chain<T> {
         ensures { result ≡ [] }
     {
         Chain { links: Links::End }
-    }
-
-    /// Whether there is no item.
-    pub fn is_empty(&self) -> bool
-        ensures { IsTrue result ↔ (self.now ≡ []) }
-    {
-        match &self.links {
-            Links::End => true,
-            Links::More(_, _) => false,
-        }
     }
 
     /// Puts an item first, in this room. It takes no memory.

@@ -25,7 +25,7 @@ pub struct Node {
 }
 
 impl Node {
-    ghost use Rattle.key_index.specs.Nodes.{no_node, node_entered, node_left, IsNodeEnded, IsUntouched};
+    ghost use Rattle.key_index.specs.Nodes.{no_node, node_entered, node_left, IsBare, IsNodeEnded, IsTouched};
 
     /// No row, and no keeper.
     pub(crate) fn new(alloc: Global) -> Node
@@ -71,7 +71,8 @@ impl Node {
     /// Takes the placeholders of a client away, and frees the key where the client keeps it. Tells
     /// whether anything is left.
     pub(crate) fn end(&mut self, client: u16) -> bool
-        ensures { IsNodeEnded client self.old self.new result }
+        ensures ended { IsNodeEnded client self.old self.new }
+        ensures left { result ≡ false ↔ IsBare self.new }
     {
         self.rows.end(client);
         if self.keeper == Some(client) {
@@ -80,9 +81,9 @@ impl Node {
         self.keeper.is_some() || !self.rows.is_empty()
     }
 
-    /// Whether a client keeps the key, or may have left a row under it.
+    /// Whether a client keeps the key, or left a row under it.
     pub(crate) fn is_touched(&self) -> bool
-        ensures { result ≡ false → IsUntouched self.now }
+        ensures { IsTrue result ↔ IsTouched self.now }
     {
         self.keeper.is_some() || self.rows.has_left()
     }

@@ -1,11 +1,11 @@
 //! The rows under one key with their owners, and the list of those that were left.
 
-ghost use Rattle.std.specs.Prelude.{◌≡◌, ◌≢◌, ℕ, Some};
+ghost use Rattle.std.specs.Prelude.{◌≡◌, ◌≢◌, ◌↔◌, ℕ, IsTrue, Some, false};
 ghost use Rattle.key_index.specs.declared.left.Seat.{Seat as SeatOf};
 ghost use Rattle.key_index.specs.Left.{AreListed, IsListed, Lists, owner_at, seat_at};
-ghost use Rattle.key_index.specs.Standing.{without_left};
+ghost use Rattle.key_index.specs.Standing.{IsLeft, without_left};
 
-use crate::chain::{Chain, Room};
+use crate::chain::{Chain, Links, Room};
 use std::collections::BTreeMap;
 use std::mem;
 
@@ -63,4 +63,29 @@ fn end_row(seats: &mut Seats, left: &mut Chain<u32>, row: u32, room: Room<u32>, 
         return;
     }
     left.add(row, room);
+}
+
+/// Whether one of the rows of the list is a placeholder.
+pub(crate) fn any_left(seats: &Seats, left: &Chain<u32>) -> bool
+    ensures found { IsTrue result → (row : ℕ) × IsLeft (owner_at seats.now row) }
+    ensures none { result ≡ false → (row : ℕ) → Lists left.now row → ¬ IsLeft (owner_at seats.now row) }
+{
+    let mut rest = &left.links;
+    while let Links::More(row, more) = rest {
+        if is_left(seats, *row) {
+            return true;
+        }
+        rest = more.as_ref();
+    }
+    false
+}
+
+/// Whether the row is a placeholder.
+fn is_left(seats: &Seats, row: u32) -> bool
+    ensures { IsTrue result ↔ IsLeft (owner_at seats.now row) }
+{
+    match seats.get(&row) {
+        Some(seat) => seat.owner.is_some(),
+        None => false,
+    }
 }

@@ -1,12 +1,12 @@
 //! The rows under one key.
 
-ghost use Rattle.std.specs.Prelude.{◌≡◌, ◌↔◌, ◌≤◌, ℕ, IsTrue, IsSome, IsOk, OnOk, OnErr, IfSome, IfNone, None, Some, false};
+ghost use Rattle.std.specs.Prelude.{◌≡◌, ◌↔◌, ◌≤◌, ℕ, IsTrue, IsSome, IsOk, OnOk, OnErr, IfSome, IfNone, None, Some};
 ghost use Rattle.std.specs.FinMap as map;
 ghost use Rattle.key_index.specs.Left.{owner_at};
-ghost use Rattle.key_index.specs.Standing.{HasEntry, IsAbove, IsBelow, is_client, without_left};
+ghost use Rattle.key_index.specs.Standing.{HasEntry, HasLeft, IsAbove, IsBelow, is_client, without_left};
 
 use crate::chain::{Chain, Room};
-use crate::left::{Seat, Seats, end_rows};
+use crate::left::{Seat, Seats, any_left, end_rows};
 use std::alloc::{AllocError, Global};
 use std::collections::BTreeMap;
 use std::marker::Model;
@@ -97,16 +97,17 @@ impl Rows {
 
     /// Whether no row stands here.
     pub fn is_empty(&self) -> bool
-        ensures { IsTrue result → (row : ℕ) → map.get self.now row ≡ None }
+        ensures { IsTrue result ↔ ((row : ℕ) → map.get self.now row ≡ None) }
     {
         self.seats.is_empty()
     }
 
-    /// Whether the list has a row: where it has none, no placeholder stands here.
+    /// Whether a placeholder stands here. The list may still have rows that were entered again, but
+    /// an end takes these out: after one, this looks at the first row of the list alone.
     pub fn has_left(&self) -> bool
-        ensures { result ≡ false → (row : ℕ) (client : ℕ) → ¬ (map.get self.now row ≡ Some (Some client)) }
+        ensures { IsTrue result ↔ HasLeft self.now }
     {
-        !self.left.is_empty()
+        any_left(&self.seats, &self.left)
     }
 
     /// The least row with an entry, above the given one where one is given.

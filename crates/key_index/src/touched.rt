@@ -4,7 +4,7 @@
 ghost use Rattle.std.specs.Prelude.{◌≡◌, ◌≢◌, ◌↔◌, ℕ, false, if◌then◌else◌, List, IsTrue, IsSome, IsOk, OnErr, IfOk, IfSome, MatchOption, ◌∷◌, Some, None};
 ghost use Rattle.std.specs.FinMap as map;
 ghost use Rattle.key_index.specs.declared.touched.Keyed.{Keyed as KeyedOf};
-ghost use Rattle.key_index.specs.Nodes.{no_node, node_entered, node_left};
+ghost use Rattle.key_index.specs.Nodes.{IsBare, IsTouched, no_node, node_entered, node_left};
 ghost use Rattle.key_index.specs.Touched.{AreKeysListed, EndsAt, IsKeyListed, ListsKey, keeper_at, keyed_at};
 
 use crate::chain::{Chain, Links, Room};
@@ -120,6 +120,8 @@ fn end_key(
     ensures ended { EndsAt client (keyed_at nodes.old key.items) (keyed_at nodes.new key.items) }
     ensures listed { (keyed : KeyedOf) → keyed_at nodes.new key.items ≡ Some keyed → IsKeyListed touched.new key.items keyed }
     ensures more { (other : List ℕ) → ListsKey touched.old other → ListsKey touched.new other }
+    ensures left { (keyed : KeyedOf) → keyed_at nodes.new key.items ≡ Some keyed → ¬ IsBare keyed.node }
+    ensures spare { (keyed : KeyedOf) → keyed_at nodes.new key.items ≡ Some keyed → ¬ IsTouched keyed.node → IsSome keyed.spare }
 {
     let Some(keyed) = nodes.get_mut(key.as_slice()) else {
         return;
