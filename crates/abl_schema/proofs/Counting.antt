@@ -18,7 +18,7 @@ use Rattle.abl_schema.specs.declared.census.Census.{Census}
 use Rattle.abl_schema.specs.Rules.{fields_in, field_name, has_twice, index_name, indexes_in, is_among, is_index_of, is_primary_of, lacks_table, sequence_name, sequences_in, table_name, tables_in}
 use Rattle.abl_schema.specs.Census.{Counts, changed_at, counted_field, counted_name, fields_counted, has_name, names_after, names_of, no_census, sequences_after, table_at, table_counted, table_found, tables_after, with_field, with_index}
 use Rattle.abl_schema.proofs.SizesNames.{is_among-same, same_name-right, same_name-swap}
-use Rattle.abl_schema.proofs.SizesSound.{IsSound, flat_map-along, has_its_table, tables_in-append}
+use Rattle.abl_schema.proofs.SizesSound.{IsSoundSoFar, flat_map-along, has_its_table, tables_in-append}
 use Rattle.abl_schema.proofs.SizesAdded.{Stands}
 
 -- ---- looking names up
@@ -234,7 +234,7 @@ stays_counted items t attributes head f i p =
     (ap (λ ns. map counted_name (indexes_in items t) ++ map counted_name ns) i ∙ append-nil (map counted_name (indexes_in items t)))
     (ap (λ b. list_any (is_primary_of t) items || (b && has is_primary attributes)) p ∙ or_none (list_any (is_primary_of t) items))
 
-tables_more : (items : List Item) (census : Census) (line : ℕ) (attributes : List Attributed) (head : Head) → IsSound items → Counts items census → Stands items head
+tables_more : (items : List Item) (census : Census) (line : ℕ) (attributes : List Attributed) (head : Head) → IsSoundSoFar items → Counts items census → Stands items head
     → tables_after census attributes head ≡ map (table_counted (items ++ record { line = line; head = head; attributes = attributes } ∷ [])) (tables_in items ++ (table_name head ++ []))
 tables_more items census line attributes Malformed s c k =
     let item : Item = record { line = line; head = Malformed; attributes = attributes } in
@@ -288,7 +288,7 @@ sequences_more items census (Index name table) c = c.sequences ∙ sym (append-n
 sequences_more items census (Table name) c = c.sequences ∙ sym (append-nil (sequences_in items))
 
 -- the census after one item more, whose first line breaks no rule
-pub counts_more : (items : List Item) (item : Item) (census after : Census) → IsSound items → Counts items census → Stands items item.head
+pub counts_more : (items : List Item) (item : Item) (census after : Census) → IsSoundSoFar items → Counts items census → Stands items item.head
     → after.names ≡ names_after census.names item.head → after.tables.items ≡ tables_after census item.attributes item.head → after.sequences ≡ sequences_after census.sequences item.head
     → Counts (items ++ item ∷ []) after
 counts_more items item census after s c k en et es = record {

@@ -5,6 +5,8 @@ pub mod SizesLines
 pub mod SizesAdded
 pub mod SizesIndex
 pub mod ToldBytes
+pub mod ToldNames
+pub mod ToldDays
 pub mod ToldValues
 pub mod ToldLines
 pub mod ToldTables

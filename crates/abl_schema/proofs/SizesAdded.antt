@@ -19,7 +19,7 @@ use Rattle.abl_values.specs.Schema.{canonical_text, field_line, field_names, sam
 use Rattle.abl_schema.specs.Meaning.{Ordered, by_order, fields_in_text, fields_of, field_said, ordered_field, schema_of}
 use Rattle.abl_schema.specs.Rules.{first_after, has_twice, is_among, fields_in, field_name, lacks_field, lacks_table, repeats_field, repeats_table, tables_in, table_name}
 use Rattle.abl_schema.proofs.SizesNames.{for_each_same, for_each_same-once, has_twice_push, is_among-same, same_name-right}
-use Rattle.abl_schema.proofs.SizesSound.{IsSound, is_sound, fields_in-same, flat_map-along, has_its_fields, has_its_table}
+use Rattle.abl_schema.proofs.SizesSound.{IsSoundSoFar, is_sound, fields_in-same, flat_map-along, has_its_fields, has_its_table}
 use Rattle.abl_schema.proofs.SizesFound.{AllFoundAlike, AreFoundAlike, field_in, found_index_line, found_index_line-alike, own_index_line-found, found, found-append, found-by_order, own_index_line, own_index_line-alike}
 use Rattle.abl_schema.proofs.SizesLines.{canonical_text-items, field_size, indexes_size, index_text, length-flat_map, table_lines-length, table_size, text_said, total, total-along, total-append, total-plus}
 
@@ -100,7 +100,7 @@ total-grows before more xs much table h =
     ∙ ap (λ n. total (size_of before) xs + n) (much_at-total much table xs)
 
 -- one table that stands grows
-grows_once : (before more : List Item) (much : ℕ) (table : List ℕ) → IsSound before → is_among table (tables_in before) ≡ true → Grows before more much table
+grows_once : (before more : List Item) (much : ℕ) (table : List ℕ) → IsSoundSoFar before → is_among table (tables_in before) ≡ true → Grows before more much table
     → total (size_of more) before ≡ total (size_of before) before + much
 grows_once before more much table s there h =
     total-grows before more before much table h ∙ ap (λ n. total (size_of before) before + n) (for_each_same-once much table (tables_in before) there s.tables_once)
@@ -181,7 +181,7 @@ names-append [] gs = refl
 names-append (f ∷ fs) gs = ap (λ (ns : List (List ℕ)). f.field.name ∷ ns) (names-append fs gs)
 
 -- the components of an index are found as before, with more fields or not
-found_alike : (before : List Item) (table t : List ℕ) (more : List Ordered) → IsSound before → same_name table t ≡ true → has_twice (field_names (map field_in (fields_in_text before t ++ more))) ≡ false
+found_alike : (before : List Item) (table t : List ℕ) (more : List Ordered) → IsSoundSoFar before → same_name table t ≡ true → has_twice (field_names (map field_in (fields_in_text before t ++ more))) ≡ false
     → (name : List ℕ) (a : Attribute) → not (lacks_field before (Index name table) a) ≡ true → AreFoundAlike (fields_of before t) (map field_in (by_order (fields_in_text before t ++ more))) a
 found_alike before table t more s same once name (IndexField (Some c)) h =
     let fs = fields_in_text before t in
@@ -201,14 +201,14 @@ found_alike before table t more s same once name Primary h = tt
 found_alike before table t more s same once name Word h = tt
 found_alike before table t more s same once name (Increment g) h = tt
 
-all_found_alike : (before : List Item) (table t : List ℕ) (more : List Ordered) → IsSound before → same_name table t ≡ true → has_twice (field_names (map field_in (fields_in_text before t ++ more))) ≡ false
+all_found_alike : (before : List Item) (table t : List ℕ) (more : List Ordered) → IsSoundSoFar before → same_name table t ≡ true → has_twice (field_names (map field_in (fields_in_text before t ++ more))) ≡ false
     → (name : List ℕ) (as_ : List Attributed) → list_all (λ a. not (lacks_field before (Index name table) a.attribute)) as_ ≡ true → AllFoundAlike (fields_of before t) (map field_in (by_order (fields_in_text before t ++ more))) as_
 all_found_alike before table t more s same once name [] h = tt
 all_found_alike before table t more s same once name (a ∷ as_) h =
     let parts = and_parts (not (lacks_field before (Index name table) a.attribute)) (list_all (λ a. not (lacks_field before (Index name table) a.attribute)) as_) h in
     (found_alike before table t more s same once name a.attribute parts.0, all_found_alike before table t more s same once name as_ parts.1)
 
-index_text-alike : (before : List Item) (t : List ℕ) (more : List Ordered) → IsSound before → has_twice (field_names (map field_in (fields_in_text before t ++ more))) ≡ false
+index_text-alike : (before : List Item) (t : List ℕ) (more : List Ordered) → IsSoundSoFar before → has_twice (field_names (map field_in (fields_in_text before t ++ more))) ≡ false
     → (attributes : List Attributed) (head : Head) → list_all (λ a. not (lacks_field before head a.attribute)) attributes ≡ true
     → index_text (map field_in (by_order (fields_in_text before t ++ more))) t attributes head ≡ index_text (fields_of before t) t attributes head
 index_text-alike before t more s once attributes (Index name table) h = go (same_name table t) refl
@@ -228,14 +228,14 @@ total-along_all p much more h (x ∷ xs) all =
     let parts = and_parts (p x) (list_all p xs) all in
     ap (λ n. n + total more xs) (h x parts.0) ∙ ap (λ n. much x + n) (total-along_all p much more h xs parts.1)
 
-indexes_size-alike : (before : List Item) (t : List ℕ) (more : List Ordered) → IsSound before → has_twice (field_names (map field_in (fields_in_text before t ++ more))) ≡ false
+indexes_size-alike : (before : List Item) (t : List ℕ) (more : List Ordered) → IsSoundSoFar before → has_twice (field_names (map field_in (fields_in_text before t ++ more))) ≡ false
     → indexes_size (map field_in (by_order (fields_in_text before t ++ more))) t before ≡ indexes_size (fields_of before t) t before
 indexes_size-alike before t more s once =
     total-along_all (has_its_fields before) (λ (i : Item). length (index_text (fields_of before t) t i.attributes i.head)) (λ (i : Item). length (index_text (map field_in (by_order (fields_in_text before t ++ more))) t i.attributes i.head))
     (λ i h. ap length (index_text-alike before t more s once i.attributes i.head h)) before s.fields_stand
 
 -- the lines of a table with one more field, or with no more
-table_size-field : (before : List Item) (item : Item) (t : List ℕ) (more : List Ordered) → IsSound before → fields_in_text (before ++ item ∷ []) t ≡ fields_in_text before t ++ more
+table_size-field : (before : List Item) (item : Item) (t : List ℕ) (more : List Ordered) → IsSoundSoFar before → fields_in_text (before ++ item ∷ []) t ≡ fields_in_text before t ++ more
     → has_twice (field_names (map field_in (fields_in_text before t ++ more))) ≡ false → ((fields : List FieldDef) → index_text fields t item.attributes item.head ≡ [])
     → table_size (before ++ item ∷ []) t ≡ table_size before t + total field_size more
 table_size-field before item t more s is once none =
@@ -258,7 +258,7 @@ pub record Stands (before : List Item) (head : Head) : Type 0 where
   pub has_table : lacks_table before head ≡ false
   pub new_field : repeats_field before head ≡ false
 
-field_grows : (before : List Item) (line : ℕ) (attributes : List Attributed) (name table : List ℕ) (kind : Option Kind) → IsSound before → is_among name (fields_in before table) ≡ false
+field_grows : (before : List Item) (line : ℕ) (attributes : List Attributed) (name table : List ℕ) (kind : Option Kind) → IsSoundSoFar before → is_among name (fields_in before table) ≡ false
     → Grows before (before ++ record { line = line; head = Field name table kind; attributes = attributes } ∷ []) (length (field_line (ordered_field name kind attributes).field)) table
 field_grows before line attributes name table kind s new t = go (same_name table t) refl
   where
@@ -349,7 +349,7 @@ module _ (before : List Item) (name : List ℕ) (new : is_among name (tables_in 
       sum : (a b c d : ℕ) → b ≡ 0 → c ≡ a → d ≡ length (codes "T " ++ folded name) + 1 → length (codes "T " ++ folded name) ≡ 2 + c → 3 + (a + (0 + b)) ≡ d
       sum a b c d hb hc hd he = omega arith
 
-one_more : (before : List Item) (line : ℕ) (attributes : List Attributed) (head : Head) → IsSound before → Stands before head
+one_more : (before : List Item) (line : ℕ) (attributes : List Attributed) (head : Head) → IsSoundSoFar before → Stands before head
     → total (size_of (before ++ record { line = line; head = head; attributes = attributes } ∷ [])) before + size_said (before ++ record { line = line; head = head; attributes = attributes } ∷ []) attributes head
     ≡ total (size_of before) before + length (line_said before attributes head)
 one_more before line attributes (Table name) s h =

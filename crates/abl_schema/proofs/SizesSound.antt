@@ -89,7 +89,7 @@ abbrev pub has_its_fields : List Item → Item → Bool
 has_its_fields items i = list_all (λ a. not (lacks_field items i.head a.attribute)) i.attributes
 
 -- what holds of the items before a line
-pub record IsSound (before : List Item) : Type 0 where
+pub record IsSoundSoFar (before : List Item) : Type 0 where
   pub tables_once : has_twice (tables_in before) ≡ false
   pub fields_once : (t : List ℕ) → has_twice (fields_in before t) ≡ false
   pub tables_stand : list_all (has_its_table before) before ≡ true
@@ -185,7 +185,7 @@ fields_once-more before (Sequence name) t h new = ap has_twice (append-nil (fiel
 pub all_more : (p : Item → Bool) (xs : List Item) (x : Item) → list_all p xs ≡ true → p x ≡ true → list_all p (xs ++ x ∷ []) ≡ true
 all_more p xs x h hx = list_all-append p xs (x ∷ []) ∙ and_from (list_all p xs) (p x && true) h (and_from (p x) true hx refl)
 
-sound_more : (before : List Item) (item : Item) → IsSound before → IsKept before item → IsSound (before ++ item ∷ [])
+sound_more : (before : List Item) (item : Item) → IsSoundSoFar before → IsKept before item → IsSoundSoFar (before ++ item ∷ [])
 sound_more before item s k = record {
   tables_once = ap has_twice (tables_in-append before (item ∷ [])) ∙ tables_once-more before item.head s.tables_once k.head.1.1.0;
   fields_once = λ t. ap has_twice (fields_in-append before (item ∷ []) t) ∙ fields_once-more before item.head t (s.fields_once t) k.head.1.1.1.1.0;
@@ -200,5 +200,5 @@ sound_more before item s k = record {
 }
 
 -- items that break no rule are sound
-pub is_sound : (before : List Item) → first_after [] before ≡ None → IsSound before
-is_sound before h = grown IsSound sound_more [] before (record { tables_once = refl; fields_once = λ t. refl; tables_stand = refl; fields_stand = refl }) h
+pub is_sound : (before : List Item) → first_after [] before ≡ None → IsSoundSoFar before
+is_sound before h = grown IsSoundSoFar sound_more [] before (record { tables_once = refl; fields_once = λ t. refl; tables_stand = refl; fields_stand = refl }) h

@@ -1,66 +1,59 @@
--- Two files without violation that mean one canonical text mean schemas that answer every reader alike.
-use Rattle.std.proofs.Common.{◌≡◌, ℕ, ◌+◌, ◌<◌, cond, List, [], ◌∷◌, ◌++◌, length, map, get_or, append-nil, Some, refl, sym, ap, ◌∙◌, arith}
-use Rattle.std.specs.List.{flat_map}
+-- Two sound schemas with one canonical text answer every reader alike.
+use Rattle.std.proofs.Common.{◌≡◌, inl, inr, ℕ, ◌+◌, ◌<◌, Bool, true, false, not, cond, List, [], ◌∷◌, ◌++◌, length, map, get_or, Some, refl, sym, ap, ◌∙◌, arith}
+use Rattle.std.specs.Prelude.{count_by}
+use Rattle.std.specs.List.{AllByRecursion, flat_map}
 use Rattle.std.proofs.lemmas.List.{get_or-map, length-map}
-use Rattle.std.proofs.lemmas.List.Concat.{flat_map-append}
+use Rattle.std.proofs.lemmas.List.Elements.{recursion_from_All}
 use Rattle.abl_values.specs.declared.schema.FieldDef.{FieldDef}
 use Rattle.abl_values.specs.declared.schema.TableDef.{TableDef}
+use Rattle.abl_values.specs.declared.schema.SequenceDef.{SequenceDef}
 use Rattle.abl_values.specs.Masks.{same_bytes}
 use Rattle.abl_values.specs.Order.{folded}
-use Rattle.abl_values.specs.Schema.{SchemaData, canonical_text, sequence_line, table_lines, field_named, field_names, no_table, number_of_name, same_name, table_at, table_named, table_names}
-use Rattle.schema_lines.specs.declared.item.Head.{Head}
-use Rattle.schema_lines.specs.declared.item.Head.TheVariants.{Malformed, Table, Field, Index, Sequence}
-use Rattle.schema_lines.specs.declared.item.Attributed.{Attributed}
-use Rattle.schema_lines.specs.declared.item.Item.{Item}
-use Rattle.schema_lines.specs.Attributes.{increment_of, start_of}
-use Rattle.schema_lines.specs.Files.{items_of}
+use Rattle.abl_values.specs.Schema.{SchemaData, canonical_text, lines_in_order, sequence_line, table_lines, field_named, field_names, no_table, number_of_name, same_name, table_at, table_named, table_names}
 use Rattle.abl_schema.specs.Laws.{AnswerAlike, CanonicalTextTellsAll, told_field, told_sequence}
-use Rattle.abl_schema.specs.Meaning.{schema_of, sequence_said, table_def, table_said}
-use Rattle.abl_schema.specs.Rules.{violation_of}
-use Rattle.abl_schema.proofs.SizesLines.{canonical_text-items, text_said}
-use Rattle.abl_schema.proofs.ToldSound.{entries_of, entries_of-good, entry_said, items_of-good}
-use Rattle.abl_schema.proofs.ToldTables.{entries-tell, entry_sequences, entry_tables, entry_text, told_table}
+use Rattle.abl_schema.specs.Sound.{IsSound, IsSoundSequence, IsSoundTable}
+use Rattle.abl_schema.proofs.ToldTables.{AreSoundEntries, Entry, entries-tell, entry_sequences, entry_tables, entry_text, one_more, told_table}
 
 -- ---- the schema by its tables and sequences
 
-flat_map-twice : {X Y Z : Type 0} (outer : Y → List Z) (inner : X → List Y) (whole : X → List Z) → ((x : X) → flat_map outer (inner x) ≡ whole x) → (xs : List X) → flat_map outer (flat_map inner xs) ≡ flat_map whole xs
-flat_map-twice outer inner whole h [] = refl
-flat_map-twice outer inner whole h (x ∷ xs) =
-    flat_map-append outer (inner x) (flat_map inner xs) ∙ ap (λ ys. ys ++ flat_map outer (flat_map inner xs)) (h x) ∙ ap (λ ys. whole x ++ ys) (flat_map-twice outer inner whole h xs)
+-- tables and sequences as they stand one after the other
+abbrev in_order : List Bool → List TableDef → List SequenceDef → List Entry
+in_order [] ts qs = []
+in_order (true ∷ order) [] qs = in_order order [] qs
+in_order (true ∷ order) (t ∷ ts) qs = inl t ∷ in_order order ts qs
+in_order (false ∷ order) ts [] = in_order order ts []
+in_order (false ∷ order) ts (q ∷ qs) = inr q ∷ in_order order ts qs
 
-entry_text-is : (items : List Item) (attributes : List Attributed) (head : Head) → flat_map entry_text (entry_said items attributes head) ≡ text_said items attributes head
-entry_text-is items attributes (Table name) = append-nil (table_lines (table_def items name))
-entry_text-is items attributes (Sequence name) = append-nil (sequence_line (record { name = name; initial = start_of attributes; increment = increment_of attributes }))
-entry_text-is items attributes (Field name table kind) = refl
-entry_text-is items attributes (Index name table) = refl
-entry_text-is items attributes Malformed = refl
+in_order-sound : (order : List Bool) (ts : List TableDef) (qs : List SequenceDef) → AllByRecursion IsSoundTable ts → AllByRecursion IsSoundSequence qs → AreSoundEntries (in_order order ts qs)
+in_order-sound [] ts qs ht hq = tt
+in_order-sound (true ∷ order) [] qs ht hq = in_order-sound order [] qs tt hq
+in_order-sound (true ∷ order) (t ∷ ts) qs ht hq = (ht.0, in_order-sound order ts qs ht.1 hq)
+in_order-sound (false ∷ order) ts [] ht hq = in_order-sound order ts [] ht tt
+in_order-sound (false ∷ order) ts (q ∷ qs) ht hq = (hq.0, in_order-sound order ts qs ht hq.1)
 
-entry_tables-are : (items : List Item) (attributes : List Attributed) (head : Head) → flat_map entry_tables (entry_said items attributes head) ≡ table_said items head
-entry_tables-are items attributes (Table name) = refl
-entry_tables-are items attributes (Sequence name) = refl
-entry_tables-are items attributes (Field name table kind) = refl
-entry_tables-are items attributes (Index name table) = refl
-entry_tables-are items attributes Malformed = refl
+text_is : (order : List Bool) (ts : List TableDef) (qs : List SequenceDef) → flat_map entry_text (in_order order ts qs) ≡ lines_in_order order ts qs
+unfolding lines_in_order
+text_is [] ts qs = refl
+text_is (true ∷ order) [] qs = text_is order [] qs
+text_is (true ∷ order) (t ∷ ts) qs = ap (λ (xs : List ℕ). table_lines t ++ xs) (text_is order ts qs)
+text_is (false ∷ order) ts [] = text_is order ts []
+text_is (false ∷ order) ts (q ∷ qs) = ap (λ (xs : List ℕ). sequence_line q ++ xs) (text_is order ts qs)
 
-entry_sequences-are : (items : List Item) (attributes : List Attributed) (head : Head) → flat_map entry_sequences (entry_said items attributes head) ≡ sequence_said attributes head
-entry_sequences-are items attributes (Table name) = refl
-entry_sequences-are items attributes (Sequence name) = refl
-entry_sequences-are items attributes (Field name table kind) = refl
-entry_sequences-are items attributes (Index name table) = refl
-entry_sequences-are items attributes Malformed = refl
+tables_are : (order : List Bool) (ts : List TableDef) (qs : List SequenceDef) → count_by (λ b. b) order ≡ length ts → flat_map entry_tables (in_order order ts qs) ≡ ts
+tables_are [] [] qs h = refl
+tables_are [] (t ∷ ts) qs h = absurd (omega arith)
+tables_are (true ∷ order) [] qs h = absurd (omega (arith, one_more (λ b. b) true order))
+tables_are (true ∷ order) (t ∷ ts) qs h = ap (λ (us : List TableDef). t ∷ us) (tables_are order ts qs (omega (arith, one_more (λ b. b) true order)))
+tables_are (false ∷ order) ts [] h = tables_are order ts [] (omega (arith, one_more (λ b. b) false order))
+tables_are (false ∷ order) ts (q ∷ qs) h = tables_are order ts qs (omega (arith, one_more (λ b. b) false order))
 
-text_is : (items : List Item) → flat_map entry_text (entries_of items) ≡ canonical_text (schema_of items)
-text_is items =
-    flat_map-twice entry_text (λ (i : Item). entry_said items i.attributes i.head) (λ (i : Item). text_said items i.attributes i.head) (λ i. entry_text-is items i.attributes i.head) items
-    ∙ sym (canonical_text-items items)
-
-tables_are : (items : List Item) → flat_map entry_tables (entries_of items) ≡ (schema_of items).tables
-unfolding schema_of
-tables_are items = flat_map-twice entry_tables (λ (i : Item). entry_said items i.attributes i.head) (λ (i : Item). table_said items i.head) (λ i. entry_tables-are items i.attributes i.head) items
-
-sequences_are : (items : List Item) → flat_map entry_sequences (entries_of items) ≡ (schema_of items).sequences
-unfolding schema_of
-sequences_are items = flat_map-twice entry_sequences (λ (i : Item). entry_said items i.attributes i.head) (λ (i : Item). sequence_said i.attributes i.head) (λ i. entry_sequences-are items i.attributes i.head) items
+sequences_are : (order : List Bool) (ts : List TableDef) (qs : List SequenceDef) → count_by not order ≡ length qs → flat_map entry_sequences (in_order order ts qs) ≡ qs
+sequences_are [] ts [] h = refl
+sequences_are [] ts (q ∷ qs) h = absurd (omega arith)
+sequences_are (true ∷ order) [] qs h = sequences_are order [] qs (omega (arith, one_more not true order))
+sequences_are (true ∷ order) (t ∷ ts) qs h = sequences_are order ts qs (omega (arith, one_more not true order))
+sequences_are (false ∷ order) ts [] h = absurd (omega (arith, one_more not false order))
+sequences_are (false ∷ order) ts (q ∷ qs) h = ap (λ (rs : List SequenceDef). q ∷ rs) (sequences_are order ts qs (omega (arith, one_more not false order)))
 
 -- ---- what a reader finds
 
@@ -121,12 +114,18 @@ module _ (a b : SchemaData) (tables : map told_table a.tables ≡ map told_table
 
 -- ---- the law
 
+-- the schema as its tables and sequences in order
+abbrev entries_of : SchemaData → List Entry
+entries_of s = in_order s.order s.tables s.sequences
+
+entries_of-sound : (s : SchemaData) → IsSound s → AreSoundEntries (entries_of s)
+entries_of-sound s h =
+    in_order-sound s.order s.tables s.sequences (recursion_from_All IsSoundTable s.tables h.tables) (recursion_from_All IsSoundSequence s.sequences h.sequences)
+
 pub canonical_text-tells_all : CanonicalTextTellsAll
-unfolding violation_of
-canonical_text-tells_all text other clean clear same =
-    let as_ = items_of text in
-    let bs = items_of other in
-    let told = entries-tell (entries_of as_) (entries_of bs) (entries_of-good as_ (items_of-good text) clean) (entries_of-good bs (items_of-good other) clear) (text_is as_ ∙ same ∙ sym (text_is bs)) in
-    answer_alike (schema_of as_) (schema_of bs)
-    (ap (map told_table) (sym (tables_are as_)) ∙ told.tables ∙ ap (map told_table) (tables_are bs))
-    (ap (map told_sequence) (sym (sequences_are as_)) ∙ told.sequences ∙ ap (map told_sequence) (sequences_are bs))
+unfolding canonical_text
+canonical_text-tells_all a b ha hb same =
+    let told = entries-tell (entries_of a) (entries_of b) (entries_of-sound a ha) (entries_of-sound b hb) (text_is a.order a.tables a.sequences ∙ same ∙ sym (text_is b.order b.tables b.sequences)) in
+    answer_alike a b
+    (ap (map told_table) (sym (tables_are a.order a.tables a.sequences ha.table_places)) ∙ told.tables ∙ ap (map told_table) (tables_are b.order b.tables b.sequences hb.table_places))
+    (ap (map told_sequence) (sym (sequences_are a.order a.tables a.sequences ha.sequence_places)) ∙ told.sequences ∙ ap (map told_sequence) (sequences_are b.order b.tables b.sequences hb.sequence_places))

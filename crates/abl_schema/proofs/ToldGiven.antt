@@ -1,16 +1,17 @@
 -- What attribute lines give is within its range: initial values, and the numbers of sequences.
-use Rattle.std.proofs.Common.{◌≡◌, ℕ, Bool, true, false, ◌&&◌, cond, List, [], ◌∷◌, length, Option, Some, None, ℤ, pos, negsuc, refl, ap, ◌∙◌, arith}
+use Rattle.std.proofs.Common.{◌≡◌, ℕ, Bool, true, false, ◌&&◌, cond, List, [], ◌∷◌, length, Option, Some, None, ℤ, pos, negsuc, refl, ap, ◌∙◌}
 use Rattle.std.specs.Prelude.{fold, codes, nat_le, option_map, take_while, unwrap_or}
 use Rattle.std.specs.List.{list_all}
-use Rattle.std.proofs.lemmas.Bool.Decides.{nat_tests}
+use Rattle.std.proofs.lemmas.Bool.{leb-true}
 use Rattle.abl_base.specs.declared.value.Kind.{Kind}
 use Rattle.abl_base.specs.declared.value.Kind.TheVariants.{Character, Integer, Int64 as Whole64, Decimal, Logical as Truth, Date as Day}
 use Rattle.abl_base.specs.declared.value.TheConstants.{MAX_TEXT_BYTES}
 use Rattle.abl_base.specs.declared.value.Value.{Value}
 use Rattle.abl_base.specs.declared.value.Value.TheVariants.{Text, Int, Int64, Dec, Logical, Date, Unknown}
 use Rattle.abl_values.specs.Arithmetic.{fits_bits, with_sign}
-use Rattle.abl_values.specs.Dates.{CivilDate, date_from, day_number, is_civil}
+use Rattle.abl_values.specs.Dates.{CivilDate, date_from, day_number, is_civil, is_day}
 use Rattle.abl_values.specs.Digits.{are_digits, from_first_not, has_minus, number_of}
+use Rattle.abl_values.specs.Fit.{IsOfField, IsOfKind}
 use Rattle.abl_values.specs.Masks.{after_run, is_digit, is_letter, without_minus}
 use Rattle.abl_values.specs.Schema.{same_name}
 use Rattle.abl_values.proofs.DateLaws.{day_reads_back}
@@ -24,7 +25,7 @@ use Rattle.schema_lines.specs.Forms.{text_given}
 use Rattle.schema_lines.specs.Initials.{default_initial, initial_given, integer_value, is_unknown, logical_spelt, long_value, second_word, value_spelt, whole_spelt}
 use Rattle.schema_lines.specs.Lines.{run}
 use Rattle.schema_lines.specs.Numbers.{is_number, long_number}
-use Rattle.abl_schema.proofs.ToldValues.{IsDay, IsHeld, IsSaid}
+use Rattle.abl_schema.proofs.ToldDays.{date_has_day}
 
 -- ---- options
 
@@ -63,79 +64,77 @@ number_fits : (text : List ℕ) → Each (Fits 127) (number_in text)
 unfolding number_in
 number_fits text = signed_fits 127 (has_minus text) (magnitude_in (without_minus text))
 
--- a number of 32 bits is one of 64
-wider : (n : ℤ) → fits_bits 31 n ≡ true → fits_bits 63 n ≡ true
-wider (pos n) h = grind (arith, nat_tests)
-wider (negsuc n) h = grind (arith, nat_tests)
-
 -- ---- dates
 
-civil_is_day : (c : CivilDate) → is_civil c ≡ true → IsDay (day_number c)
+abbrev IsInYears : ℤ → Type 0
+IsInYears d = is_day d ≡ true
+
+civil_is_day : (c : CivilDate) → is_civil c ≡ true → IsInYears (day_number c)
 civil_is_day c h =
     let back = day_reads_back c h in
-    record { civil = ap is_civil back ∙ h; back = ap day_number back }
+    date_has_day (day_number c) (record { civil = ap is_civil back ∙ h; back = ap day_number back })
 
-date_from-day : (month day year : ℤ) → Each IsDay (date_from month day year)
+date_from-day : (month day year : ℤ) → Each IsInYears (date_from month day year)
 unfolding date_from
 date_from-day (pos m) (pos d) (pos y) =
-    either IsDay (is_civil (record { year = y; month = m; day = d })) (Some (day_number (record { year = y; month = m; day = d }))) None (λ h. civil_is_day (record { year = y; month = m; day = d }) h) (λ h. tt)
+    either IsInYears (is_civil (record { year = y; month = m; day = d })) (Some (day_number (record { year = y; month = m; day = d }))) None (λ h. civil_is_day (record { year = y; month = m; day = d }) h) (λ h. tt)
 date_from-day (negsuc m) d y = tt
 date_from-day (pos m) (negsuc d) y = tt
 date_from-day (pos m) (pos d) (negsuc y) = tt
 
-dated-day : (month day : List ℕ) (year : Option ℕ) → Each IsDay (dated month day year)
+dated-day : (month day : List ℕ) (year : Option ℕ) → Each IsInYears (dated month day year)
 dated-day month day None = tt
 dated-day month day (Some year) = date_from-day (pos (number_of month)) (pos (number_of day)) (pos year)
 
-with_year-day : (month day : List ℕ) (rest : Option (List ℕ)) → Each IsDay (with_year month day rest)
+with_year-day : (month day : List ℕ) (rest : Option (List ℕ)) → Each IsInYears (with_year month day rest)
 with_year-day month day None = tt
 with_year-day month day (Some rest) =
-    either IsDay (is_one_or_two month && (is_one_or_two day && list_all is_digit rest)) (dated month day (year_of rest)) None (λ h. dated-day month day (year_of rest)) (λ h. tt)
+    either IsInYears (is_one_or_two month && (is_one_or_two day && list_all is_digit rest)) (dated month day (year_of rest)) None (λ h. dated-day month day (year_of rest)) (λ h. tt)
 
-with_day-day : (month : List ℕ) (rest : Option (List ℕ)) → Each IsDay (with_day month rest)
+with_day-day : (month : List ℕ) (rest : Option (List ℕ)) → Each IsInYears (with_day month rest)
 with_day-day month None = tt
 with_day-day month (Some rest) = with_year-day month (take_while is_digit rest) (behind_slash (from_first_not is_digit rest))
 
-date_in-day : (text : List ℕ) → Each IsDay (date_in text)
+date_in-day : (text : List ℕ) → Each IsInYears (date_in text)
 date_in-day text = with_day-day (take_while is_digit text) (behind_slash (from_first_not is_digit text))
 
 -- ---- initial values
 
-integer_value-said : (o : Option ℤ) → Each (IsSaid Integer) (integer_value o)
+integer_value-said : (o : Option ℤ) → Each (IsOfKind Integer) (integer_value o)
 integer_value-said None = tt
-integer_value-said (Some n) = either (IsSaid Integer) (fits_bits 31 n) (Some (Int n)) None (λ h. wider n h) (λ h. tt)
+integer_value-said (Some n) = either (IsOfKind Integer) (fits_bits 31 n) (Some (Int n)) None (λ h. h) (λ h. tt)
 
-long_value-said : (o : Option ℤ) → Each (IsSaid Whole64) (long_value o)
+long_value-said : (o : Option ℤ) → Each (IsOfKind Whole64) (long_value o)
 long_value-said None = tt
-long_value-said (Some n) = either (IsSaid Whole64) (fits_bits 63 n) (Some (Int64 n)) None (λ h. h) (λ h. tt)
+long_value-said (Some n) = either (IsOfKind Whole64) (fits_bits 63 n) (Some (Int64 n)) None (λ h. h) (λ h. tt)
 
-decimal-said : (o : Option ℤ) → Each (Fits 127) o → Each (IsSaid Decimal) (option_map Dec o)
+decimal-said : (o : Option ℤ) → Each (Fits 127) o → Each (IsOfKind Decimal) (option_map Dec o)
 decimal-said None h = tt
 decimal-said (Some n) h = h
 
-truth-said : (o : Option Bool) → Each (IsSaid Truth) (option_map Logical o)
+truth-said : (o : Option Bool) → Each (IsOfKind Truth) (option_map Logical o)
 truth-said None = tt
 truth-said (Some b) = tt
 
-day-said : (o : Option ℤ) → Each IsDay o → Each (IsSaid Day) (option_map Date o)
+day-said : (o : Option ℤ) → Each IsInYears o → Each (IsOfKind Day) (option_map Date o)
 day-said None h = tt
 day-said (Some n) h = h
 
-logical-said : (mask text : List ℕ) → Each (IsSaid Truth) (logical_spelt mask text)
+logical-said : (mask text : List ℕ) → Each (IsOfKind Truth) (logical_spelt mask text)
 logical-said mask text =
-    either (IsSaid Truth) (same_name text (run is_letter mask)) (Some (Logical true)) (cond (same_name text (second_word (after_run is_letter mask))) (Some (Logical false)) (option_map Logical (truth_in text))) (λ h. tt)
-    (λ h. either (IsSaid Truth) (same_name text (second_word (after_run is_letter mask))) (Some (Logical false)) (option_map Logical (truth_in text)) (λ k. tt) (λ k. truth-said (truth_in text)))
+    either (IsOfKind Truth) (same_name text (run is_letter mask)) (Some (Logical true)) (cond (same_name text (second_word (after_run is_letter mask))) (Some (Logical false)) (option_map Logical (truth_in text))) (λ h. tt)
+    (λ h. either (IsOfKind Truth) (same_name text (second_word (after_run is_letter mask))) (Some (Logical false)) (option_map Logical (truth_in text)) (λ k. tt) (λ k. truth-said (truth_in text)))
 
-value_spelt-said : (kind : Kind) (mask text : List ℕ) → Each (IsSaid kind) (value_spelt kind mask text)
-value_spelt-said Character mask text = either (IsSaid Character) (nat_le (length text) MAX_TEXT_BYTES) (Some (Text text)) None (λ h. tt) (λ h. tt)
+value_spelt-said : (kind : Kind) (mask text : List ℕ) → Each (IsOfKind kind) (value_spelt kind mask text)
+value_spelt-said Character mask text = either (IsOfKind Character) (nat_le (length text) MAX_TEXT_BYTES) (Some (Text text)) None (λ h. leb-true (length text) MAX_TEXT_BYTES h) (λ h. tt)
 value_spelt-said Integer mask text = integer_value-said (whole_spelt (number_in text))
 value_spelt-said Whole64 mask text = long_value-said (whole_spelt (number_in text))
 value_spelt-said Decimal mask text = decimal-said (number_in text) (number_fits text)
 value_spelt-said Truth mask text = logical-said mask text
 value_spelt-said Day mask text =
-    either (IsSaid Day) (same_name text (codes "today")) (Some Unknown) (option_map Date (date_in text)) (λ h. tt) (λ h. day-said (date_in text) (date_in-day text))
+    either (IsOfKind Day) (same_name text (codes "today")) (Some Unknown) (option_map Date (date_in text)) (λ h. tt) (λ h. day-said (date_in text) (date_in-day text))
 
-unknown_said : (kind : Kind) → IsSaid kind Unknown
+unknown_said : (kind : Kind) → IsOfKind kind Unknown
 unknown_said Character = tt
 unknown_said Integer = tt
 unknown_said Whole64 = tt
@@ -143,14 +142,14 @@ unknown_said Decimal = tt
 unknown_said Truth = tt
 unknown_said Day = tt
 
-initial_given-said : (kind : Kind) (mask : List ℕ) (g : Option Given) → Each (IsSaid kind) (initial_given kind mask g)
+initial_given-said : (kind : Kind) (mask : List ℕ) (g : Option Given) → Each (IsOfKind kind) (initial_given kind mask g)
 unfolding initial_given
 initial_given-said kind mask None = tt
 initial_given-said kind mask (Some g) =
-    either (IsSaid kind) (is_unknown kind g) (Some Unknown) (value_spelt kind mask g.text) (λ h. unknown_said kind) (λ h. value_spelt-said kind mask g.text)
+    either (IsOfKind kind) (is_unknown kind g) (Some Unknown) (value_spelt kind mask g.text) (λ h. unknown_said kind) (λ h. value_spelt-said kind mask g.text)
 
-initial_after-said : (kind : Kind) (mask : List ℕ) (value : Value) (a : Attribute) → IsSaid kind value → IsSaid kind (initial_after kind mask value a)
-initial_after-said kind mask value (Initial g) h = unwrapped (IsSaid kind) (initial_given kind mask g) value (initial_given-said kind mask g) h
+initial_after-said : (kind : Kind) (mask : List ℕ) (value : Value) (a : Attribute) → IsOfKind kind value → IsOfKind kind (initial_after kind mask value a)
+initial_after-said kind mask value (Initial g) h = unwrapped (IsOfKind kind) (initial_given kind mask g) value (initial_given-said kind mask g) h
 initial_after-said kind mask value (Format g) h = h
 initial_after-said kind mask value Mandatory h = h
 initial_after-said kind mask value (Order g) h = h
@@ -161,22 +160,22 @@ initial_after-said kind mask value Word h = h
 initial_after-said kind mask value (IndexField c) h = h
 initial_after-said kind mask value (Increment n) h = h
 
-default_initial-said : (kind : Kind) → IsSaid kind (default_initial kind)
-default_initial-said Character = tt
+default_initial-said : (kind : Kind) → IsOfKind kind (default_initial kind)
+default_initial-said Character = leb-true 0 MAX_TEXT_BYTES refl
 default_initial-said Integer = refl
 default_initial-said Whole64 = refl
 default_initial-said Decimal = refl
 default_initial-said Truth = tt
 default_initial-said Day = tt
 
-initials-said : (kind : Kind) (mask : List ℕ) (attributes : List Attributed) (value : Value) → IsSaid kind value → IsSaid kind (fold (λ value a. initial_after kind mask value a.attribute) value attributes)
+initials-said : (kind : Kind) (mask : List ℕ) (attributes : List Attributed) (value : Value) → IsOfKind kind value → IsOfKind kind (fold (λ value a. initial_after kind mask value a.attribute) value attributes)
 initials-said kind mask [] value h = h
 initials-said kind mask (a ∷ as_) value h = initials-said kind mask as_ (initial_after kind mask value a.attribute) (initial_after-said kind mask value a.attribute h)
 
 -- the initial value of a field is one of its kind
-pub initial_of-held : (kind : Option Kind) (mask : List ℕ) (attributes : List Attributed) → IsHeld kind (initial_of kind mask attributes)
-initial_of-held None mask attributes = refl
-initial_of-held (Some kind) mask attributes = initials-said kind mask attributes (default_initial kind) (default_initial-said kind)
+pub initial_of-fits : (kind : Option Kind) (mask : List ℕ) (attributes : List Attributed) → IsOfField kind (initial_of kind mask attributes)
+initial_of-fits None mask attributes = refl
+initial_of-fits (Some kind) mask attributes = initials-said kind mask attributes (default_initial kind) (default_initial-said kind)
 
 -- ---- sequences
 

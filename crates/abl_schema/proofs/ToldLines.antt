@@ -1,7 +1,7 @@
 -- The lines of a schema's canonical text tell its tables and sequences.
 use Rattle.std.proofs.Common.{◌≡◌, ◌≢◌, ℕ, zero, suc, ◌<◌, Bool, true, false, ◌||◌, if◌then◌else◌, List, [], ◌∷◌, ◌++◌, length, map, get_or, Option, Some, None, refl, sym, ap, subst, ◌∙◌, arith, append_assoc}
 use Rattle.std.specs.Prelude.{codes, nat_lt, slice_index_or}
-use Rattle.std.specs.List.{flat_map, list_all}
+use Rattle.std.specs.List.{AllByRecursion, flat_map, list_all}
 use Rattle.std.proofs.lemmas.Bool.{and_parts, or_parts, or_right, ltb-true, both_ways}
 use Rattle.std.proofs.lemmas.List.{get_or-map, length-map}
 use Rattle.abl_base.specs.declared.value.Kind.{Kind}
@@ -9,15 +9,18 @@ use Rattle.abl_base.specs.declared.value.Kind.TheVariants.{Character, Integer, I
 use Rattle.abl_base.specs.declared.value.Value.{Value}
 use Rattle.abl_values.specs.declared.schema.FieldDef.{FieldDef}
 use Rattle.abl_values.specs.declared.schema.Part.{Part}
+use Rattle.abl_values.specs.Fit.{IsOfField}
 use Rattle.abl_values.specs.Order.{folded}
 use Rattle.abl_values.specs.Schema.{field_line, field_names, kind_text, letter, no_field, part_text, same_name}
 use Rattle.abl_values.specs.Texts.{export_text}
 use Rattle.schema_lines.specs.Forms.{kind_named}
 use Rattle.abl_schema.specs.Laws.{told_field}
 use Rattle.abl_schema.specs.Rules.{has_twice, is_among}
+use Rattle.abl_schema.specs.Sound.{IsSoundField}
 use Rattle.abl_schema.proofs.SizesNames.{same_if}
 use Rattle.abl_schema.proofs.ToldBytes.{IsPlain, cut, heads, tails}
-use Rattle.abl_schema.proofs.ToldValues.{IsHeld, value-tells}
+use Rattle.abl_schema.proofs.ToldNames.{is_name-plain}
+use Rattle.abl_schema.proofs.ToldValues.{value-tells}
 
 -- ---- what the first byte tells
 
@@ -65,13 +68,8 @@ letter-tells false false on off h e = refl
 
 -- ---- fields
 
-pub record IsGoodField (f : FieldDef) : Type 0 where
-  pub name : IsPlain (folded f.name)
-  pub initial : IsHeld f.kind f.initial
-
-abbrev pub AreGoodFields : List FieldDef → Type 0
-AreGoodFields [] = Unit {0}
-AreGoodFields (f ∷ fs) = IsGoodField f × AreGoodFields fs
+abbrev pub AreSoundFields : List FieldDef → Type 0
+AreSoundFields fs = AllByRecursion IsSoundField fs
 
 nest_field : (p n k l e r : List ℕ) → p ++ n ++ 32 ∷ k ++ 32 ∷ l ++ 32 ∷ e ++ 10 ∷ [] ++ r ≡ p ++ (n ++ 32 ∷ (k ++ 32 ∷ (l ++ 32 ∷ (e ++ 10 ∷ r))))
 nest_field p n k l e r =
@@ -91,27 +89,27 @@ pub record FieldTold (f g : FieldDef) (r s : List ℕ) : Type 0 where
   pub field : told_field f ≡ told_field g
   pub rest : r ≡ s
 
-field-tells : (f g : FieldDef) → IsGoodField f → IsGoodField g → (r s : List ℕ) → field_line f ++ r ≡ field_line g ++ s → FieldTold f g r s
+field-tells : (f g : FieldDef) → IsSoundField f → IsSoundField g → (r s : List ℕ) → field_line f ++ r ≡ field_line g ++ s → FieldTold f g r s
 field-tells f g hf hg r s e =
     let from_letter = λ (h : FieldDef) (t : List ℕ). letter h.mandatory 77 79 ++ 32 ∷ (export_text h.initial ++ 10 ∷ t) in
     let from_kind = λ (h : FieldDef) (t : List ℕ). kind_text h.kind ++ 32 ∷ from_letter h t in
     let from_name = λ (h : FieldDef) (t : List ℕ). folded h.name ++ 32 ∷ from_kind h t in
     let nested = λ (h : FieldDef) (t : List ℕ). nest_field (codes "F ") (folded h.name) (kind_text h.kind) (letter h.mandatory 77 79) (export_text h.initial) t in
     let named : from_name f r ≡ from_name g s = tails 32 32 (from_name f r) (from_name g s) (tails 70 70 (32 ∷ from_name f r) (32 ∷ from_name g s) (sym (nested f r) ∙ e ∙ nested g s)) in
-    let names = cut (folded f.name) (folded g.name) 32 32 (from_kind f r) (from_kind g s) hf.name hg.name (omega arith) (omega arith) named in
+    let names = cut (folded f.name) (folded g.name) 32 32 (from_kind f r) (from_kind g s) (is_name-plain f.name hf.name) (is_name-plain g.name hg.name) (omega arith) (omega arith) named in
     let kinds = cut (kind_text f.kind) (kind_text g.kind) 32 32 (from_letter f r) (from_letter g s) (kind_text-plain f.kind) (kind_text-plain g.kind) (omega arith) (omega arith) names.rests in
     let kind = kind_text-tells f.kind g.kind kinds.words in
     let one = λ (h : FieldDef). letter_of h.mandatory 77 79 in
     let two = λ (h : FieldDef) (t : List ℕ). export_text h.initial ++ 10 ∷ t in
     let mandatory = letter-tells f.mandatory g.mandatory 77 79 (λ k. omega (arith, k)) (heads (one f) (one g) (32 ∷ two f r) (32 ∷ two g s) kinds.rests) in
-    let value = value-tells f.kind f.initial g.initial hf.initial (subst (λ k. IsHeld k g.initial) (sym kind) hg.initial) r s (tails 32 32 (two f r) (two g s) (tails (one f) (one g) (32 ∷ two f r) (32 ∷ two g s) kinds.rests)) in
+    let value = value-tells f.kind f.initial g.initial hf.initial (subst (λ k. IsOfField k g.initial) (sym kind) hg.initial) r s (tails 32 32 (two f r) (two g s) (tails (one f) (one g) (32 ∷ two f r) (32 ∷ two g s) kinds.rests)) in
     record { field = same_field f g names.words kind value.value mandatory; rest = value.rest }
 
 pub record FieldsTold (fs gs : List FieldDef) (r s : List ℕ) : Type 0 where
   pub fields : map told_field fs ≡ map told_field gs
   pub rest : r ≡ s
 
-pub fields-tell : (fs gs : List FieldDef) → AreGoodFields fs → AreGoodFields gs → (r s : List ℕ) → first r ≢ 70 → first s ≢ 70
+pub fields-tell : (fs gs : List FieldDef) → AreSoundFields fs → AreSoundFields gs → (r s : List ℕ) → first r ≢ 70 → first s ≢ 70
     → flat_map field_line fs ++ r ≡ flat_map field_line gs ++ s → FieldsTold fs gs r s
 fields-tell [] [] hf hg r s hr hs e = record { fields = refl; rest = e }
 fields-tell [] (g ∷ gs) hf hg r s hr hs e = absurd (hr (ap first e))
@@ -143,8 +141,7 @@ place-tells (n ∷ ns) h (suc p) zero hp hq e =
 place-tells (n ∷ ns) h (suc p) (suc q) hp hq e = ap suc (place-tells ns (or_parts (is_among n ns) (has_twice ns) h).1 p q (omega arith) (omega arith) e)
 
 abbrev pub AreWithin : ℕ → List Part → Type 0
-AreWithin count [] = Unit {0}
-AreWithin count (p ∷ ps) = (p.field < count) × AreWithin count ps
+AreWithin count ps = AllByRecursion (λ p. p.field < count) ps
 
 nest_part : (n d r : List ℕ) → 32 ∷ n ++ 32 ∷ d ++ r ≡ 32 ∷ (n ++ 32 ∷ (d ++ r))
 nest_part n d r = append_assoc (32 ∷ n) (32 ∷ d) r
@@ -152,9 +149,9 @@ nest_part n d r = append_assoc (32 ∷ n) (32 ∷ d) r
 abbrev name_at : List FieldDef → Part → List ℕ
 name_at fields p = folded (slice_index_or fields p.field no_field).name
 
-name_at-plain : (fields : List FieldDef) (n : ℕ) → AreGoodFields fields → n < length fields → IsPlain (folded (get_or fields n no_field).name)
+name_at-plain : (fields : List FieldDef) (n : ℕ) → AreSoundFields fields → n < length fields → IsPlain (folded (get_or fields n no_field).name)
 name_at-plain [] n h k = absurd (omega arith)
-name_at-plain (f ∷ fs) zero h k = h.0.name
+name_at-plain (f ∷ fs) zero h k = is_name-plain f.name h.0.name
 name_at-plain (f ∷ fs) (suc n) h k = name_at-plain fs n h.1 (omega arith)
 
 abbrev part_as : ℕ → Bool → Part
@@ -165,7 +162,7 @@ pub record PartsTold (ps qs : List Part) (r s : List ℕ) : Type 0 where
   pub rest : r ≡ s
 
 -- two tables with the same fields but for the case of names and masks
-module _ (fs gs : List FieldDef) (told : map told_field fs ≡ map told_field gs) (hf : AreGoodFields fs) (hg : AreGoodFields gs) (once : has_twice (field_names fs) ≡ false) where
+module _ (fs gs : List FieldDef) (told : map told_field fs ≡ map told_field gs) (hf : AreSoundFields fs) (hg : AreSoundFields gs) (once : has_twice (field_names fs) ≡ false) where
   as_many : length fs ≡ length gs
   as_many = sym (length-map fs told_field) ∙ ap length told ∙ length-map gs told_field
 

@@ -1,18 +1,17 @@
--- The tables and sequences that a file without violation means can be told from their lines.
-use Rattle.std.proofs.Common.{◌≡◌, inl, inr, ℕ, ◌+◌, ◌<◌, ◌≤◌, Bool, true, false, not, ◌==◌, ◌&&◌, ◌||◌, if◌then◌else◌, cond, List, [], ◌∷◌, ◌++◌, length, map, Option, Some, None, refl, sym, ap, subst, ◌∙◌, arith}
-use Rattle.std.specs.Prelude.{codes, is_some, nat_le, position}
-use Rattle.std.specs.List.{flat_map, list_all}
+-- A file without violation means a sound schema.
+use Rattle.std.proofs.Common.{◌≡◌, ℕ, ◌+◌, ◌<◌, ◌≤◌, Bool, true, false, not, ◌&&◌, ◌||◌, if◌then◌else◌, cond, List, [], ◌∷◌, ◌++◌, length, map, Option, Some, None, refl, sym, ap, subst, ◌∙◌, arith}
+use Rattle.std.specs.Prelude.{IfSome, codes, count_by, is_some, nat_le, position}
+use Rattle.std.specs.List.{AllByRecursion, flat_map, list_all}
 use Rattle.std.proofs.lemmas.Bool.{and_parts, not_from_false, or_from, or_parts}
-use Rattle.std.proofs.lemmas.Bool.Decides.{nat_tests}
 use Rattle.std.proofs.lemmas.List.{length-map}
+use Rattle.std.proofs.lemmas.List.Elements.{All-from_recursion}
 use Rattle.std.proofs.lemmas.List.Quantifiers.{position-Some}
 use Rattle.abl_base.specs.declared.value.Kind.{Kind}
-use Rattle.abl_values.specs.declared.named.TheConstants.{MAX_NAME_BYTES}
 use Rattle.abl_values.specs.declared.schema.FieldDef.{FieldDef}
 use Rattle.abl_values.specs.declared.schema.Part.{Part}
 use Rattle.abl_values.specs.declared.schema.IndexDef.{IndexDef}
-use Rattle.abl_values.specs.Masks.{is_digit}
-use Rattle.abl_values.specs.Order.{folded, folded_byte}
+use Rattle.abl_values.specs.declared.schema.TableDef.{TableDef}
+use Rattle.abl_values.specs.declared.schema.SequenceDef.{SequenceDef}
 use Rattle.abl_values.specs.Schema.{field_names, number_of_name, same_name}
 use Rattle.schema_lines.specs.declared.item.Component.{Component}
 use Rattle.schema_lines.specs.declared.item.Head.{Head}
@@ -23,54 +22,29 @@ use Rattle.schema_lines.specs.declared.item.Attributed.{Attributed}
 use Rattle.schema_lines.specs.declared.item.Item.{Item}
 use Rattle.schema_lines.specs.declared.item.Line.{Line}
 use Rattle.schema_lines.specs.declared.item.Line.TheVariants.{Skipped, Begins, Says}
-use Rattle.schema_lines.specs.Attributes.{format_of, increment_of, kind_of, start_of}
+use Rattle.schema_lines.specs.Attributes.{format_of, kind_of}
 use Rattle.schema_lines.specs.Files.{Lot, gathered, items_of, line_before}
 use Rattle.schema_lines.specs.Forms.{added, attribute_line, component, given, said, text_given}
 use Rattle.schema_lines.specs.Initials.{mask_of}
-use Rattle.schema_lines.specs.Lines.{after_word, begins, is_letter, is_name, is_name_byte, lines_of, quote_of, word_of}
+use Rattle.schema_lines.specs.Lines.{after_word, begins, is_name, lines_of, quote_of, word_of}
 use Rattle.schema_lines.specs.Numbers.{long_number, small_number}
-use Rattle.abl_schema.specs.Meaning.{Listed, Ordered, by_order, fields_in_text, fields_of, field_said, first_number, index_said, indexes_of, is_usable, listed_index, ordered_field, part_named, part_of, part_said, parts_of, placed, primary_of, table_def}
-use Rattle.abl_schema.specs.Rules.{first_after, has_twice, is_among, is_misnamed}
+use Rattle.abl_schema.specs.Meaning.{Listed, Ordered, by_order, fields_in_text, fields_of, field_said, first_number, index_said, indexes_of, is_usable, listed_index, order_said, ordered_field, part_named, part_of, part_said, parts_of, placed, primary_of, schema_of, sequence_said, table_def, table_said}
+use Rattle.abl_schema.specs.Rules.{first_after, has_twice, is_among, is_misnamed, violation_of}
+use Rattle.abl_schema.specs.Sound.{IsSound, IsSoundField, IsSoundIndex, IsSoundSequence, IsSoundTable}
+use Rattle.abl_schema.specs.Laws.{SchemasOfFilesAreSound}
 use Rattle.abl_schema.proofs.SizesNames.{same_name-swap}
-use Rattle.abl_schema.proofs.SizesSound.{IsSound, all_more, grown, is_sound}
+use Rattle.abl_schema.proofs.SizesSound.{IsSoundSoFar, all_more, grown, is_sound}
 use Rattle.abl_schema.proofs.SizesFound.{field_in}
 use Rattle.abl_schema.proofs.SizesAdded.{fields_in_text-names}
-use Rattle.abl_schema.proofs.ToldBytes.{IsPlain}
-use Rattle.abl_schema.proofs.ToldGiven.{AreGoodAttributes, IsGoodAttribute, increment_of-fits, initial_of-held, long_fits, start_of-fits}
-use Rattle.abl_schema.proofs.ToldLines.{AreGoodFields, AreWithin, IsGoodField}
-use Rattle.abl_schema.proofs.ToldTables.{AreGoodEntries, AreGoodIndexes, Entry, IsGoodTable, IsPrimaryOf}
+use Rattle.abl_schema.proofs.ToldGiven.{AreGoodAttributes, IsGoodAttribute, increment_of-fits, initial_of-fits, long_fits, start_of-fits}
+use Rattle.abl_schema.proofs.ToldLines.{AreSoundFields, AreWithin}
+use Rattle.abl_schema.proofs.ToldTables.{AreSoundIndexes, one_more}
 
 -- ---- names
 
 not_not : (b : Bool) → not (not b) ≡ true → b ≡ true
 not_not true h = refl
 not_not false h = h
-
-name_byte-plain : (b : ℕ) → is_name_byte b ≡ true → 32 < b
-name_byte-plain b h = grind (arith, nat_tests)
-
-folded-plain : (b : ℕ) → 32 < b → 32 < folded_byte b
-folded-plain b h = go (nat_le 65 b && nat_le b 90)
-  where
-    go : (c : Bool) → 32 < cond c (b + 32) b
-    go true = omega arith
-    go false = h
-
-name_bytes-plain : (bs : List ℕ) → list_all is_name_byte bs ≡ true → IsPlain (folded bs)
-name_bytes-plain [] h = tt
-name_bytes-plain (b ∷ bs) h =
-    let parts = and_parts (is_name_byte b) (list_all is_name_byte bs) h in
-    (folded-plain b (name_byte-plain b parts.0), name_bytes-plain bs parts.1)
-
-pub is_name-plain : (name : List ℕ) → is_name name ≡ true → IsPlain (folded name)
-is_name-plain [] h = cc
-is_name-plain (b ∷ bs) h =
-    let parts = and_parts (is_letter b) (list_all is_name_byte bs && nat_le (length (b ∷ bs)) MAX_NAME_BYTES) h in
-    let more = and_parts (list_all is_name_byte bs) (nat_le (length (b ∷ bs)) MAX_NAME_BYTES) parts.1 in
-    (folded-plain b (name_byte-plain b (letter parts.0)), name_bytes-plain bs more.0)
-  where
-    letter : is_letter b ≡ true → is_name_byte b ≡ true
-    letter h = ap (λ c. (c || is_digit b) || ((nat_le 35 b && nat_le b 38) || ((b == 45) || (b == 95)))) h
 
 -- the item's names are names
 abbrev pub is_named : Item → Bool
@@ -143,45 +117,41 @@ items_of-good text = (gathered-good 1 (lines_of text)).items
 
 -- ---- fields
 
-ordered_field-good : (name : List ℕ) (kind : Option Kind) (attributes : List Attributed) → is_name name ≡ true → IsGoodField (ordered_field name kind attributes).field
-ordered_field-good name kind attributes h = record {
-  name = is_name-plain name h;
-  initial = initial_of-held (kind_of kind attributes) (mask_of (kind_of kind attributes) (format_of attributes)) attributes;
+ordered_field-sound : (name : List ℕ) (kind : Option Kind) (attributes : List Attributed) → is_name name ≡ true → IsSoundField (ordered_field name kind attributes).field
+ordered_field-sound name kind attributes h = record {
+  name = h;
+  initial = initial_of-fits (kind_of kind attributes) (mask_of (kind_of kind attributes) (format_of attributes)) attributes;
 }
 
-AreGoodFields-append : (fs gs : List FieldDef) → AreGoodFields fs → AreGoodFields gs → AreGoodFields (fs ++ gs)
-AreGoodFields-append [] gs hf hg = hg
-AreGoodFields-append (f ∷ fs) gs hf hg = (hf.0, AreGoodFields-append fs gs hf.1 hg)
-
-field_said-good : (t : List ℕ) (attributes : List Attributed) (head : Head) (rest : List Ordered) → not (is_misnamed head) ≡ true → AreGoodFields (map field_in rest) → AreGoodFields (map field_in (field_said t attributes head ++ rest))
-field_said-good t attributes (Field name table kind) rest h k =
+field_said-sound : (t : List ℕ) (attributes : List Attributed) (head : Head) (rest : List Ordered) → not (is_misnamed head) ≡ true → AreSoundFields (map field_in rest) → AreSoundFields (map field_in (field_said t attributes head ++ rest))
+field_said-sound t attributes (Field name table kind) rest h k =
     go (same_name table t) (and_parts (is_name name) (is_name table) (not_not (is_name name && is_name table) h)).0
   where
-    go : (b : Bool) → is_name name ≡ true → AreGoodFields (map field_in (cond b (ordered_field name kind attributes ∷ []) [] ++ rest))
-    go true named = (ordered_field-good name kind attributes named, k)
+    go : (b : Bool) → is_name name ≡ true → AreSoundFields (map field_in (cond b (ordered_field name kind attributes ∷ []) [] ++ rest))
+    go true named = (ordered_field-sound name kind attributes named, k)
     go false named = k
-field_said-good t attributes (Table name) rest h k = k
-field_said-good t attributes (Index name table) rest h k = k
-field_said-good t attributes (Sequence name) rest h k = k
-field_said-good t attributes Malformed rest h k = k
+field_said-sound t attributes (Table name) rest h k = k
+field_said-sound t attributes (Index name table) rest h k = k
+field_said-sound t attributes (Sequence name) rest h k = k
+field_said-sound t attributes Malformed rest h k = k
 
-fields_in_text-good : (items : List Item) (t : List ℕ) → list_all is_named items ≡ true → AreGoodFields (map field_in (fields_in_text items t))
-fields_in_text-good [] t h = tt
-fields_in_text-good (i ∷ is) t h =
+fields_in_text-sound : (items : List Item) (t : List ℕ) → list_all is_named items ≡ true → AreSoundFields (map field_in (fields_in_text items t))
+fields_in_text-sound [] t h = tt
+fields_in_text-sound (i ∷ is) t h =
     let parts = and_parts (is_named i) (list_all is_named is) h in
-    field_said-good t i.attributes i.head (fields_in_text is t) parts.0 (fields_in_text-good is t parts.1)
+    field_said-sound t i.attributes i.head (fields_in_text is t) parts.0 (fields_in_text-sound is t parts.1)
 
-placed-good : (f : Ordered) (gs : List Ordered) → IsGoodField f.field → AreGoodFields (map field_in gs) → AreGoodFields (map field_in (placed f gs))
-placed-good f [] hf hg = (hf, tt)
-placed-good f (g ∷ gs) hf hg = go (nat_le f.order g.order) (placed-good f gs hf hg.1)
+placed-sound : (f : Ordered) (gs : List Ordered) → IsSoundField f.field → AreSoundFields (map field_in gs) → AreSoundFields (map field_in (placed f gs))
+placed-sound f [] hf hg = (hf, tt)
+placed-sound f (g ∷ gs) hf hg = go (nat_le f.order g.order) (placed-sound f gs hf hg.1)
   where
-    go : (b : Bool) → AreGoodFields (map field_in (placed f gs)) → AreGoodFields (map field_in (cond b (f ∷ g ∷ gs) (g ∷ placed f gs)))
+    go : (b : Bool) → AreSoundFields (map field_in (placed f gs)) → AreSoundFields (map field_in (cond b (f ∷ g ∷ gs) (g ∷ placed f gs)))
     go true again = (hf, hg)
     go false again = (hg.0, again)
 
-by_order-good : (fs : List Ordered) → AreGoodFields (map field_in fs) → AreGoodFields (map field_in (by_order fs))
-by_order-good [] h = tt
-by_order-good (f ∷ fs) h = placed-good f (by_order fs) h.0 (by_order-good fs h.1)
+by_order-sound : (fs : List Ordered) → AreSoundFields (map field_in fs) → AreSoundFields (map field_in (by_order fs))
+by_order-sound [] h = tt
+by_order-sound (f ∷ fs) h = placed-sound f (by_order fs) h.0 (by_order-sound fs h.1)
 
 or_swap : (a b c : Bool) → (a || (b || c)) ≡ (b || (a || c))
 or_swap true true c = refl
@@ -258,81 +228,120 @@ parts_of-within fields (a ∷ as_) = AreWithin-append (length fields) (part_said
 abbrev index_in : Listed → IndexDef
 index_in l = l.index
 
-index_said-good : (fields : List FieldDef) (t : List ℕ) (attributes : List Attributed) (head : Head) (rest : List Listed) → not (is_misnamed head) ≡ true → AreGoodIndexes (length fields) (map index_in rest)
-    → AreGoodIndexes (length fields) (map index_in (index_said fields t attributes head ++ rest))
-index_said-good fields t attributes (Index name table) rest h k =
+index_said-sound : (fields : List FieldDef) (t : List ℕ) (attributes : List Attributed) (head : Head) (rest : List Listed) → not (is_misnamed head) ≡ true → AreSoundIndexes (length fields) (map index_in rest)
+    → AreSoundIndexes (length fields) (map index_in (index_said fields t attributes head ++ rest))
+index_said-sound fields t attributes (Index name table) rest h k =
     go (same_name table t && is_usable fields attributes) (and_parts (is_name name) (is_name table) (not_not (is_name name && is_name table) h)).0
   where
-    go : (b : Bool) → is_name name ≡ true → AreGoodIndexes (length fields) (map index_in (cond b (listed_index fields name attributes ∷ []) [] ++ rest))
-    go true named = (record { name = is_name-plain name named; parts = parts_of-within fields attributes }, k)
+    go : (b : Bool) → is_name name ≡ true → AreSoundIndexes (length fields) (map index_in (cond b (listed_index fields name attributes ∷ []) [] ++ rest))
+    go true named = (record { name = named; parts = All-from_recursion (λ p. p.field < length fields) (parts_of fields attributes) (parts_of-within fields attributes) }, k)
     go false named = k
-index_said-good fields t attributes (Table name) rest h k = k
-index_said-good fields t attributes (Field name table kind) rest h k = k
-index_said-good fields t attributes (Sequence name) rest h k = k
-index_said-good fields t attributes Malformed rest h k = k
+index_said-sound fields t attributes (Table name) rest h k = k
+index_said-sound fields t attributes (Field name table kind) rest h k = k
+index_said-sound fields t attributes (Sequence name) rest h k = k
+index_said-sound fields t attributes Malformed rest h k = k
 
-indexes_of-good : (fields : List FieldDef) (t : List ℕ) (items : List Item) → list_all is_named items ≡ true → AreGoodIndexes (length fields) (map index_in (indexes_of items fields t))
-indexes_of-good fields t [] h = tt
-indexes_of-good fields t (i ∷ is) h =
+indexes_of-sound : (fields : List FieldDef) (t : List ℕ) (items : List Item) → list_all is_named items ≡ true → AreSoundIndexes (length fields) (map index_in (indexes_of items fields t))
+indexes_of-sound fields t [] h = tt
+indexes_of-sound fields t (i ∷ is) h =
     let parts = and_parts (is_named i) (list_all is_named is) h in
-    index_said-good fields t i.attributes i.head (indexes_of is fields t) parts.0 (indexes_of-good fields t is parts.1)
+    index_said-sound fields t i.attributes i.head (indexes_of is fields t) parts.0 (indexes_of-sound fields t is parts.1)
 
-no_listed : (ls : List Listed) → IsPrimaryOf (first_number ls) (length ls)
-no_listed [] = refl
+no_listed : (ls : List Listed) → IfSome (first_number ls) (λ n. n < length ls)
+no_listed [] = tt
 no_listed (l ∷ ls) = omega arith
 
 no_index : Listed
 no_index = record { primary = false; index = record { name = []; unique = false; parts = [] } }
 
-primary_of-within : (ls : List Listed) → IsPrimaryOf (primary_of ls) (length ls)
+primary_of-within : (ls : List Listed) → IfSome (primary_of ls) (λ n. n < length ls)
 primary_of-within ls = go (position (λ l. l.primary) ls) refl
   where
-    go : (o : Option ℕ) → position (λ l. l.primary) ls ≡ o → IsPrimaryOf (cond (is_some o) o (first_number ls)) (length ls)
+    go : (o : Option ℕ) → position (λ l. l.primary) ls ≡ o → IfSome (cond (is_some o) o (first_number ls)) (λ n. n < length ls)
     go None e = no_listed ls
     go (Some n) e = (position-Some (λ (l : Listed). l.primary) ls n no_index e).0
 
 -- ---- tables and sequences
 
-table_def-good : (items : List Item) (name : List ℕ) → IsSound items → list_all is_named items ≡ true → is_name name ≡ true → IsGoodTable (table_def items name)
-table_def-good items name s named h =
+table_def-sound : (items : List Item) (name : List ℕ) → IsSoundSoFar items → list_all is_named items ≡ true → is_name name ≡ true → IsSoundTable (table_def items name)
+table_def-sound items name s named h =
     let fs = fields_in_text items name in
-    let listed = indexes_of items (fields_of items name) name in
+    let fields = fields_of items name in
+    let listed = indexes_of items fields name in
     record {
-      name = is_name-plain name h;
-      fields = by_order-good fs (fields_in_text-good items name named);
-      once = twice-by_order fs (ap has_twice (fields_in_text-names items name) ∙ s.fields_once name);
-      indexes = indexes_of-good (fields_of items name) name items named;
-      primary = subst (IsPrimaryOf (primary_of listed)) (sym (length-map listed index_in)) (primary_of-within listed);
+      name = h;
+      fields = All-from_recursion IsSoundField fields (by_order-sound fs (fields_in_text-sound items name named));
+      apart = twice-by_order fs (ap has_twice (fields_in_text-names items name) ∙ s.fields_once name);
+      indexes = All-from_recursion (IsSoundIndex (length fields)) (map index_in listed) (indexes_of-sound fields name items named);
+      primary = subst (λ k. IfSome (primary_of listed) (λ n. n < k)) (sym (length-map listed index_in)) (primary_of-within listed);
     }
 
--- an item as a table or a sequence
-abbrev pub entry_said : List Item → List Attributed → Head → List Entry
-entry_said items attributes (Table name) = inl (table_def items name) ∷ []
-entry_said items attributes (Sequence name) = inr (record { name = name; initial = start_of attributes; increment = increment_of attributes }) ∷ []
-entry_said items attributes head = []
+table_said-sound : (items : List Item) (head : Head) (rest : List TableDef) → IsSoundSoFar items → list_all is_named items ≡ true → not (is_misnamed head) ≡ true → AllByRecursion IsSoundTable rest → AllByRecursion IsSoundTable (table_said items head ++ rest)
+table_said-sound items (Table name) rest s named h k = (table_def-sound items name s named (not_not (is_name name) h), k)
+table_said-sound items (Field name table kind) rest s named h k = k
+table_said-sound items (Index name table) rest s named h k = k
+table_said-sound items (Sequence name) rest s named h k = k
+table_said-sound items Malformed rest s named h k = k
 
-abbrev pub entries_in : List Item → List Item → List Entry
-entries_in items xs = flat_map (λ i. entry_said items i.attributes i.head) xs
-
-abbrev pub entries_of : List Item → List Entry
-entries_of items = entries_in items items
-
-entry_said-good : (items : List Item) (attributes : List Attributed) (head : Head) (rest : List Entry) → IsSound items → list_all is_named items ≡ true → not (is_misnamed head) ≡ true → AreGoodAttributes attributes
-    → AreGoodEntries rest → AreGoodEntries (entry_said items attributes head ++ rest)
-entry_said-good items attributes (Table name) rest s named h g k = (table_def-good items name s named (not_not (is_name name) h), k)
-entry_said-good items attributes (Sequence name) rest s named h g k =
-    (record { name = is_name-plain name (not_not (is_name name) h); initial = start_of-fits attributes; increment = increment_of-fits attributes g }, k)
-entry_said-good items attributes (Field name table kind) rest s named h g k = k
-entry_said-good items attributes (Index name table) rest s named h g k = k
-entry_said-good items attributes Malformed rest s named h g k = k
-
-entries_in-good : (items xs : List Item) → IsSound items → list_all is_named items ≡ true → list_all is_named xs ≡ true → AreGoodItems xs → AreGoodEntries (entries_in items xs)
-entries_in-good items [] s named h g = tt
-entries_in-good items (x ∷ xs) s named h g =
+tables-sound : (items xs : List Item) → IsSoundSoFar items → list_all is_named items ≡ true → list_all is_named xs ≡ true → AllByRecursion IsSoundTable (flat_map (λ i. table_said items i.head) xs)
+tables-sound items [] s named h = tt
+tables-sound items (x ∷ xs) s named h =
     let parts = and_parts (is_named x) (list_all is_named xs) h in
-    entry_said-good items x.attributes x.head (entries_in items xs) s named parts.0 g.0 (entries_in-good items xs s named parts.1 g.1)
+    table_said-sound items x.head (flat_map (λ i. table_said items i.head) xs) s named parts.0 (tables-sound items xs s named parts.1)
 
-pub entries_of-good : (items : List Item) → AreGoodItems items → first_after [] items ≡ None → AreGoodEntries (entries_of items)
-entries_of-good items g h =
+sequence_said-sound : (attributes : List Attributed) (head : Head) (rest : List SequenceDef) → not (is_misnamed head) ≡ true → AreGoodAttributes attributes → AllByRecursion IsSoundSequence rest → AllByRecursion IsSoundSequence (sequence_said attributes head ++ rest)
+sequence_said-sound attributes (Sequence name) rest h g k =
+    (record { name = not_not (is_name name) h; initial = start_of-fits attributes; increment = increment_of-fits attributes g }, k)
+sequence_said-sound attributes (Table name) rest h g k = k
+sequence_said-sound attributes (Field name table kind) rest h g k = k
+sequence_said-sound attributes (Index name table) rest h g k = k
+sequence_said-sound attributes Malformed rest h g k = k
+
+sequences-sound : (xs : List Item) → list_all is_named xs ≡ true → AreGoodItems xs → AllByRecursion IsSoundSequence (flat_map (λ i. sequence_said i.attributes i.head) xs)
+sequences-sound [] h g = tt
+sequences-sound (x ∷ xs) h g =
+    let parts = and_parts (is_named x) (list_all is_named xs) h in
+    sequence_said-sound x.attributes x.head (flat_map (λ i. sequence_said i.attributes i.head) xs) parts.0 g.0 (sequences-sound xs parts.1 g.1)
+
+-- ---- the order
+
+table_placed : (items : List Item) (head : Head) (order : List Bool) (ts : List TableDef) → count_by (λ b. b) order ≡ length ts → count_by (λ b. b) (order_said head ++ order) ≡ length (table_said items head ++ ts)
+table_placed items (Table name) order ts h = omega (arith, one_more (λ b. b) true order)
+table_placed items (Sequence name) order ts h = omega (arith, one_more (λ b. b) false order)
+table_placed items (Field name table kind) order ts h = h
+table_placed items (Index name table) order ts h = h
+table_placed items Malformed order ts h = h
+
+tables_placed : (items xs : List Item) → count_by (λ b. b) (flat_map (λ i. order_said i.head) xs) ≡ length (flat_map (λ i. table_said items i.head) xs)
+tables_placed items [] = refl
+tables_placed items (x ∷ xs) =
+    table_placed items x.head (flat_map (λ i. order_said i.head) xs) (flat_map (λ i. table_said items i.head) xs) (tables_placed items xs)
+
+sequence_placed : (attributes : List Attributed) (head : Head) (order : List Bool) (qs : List SequenceDef) → count_by not order ≡ length qs → count_by not (order_said head ++ order) ≡ length (sequence_said attributes head ++ qs)
+sequence_placed attributes (Table name) order qs h = omega (arith, one_more not true order)
+sequence_placed attributes (Sequence name) order qs h = omega (arith, one_more not false order)
+sequence_placed attributes (Field name table kind) order qs h = h
+sequence_placed attributes (Index name table) order qs h = h
+sequence_placed attributes Malformed order qs h = h
+
+sequences_placed : (xs : List Item) → count_by not (flat_map (λ i. order_said i.head) xs) ≡ length (flat_map (λ i. sequence_said i.attributes i.head) xs)
+sequences_placed [] = refl
+sequences_placed (x ∷ xs) =
+    sequence_placed x.attributes x.head (flat_map (λ i. order_said i.head) xs) (flat_map (λ i. sequence_said i.attributes i.head) xs) (sequences_placed xs)
+
+-- ---- the schema
+
+schema_of-sound : (items : List Item) → AreGoodItems items → first_after [] items ≡ None → IsSound (schema_of items)
+unfolding schema_of
+schema_of-sound items g h =
     let named = are_named items h in
-    entries_in-good items items (is_sound items h) named named g
+    record {
+      tables = All-from_recursion IsSoundTable (flat_map (λ i. table_said items i.head) items) (tables-sound items items (is_sound items h) named named);
+      sequences = All-from_recursion IsSoundSequence (flat_map (λ i. sequence_said i.attributes i.head) items) (sequences-sound items named g);
+      table_places = tables_placed items items;
+      sequence_places = sequences_placed items;
+    }
+
+pub files-sound : SchemasOfFilesAreSound
+unfolding violation_of
+files-sound text clean = schema_of-sound (items_of text) (items_of-good text) clean

@@ -1,10 +1,13 @@
 -- The canonical text tells each table and each sequence.
-use Rattle.std.proofs.Common.{◌≡◌, ◌≢◌, ◌⊎◌, inl, inr, ℕ, zero, suc, ◌+◌, ◌<◌, Bool, true, false, ◌==◌, List, [], ◌∷◌, ◌++◌, length, map, Option, Some, None, ℤ, refl, sym, ap, ◌∙◌, arith, append_assoc, zero-add, add-zero}
-use Rattle.std.specs.Prelude.{codes}
-use Rattle.std.specs.List.{flat_map}
+use Rattle.std.proofs.Common.{◌≡◌, ◌≢◌, ◌⊎◌, inl, inr, ℕ, zero, suc, ◌+◌, ◌<◌, Bool, true, false, ◌==◌, cond, List, [], ◌∷◌, ◌++◌, length, map, Option, Some, None, ℤ, refl, sym, ap, ◌∙◌, arith, append_assoc, zero-add, add-zero}
+use Rattle.std.specs.Prelude.{IfSome, codes, count_by}
+use Rattle.std.specs.List.{AllByRecursion, flat_map}
 use Rattle.std.specs.Fmt.{signed_decimal}
 use Rattle.std.proofs.lemmas.Bool.{eqb-true, eq-eqb}
+use Rattle.std.proofs.lemmas.Bool.Decides.{nat_tests}
 use Rattle.std.proofs.lemmas.List.{length-map}
+use Rattle.std.proofs.lemmas.List.Elements.{recursion_from_All}
+use Rattle.std.proofs.lemmas.List.Sums.{sum_by-cons}
 use Rattle.abl_values.specs.declared.schema.FieldDef.{FieldDef}
 use Rattle.abl_values.specs.declared.schema.Part.{Part}
 use Rattle.abl_values.specs.declared.schema.IndexDef.{IndexDef}
@@ -15,18 +18,15 @@ use Rattle.abl_values.specs.Order.{folded}
 use Rattle.abl_values.specs.Schema.{field_line, field_names, index_line, index_lines, is_number, letter, part_text, sequence_line, table_lines}
 use Rattle.abl_schema.specs.Laws.{told_field, told_index, told_sequence}
 use Rattle.abl_schema.specs.Rules.{has_twice}
-use Rattle.abl_schema.proofs.ToldBytes.{IsPlain, cut, marks_are_plain, signed_decimal-marks, signed_decimal-tells, heads, tails}
-use Rattle.abl_schema.proofs.ToldLines.{AreGoodFields, AreWithin, fields-tell, first, letter-tells, letter_of, parts-tell}
+use Rattle.abl_schema.specs.Sound.{IsSoundField, IsSoundIndex, IsSoundSequence, IsSoundTable}
+use Rattle.abl_schema.proofs.ToldNames.{is_name-plain}
+use Rattle.abl_schema.proofs.ToldBytes.{cut, marks_are_plain, signed_decimal-marks, signed_decimal-tells, heads, tails}
+use Rattle.abl_schema.proofs.ToldLines.{AreSoundFields, fields-tell, first, letter-tells, letter_of, parts-tell}
 
 -- ---- indexes
 
-pub record IsGoodIndex (count : ℕ) (i : IndexDef) : Type 0 where
-  pub name : IsPlain (folded i.name)
-  pub parts : AreWithin count i.parts
-
-abbrev pub AreGoodIndexes : ℕ → List IndexDef → Type 0
-AreGoodIndexes count [] = Unit {0}
-AreGoodIndexes count (i ∷ is) = IsGoodIndex count i × AreGoodIndexes count is
+abbrev pub AreSoundIndexes : ℕ → List IndexDef → Type 0
+AreSoundIndexes count is = AllByRecursion (IsSoundIndex count) is
 
 nest_index : (p n u l c r : List ℕ) → p ++ n ++ 32 ∷ u ++ 32 ∷ l ++ c ++ 10 ∷ [] ++ r ≡ p ++ (n ++ 32 ∷ (u ++ 32 ∷ (l ++ (c ++ 10 ∷ r))))
 nest_index p n u l c r =
@@ -42,18 +42,13 @@ pub record IndexTold (i j : IndexDef) (b c : Bool) (r s : List ℕ) : Type 0 whe
   pub primary : b ≡ c
   pub rest : r ≡ s
 
--- the primary index is one of these, and there is none only where there is no index
-abbrev pub IsPrimaryOf : Option ℕ → ℕ → Type 0
-IsPrimaryOf None count = count ≡ 0
-IsPrimaryOf (Some n) count = n < count
-
 pub record IndexesTold (primary other : Option ℕ) (n : ℕ) (is js : List IndexDef) (r s : List ℕ) : Type 0 where
   pub indexes : map told_index is ≡ map told_index js
   pub flags : (k : ℕ) → k < length is → is_number primary (n + k) ≡ is_number other (n + k)
   pub rest : r ≡ s
 
-module _ (fs gs : List FieldDef) (told : map told_field fs ≡ map told_field gs) (hf : AreGoodFields fs) (hg : AreGoodFields gs) (once : has_twice (field_names fs) ≡ false) where
-  index-tells : (i j : IndexDef) (b c : Bool) → IsGoodIndex (length fs) i → IsGoodIndex (length gs) j → (r s : List ℕ) → index_line fs b i ++ r ≡ index_line gs c j ++ s → IndexTold i j b c r s
+module _ (fs gs : List FieldDef) (told : map told_field fs ≡ map told_field gs) (hf : AreSoundFields fs) (hg : AreSoundFields gs) (once : has_twice (field_names fs) ≡ false) where
+  index-tells : (i j : IndexDef) (b c : Bool) → IsSoundIndex (length fs) i → IsSoundIndex (length gs) j → (r s : List ℕ) → index_line fs b i ++ r ≡ index_line gs c j ++ s → IndexTold i j b c r s
   index-tells i j b c hi hj r s e =
       let one = λ (x : IndexDef). letter_of x.unique 85 78 in
       let parts_f = flat_map (part_text fs) i.parts ++ 10 ∷ r in
@@ -67,18 +62,18 @@ module _ (fs gs : List FieldDef) (told : map told_field fs ≡ map told_field gs
       let left = nest_index (codes "I ") (folded i.name) (letter i.unique 85 78) (letter b 80 78) (flat_map (part_text fs) i.parts) r in
       let right = nest_index (codes "I ") (folded j.name) (letter j.unique 85 78) (letter c 80 78) (flat_map (part_text gs) j.parts) s in
       let named = tails 32 32 name_f name_g (tails 73 73 (32 ∷ name_f) (32 ∷ name_g) (sym left ∙ e ∙ right)) in
-      let names = cut (folded i.name) (folded j.name) 32 32 unique_f unique_g hi.name hj.name (omega arith) (omega arith) named in
+      let names = cut (folded i.name) (folded j.name) 32 32 unique_f unique_g (is_name-plain i.name hi.name) (is_name-plain j.name hj.name) (omega arith) (omega arith) named in
       let unique = letter-tells i.unique j.unique 85 78 (λ k. omega (arith, k)) (heads (one i) (one j) (32 ∷ primary_f) (32 ∷ primary_g) names.rests) in
       let after = tails 32 32 primary_f primary_g (tails (one i) (one j) (32 ∷ primary_f) (32 ∷ primary_g) names.rests) in
       let primary = letter-tells b c 80 78 (λ k. omega (arith, k)) (heads (letter_of b 80 78) (letter_of c 80 78) parts_f parts_g after) in
-      let parts = parts-tell fs gs told hf hg once i.parts j.parts hi.parts hj.parts r s (tails (letter_of b 80 78) (letter_of c 80 78) parts_f parts_g after) in
+      let parts = parts-tell fs gs told hf hg once i.parts j.parts (recursion_from_All (λ p. p.field < length fs) i.parts hi.parts) (recursion_from_All (λ p. p.field < length gs) j.parts hj.parts) r s (tails (letter_of b 80 78) (letter_of c 80 78) parts_f parts_g after) in
       record {
         index = ap (λ x. index_as x i.unique i.parts) names.words ∙ ap (λ x. index_as (folded j.name) x i.parts) unique ∙ ap (λ x. index_as (folded j.name) j.unique x) parts.parts;
         primary = primary;
         rest = parts.rest;
       }
 
-  pub indexes-tell : (primary other : Option ℕ) (n : ℕ) (is js : List IndexDef) → AreGoodIndexes (length fs) is → AreGoodIndexes (length gs) js → (r s : List ℕ) → first r ≢ 73 → first s ≢ 73
+  pub indexes-tell : (primary other : Option ℕ) (n : ℕ) (is js : List IndexDef) → AreSoundIndexes (length fs) is → AreSoundIndexes (length gs) js → (r s : List ℕ) → first r ≢ 73 → first s ≢ 73
       → index_lines fs primary n is ++ r ≡ index_lines gs other n js ++ s → IndexesTold primary other n is js r s
   indexes-tell primary other n [] [] hi hj r s hr hs e = record { indexes = refl; flags = λ k h. absurd (omega arith); rest = e }
   indexes-tell primary other n [] (j ∷ js) hi hj r s hr hs e = absurd (hr (ap first e))
@@ -101,22 +96,21 @@ module _ (fs gs : List FieldDef) (told : map told_field fs ≡ map told_field gs
           let same : n + suc k ≡ n + 1 + k = omega arith in
           ap (is_number p) same ∙ more k (omega arith) ∙ ap (is_number q) (sym same)
 
-primary-told : (p q : Option ℕ) (m n : ℕ) → m ≡ n → IsPrimaryOf p m → IsPrimaryOf q n → ((k : ℕ) → k < m → is_number p (0 + k) ≡ is_number q (0 + k)) → p ≡ q
+primary-told : (p q : Option ℕ) (m n : ℕ) → m ≡ n → IfSome p (λ k. k < m) → IfSome q (λ k. k < n) → ((k : ℕ) → k < m → is_number p (0 + k) ≡ is_number q (0 + k)) → p ≡ q
 primary-told None None m n same hp hq flags = refl
-primary-told None (Some j) m n same hp hq flags = absurd (omega arith)
-primary-told (Some k) None m n same hp hq flags = absurd (omega arith)
+primary-told None (Some j) m n same hp hq flags = absurd (none_is j (flags j (omega arith)))
+  where
+    none_is : (j : ℕ) → false ≡ (j == 0 + j) → ⊥
+    none_is j e = grind (arith, nat_tests)
+primary-told (Some k) None m n same hp hq flags = absurd (none_is k (flags k hp))
+  where
+    none_is : (k : ℕ) → (k == 0 + k) ≡ false → ⊥
+    none_is k e = grind (arith, nat_tests)
 primary-told (Some k) (Some j) m n same hp hq flags =
     let here : (k == k) ≡ (j == k) = ap (is_number (Some k)) (sym (zero-add k)) ∙ flags k hp ∙ ap (is_number (Some j)) (zero-add k) in
     ap Some (sym (eqb-true j k (sym here ∙ eq-eqb k k refl)))
 
 -- ---- tables
-
-pub record IsGoodTable (t : TableDef) : Type 0 where
-  pub name : IsPlain (folded t.name)
-  pub fields : AreGoodFields t.fields
-  pub once : has_twice (field_names t.fields) ≡ false
-  pub indexes : AreGoodIndexes (length t.fields) t.indexes
-  pub primary : IsPrimaryOf t.primary (length t.indexes)
 
 abbrev pub told_table : TableDef → TableDef
 told_table t = record { name = folded t.name; fields = map told_field t.fields; indexes = map told_index t.indexes; primary = t.primary }
@@ -141,7 +135,7 @@ no_field_line : (fields : List FieldDef) (primary : Option ℕ) (is : List Index
 no_field_line fields primary [] r h = h
 no_field_line fields primary (i ∷ is) r h = λ e. omega (arith, e)
 
-pub table-tells : (t u : TableDef) → IsGoodTable t → IsGoodTable u → (r s : List ℕ) → IsPast r → IsPast s → table_lines t ++ r ≡ table_lines u ++ s → TableTold t u r s
+pub table-tells : (t u : TableDef) → IsSoundTable t → IsSoundTable u → (r s : List ℕ) → IsPast r → IsPast s → table_lines t ++ r ≡ table_lines u ++ s → TableTold t u r s
 table-tells t u ht hu r s hr hs e =
     let indexes_t = index_lines t.fields t.primary 0 t.indexes ++ r in
     let indexes_u = index_lines u.fields u.primary 0 u.indexes ++ s in
@@ -151,10 +145,12 @@ table-tells t u ht hu r s hr hs e =
     let name_u = folded u.name ++ 10 ∷ fields_u in
     let left = nest_table (codes "T ") (folded t.name) (flat_map field_line t.fields) (index_lines t.fields t.primary 0 t.indexes) r in
     let right = nest_table (codes "T ") (folded u.name) (flat_map field_line u.fields) (index_lines u.fields u.primary 0 u.indexes) s in
+    let fields_sound = λ (x : TableDef) (h : IsSoundTable x). recursion_from_All IsSoundField x.fields h.fields in
+    let indexes_sound = λ (x : TableDef) (h : IsSoundTable x). recursion_from_All (IsSoundIndex (length x.fields)) x.indexes h.indexes in
     let named = tails 32 32 name_t name_u (tails 84 84 (32 ∷ name_t) (32 ∷ name_u) (sym left ∙ e ∙ right)) in
-    let names = cut (folded t.name) (folded u.name) 10 10 fields_t fields_u ht.name hu.name (omega arith) (omega arith) named in
-    let fields = fields-tell t.fields u.fields ht.fields hu.fields indexes_t indexes_u (no_field_line t.fields t.primary t.indexes r hr.fields) (no_field_line u.fields u.primary u.indexes s hs.fields) names.rests in
-    let indexes = indexes-tell t.fields u.fields fields.fields ht.fields hu.fields ht.once t.primary u.primary 0 t.indexes u.indexes ht.indexes hu.indexes r s hr.indexes hs.indexes fields.rest in
+    let names = cut (folded t.name) (folded u.name) 10 10 fields_t fields_u (is_name-plain t.name ht.name) (is_name-plain u.name hu.name) (omega arith) (omega arith) named in
+    let fields = fields-tell t.fields u.fields (fields_sound t ht) (fields_sound u hu) indexes_t indexes_u (no_field_line t.fields t.primary t.indexes r hr.fields) (no_field_line u.fields u.primary u.indexes s hs.fields) names.rests in
+    let indexes = indexes-tell t.fields u.fields fields.fields (fields_sound t ht) (fields_sound u hu) ht.apart t.primary u.primary 0 t.indexes u.indexes (indexes_sound t ht) (indexes_sound u hu) r s hr.indexes hs.indexes fields.rest in
     let many : length t.indexes ≡ length u.indexes = sym (length-map t.indexes told_index) ∙ ap length indexes.indexes ∙ length-map u.indexes told_index in
     let primary = primary-told t.primary u.primary (length t.indexes) (length u.indexes) many ht.primary hu.primary indexes.flags in
     record {
@@ -168,11 +164,6 @@ table-tells t u ht hu r s hr hs e =
 
 -- ---- sequences
 
-pub record IsGoodSequence (q : SequenceDef) : Type 0 where
-  pub name : IsPlain (folded q.name)
-  pub initial : fits_bits 63 q.initial ≡ true
-  pub increment : fits_bits 63 q.increment ≡ true
-
 abbrev sequence_as : List ℕ → ℤ → ℤ → SequenceDef
 sequence_as name initial increment = record { name = name; initial = initial; increment = increment }
 
@@ -185,7 +176,7 @@ pub record SequenceTold (p q : SequenceDef) (r s : List ℕ) : Type 0 where
   pub told : told_sequence p ≡ told_sequence q
   pub rest : r ≡ s
 
-pub sequence-tells : (p q : SequenceDef) → IsGoodSequence p → IsGoodSequence q → (r s : List ℕ) → sequence_line p ++ r ≡ sequence_line q ++ s → SequenceTold p q r s
+pub sequence-tells : (p q : SequenceDef) → IsSoundSequence p → IsSoundSequence q → (r s : List ℕ) → sequence_line p ++ r ≡ sequence_line q ++ s → SequenceTold p q r s
 sequence-tells p q hp hq r s e =
     let from_increment = λ (x : SequenceDef) (t : List ℕ). signed_decimal x.increment ++ 10 ∷ t in
     let from_initial = λ (x : SequenceDef) (t : List ℕ). signed_decimal x.initial ++ 32 ∷ from_increment x t in
@@ -193,7 +184,7 @@ sequence-tells p q hp hq r s e =
     let nested = λ (x : SequenceDef) (t : List ℕ). nest_sequence (codes "S ") (folded x.name) (signed_decimal x.initial) (signed_decimal x.increment) t in
     let plain = λ (z : ℤ) (h : fits_bits 63 z ≡ true). marks_are_plain (signed_decimal z) (signed_decimal-marks z h) in
     let named = tails 32 32 (from_name p r) (from_name q s) (tails 83 83 (32 ∷ from_name p r) (32 ∷ from_name q s) (sym (nested p r) ∙ e ∙ nested q s)) in
-    let names = cut (folded p.name) (folded q.name) 32 32 (from_initial p r) (from_initial q s) hp.name hq.name (omega arith) (omega arith) named in
+    let names = cut (folded p.name) (folded q.name) 32 32 (from_initial p r) (from_initial q s) (is_name-plain p.name hp.name) (is_name-plain q.name hq.name) (omega arith) (omega arith) named in
     let initials = cut (signed_decimal p.initial) (signed_decimal q.initial) 32 32 (from_increment p r) (from_increment q s) (plain p.initial hp.initial) (plain q.initial hq.initial) (omega arith) (omega arith) names.rests in
     let increments = cut (signed_decimal p.increment) (signed_decimal q.increment) 10 10 r s (plain p.increment hp.increment) (plain q.increment hq.increment) (omega arith) (omega arith) initials.rests in
     record {
@@ -222,13 +213,12 @@ abbrev pub entry_sequences : Entry → List SequenceDef
 entry_sequences (inl t) = []
 entry_sequences (inr q) = q ∷ []
 
-abbrev pub IsGoodEntry : Entry → Type 0
-IsGoodEntry (inl t) = IsGoodTable t
-IsGoodEntry (inr q) = IsGoodSequence q
+abbrev pub IsSoundEntry : Entry → Type 0
+IsSoundEntry (inl t) = IsSoundTable t
+IsSoundEntry (inr q) = IsSoundSequence q
 
-abbrev pub AreGoodEntries : List Entry → Type 0
-AreGoodEntries [] = Unit {0}
-AreGoodEntries (e ∷ es) = IsGoodEntry e × AreGoodEntries es
+abbrev pub AreSoundEntries : List Entry → Type 0
+AreSoundEntries es = AllByRecursion IsSoundEntry es
 
 is_past : (es : List Entry) → IsPast (flat_map entry_text es)
 is_past [] = record { fields = λ e. omega (arith, e); indexes = λ e. omega (arith, e) }
@@ -239,7 +229,7 @@ pub record EntriesTold (es fs : List Entry) : Type 0 where
   pub tables : map told_table (flat_map entry_tables es) ≡ map told_table (flat_map entry_tables fs)
   pub sequences : map told_sequence (flat_map entry_sequences es) ≡ map told_sequence (flat_map entry_sequences fs)
 
-pub entries-tell : (es fs : List Entry) → AreGoodEntries es → AreGoodEntries fs → flat_map entry_text es ≡ flat_map entry_text fs → EntriesTold es fs
+pub entries-tell : (es fs : List Entry) → AreSoundEntries es → AreSoundEntries fs → flat_map entry_text es ≡ flat_map entry_text fs → EntriesTold es fs
 entries-tell [] [] he hf e = record { tables = refl; sequences = refl }
 entries-tell [] (inl t ∷ fs) he hf e = absurd (omega (arith, ap first e))
 entries-tell [] (inr q ∷ fs) he hf e = absurd (omega (arith, ap first e))
@@ -261,3 +251,8 @@ entries-tell (inr p ∷ es) (inr q ∷ fs) he hf e =
       tables = more.tables;
       sequences = ap (λ (x : SequenceDef). x ∷ map told_sequence (flat_map entry_sequences es)) one.told ∙ ap (λ (xs : List SequenceDef). told_sequence q ∷ xs) more.sequences;
     }
+
+-- ---- how many there are
+
+pub one_more : (p : Bool → Bool) (b : Bool) (order : List Bool) → count_by p (b ∷ order) ≡ cond (p b) 1 0 + count_by p order
+one_more p b order = sum_by-cons (λ c. cond (p c) 1 0) b order

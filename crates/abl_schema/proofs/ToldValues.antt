@@ -7,12 +7,15 @@ use Rattle.std.specs.Int.{is_negative}
 use Rattle.std.specs.Prelude.{nat_le}
 use Rattle.abl_base.specs.declared.value.Kind.{Kind}
 use Rattle.abl_base.specs.declared.value.Kind.TheVariants.{Character, Integer, Int64 as Whole64, Decimal, Logical as Truth, Date as Day}
+use Rattle.abl_base.specs.declared.value.TheConstants.{MAX_TEXT_BYTES}
 use Rattle.abl_base.specs.declared.value.Value.{Value}
 use Rattle.abl_base.specs.declared.value.Value.TheVariants.{Text, Int, Int64, Dec, Logical, Date, Unknown}
 use Rattle.abl_values.specs.Arithmetic.{fits_bits}
-use Rattle.abl_values.specs.Dates.{CivilDate, date_of_day, day_number, is_civil, is_leap, length_at, months_of}
+use Rattle.abl_values.specs.Dates.{CivilDate, date_of_day, day_number, is_civil, is_day, is_leap, length_at, months_of}
+use Rattle.abl_values.specs.Fit.{IsOfField, IsOfKind}
 use Rattle.abl_values.specs.Order.{kept_before, without_trailing}
 use Rattle.abl_values.specs.Texts.{after_point, date_text, decimal_text, doubled, export_text, last_digits, magnitude_text, plain_text, year_text}
+use Rattle.abl_schema.proofs.ToldDays.{IsDay, day_has_date}
 use Rattle.abl_schema.proofs.ToldBytes.{IsDigits, IsMarks, IsMarks-append, cut, decimal-digits, decimal-tells, digits_are_marks, last_digits-digits, last_digits-tell, length-last_digits, marks_are_plain, marks_tell, signed_decimal-marks, signed_decimal-tells, heads, tails}
 
 -- ---- decimals
@@ -149,11 +152,6 @@ decimal_text-marks (negsuc n) h = subst IsMarks (sym (decimal_text-negsuc n)) ((
 
 -- ---- dates
 
--- a day that a date leads to
-pub record IsDay (d : ℤ) : Type 0 where
-  pub civil : is_civil (date_of_day d) ≡ true
-  pub back : day_number (date_of_day d) ≡ d
-
 abbrev Months : List ℕ → Type 0
 Months [] = Unit {0}
 Months (d ∷ ds) = (d ≤ 31) × Months ds
@@ -265,21 +263,10 @@ day-tells d e hd he same =
 
 -- ---- values
 
--- the value is one of the kind, and its text tells it
-abbrev pub IsSaid : Kind → Value → Type 0
-IsSaid kind Unknown = Unit {0}
-IsSaid Character (Text t) = Unit {0}
-IsSaid Integer (Int n) = fits_bits 63 n ≡ true
-IsSaid Whole64 (Int64 n) = fits_bits 63 n ≡ true
-IsSaid Decimal (Dec n) = fits_bits 127 n ≡ true
-IsSaid Truth (Logical b) = Unit {0}
-IsSaid Day (Date d) = IsDay d
-IsSaid kind v = ⊥
-
--- a field of an unsupported kind has `?` alone
-abbrev pub IsHeld : Option Kind → Value → Type 0
-IsHeld None v = v ≡ Unknown
-IsHeld (Some kind) v = IsSaid kind v
+-- a number of 32 bits is one of 64
+wider : (n : ℤ) → fits_bits 31 n ≡ true → fits_bits 63 n ≡ true
+wider (pos n) h = grind (arith, nat_tests)
+wider (negsuc n) h = grind (arith, nat_tests)
 
 pub record Told (v w : Value) (r s : List ℕ) : Type 0 where
   pub value : v ≡ w
@@ -328,11 +315,11 @@ unmarked xs r s h e =
     let c = cut (63 ∷ []) xs 10 10 r s (omega arith, tt) (marks_are_plain xs h) (omega arith) (omega arith) e in
     marks_tell xs h c.words
 
-unknown-tells : (kind : Kind) (w : Value) → IsSaid kind w → Tells Unknown w
+unknown-tells : (kind : Kind) (w : Value) → IsOfKind kind w → Tells Unknown w
 unfolding export_text plain_text
 unknown-tells kind Unknown h r s e = record { value = refl; rest = tails 10 10 r s (tails 63 63 (10 ∷ r) (10 ∷ s) e) }
 unknown-tells Character (Text t) h r s e = absurd (omega (arith, heads 63 34 (10 ∷ r) (doubled t ++ 34 ∷ [] ++ 10 ∷ s) e))
-unknown-tells Integer (Int n) h r s e = absurd (unmarked (signed_decimal n) r s (signed_decimal-marks n h) e)
+unknown-tells Integer (Int n) h r s e = absurd (unmarked (signed_decimal n) r s (signed_decimal-marks n (wider n h)) e)
 unknown-tells Whole64 (Int64 n) h r s e = absurd (unmarked (signed_decimal n) r s (signed_decimal-marks n h) e)
 unknown-tells Decimal (Dec n) h r s e = absurd (unmarked (decimal_text n) r s (decimal_text-marks n h) e)
 unknown-tells Truth (Logical true) h r s e = absurd (omega (arith, heads 63 121 (10 ∷ r) (101 ∷ 115 ∷ 10 ∷ s) e))
@@ -345,33 +332,36 @@ tells_back v w h r s e =
     let k = h s r (sym e) in
     record { value = sym k.value; rest = sym k.rest }
 
-text-tells : (t : List ℕ) (w : Value) → IsSaid Character w → Tells (Text t) w
+text-tells : (t : List ℕ) (w : Value) → length t ≤ MAX_TEXT_BYTES → IsOfKind Character w → Tells (Text t) w
 unfolding export_text plain_text
-text-tells t Unknown h r s e = tells_back Unknown (Text t) (unknown-tells Character (Text t) tt) r s e
-text-tells t (Text u) h r s e =
+text-tells t Unknown k h r s e = tells_back Unknown (Text t) (unknown-tells Character (Text t) k) r s e
+text-tells t (Text u) k h r s e =
     let parts = quoted t u r s (sym (append_assoc (doubled t) (34 ∷ []) (10 ∷ r)) ∙ tails 34 34 (doubled t ++ 34 ∷ [] ++ 10 ∷ r) (doubled u ++ 34 ∷ [] ++ 10 ∷ s) e ∙ append_assoc (doubled u) (34 ∷ []) (10 ∷ s)) in
     record { value = ap Text parts.0; rest = parts.1 }
-text-tells t w h r s e = absurd h
+text-tells t w k h r s e = absurd h
 
-int-tells : (n : ℤ) (w : Value) → fits_bits 63 n ≡ true → IsSaid Integer w → Tells (Int n) w
+int-tells : (n : ℤ) (w : Value) → fits_bits 31 n ≡ true → IsOfKind Integer w → Tells (Int n) w
 unfolding export_text plain_text
 int-tells n Unknown k h r s e = tells_back Unknown (Int n) (unknown-tells Integer (Int n) k) r s e
-int-tells n (Int m) k h r s e = marked (Int n) (Int m) (signed_decimal n) (signed_decimal m) r s (signed_decimal-marks n k) (signed_decimal-marks m h) (λ same. ap Int (signed_decimal-tells n m k h same)) e
+int-tells n (Int m) k h r s e =
+    let one = wider n k in
+    let other = wider m h in
+    marked (Int n) (Int m) (signed_decimal n) (signed_decimal m) r s (signed_decimal-marks n one) (signed_decimal-marks m other) (λ same. ap Int (signed_decimal-tells n m one other same)) e
 int-tells n w k h r s e = absurd h
 
-long-tells : (n : ℤ) (w : Value) → fits_bits 63 n ≡ true → IsSaid Whole64 w → Tells (Int64 n) w
+long-tells : (n : ℤ) (w : Value) → fits_bits 63 n ≡ true → IsOfKind Whole64 w → Tells (Int64 n) w
 unfolding export_text plain_text
 long-tells n Unknown k h r s e = tells_back Unknown (Int64 n) (unknown-tells Whole64 (Int64 n) k) r s e
 long-tells n (Int64 m) k h r s e = marked (Int64 n) (Int64 m) (signed_decimal n) (signed_decimal m) r s (signed_decimal-marks n k) (signed_decimal-marks m h) (λ same. ap Int64 (signed_decimal-tells n m k h same)) e
 long-tells n w k h r s e = absurd h
 
-decimal-value-tells : (n : ℤ) (w : Value) → fits_bits 127 n ≡ true → IsSaid Decimal w → Tells (Dec n) w
+decimal-value-tells : (n : ℤ) (w : Value) → fits_bits 127 n ≡ true → IsOfKind Decimal w → Tells (Dec n) w
 unfolding export_text plain_text
 decimal-value-tells n Unknown k h r s e = tells_back Unknown (Dec n) (unknown-tells Decimal (Dec n) k) r s e
 decimal-value-tells n (Dec m) k h r s e = marked (Dec n) (Dec m) (decimal_text n) (decimal_text m) r s (decimal_text-marks n k) (decimal_text-marks m h) (λ same. ap Dec (decimal_text-tells n m k h same)) e
 decimal-value-tells n w k h r s e = absurd h
 
-truth-tells : (b : Bool) (w : Value) → IsSaid Truth w → Tells (Logical b) w
+truth-tells : (b : Bool) (w : Value) → IsOfKind Truth w → Tells (Logical b) w
 unfolding export_text plain_text
 truth-tells b Unknown h r s e = tells_back Unknown (Logical b) (unknown-tells Truth (Logical b) tt) r s e
 truth-tells true (Logical true) h r s e = record { value = refl; rest = cc }
@@ -380,19 +370,19 @@ truth-tells false (Logical true) h r s e = absurd (omega (arith, heads 110 121 (
 truth-tells false (Logical false) h r s e = record { value = refl; rest = cc }
 truth-tells b w h r s e = absurd h
 
-date-tells : (d : ℤ) (w : Value) → IsDay d → IsSaid Day w → Tells (Date d) w
+date-tells : (d : ℤ) (w : Value) → is_day d ≡ true → IsOfKind Day w → Tells (Date d) w
 unfolding export_text plain_text
 date-tells d Unknown k h r s e = tells_back Unknown (Date d) (unknown-tells Day (Date d) k) r s e
 date-tells d (Date m) k h r s e =
-    marked (Date d) (Date m) (date_text (date_of_day d)) (date_text (date_of_day m)) r s (date_text-marks (date_of_day d)) (date_text-marks (date_of_day m)) (λ same. ap Date (day-tells d m k h same)) e
+    marked (Date d) (Date m) (date_text (date_of_day d)) (date_text (date_of_day m)) r s (date_text-marks (date_of_day d)) (date_text-marks (date_of_day m)) (λ same. ap Date (day-tells d m (day_has_date d k) (day_has_date m h) same)) e
 date-tells d w k h r s e = absurd h
 
-pub value-tells : (kind : Option Kind) (v w : Value) → IsHeld kind v → IsHeld kind w → Tells v w
+pub value-tells : (kind : Option Kind) (v w : Value) → IsOfField kind v → IsOfField kind w → Tells v w
 value-tells None v w h k r s e =
     let c = unknown-tells Character Unknown tt r s (ap (λ u. export_text u ++ 10 ∷ r) (sym h) ∙ e ∙ ap (λ u. export_text u ++ 10 ∷ s) k) in
     record { value = h ∙ sym k; rest = c.rest }
 value-tells (Some kind) Unknown w h k r s e = unknown-tells kind w k r s e
-value-tells (Some Character) (Text t) w h k r s e = text-tells t w k r s e
+value-tells (Some Character) (Text t) w h k r s e = text-tells t w h k r s e
 value-tells (Some Integer) (Int n) w h k r s e = int-tells n w h k r s e
 value-tells (Some Whole64) (Int64 n) w h k r s e = long-tells n w h k r s e
 value-tells (Some Decimal) (Dec n) w h k r s e = decimal-value-tells n w h k r s e

@@ -9,6 +9,7 @@ use Rattle.abl_values.specs.Schema.{SchemaData, canonical_text, field_named, fie
 use Rattle.schema_lines.specs.Files.{items_of}
 use Rattle.abl_schema.specs.Meaning.{schema_of}
 use Rattle.abl_schema.specs.Rules.{violation_of}
+use Rattle.abl_schema.specs.Sound.{IsSound}
 
 -- a field with its name in small letters and without its mask
 abbrev pub told_field : FieldDef → FieldDef
@@ -20,7 +21,8 @@ told_index i = record i { name = folded i.name }
 abbrev pub told_sequence : SequenceDef → SequenceDef
 told_sequence s = record s { name = folded s.name }
 
--- every reader answers the same at both, names taken without case, masks left out
+-- every reader answers the same at both, names taken without case. Masks are left out, since the canonical
+-- text has none
 pub record AnswerAlike (a b : SchemaData) : Type 0 where
   pub tables : length a.tables ≡ length b.tables
   pub table : (name : List ℕ) → table_named a name ≡ table_named b name
@@ -31,9 +33,11 @@ pub record AnswerAlike (a b : SchemaData) : Type 0 where
   pub primary : (t : ℕ) → t < length a.tables → primary_of a t ≡ primary_of b t
   pub sequences : map told_sequence a.sequences ≡ map told_sequence b.sequences
 
--- Two files without violation that mean one canonical text mean schemas that answer alike
+-- Two sound schemas with one canonical text answer alike
 abbrev pub CanonicalTextTellsAll : Type 0
 CanonicalTextTellsAll =
-    (text other : List ℕ) → violation_of text ≡ None → violation_of other ≡ None
-    → canonical_text (schema_of (items_of text)) ≡ canonical_text (schema_of (items_of other))
-    → AnswerAlike (schema_of (items_of text)) (schema_of (items_of other))
+    (a b : SchemaData) → IsSound a → IsSound b → canonical_text a ≡ canonical_text b → AnswerAlike a b
+
+-- A file without violation means a sound schema
+abbrev pub SchemasOfFilesAreSound : Type 0
+SchemasOfFilesAreSound = (text : List ℕ) → violation_of text ≡ None → IsSound (schema_of (items_of text))

@@ -1,6 +1,6 @@
 //! Schema files, whole.
 
-ghost use Rattle.std.specs.Prelude.{◌+◌, ◌<◌, ◌≡◌, ◌^◌, ℕ, length, Err, None, Some, IfOk};
+ghost use Rattle.std.specs.Prelude.{◌≡◌, ℕ, Err, None, Some, IfOk};
 ghost use Rattle.abl_base.specs.declared.rule.Rule.{Rule};
 ghost use Rattle.schema_lines.specs.Files.{items_of};
 ghost use Rattle.abl_schema.specs.Meaning.{schema_of};
@@ -35,11 +35,11 @@ impl From<AllocError> for SchemaRefusal {
 
 /// The schema that the file means, or the first violation: the first line that breaks a rule F1 to
 /// F12, and the least rule that it breaks. The schema comes exactly where the file breaks no rule.
-/// Want of memory may be answered in place of either. (OpenEdge, data definition files; what of
-/// them is read, skipped and refused is this project's choice.)
+/// Want of memory may be answered in place of either, and a file of 2^32 lines or more is want of
+/// memory. (OpenEdge, data definition files; what of them is read, skipped and refused is this
+/// project's choice.)
 #[tactic(auto, unfolding(crate::specs::Rules::violation_of))]
 pub fn read_df(alloc: Global, text: &[u8]) -> Result<Schema, SchemaRefusal>
-    requires { length text.now + 1 < 2 ^ 32 }
     ensures schema { IfOk result (λ schema. schema ≡ schema_of (items_of text.now)) }
     ensures clean { IfOk result (λ schema. violation_of text.now ≡ None) }
     ensures broken { (rule : Rule) (line : ℕ) → result ≡ Err (SchemaRefusal.Broken rule line) → violation_of text.now ≡ Some (record { rule = rule; line = line }) }

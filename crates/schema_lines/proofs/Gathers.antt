@@ -7,7 +7,8 @@ use Rattle.schema_lines.specs.declared.item.Head.{Head}
 use Rattle.schema_lines.specs.declared.item.Item.{Item}
 use Rattle.schema_lines.specs.declared.item.Line.TheVariants.{Begins, Says}
 use Rattle.schema_lines.specs.Lines.{pieces}
-use Rattle.schema_lines.specs.Files.{Lot, followed_by, line_before, under_last}
+use Rattle.schema_lines.specs.Files.{Lot, line_before}
+use Rattle.schema_lines.specs.Walk.{followed_by, under_last}
 
 -- the pieces that are left: none where the last has been read
 abbrev pub left_of : Option (List ℕ) → List (List ℕ)

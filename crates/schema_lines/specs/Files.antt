@@ -1,5 +1,5 @@
 -- The items of a schema file, each with the attribute lines under it.
-use Rattle.std.specs.Prelude.{ℕ, ◌+◌, List, [], ◌∷◌, ◌++◌, map}
+use Rattle.std.specs.Prelude.{ℕ, ◌+◌, List, [], ◌∷◌, map}
 use Rattle.schema_lines.specs.declared.item.Line.{Line}
 use Rattle.schema_lines.specs.declared.item.Line.TheVariants.{Skipped, Begins, Says}
 use Rattle.schema_lines.specs.declared.item.Attributed.{Attributed}
@@ -28,16 +28,3 @@ gathered n (line ∷ lines) = line_before n line (gathered (n + 1) lines)
 -- the items of a file; attributes before the first item are skipped
 unfoldable pub items_of : List ℕ → List Item
 items_of text = (gathered 1 (map said (lines_of text))).items
-
--- ---- the items of the lines so far
-
--- these attributes too under the last of the items; they are dropped where there is none
-abbrev pub under_last : List Attributed → List Item → List Item
-under_last attributes [] = []
-under_last attributes (item ∷ []) =
-    record { line = item.line; head = item.head; attributes = item.attributes ++ attributes } ∷ []
-under_last attributes (item ∷ next ∷ items) = item ∷ under_last attributes (next ∷ items)
-
--- items with a lot after them, whose loose attributes belong to the last of the items
-abbrev pub followed_by : List Item → Lot → List Item
-followed_by items lot = under_last lot.loose items ++ lot.items

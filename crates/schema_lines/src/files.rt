@@ -1,7 +1,8 @@
 //! The items of a schema file, each with the attribute lines under it.
 
-ghost use Rattle.std.specs.Prelude.{◌≡◌, ◌+◌, ◌<◌, ◌^◌, ◌∷◌, [], length, IfOk, OnOk};
-ghost use Rattle.schema_lines.specs.Files.{Lot, followed_by, items_of, line_before, under_last};
+ghost use Rattle.std.specs.Prelude.{◌≡◌, ◌∷◌, [], IfOk, OnOk};
+ghost use Rattle.schema_lines.specs.Files.{Lot, items_of, line_before};
+ghost use Rattle.schema_lines.specs.Walk.{followed_by, under_last};
 
 use crate::forms::said;
 use crate::item::{Attribute, Attributed, Item, Line};
@@ -10,10 +11,10 @@ use abl_base::Items;
 use std::alloc::{AllocError, Global};
 
 /// The items of the file in order: its lines up to one that is a single period. Attributes before
-/// the first item are skipped.
+/// the first item are skipped. Want of memory is answered too where 2^32 lines or more stand there,
+/// as the number of a line has 32 bits.
 #[tactic(auto, unfolding(crate::specs::Files::items_of))]
 pub fn items_of(alloc: Global, text: &[u8]) -> Result<Vec<Item>, AllocError>
-    requires { length text.now + 1 < 2 ^ 32 }
     ensures { IfOk result (λ items. items.items ≡ items_of text.now) }
 {
     let mut items = Vec::new(alloc);
@@ -25,7 +26,10 @@ pub fn items_of(alloc: Global, text: &[u8]) -> Result<Vec<Item>, AllocError>
         if same_bytes(line, b".") {
             return Ok(items);
         }
-        number += 1;
+        let Some(next) = number.checked_add(1) else {
+            return Err(AllocError);
+        };
+        number = next;
         add_line(&mut items, number, said(alloc, line)?)?;
         rest = piece.rest;
     }

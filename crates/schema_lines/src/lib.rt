@@ -11,3 +11,5 @@ pub mod initials;
 pub mod item;
 pub mod lines;
 mod numbers;
+#[cfg(test)]
+mod tests;

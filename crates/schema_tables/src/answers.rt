@@ -6,9 +6,6 @@ use std::alloc::{AllocError, Global};
 
 /// The canonical text of the file, or the rule that it breaks.
 pub fn answer(alloc: Global, name: &str, text: &[u8]) -> Result<String, AllocError> {
-    if text.len() > 100_000_000 {
-        return String::from_str(alloc, "too long");
-    }
     match read_df(alloc, text) {
         Ok(schema) => {
             let mut answer = String::new(alloc);

@@ -1,4 +1,3 @@
-use Rattle.abl_schema.specs.Examples
 use Rattle.abl_schema.proofs.Told.{canonical_text-tells_all}
 use Rattle.abl_schema.proofs.laws.canonical_text_tells_all.Goals as goal
 

@@ -3,7 +3,8 @@ use Rattle.std.proofs.lemmas.Result.{on_ok_weaker}
 use Rattle.schema_lines.specs.declared.item.Attributed.{Attributed}
 use Rattle.schema_lines.specs.declared.item.Item.{Item}
 use Rattle.schema_lines.specs.declared.item.Line.{Line}
-use Rattle.schema_lines.specs.Files.{followed_by, line_before}
+use Rattle.schema_lines.specs.Files.{line_before}
+use Rattle.schema_lines.specs.Walk.{followed_by}
 use Rattle.schema_lines.proofs.Gathers.{followed_by-begins, followed_by-says}
 use Rattle.schema_lines.proofs.files.add_line.Goals as goal
 

@@ -10,10 +10,10 @@ pub returns-then-same_bytes : goal.returns-then-same_bytes
 unfolding items_of
 returns-then-same_bytes c =
     let none : before_period (map trimmed (left_of (option_copied c.loop-rest.rest))) ≡ [] = grind (arith, common_steps) in
-    sym (followed_by-none c.loop-rest.items.items) ∙ rw none at c.loop-rest.invariant.same
+    sym (followed_by-none c.loop-rest.items.items) ∙ rw none at c.loop-rest.invariant
 
 pub returns : goal.returns
 unfolding items_of
 returns c =
     let none : left_of (option_copied c.loop-rest.rest) ≡ [] = search rules in
-    sym (followed_by-none c.loop-rest.items.items) ∙ rw none at c.loop-rest.invariant.same
+    sym (followed_by-none c.loop-rest.items.items) ∙ rw none at c.loop-rest.invariant

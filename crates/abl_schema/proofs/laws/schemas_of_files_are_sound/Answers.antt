@@ -1,0 +1,5 @@
+use Rattle.abl_schema.proofs.ToldSound.{files-sound}
+use Rattle.abl_schema.proofs.laws.schemas_of_files_are_sound.Goals as goal
+
+pub returns : goal.returns
+returns c = files-sound
