@@ -15,8 +15,7 @@ use Rattle.block_meaning.specs.declared.wants.Wants.TheVariants.{Ask, Ended}
 use Rattle.block_meaning.specs.State.{Doing}
 use Rattle.block_meaning.specs.Meaning.{asked, op_of}
 use Rattle.block_meaning.specs.GivesUp.{Begins, IsAsked, before_last, written_at}
-use Rattle.block_vm.specs.declared.client.Client.{Client}
-use Rattle.block_vm.specs.Client.{HasWritten}
+use Rattle.block_vm.specs.Standing.{Standing, HasWritten}
 use Rattle.block_vm.specs.Does.{Does, HasGivenUp, Keeps, Came}
 use Rattle.abl_cli.specs.ClientRun.{DidAsMeant, ToItsEnd, GivingUp, HasDone, OnlyGrows}
 
@@ -37,7 +36,7 @@ asked_more m (b ∷ heard) a =
 -- ---- beside the meaning
 
 -- a client that has heard the answers of the trace, and wants this
-pub data Along (client : Client) (names : List (List ℕ)) (m : List Answer → Doing) (trace : List Event) (wants : Wants) : Type 0 where
+pub data Along (client : Standing) (names : List (List ℕ)) (m : List Answer → Doing) (trace : List Event) (wants : Wants) : Type 0 where
   -- it does as m says
   AsMeant : Keeps client names m (answers_of 0 trace) wants → operations_of 0 trace ≡ asked m (answers_of 0 trace) → Along client names m trace wants
   -- memory was wanting, and it asks End
@@ -47,19 +46,19 @@ pub data Along (client : Client) (names : List (List ℕ)) (m : List Answer → 
 
 -- what came of a call, where the operations so far are those asked
 pub along_after :
-    (client : Client) (names : List (List ℕ)) (m : List Answer → Doing) (trace : List Event) (wants : Wants) →
+    (client : Standing) (names : List (List ℕ)) (m : List Answer → Doing) (trace : List Event) (wants : Wants) →
     Came client names m (answers_of 0 trace) wants → operations_of 0 trace ≡ asked m (answers_of 0 trace) → Along client names m trace wants
 along_after client names m trace wants (inl keeps) same = AsMeant keeps same
 along_after client names m trace wants (inr gives) same = AsksEnd gives.pieces gives.given_up gives.asks same
 
 -- what the calls of a client ensure, from one answer to what it wants next
-pub record Answered (old new : Client) (a : Answer) (wants : Wants) : Type 0 where
+pub record Answered (old new : Standing) (a : Answer) (wants : Wants) : Type 0 where
   pub does : (names : List (List ℕ)) (m : List Answer → Doing) (heard : List Answer) → Does old names m heard → Came new names m (heard ++ a ∷ []) wants
   pub given_up : (names : List (List ℕ)) (m : List Answer → Doing) (heard : List Answer) (pieces : List Piece) → HasGivenUp old names m heard pieces → (wants ≡ Ended NoMemory) × HasWritten new names pieces
 
 -- the operation is answered
 pub along_more :
-    (old new : Client) (names : List (List ℕ)) (m : List Answer → Doing) (trace : List Event) (op : Op) (a : Answer) (wants : Wants) →
+    (old new : Standing) (names : List (List ℕ)) (m : List Answer → Doing) (trace : List Event) (op : Op) (a : Answer) (wants : Wants) →
     Answered old new a wants → Along old names m trace (Ask op) → Along new names m (trace ++ event_of op a ∷ []) wants
 along_more old new names m trace op a wants answered (AsMeant keeps same) =
     along_after new names m (trace ++ event_of op a ∷ []) wants
@@ -75,7 +74,7 @@ along_more old new names m trace op a wants answered (AsksEnd pieces given is_en
 along_more old new names m trace op a wants answered (IsOver pieces has is_ended did) = absurd (cc is_ended)
 
 -- it has ended
-pub done_at_its_end : (client : Client) (names : List (List ℕ)) (m : List Answer → Doing) (trace : List Event) (how : ClientEnd) → Along client names m trace (Ended how) → HasDone client names m trace how
+pub done_at_its_end : (client : Standing) (names : List (List ℕ)) (m : List Answer → Doing) (trace : List Event) (how : ClientEnd) → Along client names m trace (Ended how) → HasDone client names m trace how
 done_at_its_end client names m trace how (AsMeant keeps same) = record { pieces = keeps.pieces; has = keeps.has; did = ToItsEnd trace how keeps.pieces same keeps.meant }
 done_at_its_end client names m trace how (AsksEnd pieces given is_end same) = absurd (cc is_end)
 done_at_its_end client names m trace how (IsOver pieces has is_ended did) =
@@ -95,7 +94,7 @@ begins_at m (a ∷ ans) grows =
 
 -- where there is no room for the event of an operation, End is asked in its place
 pub done_without_room :
-    (client : Client) (names : List (List ℕ)) (m : List Answer → Doing) (trace : List Event) (op : Op) (a : Answer) →
+    (client : Standing) (names : List (List ℕ)) (m : List Answer → Doing) (trace : List Event) (op : Op) (a : Answer) →
     OnlyGrows m → (op ≡ End → ⊥) → Along client names m trace (Ask op) → HasDone client names m (trace ++ event_of End a ∷ []) NoMemory
 done_without_room client names m trace op a grows other (AsMeant keeps same) =
     let written : (m (answers_of 0 trace)).written ≡ keeps.pieces = ap (λ (d : Doing). d.written) keeps.meant in

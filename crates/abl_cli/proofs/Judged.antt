@@ -8,7 +8,6 @@ use Rattle.abl_outside.specs.Files.{IsLonger}
 use Rattle.abl_outside.specs.declared.out.Stream.TheVariants.{Output as Standard}
 use Rattle.bound_tree.specs.Tree.{Source as Tree}
 use Rattle.built_source.specs.Form.{IsSourceOf}
-use Rattle.block_code.specs.BuiltTree.{IsBuiltTree}
 use Rattle.block_meaning.specs.declared.ends.ClientEnd.{ClientEnd}
 use Rattle.block_meaning.specs.declared.ends.ClientEnd.TheVariants as end
 use Rattle.block_vm.specs.declared.output.Section.{Section}
@@ -65,7 +64,7 @@ module _ (words : List (List ℕ)) (shelf : Shelf) (faults : ℕ) (old new : Wri
   pub wrong_is_told : (word : ℕ) → Did words shelf faults old new report → report.refusal ≡ Some (Usage word) → IsWrong words word
   wrong_is_told word (Refused name refusal cause is) told =
       let same : refusal ≡ Usage word = cc (is.refusal, told) in subst (λ r. Cause words shelf faults name r) same cause
-  wrong_is_told word (Ran named is_run are text has tree form built ran) told =
+  wrong_is_told word (Ran named is_run are text has tree form ran) told =
       absurd (no_usage ran.reported.whole ran.end word (sym ran.reported.refusal ∙ told))
 
   formless_is_usage : (name : List ℕ) (refusal : Refusal) → Cause words shelf faults name refusal → (HaveForm words → ⊥) → IsUsage (Some refusal)
@@ -79,7 +78,7 @@ module _ (words : List (List ℕ)) (shelf : Shelf) (faults : ℕ) (old new : Wri
 
   pub formless_is_told : Did words shelf faults old new report → (HaveForm words → ⊥) → IsUsage report.refusal
   formless_is_told (Refused name refusal cause is) formless = subst IsUsage (sym is.refusal) (formless_is_usage name refusal cause formless)
-  formless_is_told (Ran named is_run are text has tree form built ran) formless = absurd (formless (named, (is_run, are)))
+  formless_is_told (Ran named is_run are text has tree form ran) formless = absurd (formless (named, (is_run, are)))
 
   pub formed_is_not_told : Did words shelf faults old new report → HaveForm words → IsUsage report.refusal → ⊥
   formed_is_not_told did form usage = let word = is_usage report.refusal usage in wrong_or_formed words word.0 (wrong_is_told word.0 did word.1) form
@@ -111,7 +110,7 @@ module _ (words : List (List ℕ)) (shelf : Shelf) (faults : ℕ) (old new : Wri
   pub output_rose : Did words shelf faults old new report → report.refusal ≡ Some Output → Rose old.faults new.faults
   output_rose (Refused name refusal cause is) told =
       let same : refusal ≡ Output = cc (is.refusal, told) in absurd (subst (λ r. Cause words shelf faults name r) same cause).3.1
-  output_rose (Ran named is_run are text has tree form built ran) told =
+  output_rose (Ran named is_run are text has tree form ran) told =
       rose_in_report named.name ran.end ran.sections ran.reported (output_breaks ran.reported.whole ran.end (sym ran.reported.refusal ∙ told))
 
   -- ---- status 0
@@ -136,7 +135,7 @@ module _ (words : List (List ℕ)) (shelf : Shelf) (faults : ℕ) (old new : Wri
 
   pub whole_at_0 : Did words shelf faults old new report → report.status ≡ 0 → IsTrue old.told → (name : List ℕ) × (sections : List Section) × (new.texts ≡ appended Standard (report_of name sections) old.texts)
   whole_at_0 (Refused name refusal cause is) zero told = absurd (no_status_0 refusal (sym is.status ∙ zero))
-  whole_at_0 (Ran named is_run are text has tree form built ran) zero told =
+  whole_at_0 (Ran named is_run are text has tree form ran) zero told =
       let r = ran.reported in
       let ok = status_of_run r.whole ran.end (ap status_after (sym r.refusal) ∙ sym r.status ∙ zero) in
       let same : new ≡ r.between = subst (λ refusal. Tells named.name report.ends refusal r.between new) (r.refusal ∙ ok.1) r.lines in
@@ -153,7 +152,7 @@ module _ (words : List (List ℕ)) (shelf : Shelf) (faults : ℕ) (old new : Wri
   fine_end whole (end.Stop why) unbroken = inr (inl refl)
   fine_end whole end.NoMemory unbroken = inr (inr refl)
 
-  module _ (run : Run) (is_run : IsRun run) (are : words ≡ words_of run) (told : IsTrue shelf.told) (sound : IsTrue shelf.sound) (text : List ℕ) (there : shelf.file run.program ≡ Some text) (short : length text ≤ MAX_SOURCE_BYTES) (tree : Tree) (form : IsSourceOf text tree) (built : IsBuiltTree tree) where
+  module _ (run : Run) (is_run : IsRun run) (are : words ≡ words_of run) (told : IsTrue shelf.told) (sound : IsTrue shelf.sound) (text : List ℕ) (there : shelf.file run.program ≡ Some text) (short : length text ≤ MAX_SOURCE_BYTES) (tree : Tree) (form : IsSourceOf text tree) where
     -- nothing but want of memory prevents it
     only_memory : (name : List ℕ) (refusal : Refusal) → Cause words shelf faults name refusal → status_of refusal ≡ 7
     only_memory name (Usage word) cause = absurd (wrong_or_formed words word cause (run, (is_run, are)))
@@ -171,14 +170,14 @@ module _ (words : List (List ℕ)) (shelf : Shelf) (faults : ℕ) (old new : Wri
         let program : cause.0.program ≡ run.program = one_program cause.0 run cause.1 is_run (sym cause.2 ∙ are) in
         let read : shelf.file cause.0.program ≡ Some cause.3.1.0 = cause.3.1.1.told told in
         let same : text ≡ cause.3.1.0 = cc (there, read, program) in
-        absurd (cause.3.1.2.3 tree (subst (λ t. IsSourceOf t tree) same form) built)
+        absurd (cause.3.1.2.3 tree (subst (λ t. IsSourceOf t tree) same form))
     only_memory name (Client first) cause = absurd cause.3.1
     only_memory name Output cause = absurd cause.3.1
     only_memory name NoMemory cause = refl
 
     pub fine : Did words shelf faults old new report → (Rose old.faults new.faults → ⊥) → (report.status ≡ 0) ⊎ ((report.status ≡ 8) ⊎ (report.status ≡ 7))
     fine (Refused name refusal cause is) quiet = inr (inr (is.status ∙ only_memory name refusal cause))
-    fine (Ran named is_named are_named own has own_tree own_form own_built ran) quiet =
+    fine (Ran named is_named are_named own has own_tree own_form ran) quiet =
         let r = ran.reported in
         subst (λ status. (status ≡ 0) ⊎ ((status ≡ 8) ⊎ (status ≡ 7))) (sym (r.status ∙ ap status_after r.refusal))
         (fine_end r.whole ran.end (λ broken. quiet (rose_in_report named.name ran.end ran.sections r broken)))
@@ -206,7 +205,7 @@ module _ (words : List (List ℕ)) (shelf : Shelf) (faults : ℕ) (old new : Wri
 
     pub missing_is_told : shelf.file run.program ≡ None → Did words shelf faults old new report → IsFile report.refusal ⊎ IsNoMemory report.refusal
     missing_is_told none (Refused name refusal cause is) = subst (λ r. IsFile r ⊎ IsNoMemory r) (sym is.refusal) (missing_by none name refusal cause)
-    missing_is_told none (Ran named is_named are_named text has tree form built ran) =
+    missing_is_told none (Ran named is_named are_named text has tree form ran) =
         let read = has.told told in
         let program = same_program named is_named are_named in
         absurd (cc (none, read, program))
@@ -236,7 +235,7 @@ module _ (words : List (List ℕ)) (shelf : Shelf) (faults : ℕ) (old new : Wri
 
       pub long_is_told : MAX_SOURCE_BYTES < length text → Did words shelf faults old new report → IsTooLong report.refusal ⊎ IsNoMemory report.refusal
       long_is_told long (Refused name refusal cause is) = subst (λ r. IsTooLong r ⊎ IsNoMemory r) (sym is.refusal) (long_by long name refusal cause)
-      long_is_told long (Ran named is_named are_named read has tree form built ran) =
+      long_is_told long (Ran named is_named are_named read has tree form ran) =
           let same = ap length (same_text named is_named are_named read has) in
           let short = has.short in
           absurd (omega (arith, long, same, short))
@@ -253,7 +252,7 @@ module _ (words : List (List ℕ)) (shelf : Shelf) (faults : ℕ) (old new : Wri
       formless_by short name Output cause = absurd cause.3.1
       formless_by short name NoMemory cause = inr tt
 
-      pub formless_source_is_told : length text ≤ MAX_SOURCE_BYTES → ((tree : Tree) → IsSourceOf text tree → IsBuiltTree tree → ⊥) → Did words shelf faults old new report → IsSource report.refusal ⊎ IsNoMemory report.refusal
+      pub formless_source_is_told : length text ≤ MAX_SOURCE_BYTES → ((tree : Tree) → IsSourceOf text tree → ⊥) → Did words shelf faults old new report → IsSource report.refusal ⊎ IsNoMemory report.refusal
       formless_source_is_told short none (Refused name refusal cause is) = subst (λ r. IsSource r ⊎ IsNoMemory r) (sym is.refusal) (formless_by short name refusal cause)
-      formless_source_is_told short none (Ran named is_named are_named read has tree form built ran) =
-          absurd (none tree (subst (λ t. IsSourceOf t tree) (sym (same_text named is_named are_named read has)) form) built)
+      formless_source_is_told short none (Ran named is_named are_named read has tree form ran) =
+          absurd (none tree (subst (λ t. IsSourceOf t tree) (sym (same_text named is_named are_named read has)) form))

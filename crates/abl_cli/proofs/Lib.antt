@@ -1,4 +1,5 @@
 pub mod Along
+pub mod BuiltForms
 pub mod Causes
 pub mod Endings
 pub mod Forms

@@ -1,6 +1,6 @@
 -- The room that a trace has while a client runs.
 use Rattle.std.proofs.Common.{◌≡◌, ◌≢◌, ◌≤◌, ◌+◌, ◌⊎◌, inl, inr, ℕ, [], refl, sym, subst, arith}
-use Rattle.block_vm.specs.declared.client.Client.{Client}
+use Rattle.block_vm.specs.Standing.{Standing}
 use Rattle.block_meaning.specs.declared.wants.Wants.{Wants}
 use Rattle.block_meaning.specs.declared.wants.Wants.TheVariants.{Ask, Ended}
 use Rattle.block_vm.specs.declared.mode.Mode.{Mode}
@@ -17,8 +17,8 @@ HasRoomFor (Ask op) len capacity = len + 1 ≤ capacity
 HasRoomFor (Ended end) len capacity = Unit {0}
 
 -- a client that asks waits for the answer
-pub asking_waits : (client : Client) (op : Op) → ShowsWants client (Ask op) → IsWaiting client
-asking_waits client op shows = go client.mode shows
+pub asking_waits : (client : Standing) (op : Op) → ShowsWants client (Ask op) → IsWaiting client
+asking_waits client op shows = go client.config.mode shows
   where
     go : (mode : Mode) → Shows mode (Ask op) → Waits mode
     go (Runs place) shows = absurd shows
@@ -31,8 +31,8 @@ asking_waits client op shows = go client.mode shows
     go HasEnded shows = absurd shows
 
 -- one that asks End is ending
-pub asking_end_ends : (client : Client) → ShowsWants client (Ask End) → IsEnding client
-asking_end_ends client shows = go client.mode shows
+pub asking_end_ends : (client : Standing) → ShowsWants client (Ask End) → IsEnding client
+asking_end_ends client shows = go client.config.mode shows
   where
     go : (mode : Mode) → Shows mode (Ask End) → AsksTheEnd mode
     go (Runs place) shows = absurd shows
@@ -45,8 +45,8 @@ asking_end_ends client shows = go client.mode shows
     go HasEnded shows = absurd shows
 
 -- so far a client asks operations of levels alone
-pub asks_levels : (client : Client) (op : Op) → ShowsWants client (Ask op) → IsLevelOp op
-asks_levels client op shows = go client.mode shows
+pub asks_levels : (client : Standing) (op : Op) → ShowsWants client (Ask op) → IsLevelOp op
+asks_levels client op shows = go client.config.mode shows
   where
     is_level : (o : Op) → IsLevelOp o → Ask op ≡ Ask o → IsLevelOp op
     is_level o level is = subst IsLevelOp (sym (cc is)) level

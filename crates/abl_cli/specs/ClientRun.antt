@@ -12,8 +12,7 @@ use Rattle.block_meaning.specs.State.{Doing}
 use Rattle.block_meaning.specs.Meaning.{asked}
 use Rattle.block_meaning.specs.GivesUp.{Begins, GaveUp}
 use Rattle.block_vm.specs.declared.output.Section.{Section}
-use Rattle.block_vm.specs.declared.client.Client.{Client}
-use Rattle.block_vm.specs.Client.{HasWritten}
+use Rattle.block_vm.specs.Standing.{Standing, HasWritten}
 use Rattle.block_vm.specs.Sections.{sections_of}
 
 -- End, asked by the only client, and its answer
@@ -46,7 +45,7 @@ abbrev pub OnlyGrows : (List Answer → Doing) → Type 0
 OnlyGrows m = (ans more : List Answer) → Begins (m ans).written (m (ans ++ more)).written
 
 -- what a client has done in the end, where the named outputs have these names
-pub record HasDone (client : Client) (names : List (List ℕ)) (m : List Answer → Doing) (trace : List Event) (how : ClientEnd) : Type 0 where
+pub record HasDone (client : Standing) (names : List (List ℕ)) (m : List Answer → Doing) (trace : List Event) (how : ClientEnd) : Type 0 where
   pub pieces : List Piece
   pub has : HasWritten client names pieces
   pub did : DidAsMeant m trace how pieces

@@ -15,8 +15,6 @@ use Rattle.bound_tree.specs.Bound.{source_of}
 use Rattle.bound_tree.specs.declared.procedure.Bound.{Bound}
 use Rattle.block_code.specs.declared.code.Code.{Code}
 use Rattle.block_code.specs.Code.{StandsFor}
-use Rattle.block_code.specs.Built.{IsBuilt}
-use Rattle.block_code.specs.BuiltTree.{IsBuiltTree}
 use Rattle.block_meaning.specs.Program.{Program}
 use Rattle.block_meaning.specs.Meaning.{run}
 use Rattle.block_vm.specs.declared.output.Section.{Section}
@@ -45,10 +43,10 @@ pub record HasText (shelf : Shelf) (name : List ℕ) (text : List ℕ) : Type 0 
   pub told : IsTrue shelf.told → shelf.file name ≡ Some text
   pub short : length text ≤ MAX_SOURCE_BYTES
 
--- what may stand against this text of a source: it has not the form that is built, or memory is wanting
+-- what may stand against this text of a source: it stands for no tree, or memory is wanting
 abbrev pub IsOfSource : List ℕ → Refusal → Type 0
 IsOfSource text (Source client rule place) =
-    (client ≡ 0) × (rule ≡ N1) × (place ≡ record { line = 1; column = 1 }) × ((tree : Tree) → IsSourceOf text tree → ¬ IsBuiltTree tree)
+    (client ≡ 0) × (rule ≡ N1) × (place ≡ record { line = 1; column = 1 }) × ((tree : Tree) → ¬ IsSourceOf text tree)
 IsOfSource text NoMemory = Unit {0}
 IsOfSource text refusal = ⊥
 
@@ -56,7 +54,6 @@ IsOfSource text refusal = ⊥
 pub record IsCodeOf (text : List ℕ) (code : Code) : Type 0 where
   pub bound : Bound
   pub form : IsSourceOf text (source_of bound)
-  pub built : IsBuilt bound
   pub stands : StandsFor code bound
   pub no_outputs : bound.outputs.items ≡ []
 
@@ -139,7 +136,7 @@ pub data Did (words : List (List ℕ)) (shelf : Shelf) (faults : ℕ) (old new :
       Did words shelf faults old new report
   -- it ran the source that the words name
   Ran : (named : Run) → IsRun named → words ≡ words_of named →
-      (text : List ℕ) → HasText shelf named.program text → (tree : Tree) → IsSourceOf text tree → IsBuiltTree tree →
+      (text : List ℕ) → HasText shelf named.program text → (tree : Tree) → IsSourceOf text tree →
       HasRun named.name (number_of named.steps) tree old new report → Did words shelf faults old new report
 
 -- ---- for laws

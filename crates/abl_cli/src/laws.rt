@@ -6,7 +6,6 @@ ghost use Rattle.abl_outside.specs.Out.{appended};
 ghost use Rattle.abl_outside.specs.declared.out.Stream.TheVariants.{Output as Standard};
 ghost use Rattle.bound_tree.specs.Tree.{Source as Tree};
 ghost use Rattle.built_source.specs.Form.{IsSourceOf};
-ghost use Rattle.block_code.specs.BuiltTree.{IsBuiltTree};
 ghost use Rattle.block_vm.specs.declared.output.Section.{Section as Part};
 ghost use Rattle.abl_cli.specs.declared.refusal.Refusal.TheVariants.{Usage, Output};
 ghost use Rattle.abl_cli.specs.declared.run.Report.{Report as Told};
@@ -25,8 +24,8 @@ pub fn wrong_words_are_told()
 
 /// Over sound files that are told, and words that have the form, the file is told to be missing
 /// exactly where it is, to be too long exactly where it is longer than the most, and the source to
-/// break its rule exactly where it is there, is short enough, and stands for no tree that is built;
-/// in each case memory may be wanting instead.
+/// break its rule exactly where it is there, is short enough, and stands for no tree; in each case
+/// memory may be wanting instead.
 pub fn a_source_that_does_not_run_is_told()
     ensures missing { (words : List (List ℕ)) (shelf : Shelf) (faults : ℕ) (old new : Written) (report : Told) →
         Did words shelf faults old new report →
@@ -45,7 +44,7 @@ pub fn a_source_that_does_not_run_is_told()
         (run : Run) → IsRun run → words ≡ words_of run →
         IsTrue shelf.told → IsTrue shelf.sound →
         (text : List ℕ) → shelf.file run.program ≡ Some text → length text ≤ MOST →
-        ((tree : Tree) → IsSourceOf text tree → IsBuiltTree tree → ⊥) →
+        ((tree : Tree) → IsSourceOf text tree → ⊥) →
         IsSource report.refusal ⊎ IsNoMemory report.refusal }
 {}
 
@@ -58,7 +57,7 @@ pub fn a_run_without_faults_is_done()
         (run : Run) → IsRun run → words ≡ words_of run →
         IsTrue shelf.told → IsTrue shelf.sound →
         (text : List ℕ) → shelf.file run.program ≡ Some text → length text ≤ MOST →
-        (tree : Tree) → IsSourceOf text tree → IsBuiltTree tree →
+        (tree : Tree) → IsSourceOf text tree →
         (Rose old.faults new.faults → ⊥) →
         (report.status ≡ 0) ⊎ ((report.status ≡ 8) ⊎ (report.status ≡ 7)) }
 {}

@@ -7,9 +7,7 @@ use crate::refusal::Refusal;
 use crate::words::RunWords;
 use abl_base::{Bytes, Place, Rule};
 use abl_outside::{FileFault, Files};
-use block_code::laws::a_tree_tells_what_is_built;
 use block_code::{Code, CompileFault, compile};
-use built_source::laws::one_tree;
 use built_source::{SourceFault, read_source};
 use std::alloc::Global;
 
@@ -38,8 +36,6 @@ fn code_of(alloc: Global, text: &[u8]) -> Result<Code, Refusal>
     ensures code { IfOk result (IsCodeOf text.now) }
     ensures refused { IfErr result (IsOfSource text.now) }
 {
-    one_tree();
-    a_tree_tells_what_is_built();
     match read_source(alloc, text) {
         Ok(bound) => match compile(alloc, bound) {
             Ok(code) => Ok(code),
@@ -51,7 +47,7 @@ fn code_of(alloc: Global, text: &[u8]) -> Result<Code, Refusal>
     }
 }
 
-/// A source of a form that is not built breaks rule N1 at its first byte.
+/// A source that has not the form breaks rule N1 at its first byte.
 const NOT_BUILT: Refusal = Refusal::Source {
     client: 0,
     rule: Rule::N1,

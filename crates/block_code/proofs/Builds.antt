@@ -1,6 +1,6 @@
 -- What is built, statement by statement.
 use Rattle.std.proofs.Common.{◌≡◌, List, Bool, true, ◌&&◌, refl, sym, ap, ◌∙◌, rules}
-use Rattle.std.specs.Prelude.{Vec, Result, Ok, Err, IfOk}
+use Rattle.std.specs.Prelude.{Vec}
 use Rattle.std.specs.declared.alloc.Global.{Global}
 use mathlib.Core.Former.{Count, none_left, one_more}
 use Rattle.bound_tree.specs.declared.block.Header.{Header}
@@ -19,8 +19,7 @@ block_is h v = search (rules, the_lemmas, row_is)
 
 -- a block with a built header is built where its body is
 pub body_decides :
-    {E : Type 0} (r : Result Bool E) (h : Header) (v : Vec Stmt Global) (ts : List Stmt) (s : Stmt) →
-    IfOk r (λ built. built ≡ is_built_body ts) → ts ≡ v.items → is_built_header h ≡ true → s ≡ view.Block h v → IfOk r (λ built. built ≡ is_built_stmt s)
-body_decides (Ok built) h v ts s e same header is =
+    (built : Bool) (h : Header) (v : Vec Stmt Global) (ts : List Stmt) (s : Stmt) →
+    built ≡ is_built_body ts → ts ≡ v.items → is_built_header h ≡ true → s ≡ view.Block h v → built ≡ is_built_stmt s
+body_decides built h v ts s e same header is =
     e ∙ ap is_built_body same ∙ ap (λ b. b && is_built_body v.items) (sym header) ∙ sym (block_is h v) ∙ ap is_built_stmt (sym is)
-body_decides (Err fault) h v ts s e same header is = tt

@@ -1,10 +1,5 @@
 -- What of a bound source is built so far.
-use Rattle.std.specs.Prelude.{◌≡◌, ◌==◌, nat_le, length, List, [], ◌∷◌, Bool, true, false, ◌&&◌, not, Option, Some, None, Result, Ok, Err}
-use Rattle.abl_base.specs.declared.value.Value.{Value}
-use Rattle.abl_base.specs.declared.value.Value.TheVariants.{Text, Int, Int64, Dec, Logical, Date, Unknown}
-use Rattle.abl_base.specs.declared.value.TheConstants.{MAX_TEXT_BYTES}
-use Rattle.abl_values.specs.declared.arithmetic.ArithFault.{ArithFault}
-use Rattle.abl_values.specs.Fit.{fitted}
+use Rattle.std.specs.Prelude.{◌≡◌, ◌==◌, List, [], ◌∷◌, Bool, true, false, ◌&&◌, not, Option, Some, None}
 use Rattle.bound_tree.specs.declared.expression.Expr.{Expr}
 use Rattle.bound_tree.specs.declared.expression.Expr.TheVariants as e
 use Rattle.bound_tree.specs.declared.block.BlockKind.{BlockKind}
@@ -41,29 +36,14 @@ is_built_kind kind.Do = true
 is_built_kind kind.Repeat = false
 is_built_kind kind.For = false
 
--- a header without buffers, TO, WHILE, a record phrase and ON
+-- a header without buffers, TO, WHILE, a record phrase and ON, of a block that does not ask RETRY
 abbrev pub is_built_header : Header → Bool
 is_built_header h =
-    is_built_kind h.kind && is_nil h.scoped.items && is_left_out h.to && is_left_out h.while_test && is_left_out h.fetch && is_left_out h.on_error && is_left_out h.on_endkey
+    is_built_kind h.kind && not h.flags.retry_seen && is_nil h.scoped.items && is_left_out h.to && is_left_out h.while_test && is_left_out h.fetch && is_left_out h.on_error && is_left_out h.on_endkey
 
--- a literal: a text has at most 30,000 bytes
-abbrev pub is_built_literal : Value → Bool
-is_built_literal (Text t) = nat_le (length t) MAX_TEXT_BYTES
-is_built_literal (Int n) = true
-is_built_literal (Int64 n) = true
-is_built_literal (Dec n) = true
-is_built_literal (Logical b) = true
-is_built_literal (Date d) = true
-is_built_literal Unknown = true
-
--- there is a value
-abbrev pub is_value : Result Value ArithFault → Bool
-is_value (Ok v) = true
-is_value (Err fault) = false
-
--- what a target gets: a literal to a variable, whose kind it fits
+-- what a target gets: a literal to a variable
 abbrev pub is_built_pair : Target → Right → Bool
-is_built_pair (target.Variable x) (right.Value (e.Literal v)) = is_built_literal v && is_value (fitted v x.kind)
+is_built_pair (target.Variable x) (right.Value (e.Literal v)) = true
 is_built_pair t r = false
 
 -- an assignment
@@ -77,7 +57,7 @@ are_built_assignments (x ∷ xs) = is_built_assignment x && are_built_assignment
 
 -- what is shown: a literal, or a variable
 abbrev pub is_built_shown : Expr → Bool
-is_built_shown (e.Literal v) = is_built_literal v
+is_built_shown (e.Literal v) = true
 is_built_shown (e.Variable x) = true
 is_built_shown other = false
 

@@ -1,19 +1,18 @@
 -- Which trees are built so far: those of the bound sources that are.
 use Rattle.std.specs.Prelude.{◌≡◌, ◌==◌, List, [], ◌∷◌, Bool, true, false, ◌&&◌, not}
-use Rattle.abl_values.specs.Fit.{fitted}
 use Rattle.bound_tree.specs.declared.statement.Target.{Target}
 use Rattle.bound_tree.specs.declared.statement.Target.TheVariants as target
 use Rattle.bound_tree.specs.Tree.{Expr, Literal, TheVariable, Action, ThenLeave, Header, Right, ValueOf, Assignment, Item, Shows, Skips, Spaces, Stmt, Inner, Assign, UndoBlock, PutItems, Body, Nothing, Then, Procedure, Source}
-use Rattle.block_code.specs.Built.{is_nil, is_left_out, is_built_kind, is_built_literal, is_value}
+use Rattle.block_code.specs.Built.{is_nil, is_left_out, is_built_kind}
 
--- a header without buffers, TO, WHILE, a record phrase and ON
+-- a header without buffers, TO, WHILE, a record phrase and ON, of a block that does not ask RETRY
 abbrev pub header_is_built : Header → Bool
 header_is_built h =
-    is_built_kind h.kind && is_nil h.scoped && is_left_out h.to && is_left_out h.while_test && is_left_out h.fetch && is_left_out h.on_error && is_left_out h.on_endkey
+    is_built_kind h.kind && not h.flags.retry_seen && is_nil h.scoped && is_left_out h.to && is_left_out h.while_test && is_left_out h.fetch && is_left_out h.on_error && is_left_out h.on_endkey
 
--- what a target gets: a literal to a variable, whose kind it fits
+-- what a target gets: a literal to a variable
 abbrev pub pair_is_built : Target → Right → Bool
-pair_is_built (target.Variable x) (ValueOf (Literal v)) = is_built_literal v && is_value (fitted v x.kind)
+pair_is_built (target.Variable x) (ValueOf (Literal v)) = true
 pair_is_built t r = false
 
 -- all of an ASSIGN
@@ -23,7 +22,7 @@ pairs_are_built (x ∷ xs) = pair_is_built x.target x.right && pairs_are_built x
 
 -- what is shown: a literal, or a variable
 abbrev pub shown_is_built : Expr → Bool
-shown_is_built (Literal v) = is_built_literal v
+shown_is_built (Literal v) = true
 shown_is_built (TheVariable x) = true
 shown_is_built other = false
 

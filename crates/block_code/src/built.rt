@@ -1,75 +1,54 @@
 //! What of a bound tree is built so far.
 
-ghost use Rattle.std.specs.Prelude.{◌≡◌, IfOk};
-ghost use Rattle.block_code.specs.Built.{is_built_header, is_built_literal, is_value, is_built_assignment, are_built_assignments, is_built_action, is_built_item, are_built_items, is_built_stmt, is_built_body, is_built_procedure, is_built};
-ghost use Rattle.abl_values.specs.Fit.{fitted};
+ghost use Rattle.std.specs.Prelude.{◌≡◌};
+ghost use Rattle.block_code.specs.Built.{is_built_header, is_built_assignment, are_built_assignments, is_built_action, is_built_item, are_built_items, is_built_stmt, is_built_body, is_built_procedure, is_built};
 
-use abl_base::{Kind, MAX_TEXT_BYTES, Value};
-use abl_values::{ArithFault, fit};
 use bound_tree::{
     Action, Assignment, BlockKind, Bound, Expr, Header, Procedure, PutItem, Right, Stmt, Target,
 };
-use std::alloc::{AllocError, Global};
 
-/// Whether the source is built: it has the external procedure alone. Want of memory is the only
-/// refusal.
-pub fn is_built(alloc: Global, bound: &Bound) -> Result<bool, AllocError>
-    ensures { IfOk result (λ built. built ≡ is_built bound.now) }
+/// Whether the source is built: it has the external procedure alone.
+pub fn is_built(bound: &Bound) -> bool
+    ensures { result ≡ is_built bound.now }
 {
     match bound.procedures.as_slice() {
-        [main] => is_built_procedure(alloc, main),
-        [] | [_, _, ..] => Ok(false),
+        [main] => is_built_procedure(main),
+        [] | [_, _, ..] => false,
     }
 }
 
 /// Whether the external procedure is built: it has no buffers.
-fn is_built_procedure(alloc: Global, main: &Procedure) -> Result<bool, AllocError>
-    ensures { IfOk result (λ built. built ≡ is_built_procedure main.now) }
+fn is_built_procedure(main: &Procedure) -> bool
+    ensures { result ≡ is_built_procedure main.now }
 {
-    if main.buffers.is_empty() && is_built_header(&main.header) {
-        is_built_body(alloc, &main.body)
-    } else {
-        Ok(false)
-    }
+    main.buffers.is_empty() && is_built_header(&main.header) && is_built_body(&main.body)
 }
 
 /// Whether the statements are built.
 #[cycle(built)]
-fn is_built_body(alloc: Global, body: &[Stmt]) -> Result<bool, AllocError>
-    ensures { IfOk result (λ built. built ≡ is_built_body body.now) }
+fn is_built_body(body: &[Stmt]) -> bool
+    ensures { result ≡ is_built_body body.now }
 {
     for stmt in body {
-        if !is_built_stmt(alloc, stmt)? {
-            return Ok(false);
+        if !is_built_stmt(stmt) {
+            return false;
         }
     }
-    Ok(true)
+    true
 }
 
 /// Whether the statement is built: a block, an assignment without NO-ERROR, PUT to the unnamed
 /// stream, and UNDO with LEAVE.
 #[cycle(built)]
-fn is_built_stmt(alloc: Global, stmt: &Stmt) -> Result<bool, AllocError>
-    ensures { IfOk result (λ built. built ≡ is_built_stmt stmt.now) }
+fn is_built_stmt(stmt: &Stmt) -> bool
+    ensures { result ≡ is_built_stmt stmt.now }
 {
     match stmt {
-        Stmt::Block { header, body } => {
-            if is_built_header(header) {
-                is_built_body(alloc, body)
-            } else {
-                Ok(false)
-            }
-        }
-        Stmt::Assign { pairs, no_error } => {
-            if *no_error {
-                Ok(false)
-            } else {
-                are_built_assignments(alloc, pairs)
-            }
-        }
-        Stmt::Put { stream, items } => Ok(*stream == 0 && are_built_items(items)),
-        Stmt::Undo { action, .. } => Ok(is_built_action(action)),
-        _ => Ok(false),
+        Stmt::Block { header, body } => is_built_header(header) && is_built_body(body),
+        Stmt::Assign { pairs, no_error } => !*no_error && are_built_assignments(pairs),
+        Stmt::Put { stream, items } => *stream == 0 && are_built_items(items),
+        Stmt::Undo { action, .. } => is_built_action(action),
+        _ => false,
     }
 }
 
@@ -84,12 +63,13 @@ fn is_built_action(action: &Action) -> bool
 }
 
 /// Whether blocks with this header are built: the external procedure's, and DO without TO, WHILE,
-/// ON and buffers.
+/// ON and buffers, that do not ask RETRY.
 fn is_built_header(header: &Header) -> bool
     ensures { result ≡ is_built_header header.now }
 {
     let kind = matches!(header.kind, BlockKind::Procedure | BlockKind::Do);
-    kind && header.scoped.is_empty()
+    kind && !header.flags.retry_seen
+        && header.scoped.is_empty()
         && header.to.is_none()
         && header.while_test.is_none()
         && header.fetch.is_none()
@@ -98,53 +78,25 @@ fn is_built_header(header: &Header) -> bool
 }
 
 /// Whether the assignments are built.
-fn are_built_assignments(alloc: Global, pairs: &[Assignment]) -> Result<bool, AllocError>
-    ensures { IfOk result (λ built. built ≡ are_built_assignments pairs.now) }
+fn are_built_assignments(pairs: &[Assignment]) -> bool
+    ensures { result ≡ are_built_assignments pairs.now }
 {
     for pair in pairs {
-        if !is_built_assignment(alloc, pair)? {
-            return Ok(false);
+        if !is_built_assignment(pair) {
+            return false;
         }
     }
-    Ok(true)
+    true
 }
 
-/// Whether the assignment is built: a literal to a variable of the external procedure, whose kind
-/// it fits.
-fn is_built_assignment(alloc: Global, pair: &Assignment) -> Result<bool, AllocError>
-    ensures { IfOk result (λ built. built ≡ is_built_assignment pair.now) }
+/// Whether the assignment is built: a literal to a variable.
+fn is_built_assignment(pair: &Assignment) -> bool
+    ensures { result ≡ is_built_assignment pair.now }
 {
-    match (&pair.target, &pair.right) {
-        (Target::Variable(variable), Right::Value(Expr::Literal(value))) => {
-            if is_built_literal(value) {
-                fits(alloc, value, variable.kind)
-            } else {
-                Ok(false)
-            }
-        }
-        _ => Ok(false),
-    }
-}
-
-/// Whether the value fits the kind.
-fn fits(alloc: Global, value: &Value, kind: Kind) -> Result<bool, AllocError>
-    ensures { IfOk result (λ fits. fits ≡ is_value (fitted value.now kind)) }
-{
-    match fit(alloc, value, kind) {
-        Ok(_) => Ok(true),
-        Err(ArithFault::Overflow) => Ok(false),
-        Err(ArithFault::NoMemory) => Err(AllocError),
-    }
-}
-
-/// Whether the literal is built: a text has at most 30,000 bytes.
-fn is_built_literal(value: &Value) -> bool
-    ensures { result ≡ is_built_literal value.now }
-{
-    match value {
-        Value::Text(text) => text.len() <= MAX_TEXT_BYTES,
-        _ => true,
-    }
+    matches!(
+        (&pair.target, &pair.right),
+        (Target::Variable(_), Right::Value(Expr::Literal(_)))
+    )
 }
 
 /// Whether the items are built.
@@ -164,11 +116,9 @@ fn is_built_item(item: &PutItem) -> bool
     ensures { result ≡ is_built_item item.now }
 {
     match item {
-        PutItem::Shows { value, mask: None } => match value {
-            Expr::Literal(value) => is_built_literal(value),
-            Expr::Variable(_) => true,
-            _ => false,
-        },
+        PutItem::Shows { value, mask: None } => {
+            matches!(value, Expr::Literal(_) | Expr::Variable(_))
+        }
         PutItem::Shows { .. } => false,
         PutItem::Skip(_) | PutItem::Space(_) => true,
     }

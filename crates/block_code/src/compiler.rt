@@ -42,19 +42,18 @@ impl<T: Drop> From<AllocFailed<T>> for CompileFault {
     }
 }
 
-/// The code of a bound source. `NotBuilt` comes exactly where some statement, header or value has
-/// a form that is not built yet; want of memory may come at any time.
+/// The code of a bound source. `NotBuilt` comes exactly where some statement or header has a form
+/// that is not built yet; want of memory may come at any time.
 pub fn compile(alloc: Global, bound: Bound) -> Result<Code, CompileFault>
     ensures stands { IfOk result (λ code. StandsFor code bound) }
     ensures built { OnOk result (IsBuilt bound) }
     ensures not_built { result ≡ Err CompileFault.NotBuilt → ¬ IsBuilt bound }
 {
-    match is_built(alloc, &bound) {
-        Ok(true) => match emit_bound(alloc, bound) {
-            Ok(code) => Ok(code),
-            Err(_) => Err(CompileFault::NoMemory),
-        },
-        Ok(false) => Err(CompileFault::NotBuilt),
+    if !is_built(&bound) {
+        return Err(CompileFault::NotBuilt);
+    }
+    match emit_bound(alloc, bound) {
+        Ok(code) => Ok(code),
         Err(_) => Err(CompileFault::NoMemory),
     }
 }

@@ -20,10 +20,10 @@ use Rattle.block_meaning.specs.GivesUp.{Begins}
 use Rattle.block_vm.specs.declared.mode.Mark.{Mark}
 use Rattle.block_vm.specs.declared.mode.Iteration.{Iteration}
 use Rattle.block_vm.specs.declared.mode.Way.{Way}
-use Rattle.block_vm.specs.declared.mode.Way.TheVariants.{Ran, Leaves, Undoes}
+use Rattle.block_vm.specs.declared.mode.Way.TheVariants.{Ran, Leaves, Undoes, Raises}
 use Rattle.block_vm.specs.declared.mode.Mode.{Mode}
 use Rattle.block_vm.specs.declared.mode.Mode.TheVariants.{Runs, Turns, Over, AsksEnter, AsksBack, AsksLeave, AsksEnd, Ended}
-use Rattle.block_vm.specs.Machine.{Config, paid_from, paid, set_as, set_fitted, set_right, set_all, items_text, writes_if, undo_from, act, enters_if, enters_at, turn, is_block, out_of, behind, goes, level_ends, undone, first_mark, undo_comes, iteration_ends, unwind, step_in, step}
+use Rattle.block_vm.specs.Machine.{Config, this_or, paid_from, paid, set_as, set_fitted, set_right, set_all, fits, all_fit, items_text, are_short, writes_if, range_line, errs, runs_or_errs, puts, can_undo, error_comes, undo_from, act, enters_if, enters_at, turn, is_block, out_of, behind, goes, level_ends, undone, first_mark, undo_comes, iteration_ends, unwind, step_in, step}
 
 -- how near a mode is to the next operation
 abbrev pub rank_in : Mode → ℕ
@@ -111,16 +111,28 @@ right_same (target.Variable x) (right.NextValue q) c = same_itself c
 right_same (target.Variable x) (right.CurrentValue q) c = same_itself c
 right_same (target.Field b f k) r c = same_itself c
 
+either_same : (b : Bool) (c d : Config) → Same c d → Same c (this_or b d c)
+either_same true c d h = h
+either_same false c d h = same_itself c
+
 pub set_all_same : (xs : List Assignment) (c : Config) → Same c (set_all xs c)
 set_all_same [] c = same_itself c
-set_all_same (x ∷ xs) c = same_further c (set_right x.target x.right c) (set_all xs (set_right x.target x.right c)) (right_same x.target x.right c) (set_all_same xs (set_right x.target x.right c))
+set_all_same (x ∷ xs) c = either_same (fits x.target x.right) c (set_all xs (set_right x.target x.right c)) (same_further c (set_right x.target x.right c) (set_all xs (set_right x.target x.right c)) (right_same x.target x.right c) (set_all_same xs (set_right x.target x.right c)))
 
-begins_same : (xs ys : List Piece) → ys ≡ xs → Begins xs ys
-begins_same xs ys e = subst (Begins xs) (sym e) (itself xs)
+writes_leads : (b : Bool) (text : List ℕ) (mode : Mode) (n : ℕ) (c : Config) → rank_in mode ≤ 2 → IsUnended mode → 3 * c.units + (2 * length c.opened + 2) < n → Leads n c.written (writes_if b text mode c)
+writes_leads true text mode n c low u le = record { less = omega arith; more = itself c.written; unended = tt }
+writes_leads false text mode n c low u le = record { less = omega arith; more = (_, refl); unended = u }
 
-writes_leads : (b : Bool) (text : List ℕ) (p n : ℕ) (c : Config) → 3 * c.units + (2 * length c.opened + 2) < n → Leads n c.written (writes_if b text p c)
-writes_leads true text p n c le = record { less = omega arith; more = itself c.written; unended = tt }
-writes_leads false text p n c le = record { less = le; more = (_, refl); unended = tt }
+errs_leads : (n : ℕ) (c : Config) → 3 * c.units + (2 * length c.opened + 2) < n → Leads n c.written (errs c)
+errs_leads n c le = writes_leads (nat_lt 16777216 (c.size + length range_line)) range_line (Over (Raises None)) n c (omega arith) tt le
+
+runs_or_errs_leads : (b : Bool) (p n : ℕ) (c : Config) → 3 * c.units + (2 * length c.opened + 2) < n → Leads n c.written (runs_or_errs b p c)
+runs_or_errs_leads true p n c le = record { less = omega arith; more = itself c.written; unended = tt }
+runs_or_errs_leads false p n c le = errs_leads n c le
+
+puts_leads : (b : Bool) (text : List ℕ) (p n : ℕ) (c : Config) → 3 * c.units + (2 * length c.opened + 2) < n → Leads n c.written (puts b text p c)
+puts_leads true text p n c le = writes_leads (nat_lt 16777216 (c.size + length text)) text (Runs p) n c (omega arith) tt le
+puts_leads false text p n c le = errs_leads n c le
 
 stays : (p n u : ℕ) (c : Config) → c.mode ≡ Runs p → u < c.units → 3 * c.units + (2 * length c.opened + 2) ≤ n → Leads n c.written (record c { units = u })
 stays p n u c e lt le =
@@ -140,8 +152,9 @@ act_leads (Some (Assign pairs quiet)) p c e = paid_leads _ _ c (omega arith) (λ
     let c1 : Config = record c { units = v } in
     let s = set_all_same pairs.items c1 in
     let len : length (set_all pairs.items c1).opened ≡ length c.opened = ap length s.opened in
-    record { less = omega (arith, s.units, len); more = begins_same c.written (set_all pairs.items c1).written s.written; unended = tt })
-act_leads (Some (Put stream items)) p c e = paid_leads _ _ c (omega arith) (λ v lt. let c1 : Config = record c { units = v } in writes_leads (nat_lt 16777216 (c1.size + length (items_text items.items c1.undoable c1.kept))) (items_text items.items c1.undoable c1.kept) (p + 1) _ c1 (omega arith))
+    let l = runs_or_errs_leads (all_fit pairs.items) (p + 1) (3 * c.units + (2 * length c.opened + 2)) (set_all pairs.items c1) (omega (arith, s.units, len)) in
+    record { less = l.less; more = subst (λ ps. Begins ps (runs_or_errs (all_fit pairs.items) (p + 1) (set_all pairs.items c1)).written) s.written l.more; unended = l.unended })
+act_leads (Some (Put stream items)) p c e = paid_leads _ _ c (omega arith) (λ v lt. let c1 : Config = record c { units = v } in puts_leads (are_short items.items) (items_text items.items c1.undoable c1.kept) (p + 1) _ c1 (omega arith))
 act_leads (Some (Undo block a)) p c e = paid_leads _ _ c (omega arith) (λ v lt. undo_leads block a p _ v c e lt (omega arith))
 
 enters_leads : (b : Bool) (p n : ℕ) (c : Config) → 3 * c.units + (2 * length c.opened + 4) < n → Leads n c.written (enters_if b p c)
@@ -168,6 +181,7 @@ pub goes_leads : (way : Way) (p n : ℕ) (c : Config) → 3 * c.units + (2 * len
 goes_leads Ran p n c le = behind_leads (slice_get c.code p) c n le
 goes_leads (Leaves l) p n c le = record { less = omega arith; more = itself c.written; unended = tt }
 goes_leads (Undoes block leave first) p n c le = record { less = omega arith; more = itself c.written; unended = tt }
+goes_leads (Raises first) p n c le = record { less = omega arith; more = itself c.written; unended = tt }
 
 pub level_leads : (k : Option Mark) (way : Way) (p n : ℕ) (c : Config) → 3 * c.units + (2 * length c.opened + 2) < n → Leads n c.written (level_ends k way p c)
 level_leads None way p n c le = goes_leads way p n c le
@@ -181,10 +195,15 @@ undo_comes_leads : (b : Bool) (i : Option Instr) (block leave : ℕ) (k : Option
 undo_comes_leads true i block leave k p n c le = undone_leads k (out_of i (Leaves leave)) p n c le
 undo_comes_leads false i block leave k p n c le = record { less = omega arith; more = itself c.written; unended = tt }
 
+error_comes_leads : (b : Bool) (k : Option Mark) (p n : ℕ) (c : Config) → 3 * c.units + (2 * length c.opened + 2) < n → Leads n c.written (error_comes b k p c)
+error_comes_leads true k p n c le = undone_leads k Ran p n c le
+error_comes_leads false k p n c le = record { less = omega arith; more = itself c.written; unended = tt }
+
 iteration_leads : (way : Way) (i : Option Instr) (it : Iteration) (n : ℕ) (c : Config) → 3 * c.units + (2 * length c.opened + 2) < n → Leads n c.written (iteration_ends way i it c)
 iteration_leads Ran i it n c le = level_leads it.mark (out_of i Ran) it.place n c le
 iteration_leads (Leaves l) i it n c le = level_leads it.mark (out_of i (Leaves l)) it.place n c le
 iteration_leads (Undoes block leave inner) i it n c le = undo_comes_leads (is_block i block) i block leave (first_mark it.mark inner) it.place n c le
+iteration_leads (Raises inner) i it n c le = error_comes_leads (can_undo i) (first_mark it.mark inner) it.place n c le
 
 unwind_leads : (way : Way) (its : List Iteration) (c : Config) → its ≡ c.opened → Leads (3 * c.units + (2 * length c.opened + 1)) c.written (unwind way its c)
 unwind_leads way [] c e = record { less = omega arith; more = itself c.written; unended = tt }

@@ -4,11 +4,11 @@ use Rattle.std.specs.Prelude.{slice_get}
 use Rattle.block_code.specs.declared.code.Instr.{Instr}
 use Rattle.block_code.specs.declared.code.Instr.TheVariants.{Open, Close, Assign, Put, Undo}
 use Rattle.block_vm.specs.declared.mode.Way.{Way}
-use Rattle.block_vm.specs.declared.mode.Way.TheVariants.{Ran, Leaves, Undoes}
+use Rattle.block_vm.specs.declared.mode.Way.TheVariants.{Ran, Leaves, Undoes, Raises}
 use Rattle.block_vm.specs.declared.mode.Mode.{Mode}
 use Rattle.block_vm.specs.declared.mode.Mode.TheVariants.{Runs, Turns, Over, AsksEnter, AsksBack, AsksLeave, AsksEnd, Ended}
-use Rattle.block_vm.specs.declared.client.Heard.{Heard}
-use Rattle.block_vm.specs.declared.client.Heard.TheVariants.{Blocked, Done, Ends}
+use Rattle.block_vm.specs.declared.machine.Heard.{Heard}
+use Rattle.block_vm.specs.declared.machine.Heard.TheVariants.{Blocked, Done, Ends}
 use Rattle.block_vm.specs.Machine.{Config, paid_from, behind, goes, values_at, olds_at, at_level, proceeds_in, hears}
 use Rattle.block_vm.specs.Work.{AsksOwn}
 use Rattle.block_vm.proofs.Falls.{IsUnended}
@@ -30,6 +30,7 @@ goes_keeps : (way : Way) (p : ℕ) (c : Config) → Keeps c (goes way p c)
 goes_keeps Ran p c = behind_keeps (slice_get c.code p) c
 goes_keeps (Leaves l) p c = record { written = refl; unended = tt }
 goes_keeps (Undoes block leave first) p c = record { written = refl; unended = tt }
+goes_keeps (Raises first) p c = record { written = refl; unended = tt }
 
 level_keeps : (u d : ℕ) (way : Way) (p : ℕ) (c : Config) → Keeps c (paid_from u (λ c. record c { mode = AsksLeave d way p }) c)
 level_keeps zero d way p c = record { written = refl; unended = tt }

@@ -17,7 +17,7 @@ use Rattle.block_meaning.specs.State.{Copy}
 use Rattle.block_vm.specs.declared.mode.Mark.{Mark}
 use Rattle.block_vm.specs.declared.mode.Iteration.{Iteration}
 use Rattle.block_vm.specs.declared.state.Old.{Old}
-use Rattle.block_vm.specs.Machine.{Config, values_at, olds_at, with_old, set_as, set_fitted, set_right, set_all}
+use Rattle.block_vm.specs.Machine.{Config, this_or, values_at, olds_at, with_old, set_as, set_fitted, set_right, set_all, fits}
 use Rattle.block_vm.specs.Follows.{Outer, copy_of, IsWithin, top_after, deep_after, IsAt, AreOpen, AreOpenIn}
 use Rattle.block_vm.proofs.Restores.{values_stay, older, set_back, set_longer}
 
@@ -25,7 +25,7 @@ use Rattle.block_vm.proofs.Restores.{values_stay, older, set_back, set_longer}
 
 pub at_fewer : (code : List Instr) (u n : ℕ) (os : List Outer) (o : Outer) (p : ℕ) → n ≤ u → IsAt code u os o p → IsAt code n os o p
 at_fewer code u n os o p le at =
-    record { h = at.h; to = at.to; opens = at.opens; number = at.number; flags = at.flags; once = at.once; inside = at.inside; behind = at.behind; enough = omega (arith, at.enough) }
+    record { h = at.h; to = at.to; opens = at.opens; number = at.number; flags = at.flags; once = at.once; no_retry = at.no_retry; inside = at.inside; behind = at.behind; enough = omega (arith, at.enough) }
 
 open_fewer : (code : List Instr) (u n : ℕ) (olds : List Old) (values : List Value) (top deep : ℕ) (os : List Outer) (its : List Iteration) → n ≤ u → AreOpen code u olds values top deep os its → AreOpen code n olds values top deep os its
 open_fewer code u n olds values top deep [] [] le h = h
@@ -118,9 +118,14 @@ right_open (target.Variable x) (right.NextValue q) c os h = h
 right_open (target.Variable x) (right.CurrentValue q) c os h = h
 right_open (target.Field b f k) r c os h = h
 
+-- one of two configurations in which it is open
+either_open : (b : Bool) (c d : Config) (os : List Outer) → AreOpenIn c (length c.olds) c.level os → AreOpenIn d (length d.olds) d.level os → AreOpenIn (this_or b c d) (length (this_or b c d).olds) (this_or b c d).level os
+either_open true c d os h k = h
+either_open false c d os h k = k
+
 pub set_all_open : (xs : List Assignment) → Keeps (set_all xs)
 set_all_open [] c os h = h
-set_all_open (x ∷ xs) c os h = set_all_open xs (set_right x.target x.right c) os (right_open x.target x.right c os h)
+set_all_open (x ∷ xs) c os h = either_open (fits x.target x.right) (set_all xs (set_right x.target x.right c)) c os (set_all_open xs (set_right x.target x.right c) os (right_open x.target x.right c os h)) h
 
 set_code : (undoable : Bool) (n : ℕ) (v : Value) (c : Config) → (set_as undoable n v c).code ≡ c.code
 set_code true n v c = refl
@@ -150,9 +155,13 @@ right_code (target.Variable x) (right.NextValue q) c = refl
 right_code (target.Variable x) (right.CurrentValue q) c = refl
 right_code (target.Field b f k) r c = refl
 
+either_code : (b : Bool) (d c : Config) → d.code ≡ c.code → (this_or b d c).code ≡ c.code
+either_code true d c e = e
+either_code false d c e = refl
+
 pub set_all_code : (xs : List Assignment) (c : Config) → (set_all xs c).code ≡ c.code
 set_all_code [] c = refl
-set_all_code (x ∷ xs) c = set_all_code xs (set_right x.target x.right c) ∙ right_code x.target x.right c
+set_all_code (x ∷ xs) c = either_code (fits x.target x.right) (set_all xs (set_right x.target x.right c)) c (set_all_code xs (set_right x.target x.right c) ∙ right_code x.target x.right c)
 
 -- ---- outside of a transaction
 

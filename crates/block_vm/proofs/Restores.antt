@@ -6,34 +6,34 @@ use Rattle.std.proofs.lemmas.List.{set-set, set-get_or}
 use Rattle.abl_base.specs.declared.value.Value.{Value}
 use Rattle.abl_base.specs.declared.value.Value.TheVariants.{Unknown}
 use Rattle.block_vm.specs.declared.state.Old.{Old}
-use Rattle.block_vm.specs.Machine.{values_at, olds_at, stay_or, with_old}
+use Rattle.block_vm.specs.Machine.{values_at, olds_at, this_or, with_old}
 
 -- nothing goes back behind a mark that reaches to the last one
 pub values_stay : (at : ℕ) (olds : List Old) (values : List Value) → length olds ≤ at → values_at at olds values ≡ values
 values_stay at [] values le = refl
 values_stay at (o ∷ olds) values le =
     let e : nat_lt (length olds) at ≡ true = lt-ltb (length olds) at (omega arith) in
-    ap (λ b. stay_or b values (values_at at olds (slice_set values o.number o.value))) e
+    ap (λ b. this_or b values (values_at at olds (slice_set values o.number o.value))) e
 
 pub olds_stay : (at : ℕ) (olds : List Old) → length olds ≤ at → olds_at at olds ≡ olds
 olds_stay at [] le = refl
 olds_stay at (o ∷ olds) le =
     let e : nat_lt (length olds) at ≡ true = lt-ltb (length olds) at (omega arith) in
-    ap (λ b. stay_or b (o ∷ olds) (olds_at at olds)) e
+    ap (λ b. this_or b (o ∷ olds) (olds_at at olds)) e
 
 -- the last one goes back
 pub values_back : (at : ℕ) (o : Old) (olds : List Old) (values : List Value) → at ≤ length olds → values_at at (o ∷ olds) values ≡ values_at at olds (slice_set values o.number o.value)
 values_back at o olds values le =
     let e : nat_lt (length olds) at ≡ false = le-ltb (length olds) at le in
-    ap (λ b. stay_or b values (values_at at olds (slice_set values o.number o.value))) e
+    ap (λ b. this_or b values (values_at at olds (slice_set values o.number o.value))) e
 
 pub olds_back : (at : ℕ) (o : Old) (olds : List Old) → at ≤ length olds → olds_at at (o ∷ olds) ≡ olds_at at olds
 olds_back at o olds le =
     let e : nat_lt (length olds) at ≡ false = le-ltb (length olds) at le in
-    ap (λ b. stay_or b (o ∷ olds) (olds_at at olds)) e
+    ap (λ b. this_or b (o ∷ olds) (olds_at at olds)) e
 
 -- the old values after the mark are gone
-gone_by : (b : Bool) (at : ℕ) (o : Old) (olds : List Old) → nat_lt (length olds) at ≡ b → at ≤ length (o ∷ olds) → (at ≤ length olds → length (olds_at at olds) ≡ at) → length (stay_or b (o ∷ olds) (olds_at at olds)) ≡ at
+gone_by : (b : Bool) (at : ℕ) (o : Old) (olds : List Old) → nat_lt (length olds) at ≡ b → at ≤ length (o ∷ olds) → (at ≤ length olds → length (olds_at at olds) ≡ at) → length (this_or b (o ∷ olds) (olds_at at olds)) ≡ at
 gone_by true at o olds e le next = let lt : length olds < at = ltb-true (length olds) at e in omega arith
 gone_by false at o olds e le next = next (ltb-false (length olds) at e)
 
@@ -42,7 +42,7 @@ gone at [] le = omega arith
 gone at (o ∷ olds) le = gone_by (nat_lt (length olds) at) at o olds refl le (gone at olds)
 
 -- an older mark means the same after a newer one was gone back to
-older_by : (b : Bool) (n at : ℕ) (o : Old) (olds : List Old) (values : List Value) → nat_lt (length olds) at ≡ b → n ≤ at → values_at n olds (slice_set values o.number o.value) ≡ values_at n (olds_at at olds) (values_at at olds (slice_set values o.number o.value)) → values_at n (o ∷ olds) values ≡ values_at n (stay_or b (o ∷ olds) (olds_at at olds)) (stay_or b values (values_at at olds (slice_set values o.number o.value)))
+older_by : (b : Bool) (n at : ℕ) (o : Old) (olds : List Old) (values : List Value) → nat_lt (length olds) at ≡ b → n ≤ at → values_at n olds (slice_set values o.number o.value) ≡ values_at n (olds_at at olds) (values_at at olds (slice_set values o.number o.value)) → values_at n (o ∷ olds) values ≡ values_at n (this_or b (o ∷ olds) (olds_at at olds)) (this_or b values (values_at at olds (slice_set values o.number o.value)))
 older_by true n at o olds values e le next = refl
 older_by false n at o olds values e le next =
     let ge = ltb-false (length olds) at e in

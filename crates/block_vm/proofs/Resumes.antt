@@ -13,11 +13,12 @@ use Rattle.block_vm.specs.declared.mode.Ending.{Ending}
 use Rattle.block_vm.specs.declared.mode.Ending.TheVariants.{NoMemory}
 use Rattle.block_vm.specs.declared.mode.Mode.{Mode}
 use Rattle.block_vm.specs.declared.mode.Mode.TheVariants.{Runs, Turns, Over, AsksEnter, AsksBack, AsksLeave, AsksEnd, Ended}
-use Rattle.block_vm.specs.declared.client.Client.{Client}
+use Rattle.block_vm.specs.declared.machine.Machine.{Machine}
 use Rattle.block_vm.specs.Machine.{Config, heard_of, hears, end_of, asked_in}
 use Rattle.block_vm.specs.Work.{AsksOwn}
 use Rattle.block_vm.specs.Follows.{Follows, FollowsIn}
-use Rattle.block_vm.specs.Client.{config_of, HasWritten}
+use Rattle.block_vm.specs.Client.{config_of, standing_of}
+use Rattle.block_vm.specs.Standing.{HasWritten}
 use Rattle.block_vm.specs.Does.{after, Does, Came, GoesOnIn, IsUnendedIn, GivesUp, Stands, GoesOn}
 use Rattle.block_vm.proofs.Simulates.{heard_follows}
 use Rattle.block_vm.proofs.Falls.{IsUnended}
@@ -25,9 +26,9 @@ use Rattle.block_vm.proofs.Finishes.{finishes, wants_is}
 use Rattle.block_vm.proofs.Hears.{hears_keeps}
 
 -- a client in the midst of a call that began where this was written
-pub record Going (m : List Answer → Doing) (names : List (List ℕ)) (written : List Piece) (client : Client) : Type 0 where
+pub record Going (m : List Answer → Doing) (names : List (List ℕ)) (written : List Piece) (client : Machine) : Type 0 where
   pub pieces : List Piece
-  pub has : HasWritten client names pieces
+  pub has : HasWritten (standing_of client) names pieces
   pub more : Begins written pieces
   pub unended : IsUnendedIn client.mode
   pub follows : Follows m (config_of pieces client)
@@ -53,7 +54,7 @@ written_before m (b ∷ bs) a = ap (λ l. (m l).written) (before_one b a bs)
 
 -- ---- what comes of going on
 
-came_by : (m : List Answer → Doing) (names : List (List ℕ)) (heard : List Answer) (from : List Piece) (c : Client) (w : Wants) → Begins (written_at m heard) from → (g : GoesOn (after heard m) names from c w) → Stands (after heard m) g.pieces c w ⊎ GivesUp (after heard m) g.pieces c.mode w → Came c names m heard w
+came_by : (m : List Answer → Doing) (names : List (List ℕ)) (heard : List Answer) (from : List Piece) (c : Machine) (w : Wants) → Begins (written_at m heard) from → (g : GoesOn (after heard m) names from (standing_of c) w) → Stands (after heard m) g.pieces (standing_of c) w ⊎ GivesUp (after heard m) g.pieces c.mode w → Came (standing_of c) names m heard w
 came_by m names heard from c w least g (inl s) =
     inl (record {
       does = record { written = g.pieces; has = g.has; follows = s.follows };
@@ -69,7 +70,7 @@ came_by m names heard from c w least g (inr u) =
     } in
     inr (record { pieces = g.pieces; given_up = record { ends = u.ends; has = g.has; gave = gave }; asks = u.asks })
 
-pub came : (m : List Answer → Doing) (names : List (List ℕ)) (heard : List Answer) (from : List Piece) (c : Client) (w : Wants) → Begins (written_at m heard) from → GoesOn (after heard m) names from c w → Came c names m heard w
+pub came : (m : List Answer → Doing) (names : List (List ℕ)) (heard : List Answer) (from : List Piece) (c : Machine) (w : Wants) → Begins (written_at m heard) from → GoesOn (after heard m) names from (standing_of c) w → Came (standing_of c) names m heard w
 came m names heard from c w least g = came_by m names heard from c w least g g.stands
 
 -- ---- the first call
@@ -85,15 +86,15 @@ going_unended (AsksEnd ending) going = tt
 going_unended Ended going = going
 
 -- what `go_on` ensures
-abbrev pub WillGoOn : Client → Client → Wants → Type 0
-WillGoOn old new w = (names : List (List ℕ)) (m : List Answer → Doing) (written : List Piece) → IsUnendedIn old.mode → HasWritten old names written → Follows m (config_of written old) → GoesOn m names written new w
+abbrev pub WillGoOn : Machine → Machine → Wants → Type 0
+WillGoOn old new w = (names : List (List ℕ)) (m : List Answer → Doing) (written : List Piece) → IsUnendedIn old.mode → HasWritten (standing_of old) names written → Follows m (config_of written old) → GoesOn m names written (standing_of new) w
 
-first_by : (names : List (List ℕ)) (m : List Answer → Doing) (old new : Client) (w : Wants) → GoesOnIn old.mode → WillGoOn old new w → Does old names m [] → Came new names m [] w
+first_by : (names : List (List ℕ)) (m : List Answer → Doing) (old new : Machine) (w : Wants) → GoesOnIn old.mode → WillGoOn old new w → Does (standing_of old) names m [] → Came (standing_of new) names m [] w
 first_by names m old new w going will d = came m names [] d.written new w (d.written, refl) (will names (after [] m) d.written (going_unended old.mode going) d.has d.follows)
 
-pub first_call : (names : List (List ℕ)) (m : List Answer → Doing) (heard : List Answer) (old new : Client) (w : Wants) → GoesOnIn old.mode → heard ≡ [] → WillGoOn old new w → Does old names m heard → Came new names m heard w
+pub first_call : (names : List (List ℕ)) (m : List Answer → Doing) (heard : List Answer) (old new : Machine) (w : Wants) → GoesOnIn old.mode → heard ≡ [] → WillGoOn old new w → Does (standing_of old) names m heard → Came (standing_of new) names m heard w
 first_call names m heard old new w going none will d =
-    subst (λ heard. Came new names m heard w) (sym none) (first_by names m old new w going will (subst (λ heard. Does old names m heard) none d))
+    subst (λ heard. Came (standing_of new) names m heard w) (sym none) (first_by names m old new w going will (subst (λ heard. Does (standing_of old) names m heard) none d))
 
 -- ---- the answer to an operation other than End
 
@@ -128,7 +129,7 @@ unended_of (AsksEnd ending) u = tt
 unended_of Ended u = u
 
 -- what `hear` ensures, and then `go_on`
-pub record HearsAnd (a : Answer) (old mid new : Client) (w : Wants) : Type 0 where
+pub record HearsAnd (a : Answer) (old mid new : Machine) (w : Wants) : Type 0 where
   pub config : ((written : List Piece) → config_of written mid ≡ hears (heard_of a) (config_of written old)) ⊎ (mid.mode ≡ AsksEnd NoMemory)
   pub sections : mid.state.sections.items ≡ old.state.sections.items
   pub goes_on : WillGoOn mid new w
@@ -139,7 +140,7 @@ hears_follows a m heard c own f =
     subst (λ r. Follows r (hears (heard_of a) c)) (one_more heard a m)
     (record { w = f.w; streams = f.streams; unopened = f.unopened; stands = heard_follows f.w f.streams (after heard m) c c.mode a refl own f.stands })
 
-answered_by : (names : List (List ℕ)) (a : Answer) (m : List Answer → Doing) (heard : List Answer) (old mid new : Client) (w : Wants) → AsksOwn old.mode → HearsAnd a old mid new w → (written : List Piece) → HasWritten old names written → Follows (after heard m) (config_of written old) → ((written : List Piece) → config_of written mid ≡ hears (heard_of a) (config_of written old)) ⊎ (mid.mode ≡ AsksEnd NoMemory) → Came new names m (heard ++ a ∷ []) w
+answered_by : (names : List (List ℕ)) (a : Answer) (m : List Answer → Doing) (heard : List Answer) (old mid new : Machine) (w : Wants) → AsksOwn old.mode → HearsAnd a old mid new w → (written : List Piece) → HasWritten (standing_of old) names written → Follows (after heard m) (config_of written old) → ((written : List Piece) → config_of written mid ≡ hears (heard_of a) (config_of written old)) ⊎ (mid.mode ≡ AsksEnd NoMemory) → Came (standing_of new) names m (heard ++ a ∷ []) w
 answered_by names a m heard old mid new w own h written has f (inl e) =
     let k = hears_keeps (heard_of a) (config_of written old) own in
     let want = own_wants old.mode own in
@@ -158,17 +159,17 @@ answered_by names a m heard old mid new w own h written has f (inr e) =
     came m names (heard ++ a ∷ []) written new w least
     (record {
       pieces = written;
-      has = subst (λ c. HasWritten c names written) (sym stays.0) (h.sections ∙ has);
+      has = subst (λ c. HasWritten (standing_of c) names written) (sym stays.0) (h.sections ∙ has);
       more = ([], append-nil written);
       stands = inr (record {
-        ends = ap (λ (c : Client). c.mode) stays.0 ∙ e;
+        ends = ap (λ (c : Machine). c.mode) stays.0 ∙ e;
         asks = stays.1;
         asked = will.asked;
         more = subst (λ ps. Begins ps (after (heard ++ a ∷ []) m []).written) k.written will.more;
       });
     })
 
-pub own_call : (names : List (List ℕ)) (a : Answer) (m : List Answer → Doing) (heard : List Answer) (old mid new : Client) (w : Wants) → AsksOwn old.mode → HearsAnd a old mid new w → Does old names m heard → Came new names m (heard ++ a ∷ []) w
+pub own_call : (names : List (List ℕ)) (a : Answer) (m : List Answer → Doing) (heard : List Answer) (old mid new : Machine) (w : Wants) → AsksOwn old.mode → HearsAnd a old mid new w → Does (standing_of old) names m heard → Came (standing_of new) names m (heard ++ a ∷ []) w
 own_call names a m heard old mid new w own h d = answered_by names a m heard old mid new w own h d.written d.has d.follows h.config
 
 -- ---- the answer to End
@@ -178,7 +179,7 @@ end_follows a m heard c ending e f ans =
     let stands : FollowsIn f.w f.streams (AsksEnd ending) (after heard m) c = subst (λ mode. FollowsIn f.w f.streams mode (after heard m) c) e f.stands in
     ap m (append_assoc heard (a ∷ []) ans) ∙ stands (a ∷ ans)
 
-pub end_call : (names : List (List ℕ)) (a : Answer) (m : List Answer → Doing) (heard : List Answer) (old new : Client) (ending : Ending) → old.mode ≡ AsksEnd ending → ((written : List Piece) → (let c : Config = record (config_of written old) { mode = Ended } in config_of written new ≡ c)) → new.state.sections.items ≡ old.state.sections.items → Does old names m heard → Came new names m (heard ++ a ∷ []) (HasEndedAs (end_of ending))
+pub end_call : (names : List (List ℕ)) (a : Answer) (m : List Answer → Doing) (heard : List Answer) (old new : Machine) (ending : Ending) → old.mode ≡ AsksEnd ending → ((written : List Piece) → (let c : Config = record (config_of written old) { mode = Ended } in config_of written new ≡ c)) → new.state.sections.items ≡ old.state.sections.items → Does (standing_of old) names m heard → Came (standing_of new) names m (heard ++ a ∷ []) (HasEndedAs (end_of ending))
 end_call names a m heard old new ending e is same d =
     let does = end_follows a m heard (config_of d.written old) ending e d.follows in
     let c : Config = record (config_of d.written old) { mode = Ended } in

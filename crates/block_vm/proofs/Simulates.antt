@@ -1,7 +1,7 @@
 -- Each step of the client keeps that it follows its tree.
 use Rattle.std.proofs.Common.{◌≡◌, ℕ, zero, suc, ◌+◌, ◌-◌, ◌<◌, ◌≤◌, List, [], ◌∷◌, length, Bool, true, false, Option, Some, None, refl, sym, ap, ◌∙◌, subst, arith}
 use Rattle.std.specs.Prelude.{◌==◌, ◌||◌, nat_lt, map, slice_get}
-use Rattle.std.proofs.lemmas.Bool.{eqb-true, ne_eqb}
+use Rattle.std.proofs.lemmas.Bool.{eqb-true, ne_eqb, eq-eqb}
 use Rattle.abl_base.specs.declared.value.Value.{Value}
 use Rattle.database_meaning.specs.declared.operation.Op.{Op}
 use Rattle.database_meaning.specs.declared.operation.Op.TheVariants as op
@@ -9,7 +9,7 @@ use Rattle.database_meaning.specs.declared.operation.Answer.{Answer}
 use Rattle.database_meaning.specs.declared.operation.Answer.TheVariants as answer
 use Rattle.bound_tree.specs.declared.block.Flags.{Flags}
 use Rattle.bound_tree.specs.declared.block.Header.{Header as SourceHeader}
-use Rattle.bound_tree.specs.Tree.{Header, ThenLeave, Stmt, Inner, Choose, Assign, Find, FindCurrent, Create, Remove, Release, UndoBlock, LeaveBlock, NextBlock, Return, ReturnError, Stop as StopStmt, Run, Import, Export, ExportRecord, PutItems, Message, OutputTo, OutputClose, InputFrom, InputClose, Body, Nothing, Then}
+use Rattle.bound_tree.specs.Tree.{Header, ThenRetry, ThenLeave, Stmt, Inner, Choose, Assign, Find, FindCurrent, Create, Remove, Release, UndoBlock, LeaveBlock, NextBlock, Return, ReturnError, Stop as StopStmt, Run, Import, Export, ExportRecord, PutItems, Message, OutputTo, OutputClose, InputFrom, InputClose, Body, Nothing, Then}
 use Rattle.bound_tree.specs.Bound.{assignment_of, item_of}
 use Rattle.block_code.specs.declared.code.Instr.{Instr}
 use Rattle.block_meaning.specs.declared.ends.StopWhy.TheVariants as why
@@ -28,16 +28,16 @@ use Rattle.block_meaning.specs.Meaning.{Around, retrying, heard, meaning, ends_i
 use Rattle.block_vm.specs.declared.mode.Mark.{Mark}
 use Rattle.block_vm.specs.declared.mode.Iteration.{Iteration}
 use Rattle.block_vm.specs.declared.mode.Way.{Way}
-use Rattle.block_vm.specs.declared.mode.Way.TheVariants.{Ran, Leaves, Undoes}
+use Rattle.block_vm.specs.declared.mode.Way.TheVariants.{Ran, Leaves, Undoes, Raises}
 use Rattle.block_vm.specs.declared.mode.Mode.{Mode}
 use Rattle.block_vm.specs.declared.mode.Mode.TheVariants.{Runs, Turns, Over, AsksEnter, AsksBack, AsksLeave, AsksEnd, Ended}
 use Rattle.block_vm.specs.declared.state.Old.{Old}
-use Rattle.block_vm.specs.Machine.{Config, paid_from, paid, items_text, writes_if, act, enters_if, enters_at, turn, is_block, ran_if, out_of, behind, goes, level_ends, undone, first_mark, undo_comes, iteration_ends, unwind, step_in, values_at, olds_at, entered, at_level, left, taken_back, heard_of, proceeds_in, hears, asked_in}
+use Rattle.block_vm.specs.Machine.{Config, paid_from, paid, set_all, all_fit, items_text, are_short, writes_if, range_line, errs, runs_or_errs, puts, act, enters_if, enters_at, turn, is_block, can_undo, ran_if, out_of, behind, goes, level_ends, undone, first_mark, undo_comes, error_comes, iteration_ends, unwind, step_in, values_at, olds_at, entered, at_level, left, taken_back, heard_of, proceeds_in, hears, asked_in}
 use Rattle.block_vm.specs.Follows.{plain_header, StandsAs, Outer, header_in, only_turn, iteration_in, retry_in, all_of, turns_of, behind_block, after_turn, goes_on, all_in, state_of, copy_at, copy_of, way_of, IsWithin, top_after, deep_after, mark_of, IsMarked, StandsBehind, IsAt, AreOpen, AreOpenIn, FollowsTurn, IsOwn, GoesAs, FollowsIn, IsUnopened}
 use Rattle.block_vm.specs.Work.{AsksOwn}
 use Rattle.block_vm.proofs.Restores.{gone}
 use Rattle.block_vm.proofs.Opened.{at_fewer, fewer, wider, entered_copy, set_all_open, set_all_code, cleared, back_open}
-use Rattle.block_vm.proofs.Statements.{assigns_are, put_is}
+use Rattle.block_vm.proofs.Statements.{way_if, text_if, assigns_are, put_is}
 
 module _ (w : Around) (streams : List Stream) where
   abbrev On : (List Answer → Doing) → Config → Type 0
@@ -72,6 +72,10 @@ module _ (w : Around) (streams : List Stream) where
   behind_leaves retry None l s ans = refl
   behind_leaves retry (Some b) l s ans = refl
 
+  behind_raises : (retry : Bool) (after : Option Body) (x : state.Behind) (s : State) (ans : List Answer) → behind_block w retry after (Goes (state.Raises x) s ans) ≡ Goes (state.Raises x) s ans
+  behind_raises retry None x s ans = refl
+  behind_raises retry (Some b) x s ans = refl
+
   behind_undoes : (retry : Bool) (after : Option Body) (l leave : ℕ) (r : Bool) (x : state.Behind) (s : State) (ans : List Answer) → behind_block w retry after (Goes (state.Undoes l (ThenLeave leave) r x) s ans) ≡ Goes (state.Undoes l (ThenLeave leave) r x) s ans
   behind_undoes retry None l leave r x s ans = refl
   behind_undoes retry (Some b) l leave r x s ans = refl
@@ -98,9 +102,27 @@ module _ (w : Around) (streams : List Stream) where
   -- ---- statements
 
   -- a text is written, or the output is full
-  writes_follows : (b : Bool) (m : List Answer → Doing) (c : Config) (text : List ℕ) (p : ℕ) (retry : Bool) (rest : Body) (os : List Outer) → StandsBehind os c.code p (Some rest) → AreOpenIn c (length c.olds) c.level os → ((ans : List Answer) → m ans ≡ goes_on w os (and_then (heard w.program false (state.done (state.written_if b (Wrote None text)) (here c) ans)) (all_of w retry rest))) → On m (writes_if b text p c)
+  writes_follows : (b : Bool) (m : List Answer → Doing) (c : Config) (text : List ℕ) (p : ℕ) (retry : Bool) (rest : Body) (os : List Outer) → StandsBehind os c.code p (Some rest) → AreOpenIn c (length c.olds) c.level os → ((ans : List Answer) → m ans ≡ goes_on w os (and_then (heard w.program false (state.done (state.written_if b (Wrote None text)) (here c) ans)) (all_of w retry rest))) → On m (writes_if b text (Runs p) c)
   writes_follows true m c text p retry rest os at opened does = λ ans. does ans ∙ after_passes os retry rest (client.Stop why.OutputFull) (here c) ans
   writes_follows false m c text p retry rest os at opened does = record { left = Some rest; retry = retry; os = os; at = at; opened = opened; does = does }
+
+  -- a value is out of range: the line is written, and ERROR goes out
+  line_follows : (b : Bool) (m : List Answer → Doing) (c : Config) (retry : Bool) (rest : Body) (os : List Outer) → AreOpenIn c (length c.olds) c.level os → ((ans : List Answer) → m ans ≡ goes_on w os (and_then (and_then (state.done (state.written_if b (Wrote None range_line)) (here c) ans) (state.goes (state.Raises state.nothing_behind))) (all_of w retry rest))) → On m (writes_if b range_line (Over (Raises None)) c)
+  line_follows true m c retry rest os opened does = λ ans. does ans ∙ after_passes os retry rest (client.Stop why.OutputFull) (here c) ans
+  line_follows false m c retry rest os opened does = record { retry = retry; os = os; marked = tt; opened = opened; does = does }
+
+  errs_follows : (m : List Answer → Doing) (c : Config) (retry : Bool) (rest : Body) (os : List Outer) → AreOpenIn c (length c.olds) c.level os → ((ans : List Answer) → m ans ≡ goes_on w os (and_then (heard w.program false (Goes (way_if false) (here c) ans)) (all_of w retry rest))) → On m (errs c)
+  errs_follows m c retry rest os opened does = line_follows (nat_lt 16777216 (c.size + length range_line)) m c retry rest os opened does
+
+  runs_or_errs_follows : (b : Bool) (m : List Answer → Doing) (c : Config) (p : ℕ) (retry : Bool) (rest : Body) (os : List Outer) → StandsBehind os c.code p (Some rest) → AreOpenIn c (length c.olds) c.level os → ((ans : List Answer) → m ans ≡ goes_on w os (and_then (heard w.program false (Goes (way_if b) (here c) ans)) (all_of w retry rest))) → On m (runs_or_errs b p c)
+  runs_or_errs_follows true m c p retry rest os at opened does = record { left = Some rest; retry = retry; os = os; at = at; opened = opened; does = does }
+  runs_or_errs_follows false m c p retry rest os at opened does = errs_follows m c retry rest os opened does
+
+  puts_follows : (b : Bool) (m : List Answer → Doing) (c : Config) (text : List ℕ) (p : ℕ) (retry : Bool) (rest : Body) (os : List Outer) → IsUnopened streams → StandsBehind os c.code p (Some rest) → AreOpenIn c (length c.olds) c.level os → ((ans : List Answer) → m ans ≡ goes_on w os (and_then (heard w.program false (given_text (text_if b text) (writes_to 0) (here c) ans)) (all_of w retry rest))) → On m (puts b text p c)
+  puts_follows true m c text p retry rest os un at opened does =
+      writes_follows (nat_lt 16777216 (c.size + length text)) m c text p retry rest os at opened
+      (λ ans. does ans ∙ ap (λ (x : Stream). goes_on w os (and_then (heard w.program false (state.writes (Wrote x.output text) (here c) ans)) (all_of w retry rest))) un)
+  puts_follows false m c text p retry rest os un at opened does = errs_follows m c retry rest os opened does
 
   -- from an instruction that stands for a statement
   stmt_follows : (m : List Answer → Doing) (c : Config) (p q : ℕ) (t : Stmt) (retry : Bool) (rest : Body) (os : List Outer) → IsUnopened streams → StandsAs c.code p q t → StandsBehind os c.code q (Some rest) → AreOpenIn c (length c.olds) c.level os → ((ans : List Answer) → m ans ≡ goes_on w os (and_then (meaning t (retrying w retry) (here c) ans) (all_of w retry rest))) → On m (act (slice_get c.code p) p c)
@@ -112,7 +134,7 @@ module _ (w : Around) (streams : List Stream) where
       record {
         o = record { number = at.0.number; kind = at.0.kind; flags = at.0.flags; body = body; outer = retry; fuel = u; copy = None; after = Some rest };
         os = os;
-        at = record { h = at.0; to = q; opens = at.1; number = refl; flags = refl; once = at.2.once; inside = at.3; behind = next; enough = omega arith };
+        at = record { h = at.0; to = q; opens = at.1; number = refl; flags = refl; once = at.2.once; no_retry = at.2.no_retry; inside = at.3; behind = next; enough = omega arith };
         opened = fewer c u (length c.olds) c.level os lt opened;
         does = does;
       }))
@@ -123,14 +145,10 @@ module _ (w : Around) (streams : List Stream) where
       subst (λ i. On m (act i p c)) (sym at.1)
       (paid_follows m (λ r. goes_on w os (and_then r (all_of w retry rest))) (λ s ans. heard w.program false (assigns w.program (map assignment_of xs) retry s ans)) _ c (after_passes os retry rest) does1 (λ u lt does.
       let c1 : Config = record c { units = u } in
-      record {
-        left = Some rest;
-        retry = retry;
-        os = os;
-        at = subst (λ code. StandsBehind os code (p + 1) (Some rest)) (sym (set_all_code xs c1)) (subst (λ q. StandsBehind os c.code q (Some rest)) at.5 next);
-        opened = set_all_open xs c1 os (fewer c u (length c.olds) c.level os lt opened);
-        does = λ ans. does ans ∙ ap (λ r. goes_on w os (and_then (heard w.program false r) (all_of w retry rest))) (assigns_are streams w.program xs c1 retry ans at.3);
-      }))
+      runs_or_errs_follows (all_fit xs) m (set_all xs c1) (p + 1) retry rest os
+      (subst (λ code. StandsBehind os code (p + 1) (Some rest)) (sym (set_all_code xs c1)) (subst (λ q. StandsBehind os c.code q (Some rest)) at.5 next))
+      (set_all_open xs c1 os (fewer c u (length c.olds) c.level os lt opened))
+      (λ ans. does ans ∙ ap (λ r. goes_on w os (and_then (heard w.program false r) (all_of w retry rest))) (assigns_are streams w.program xs c1 retry ans at.3))))
   stmt_follows m c p q (PutItems n items) retry rest os un at next opened does =
       let xs = at.0.items in
       let does1 : (ans : List Answer) → m ans ≡ goes_on w os (and_then (meaning (PutItems 0 (map item_of xs)) (retrying w retry) (here c) ans) (all_of w retry rest)) =
@@ -138,9 +156,8 @@ module _ (w : Around) (streams : List Stream) where
       subst (λ i. On m (act i p c)) (sym at.1)
       (paid_follows m (λ r. goes_on w os (and_then r (all_of w retry rest))) (λ s ans. heard w.program false (given_text (put_text w.program (map item_of xs) retry s) (writes_to 0) s ans)) _ c (after_passes os retry rest) does1 (λ u lt does.
       let c1 : Config = record c { units = u } in
-      let text = items_text xs c1.undoable c1.kept in
-      writes_follows (nat_lt 16777216 (c1.size + length text)) m c1 text (p + 1) retry rest os (subst (λ q. StandsBehind os c.code q (Some rest)) at.5 next) (fewer c u (length c.olds) c.level os lt opened)
-      (λ ans. does ans ∙ ap (λ t. goes_on w os (and_then (heard w.program false (given_text t (writes_to 0) (here c1) ans)) (all_of w retry rest))) (put_is streams w.program xs c1 retry at.3) ∙ ap (λ (x : Stream). goes_on w os (and_then (heard w.program false (state.writes (Wrote x.output text) (here c1) ans)) (all_of w retry rest))) un)))
+      puts_follows (are_short xs) m c1 (items_text xs c1.undoable c1.kept) (p + 1) retry rest os un (subst (λ q. StandsBehind os c.code q (Some rest)) at.5 next) (fewer c u (length c.olds) c.level os lt opened)
+      (λ ans. does ans ∙ ap (λ t. goes_on w os (and_then (heard w.program false (given_text t (writes_to 0) (here c1) ans)) (all_of w retry rest))) (put_is streams w.program xs c1 retry at.3))))
   stmt_follows m c p q (UndoBlock l a) retry rest os un at next opened does =
       let does1 : (ans : List Answer) → m ans ≡ goes_on w os (and_then (meaning (UndoBlock l (ThenLeave at.0)) (retrying w retry) (here c) ans) (all_of w retry rest)) =
       λ ans. does ans ∙ ap (λ a. goes_on w os (and_then (meaning (UndoBlock l a) (retrying w retry) (here c) ans) (all_of w retry rest))) at.2 in
@@ -205,7 +222,7 @@ module _ (w : Around) (streams : List Stream) where
       paid_follows m (λ r. goes_on w os (after_turn w o1 r)) (blocks.enters_level w.program (header_in o) only_turn (retry_in o) (all_of w (retry_in o) o.body)) _ c (turn_passes o1 os) does (λ u lt does.
       let c1 : Config = record c { units = u } in
       enters_follows (enters_at at.h c.level) m c1 p o1 os refl
-      (record { h = at.h; to = at.to; opens = at.opens; number = at.number; flags = at.flags; once = at.once; inside = at.inside; behind = at.behind; enough = omega (arith, at.enough) })
+      (record { h = at.h; to = at.to; opens = at.opens; number = at.number; flags = at.flags; once = at.once; no_retry = at.no_retry; inside = at.inside; behind = at.behind; enough = omega (arith, at.enough) })
       (fewer c u (length c.olds) c.level os lt opened)
       (λ ans. does ans ∙ ap (λ b. goes_on w os (after_turn w o1 (where_so b (blocks.inside w.program (header_in o1) only_turn (retry_in o1) (all_of w (retry_in o1) o1.body)) (blocks.begins w.program (header_in o1) None only_turn (retry_in o1) (all_of w (retry_in o1) o1.body)) (here c1) ans))) (sym (enters_is at.h o c.level at.flags))))
 
@@ -222,6 +239,7 @@ module _ (w : Around) (streams : List Stream) where
   goes_follows m c p o os (Leaves l) own at opened does =
       record { retry = false; os = os; marked = tt; opened = opened; does = λ ans. does ans ∙ ap (goes_on w os) (behind_leaves o.outer o.after l (here c) ans) }
   goes_follows m c p o os (Undoes block leave first) own at opened does = absurd own
+  goes_follows m c p o os (Raises first) own at opened does = absurd own
 
   -- the iteration of a block, with this copy
   abbrev with_copy : Option Copy → blocks.Iteration
@@ -236,6 +254,7 @@ module _ (w : Around) (streams : List Stream) where
   out_own i Ran own = tt
   out_own i (Leaves l) own = own_if (is_block i l) (Leaves l) tt
   out_own i (Undoes block leave first) own = absurd own
+  out_own i (Raises first) own = absurd own
 
   leaves_if : (b : Bool) (l : ℕ) → blocks.this_or b state.Ran (state.Leaves l) ≡ way_of false [] [] (ran_if b (Leaves l))
   leaves_if true l = refl
@@ -246,6 +265,7 @@ module _ (w : Around) (streams : List Stream) where
   out_is code u os o p k (Leaves l) own at =
       ap (λ n. blocks.this_or (l == n) state.Ran (state.Leaves l)) (sym at.number) ∙ leaves_if (l == at.h.number) l ∙ ap (λ i. way_of false [] [] (out_of i (Leaves l))) (sym at.opens)
   out_is code u os o p k (Undoes block leave first) own at = absurd own
+  out_is code u os o p k (Raises first) own at = absurd own
 
   -- the end of an iteration without a level asks nothing, with one it asks Leave
   closing_rest : (b : Bool) (c : Config) (ans : List Answer) → and_then (where_so b (λ s ans. buffers.enters_places w.program (buffers.all_places s) s ans) (state.goes state.Ran) (here c) ans) (buffers.leaves []) ≡ buffers.leaves [] (here c) ans
@@ -315,9 +335,9 @@ module _ (w : Around) (streams : List Stream) where
   none_passed n d None inner marked within e = refl
   none_passed n d (Some k) inner marked within e = let b = deep_low n d inner marked in absurd (omega (arith, within.2))
 
-  passes_by : (z : Bool) (o : Outer) (l leave : ℕ) (retry : Bool) (x y : state.Behind) (c : Config) (ans : List Answer) → (z ≡ true → y ≡ x) → where_so z (λ s ans. and_then (buffers.releases_all w.program [] s ans) (state.goes (state.Undoes l (ThenLeave leave) retry x))) (state.goes (state.Undoes l (ThenLeave leave) retry y)) (here c) ans ≡ Goes (state.Undoes l (ThenLeave leave) retry y) (here c) ans
-  passes_by true o l leave retry x y c ans e = ap (λ b. Goes (state.Undoes l (ThenLeave leave) retry b) (here c) ans) (sym (e refl))
-  passes_by false o l leave retry x y c ans e = refl
+  passes_by : (z : Bool) (way : state.Behind → state.Way) (x y : state.Behind) (c : Config) (ans : List Answer) → (z ≡ true → y ≡ x) → where_so z (λ s ans. and_then (buffers.releases_all w.program [] s ans) (state.goes (way x))) (state.goes (way y)) (here c) ans ≡ Goes (way y) (here c) ans
+  passes_by true way x y c ans e = ap (λ b. Goes (way b) (here c) ans) (sym (e refl))
+  passes_by false way x y c ans e = refl
 
   -- what lies behind, of these marks
   abbrev behind_of : Config → Option Mark → state.Behind
@@ -332,7 +352,33 @@ module _ (w : Around) (streams : List Stream) where
         os = os;
         marked = first_marked (length c.olds) c.level k inner marked within;
         opened = opened;
-        does = λ ans. does ans ∙ ap (λ r. goes_on w os (after_turn w o r)) (passes_by (c.level == 0) o l leave retry (behind_of c inner) (behind_of c (first_mark k inner)) c ans (λ z. ap (behind_of c) (none_passed (length c.olds) c.level k inner marked within (eqb-true c.level 0 z)))) ∙ ap (goes_on w os) (behind_undoes o.outer o.after l leave retry (behind_of c (first_mark k inner)) (here c) ans);
+        does = λ ans. does ans ∙ ap (λ r. goes_on w os (after_turn w o r)) (passes_by (c.level == 0) (state.Undoes l (ThenLeave leave) retry) (behind_of c inner) (behind_of c (first_mark k inner)) c ans (λ z. ap (behind_of c) (none_passed (length c.olds) c.level k inner marked within (eqb-true c.level 0 z)))) ∙ ap (goes_on w os) (behind_undoes o.outer o.after l leave retry (behind_of c (first_mark k inner)) (here c) ans);
+      }
+
+  -- RETRY of a block that does not ask for it, and does not iterate, leaves it
+  retry_leaves : (code : List Instr) (u : ℕ) (os : List Outer) (o : Outer) (p : ℕ) (k : Option Copy) (x : state.Behind) (retry : Bool) (s : State) (ans : List Answer) → IsAt code u os o p → blocks.undone w.program (header_in o) (with_copy k) ThenRetry retry x s ans ≡ blocks.undone w.program (header_in o) (with_copy k) (ThenLeave o.number) retry x s ans
+  retry_leaves code u os o p k x retry s ans at =
+      let does : Bool → Bool → Course = λ seen again. and_then (blocks.goes_back x.first x.buffers s ans) (where_so seen (state.goes (state.Again (blocks.next_turn true only_turn))) (blocks.closes w.program (header_in o) (with_copy k) (blocks.does_not_retry again o.number))) in
+      ap (λ (seen : Bool). does seen (blocks.iterates (header_in o))) (ap (λ (f : Flags). f.retry_seen) (sym at.flags) ∙ at.no_retry)
+      ∙ ap (λ (repeats : Bool). does false (repeats || (false || false))) at.once
+
+  -- it is then over
+  left_ran : (code : List Instr) (u : ℕ) (os : List Outer) (o : Outer) (p : ℕ) → IsAt code u os o p → out_of (slice_get code p) (Leaves o.number) ≡ Ran
+  left_ran code u os o p at =
+      ap (λ i. out_of i (Leaves o.number)) at.opens ∙ ap (λ b. ran_if b (Leaves o.number)) (eq-eqb o.number at.h.number (sym at.number))
+
+  error_follows : (m : List Answer → Doing) (c : Config) (b : Bool) (p : ℕ) (o : Outer) (os : List Outer) (k inner : Option Mark) → IsAt c.code c.units os o p → IsMarked (length c.olds) c.level inner → IsWithin (top_after (length c.olds) inner) (deep_after c.level inner) k → AreOpenIn c (top_after (length c.olds) (first_mark k inner)) (deep_after c.level (first_mark k inner)) os → ((ans : List Answer) → m ans ≡ goes_on w os (after_turn w o (where_so b (blocks.undone w.program (header_in o) (with_copy (copy_of c.olds c.undoable k)) ThenRetry false (behind_of c (first_mark k inner))) (blocks.passes w.program (header_in o) (state.Raises (behind_of c inner)) (state.Raises (behind_of c (first_mark k inner)))) (here c) ans))) → On m (error_comes b (first_mark k inner) p c)
+  error_follows m c true p o os k inner at marked within opened does =
+      subst (λ way. On m (undone (first_mark k inner) way p c)) (left_ran c.code c.units os o p at)
+      (undone_follows m c p o os (first_mark k inner) k o.number false at (first_marked (length c.olds) c.level k inner marked within) opened
+      (λ ans. does ans ∙ ap (λ r. goes_on w os (after_turn w o r)) (retry_leaves c.code c.units os o p (copy_of c.olds c.undoable k) (behind_of c (first_mark k inner)) false (here c) ans at)))
+  error_follows m c false p o os k inner at marked within opened does =
+      record {
+        retry = false;
+        os = os;
+        marked = first_marked (length c.olds) c.level k inner marked within;
+        opened = opened;
+        does = λ ans. does ans ∙ ap (λ r. goes_on w os (after_turn w o r)) (passes_by (c.level == 0) state.Raises (behind_of c inner) (behind_of c (first_mark k inner)) c ans (λ z. ap (behind_of c) (none_passed (length c.olds) c.level k inner marked within (eqb-true c.level 0 z)))) ∙ ap (goes_on w os) (behind_raises o.outer o.after (behind_of c (first_mark k inner)) (here c) ans);
       }
 
   -- the innermost iteration ends. `c` has the iterations outside it
@@ -348,11 +394,21 @@ module _ (w : Around) (streams : List Stream) where
       (λ ans. does ans ∙ ap (λ k. goes_on w os (after_turn w o (blocks.ends w.program (header_in o) (with_copy k) (Goes (state.Undoes l (ThenLeave leave) retry (behind_of c inner)) (here c) ans)))) copy
       ∙ ap (λ k. goes_on w os (after_turn w o (where_so (l == o.number) (blocks.undone w.program (header_in o) (with_copy (copy_of c.olds c.undoable it.mark)) (ThenLeave leave) retry (record { first = k; buffers = [] })) (blocks.passes w.program (header_in o) (state.Undoes l (ThenLeave leave) retry (behind_of c inner)) (state.Undoes l (ThenLeave leave) retry (record { first = k; buffers = [] }))) (here c) ans))) (first_is c.olds c.undoable it.mark inner)
       ∙ ap (λ b. goes_on w os (after_turn w o (where_so b (blocks.undone w.program (header_in o) (with_copy (copy_of c.olds c.undoable it.mark)) (ThenLeave leave) retry (behind_of c (first_mark it.mark inner))) (blocks.passes w.program (header_in o) (state.Undoes l (ThenLeave leave) retry (behind_of c inner)) (state.Undoes l (ThenLeave leave) retry (behind_of c (first_mark it.mark inner)))) (here c) ans))) is)
+  iteration_follows m c it o os (Raises inner) retry at copy marked within opened does =
+      let can : o.flags.undo ≡ can_undo (slice_get c.code it.place) = ap (λ (f : Flags). f.undo) (sym at.flags) ∙ ap can_undo (sym at.opens) in
+      let reached : Bool → Option Copy → Bool → List Answer → Course = λ own k b ans. where_so b (where_so own (blocks.undone w.program (header_in o) (with_copy (copy_of c.olds c.undoable it.mark)) ThenRetry false (record { first = k; buffers = [] })) (blocks.passes w.program (header_in o) (state.Undoes o.number ThenRetry false (behind_of c inner)) (state.Undoes o.number ThenRetry false (record { first = k; buffers = [] })))) (blocks.passes w.program (header_in o) (state.Raises (behind_of c inner)) (state.Raises (record { first = k; buffers = [] }))) (here c) ans in
+      error_follows m c (can_undo (slice_get c.code it.place)) it.place o os it.mark inner at marked within
+      (subst (λ t. AreOpenIn c t (deep_after c.level (first_mark it.mark inner)) os) (first_top (length c.olds) it.mark inner) (subst (λ d. AreOpenIn c (top_after (top_after (length c.olds) inner) it.mark) d os) (first_deep c.level it.mark inner) opened))
+      (λ ans. does ans ∙ ap (λ k. goes_on w os (after_turn w o (blocks.ends w.program (header_in o) (with_copy k) (Goes (state.Raises (behind_of c inner)) (here c) ans)))) copy
+      ∙ ap (λ k. goes_on w os (after_turn w o (reached (o.number == o.number) k o.flags.undo ans))) (first_is c.olds c.undoable it.mark inner)
+      ∙ ap (λ own. goes_on w os (after_turn w o (reached own (copy_of c.olds c.undoable (first_mark it.mark inner)) o.flags.undo ans))) (eq-eqb o.number o.number refl)
+      ∙ ap (λ b. goes_on w os (after_turn w o (reached true (copy_of c.olds c.undoable (first_mark it.mark inner)) b ans))) can)
 
   ended_way : (retry : Bool) (c : Config) (way : Way) (ans : List Answer) → finished (Goes (way_of retry c.olds c.undoable way) (here c) ans) ≡ ends_in client.Normal (here c) ans
   ended_way retry c Ran ans = refl
   ended_way retry c (Leaves l) ans = refl
   ended_way retry c (Undoes l leave first) ans = refl
+  ended_way retry c (Raises first) ans = refl
 
   way_follows : (m : List Answer → Doing) (c : Config) (way : Way) (retry : Bool) (os : List Outer) (its : List Iteration) → AreOpen c.code c.units c.olds c.undoable (top_after (length c.olds) (mark_of way)) (deep_after c.level (mark_of way)) os its → IsMarked (length c.olds) c.level (mark_of way) → ((ans : List Answer) → m ans ≡ goes_on w os (Goes (way_of retry c.olds c.undoable way) (here c) ans)) → On m (unwind way its c)
   way_follows m c way retry [] [] opened marked does = λ ans. does ans ∙ ended_way retry c way ans
@@ -404,7 +460,7 @@ module _ (w : Around) (streams : List Stream) where
   entered_follows : (m : List Answer → Doing) (c : Config) (p : ℕ) (o : Outer) (os : List Outer) → IsAt c.code c.units os o p → AreOpenIn c (length c.olds) c.level os → ((ans : List Answer) → m ans ≡ goes_on w os (after_turn w o (blocks.ends w.program (header_in o) (with_copy (Some (state.copy_of (here c)))) (all_of w (retry_in o) o.body (blocks.deeper (here c)) ans)))) → On m (entered p c)
   entered_follows m c p o os at opened does =
       let o1 : Outer = record { number = o.number; kind = o.kind; flags = o.flags; body = o.body; outer = o.outer; fuel = o.fuel; copy = Some (state.copy_of (here c)); after = o.after } in
-      let at1 : IsAt c.code c.units os o1 p = record { h = at.h; to = at.to; opens = at.opens; number = at.number; flags = at.flags; once = at.once; inside = at.inside; behind = at.behind; enough = at.enough } in
+      let at1 : IsAt c.code c.units os o1 p = record { h = at.h; to = at.to; opens = at.opens; number = at.number; flags = at.flags; once = at.once; no_retry = at.no_retry; inside = at.inside; behind = at.behind; enough = at.enough } in
       let mark : Mark = record { depth = c.level + 1; olds = length c.olds } in
       let copied : o1.copy ≡ copy_of c.olds c.undoable (Some mark) = entered_copy c.level c.olds c.undoable in
       let less : c.level ≡ c.level + 1 - 1 = omega arith in

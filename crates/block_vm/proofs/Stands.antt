@@ -34,6 +34,10 @@ both_right false b h = absurd (cc)
 
 -- ---- headers
 
+not_quiet : (q : Bool) → not q ≡ true → q ≡ false
+not_quiet true e = absurd (cc)
+not_quiet false e = refl
+
 no_items : {A : Type 0} (xs : List A) → is_nil xs ≡ true → xs ≡ []
 no_items [] e = refl
 no_items (x ∷ xs) e = absurd (cc)
@@ -67,7 +71,8 @@ header_plain h e =
     let e3 = both_left _ (is_left_out h.fetch) e4 in
     let e2 = both_left _ (is_left_out h.while_test) e3 in
     let e1 = both_left _ (is_left_out h.to) e2 in
-    let scoped : h.scoped.items ≡ [] = no_items h.scoped.items (both_right (is_built_kind h.kind) (is_nil h.scoped.items) e1) in
+    let e0 = both_left _ (is_nil h.scoped.items) e1 in
+    let scoped : h.scoped.items ≡ [] = no_items h.scoped.items (both_right _ (is_nil h.scoped.items) e1) in
     let to : h.to ≡ None = nothing_there h.to (both_right _ (is_left_out h.to) e2) in
     let test : h.while_test ≡ None = nothing_there h.while_test (both_right _ (is_left_out h.while_test) e3) in
     let fetch : h.fetch ≡ None = nothing_there h.fetch (both_right _ (is_left_out h.fetch) e4) in
@@ -75,7 +80,8 @@ header_plain h e =
     let endkey : h.on_endkey ≡ None = nothing_there h.on_endkey (both_right _ (is_left_out h.on_endkey) e) in
     record {
       is = header_is h scoped to test fetch error endkey;
-      once = runs_once h.kind (both_left (is_built_kind h.kind) (is_nil h.scoped.items) e1);
+      once = runs_once h.kind (both_left (is_built_kind h.kind) (not h.flags.retry_seen) e0);
+      no_retry = not_quiet h.flags.retry_seen (both_right (is_built_kind h.kind) (not h.flags.retry_seen) e0);
     }
 
 -- ---- places
@@ -131,10 +137,6 @@ undo_stands code after p block (action.Leave l) t h = (l, one_there code after (
 undo_stands code after p block action.Retry t h = absurd (cc)
 undo_stands code after p block (action.Next l) t h = absurd (cc)
 undo_stands code after p block (action.Return error value) t h = absurd (cc)
-
-not_quiet : (q : Bool) → not q ≡ true → q ≡ false
-not_quiet true e = absurd (cc)
-not_quiet false e = refl
 
 mutual
   stmt_stands : (code after : List Instr) (p : ℕ) (t : SourceStmt) → IsThere code (code_of p t) after p → is_built_stmt t ≡ true → StandsAs code p (next p t) (stmt_of t)

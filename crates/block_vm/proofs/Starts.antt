@@ -86,7 +86,7 @@ starts code bound p units stands built source =
     let turn : FollowsTurn w streams (run p units) c 0 = record {
       o = o;
       os = [];
-      at = record { h = main.header; to = ms.to; opens = ms.opens; number = refl; flags = refl; once = plain.once; inside = ms.inside; behind = ms.ends; enough = low };
+      at = record { h = main.header; to = ms.to; opens = ms.opens; number = refl; flags = refl; once = plain.once; no_retry = plain.no_retry; inside = ms.inside; behind = ms.ends; enough = low };
       opened = refl;
       does = λ ans. run_is p bound main units ans source stands.only built_main
           ∙ ap (λ vs. run_from p units (let q : Procedure = record q { undoable = vs } in q) ans) (sym stands.undoable)

@@ -1,7 +1,7 @@
 -- Assignments and PUT do what their meaning says.
-use Rattle.std.proofs.Common.{◌≡◌, ℕ, List, [], ◌∷◌, length, Bool, true, false, Option, Some, None, refl, ap, ◌∙◌}
+use Rattle.std.proofs.Common.{◌≡◌, ℕ, List, [], ◌∷◌, ◌++◌, length, Bool, true, false, Option, Some, None, refl, ap, ◌∙◌}
 use Rattle.std.specs.Prelude.{◌&&◌, map, Result, Ok, Err, replicate}
-use Rattle.std.proofs.lemmas.Bool.{leb-true, le-ltb}
+use Rattle.std.proofs.lemmas.Bool.{leb-true, le-ltb, leb-false, lt-ltb}
 use Rattle.abl_base.specs.declared.value.Value.{Value}
 use Rattle.abl_base.specs.declared.value.Value.TheVariants.{Text, Int, Int64, Dec, Logical, Date, Unknown}
 use Rattle.abl_base.specs.declared.value.TheConstants.{MAX_TEXT_BYTES}
@@ -20,13 +20,15 @@ use Rattle.bound_tree.specs.declared.statement.Assignment.{Assignment}
 use Rattle.bound_tree.specs.declared.statement.PutItem.{PutItem}
 use Rattle.bound_tree.specs.declared.statement.PutItem.TheVariants as put
 use Rattle.bound_tree.specs.Bound.{expr_of, right_of, assignment_of, item_of}
+use Rattle.abl_expr.specs.declared.fault.RunFault.TheVariants.{Range}
 use Rattle.abl_expr.specs.Evaluate.{literal, literal_if}
-use Rattle.block_code.specs.Built.{is_built_literal, is_value, is_built_pair, is_built_assignment, are_built_assignments, is_left_out, is_built_shown, is_built_item, are_built_items}
+use Rattle.block_code.specs.Built.{is_built_pair, is_built_assignment, are_built_assignments, is_left_out, is_built_shown, is_built_item, are_built_items}
 use Rattle.block_meaning.specs.Program.{Program}
-use Rattle.block_meaning.specs.State.{State, Stream, Goes, Ran, and_then, assigned, value_of, frame_for, with_frame_for, set_in, value_in as value_in_frame}
-use Rattle.block_meaning.specs.Values.{Text as TextResult, IsText, value_now, as_evaluated, or_range, shown, with_shown, before_text, put_text}
+use Rattle.block_meaning.specs.Lines.{OutOfRange}
+use Rattle.block_meaning.specs.State.{State, Stream, Way, Goes, Ran, Faults, and_then, assigned, value_of, frame_for, with_frame_for, set_in, value_in as value_in_frame}
+use Rattle.block_meaning.specs.Values.{Text as TextResult, IsText, HasFault, value_now, as_evaluated, or_range, shown, with_shown, before_text, put_text}
 use Rattle.block_meaning.specs.Changes.{stored_value, stored_if, assigns_one, assigns_each, assigns, buffer_first, buffers_in, or_as_before, locks_all, settles_all}
-use Rattle.block_vm.specs.Machine.{Config, value_as, value_in, set_as, set_var, set_fitted, set_right, set_all, shown_text, items_text}
+use Rattle.block_vm.specs.Machine.{Config, this_or, is_short, is_value, value_as, value_in, set_as, set_var, set_fitted, set_right, set_all, fits, all_fit, shown_text, items_text, shown_is_short, are_short}
 use Rattle.block_vm.specs.Follows.{state_of}
 
 both_left : (a b : Bool) → a && b ≡ true → a ≡ true
@@ -39,14 +41,32 @@ both_right false b h = absurd (cc)
 
 -- ---- values
 
-literal_is : (v : Value) → is_built_literal v ≡ true → literal v ≡ Ok v
-literal_is (Text t) h = ap (λ b. literal_if b (Text t)) (le-ltb MAX_TEXT_BYTES (length t) (leb-true (length t) MAX_TEXT_BYTES h))
-literal_is (Int n) h = refl
-literal_is (Int64 n) h = refl
-literal_is (Dec n) h = refl
-literal_is (Logical b) h = refl
-literal_is (Date d) h = refl
-literal_is Unknown h = refl
+-- a literal has its value, or is out of range
+literal_by : (b : Bool) (v : Value) → is_short v ≡ b → literal v ≡ this_or b (Ok v) (Err Range)
+literal_by true (Text t) h = ap (λ b. literal_if b (Text t)) (le-ltb MAX_TEXT_BYTES (length t) (leb-true (length t) MAX_TEXT_BYTES h))
+literal_by false (Text t) h = ap (λ b. literal_if b (Text t)) (lt-ltb MAX_TEXT_BYTES (length t) (leb-false (length t) MAX_TEXT_BYTES h))
+literal_by true (Int n) h = refl
+literal_by true (Int64 n) h = refl
+literal_by true (Dec n) h = refl
+literal_by true (Logical b) h = refl
+literal_by true (Date d) h = refl
+literal_by true Unknown h = refl
+literal_by false (Int n) h = absurd (cc)
+literal_by false (Int64 n) h = absurd (cc)
+literal_by false (Dec n) h = absurd (cc)
+literal_by false (Logical b) h = absurd (cc)
+literal_by false (Date d) h = absurd (cc)
+literal_by false Unknown h = absurd (cc)
+
+-- how a statement is over whose values are in range, or not
+abbrev pub way_if : Bool → Way
+way_if true = Ran
+way_if false = Faults (Some OutOfRange)
+
+-- the text of a PUT whose literals are short, or not
+abbrev pub text_if : Bool → List ℕ → TextResult
+text_if true text = IsText text
+text_if false text = HasFault OutOfRange
 
 module _ (streams : List Stream) (p : Program) where
   abbrev here : Config → State
@@ -74,18 +94,19 @@ module _ (streams : List Stream) (p : Program) where
 
   -- ---- assignments
 
-  fitted_is : (x : Variable) (r : Result Value ArithFault) (c : Config) (ans : List Answer) → is_value r ≡ true → Goes (stored_value (or_range r) (assigned x) (here c)).way (stored_value (or_range r) (assigned x) (here c)).state ans ≡ Goes Ran (here (set_fitted x r c)) ans
-  fitted_is x (Ok v) c ans h = ap (λ s. Goes Ran s ans) (set_is x v c)
-  fitted_is x (Err fault) c ans h = absurd (cc)
+  fitted_is : (x : Variable) (r : Result Value ArithFault) (c : Config) (ans : List Answer) → Goes (stored_value (or_range r) (assigned x) (here c)).way (stored_value (or_range r) (assigned x) (here c)).state ans ≡ Goes (way_if (is_value r)) (here (this_or (is_value r) (set_fitted x r c) c)) ans
+  fitted_is x (Ok v) c ans = ap (λ s. Goes Ran s ans) (set_is x v c)
+  fitted_is x (Err fault) c ans = refl
 
-  literal_stored : (x : Variable) (v : Value) (retry : Bool) (c : Config) (ans : List Answer) → is_built_literal v ≡ true → is_value (fitted v x.kind) ≡ true → assigns_one p (target.Variable x) (right_of (right.Value (e.Literal v))) retry (here c) ans ≡ Goes Ran (here (set_fitted x (fitted v x.kind) c)) ans
-  literal_stored x v retry c ans short fits =
-      ap (λ r. let o = stored_if (as_evaluated r) (target.Variable x) (here c) in Goes o.way o.state ans) (literal_is v short)
-      ∙ fitted_is x (fitted v x.kind) c ans fits
+  literal_stored : (b : Bool) (x : Variable) (v : Value) (retry : Bool) (c : Config) (ans : List Answer) → is_short v ≡ b → assigns_one p (target.Variable x) (right_of (right.Value (e.Literal v))) retry (here c) ans ≡ Goes (way_if (b && is_value (fitted v x.kind))) (here (this_or (b && is_value (fitted v x.kind)) (set_fitted x (fitted v x.kind) c) c)) ans
+  literal_stored true x v retry c ans short =
+      ap (λ r. let o = stored_if (as_evaluated r) (target.Variable x) (here c) in Goes o.way o.state ans) (literal_by true v short)
+      ∙ fitted_is x (fitted v x.kind) c ans
+  literal_stored false x v retry c ans long =
+      ap (λ r. let o = stored_if (as_evaluated r) (target.Variable x) (here c) in Goes o.way o.state ans) (literal_by false v long)
 
-  one_is : (t : Target) (r : Right) (retry : Bool) (c : Config) (ans : List Answer) → is_built_pair t r ≡ true → assigns_one p t (right_of r) retry (here c) ans ≡ Goes Ran (here (set_right t r c)) ans
-  one_is (target.Variable x) (right.Value (e.Literal v)) retry c ans h =
-      literal_stored x v retry c ans (both_left (is_built_literal v) (is_value (fitted v x.kind)) h) (both_right (is_built_literal v) (is_value (fitted v x.kind)) h)
+  one_is : (t : Target) (r : Right) (retry : Bool) (c : Config) (ans : List Answer) → is_built_pair t r ≡ true → assigns_one p t (right_of r) retry (here c) ans ≡ Goes (way_if (fits t r)) (here (this_or (fits t r) (set_right t r c) c)) ans
+  one_is (target.Variable x) (right.Value (e.Literal v)) retry c ans h = literal_stored (is_short v) x v retry c ans refl
   one_is (target.Variable x) (right.Value (e.Variable y)) retry c ans h = absurd (cc)
   one_is (target.Variable x) (right.Value (e.Field b f k)) retry c ans h = absurd (cc)
   one_is (target.Variable x) (right.Value (e.Unary' op p a)) retry c ans h = absurd (cc)
@@ -104,11 +125,16 @@ module _ (streams : List Stream) (p : Program) where
   one_is (target.Variable x) (right.CurrentValue q) retry c ans h = absurd (cc)
   one_is (target.Field b f k) r retry c ans h = absurd (cc)
 
-  each_is : (xs : List Assignment) (c : Config) (retry : Bool) (ans : List Answer) → are_built_assignments xs ≡ true → assigns_each p (map assignment_of xs) retry (here c) ans ≡ Goes Ran (here (set_all xs c)) ans
+  -- the assignments behind one, where it is in range
+  more_is : (b : Bool) (xs : List Assignment) (c c1 : Config) (retry : Bool) (ans : List Answer) → assigns_each p (map assignment_of xs) retry (here c1) ans ≡ Goes (way_if (all_fit xs)) (here (set_all xs c1)) ans → and_then (Goes (way_if b) (here (this_or b c1 c)) ans) (assigns_each p (map assignment_of xs) retry) ≡ Goes (way_if (b && all_fit xs)) (here (this_or b (set_all xs c1) c)) ans
+  more_is true xs c c1 retry ans rest = rest
+  more_is false xs c c1 retry ans rest = refl
+
+  each_is : (xs : List Assignment) (c : Config) (retry : Bool) (ans : List Answer) → are_built_assignments xs ≡ true → assigns_each p (map assignment_of xs) retry (here c) ans ≡ Goes (way_if (all_fit xs)) (here (set_all xs c)) ans
   each_is [] c retry ans h = refl
   each_is (x ∷ xs) c retry ans h =
       ap (λ r. and_then r (assigns_each p (map assignment_of xs) retry)) (one_is x.target x.right retry c ans (both_left (is_built_assignment x) (are_built_assignments xs) h))
-      ∙ each_is xs (set_right x.target x.right c) retry ans (both_right (is_built_assignment x) (are_built_assignments xs) h)
+      ∙ more_is (fits x.target x.right) xs c (set_right x.target x.right c) retry ans (each_is xs (set_right x.target x.right c) retry ans (both_right (is_built_assignment x) (are_built_assignments xs) h))
 
   -- no buffer is changed
   target_none : (t : Target) (r : Right) (bs : List ℕ) → is_built_pair t r ≡ true → buffer_first t bs ≡ bs
@@ -121,15 +147,24 @@ module _ (streams : List Stream) (p : Program) where
       target_none x.target x.right (buffers_in (map assignment_of xs)) (both_left (is_built_assignment x) (are_built_assignments xs) h)
       ∙ buffers_none xs (both_right (is_built_assignment x) (are_built_assignments xs) h)
 
-  pub assigns_are : (xs : List Assignment) (c : Config) (retry : Bool) (ans : List Answer) → are_built_assignments xs ≡ true → assigns p (map assignment_of xs) retry (here c) ans ≡ Goes Ran (here (set_all xs c)) ans
+  settled_by : (b : Bool) (s s1 : State) (ans : List Answer) → and_then (or_as_before s [] (and_then (Goes (way_if b) s1 ans) (locks_all []))) (settles_all p s []) ≡ Goes (way_if b) s1 ans
+  settled_by true s s1 ans = refl
+  settled_by false s s1 ans = refl
+
+  pub assigns_are : (xs : List Assignment) (c : Config) (retry : Bool) (ans : List Answer) → are_built_assignments xs ≡ true → assigns p (map assignment_of xs) retry (here c) ans ≡ Goes (way_if (all_fit xs)) (here (set_all xs c)) ans
   assigns_are xs c retry ans h =
       ap (λ bs. and_then (or_as_before (here c) bs (and_then (assigns_each p (map assignment_of xs) retry (here c) ans) (locks_all bs))) (settles_all p (here c) bs)) (buffers_none xs h)
       ∙ ap (λ r. and_then (or_as_before (here c) [] (and_then r (locks_all []))) (settles_all p (here c) [])) (each_is xs c retry ans h)
+      ∙ settled_by (all_fit xs) (here c) (here (set_all xs c)) ans
 
   -- ---- PUT
 
-  shown_is : (a : Expr) (retry : Bool) (c : Config) (more : TextResult) → is_built_shown a ≡ true → with_shown (value_now p (expr_of a) retry (here c)) (shown p None) more ≡ before_text (shown_text a c.undoable c.kept) more
-  shown_is (e.Literal v) retry c more h = ap (λ r. with_shown (as_evaluated r) (shown p None) more) (literal_is v h)
+  literal_shown : (b : Bool) (v : Value) (more : TextResult) → is_short v ≡ b → with_shown (as_evaluated (literal v)) (shown p None) more ≡ this_or b (before_text (plain_text v) more) (HasFault OutOfRange)
+  literal_shown true v more short = ap (λ r. with_shown (as_evaluated r) (shown p None) more) (literal_by true v short)
+  literal_shown false v more long = ap (λ r. with_shown (as_evaluated r) (shown p None) more) (literal_by false v long)
+
+  shown_is : (a : Expr) (retry : Bool) (c : Config) (more : TextResult) → is_built_shown a ≡ true → with_shown (value_now p (expr_of a) retry (here c)) (shown p None) more ≡ this_or (shown_is_short a) (before_text (shown_text a c.undoable c.kept) more) (HasFault OutOfRange)
+  shown_is (e.Literal v) retry c more h = literal_shown (is_short v) v more refl
   shown_is (e.Variable x) retry c more h = ap (λ v. before_text (plain_text v) more) (value_is x c)
   shown_is (e.Field b f k) retry c more h = absurd (cc)
   shown_is (e.Unary' op p a) retry c more h = absurd (cc)
@@ -145,15 +180,22 @@ module _ (streams : List Stream) (p : Program) where
   shown_is e.ErrorStatus retry c more h = absurd (cc)
   shown_is e.ReturnValue retry c more h = absurd (cc)
 
-  masked_is : (a : Expr) (mask : Option (List ℕ)) (retry : Bool) (c : Config) (more : TextResult) → is_left_out mask ≡ true → is_built_shown a ≡ true → with_shown (value_now p (expr_of a) retry (here c)) (shown p mask) more ≡ before_text (shown_text a c.undoable c.kept) more
+  masked_is : (a : Expr) (mask : Option (List ℕ)) (retry : Bool) (c : Config) (more : TextResult) → is_left_out mask ≡ true → is_built_shown a ≡ true → with_shown (value_now p (expr_of a) retry (here c)) (shown p mask) more ≡ this_or (shown_is_short a) (before_text (shown_text a c.undoable c.kept) more) (HasFault OutOfRange)
   masked_is a None retry c more none h = shown_is a retry c more h
   masked_is a (Some mask) retry c more none h = absurd (cc)
 
-  pub put_is : (xs : List PutItem) (c : Config) (retry : Bool) → are_built_items xs ≡ true → put_text p (map item_of xs) retry (here c) ≡ IsText (items_text xs c.undoable c.kept)
+  -- a text before the rest
+  before_is : (b r : Bool) (text rest : List ℕ) → this_or b (before_text text (text_if r rest)) (HasFault OutOfRange) ≡ text_if (b && r) (text ++ rest)
+  before_is true true text rest = refl
+  before_is true false text rest = refl
+  before_is false r text rest = refl
+
+  pub put_is : (xs : List PutItem) (c : Config) (retry : Bool) → are_built_items xs ≡ true → put_text p (map item_of xs) retry (here c) ≡ text_if (are_short xs) (items_text xs c.undoable c.kept)
   put_is [] c retry h = refl
   put_is (put.Shows a mask ∷ xs) c retry h =
       let one = both_left (is_built_item (put.Shows a mask)) (are_built_items xs) h in
       masked_is a mask retry c (put_text p (map item_of xs) retry (here c)) (both_left (is_left_out mask) (is_built_shown a) one) (both_right (is_left_out mask) (is_built_shown a) one)
-      ∙ ap (before_text (shown_text a c.undoable c.kept)) (put_is xs c retry (both_right (is_built_item (put.Shows a mask)) (are_built_items xs) h))
-  put_is (put.Skip n ∷ xs) c retry h = ap (before_text (replicate n 10)) (put_is xs c retry h)
-  put_is (put.Space n ∷ xs) c retry h = ap (before_text (replicate n 32)) (put_is xs c retry h)
+      ∙ ap (λ more. this_or (shown_is_short a) (before_text (shown_text a c.undoable c.kept) more) (HasFault OutOfRange)) (put_is xs c retry (both_right (is_built_item (put.Shows a mask)) (are_built_items xs) h))
+      ∙ before_is (shown_is_short a) (are_short xs) (shown_text a c.undoable c.kept) (items_text xs c.undoable c.kept)
+  put_is (put.Skip n ∷ xs) c retry h = ap (before_text (replicate n 10)) (put_is xs c retry h) ∙ before_is true (are_short xs) (replicate n 10) (items_text xs c.undoable c.kept)
+  put_is (put.Space n ∷ xs) c retry h = ap (before_text (replicate n 32)) (put_is xs c retry h) ∙ before_is true (are_short xs) (replicate n 32) (items_text xs c.undoable c.kept)

@@ -1,7 +1,6 @@
 -- Steps of the client, and the configurations that they make.
-use Rattle.std.specs.Prelude.{nat_lt, slice_get, Vec}
+use Rattle.std.specs.Prelude.{nat_lt, slice_get}
 use Rattle.std.proofs.lemmas.Option.{slice_get-get_or, slice_get_past}
-use Rattle.std.specs.declared.alloc.Global.{Global}
 use Rattle.std.proofs.Common.{◌≡◌, ℕ, ◌+◌, ◌<◌, ◌≤◌, inl, inr, List, [], ◌∷◌, ◌++◌, length, get_or, Bool, true, false, Option, Some, None, refl, sym, ap, ◌∙◌, subst, arith}
 use Rattle.database_meaning.specs.declared.operation.Op.TheVariants.{End}
 use Rattle.database_meaning.specs.declared.operation.Answer.{Answer}
@@ -12,22 +11,21 @@ use Rattle.block_meaning.specs.State.{Doing}
 use Rattle.block_meaning.proofs.Goes_on.{begins_further}
 use Rattle.block_meaning.specs.declared.wants.Piece.TheVariants.{Wrote}
 use Rattle.block_meaning.specs.declared.ends.StopWhy.TheVariants as why
-use Rattle.bound_tree.specs.declared.statement.PutItem.{PutItem}
 use Rattle.block_code.specs.declared.code.Instr.{Instr}
-use Rattle.block_code.specs.declared.code.Instr.TheVariants.{Put}
 use Rattle.block_vm.specs.declared.mode.Mark.{Mark}
 use Rattle.block_vm.specs.declared.mode.Ending.{Ending}
 use Rattle.block_vm.specs.declared.mode.Ending.TheVariants.{Stop, NoMemory}
 use Rattle.block_vm.specs.declared.mode.Mode.{Mode}
 use Rattle.block_vm.specs.declared.mode.Mode.TheVariants.{Runs, Turns, Over, AsksEnter, AsksBack, AsksLeave, AsksEnd, Ended}
-use Rattle.block_vm.specs.declared.client.Kind.TheVariants as kind
+use Rattle.block_vm.specs.declared.machine.Kind.TheVariants as kind
 use Rattle.block_vm.specs.Work.{AsksOwn, Waits, AsksTheEnd, Shows, rank, operations_in}
 use Rattle.block_vm.specs.Wants.{IsEnded}
 use Rattle.block_vm.proofs.Written.{wrote_more}
-use Rattle.block_vm.specs.declared.client.Client.{Client}
+use Rattle.block_vm.specs.declared.machine.Machine.{Machine}
 use Rattle.block_vm.specs.Sections.{sections_of, first_longer}
-use Rattle.block_vm.specs.Machine.{Config, paid, stops, items_text, writes, writes_if, does, kind_of, act_as, act, begins, entered, step, asked_in, wants_in}
-use Rattle.block_vm.specs.Client.{config_of, HasWritten, DoesStep}
+use Rattle.block_vm.specs.Machine.{Config, paid, stops, writes, writes_if, does, kind_of, act_as, act, begins, entered, step, asked_in, wants_in}
+use Rattle.block_vm.specs.Client.{config_of, standing_of, DoesStep}
+use Rattle.block_vm.specs.Standing.{HasWritten}
 use Rattle.block_vm.specs.Follows.{Follows}
 use Rattle.block_vm.specs.Does.{IsUnendedIn, GoesOn}
 use Rattle.block_vm.proofs.Falls.{IsUnended, itself, step_adds}
@@ -42,7 +40,7 @@ pub got_none : (xs ys : List Instr) (p : ℕ) → xs ≡ ys → length xs ≤ p 
 got_none xs ys p same le = ap (λ l. slice_get l p) (sym same) ∙ slice_get_past xs p le
 
 -- what writes nothing is a step
-pub plain : (f : Config → Config) (old new : Client) → ((written : List Piece) → config_of written new ≡ f (config_of written old)) → new.state.sections.items ≡ old.state.sections.items → DoesStep f old new
+pub plain : (f : Config → Config) (old new : Machine) → ((written : List Piece) → config_of written new ≡ f (config_of written old)) → new.state.sections.items ≡ old.state.sections.items → DoesStep f old new
 plain f old new e same =
     record {
       config = λ written. ap (λ ps. config_of ps new) (sym (ap (λ (c : Config). c.written) (e written))) ∙ e written;
@@ -50,43 +48,37 @@ plain f old new e same =
     }
 
 -- one step after what writes nothing
-pub after_plain : (f g : Config → Config) (old mid new : Client) → ((written : List Piece) → f (config_of written old) ≡ g (config_of written mid)) → mid.state.sections.items ≡ old.state.sections.items → DoesStep g mid new → DoesStep f old new
+pub after_plain : (f g : Config → Config) (old mid new : Machine) → ((written : List Piece) → f (config_of written old) ≡ g (config_of written mid)) → mid.state.sections.items ≡ old.state.sections.items → DoesStep g mid new → DoesStep f old new
 after_plain f g old mid new e same d =
     record {
       config = λ written. ap (λ (c : Config). config_of c.written new) (e written) ∙ d.config written ∙ sym (e written);
-      sections = λ names written has. subst (λ (c : Config). HasWritten new names c.written) (sym (e written)) (d.sections names written (same ∙ has));
+      sections = λ names written has. subst (λ (c : Config). HasWritten (standing_of new) names c.written) (sym (e written)) (d.sections names written (same ∙ has));
     }
 
 -- an instruction that is paid for
-pub charged_step : (i : Option Instr) (p : ℕ) (old mid new : Client) → kind_of i ≡ kind.Charged → ((written : List Piece) (go : Config → Config) → paid go (config_of written old) ≡ go (config_of written mid)) → mid.state.sections.items ≡ old.state.sections.items → DoesStep (does i p) mid new → DoesStep (act i p) old new
+pub charged_step : (i : Option Instr) (p : ℕ) (old mid new : Machine) → kind_of i ≡ kind.Charged → ((written : List Piece) (go : Config → Config) → paid go (config_of written old) ≡ go (config_of written mid)) → mid.state.sections.items ≡ old.state.sections.items → DoesStep (does i p) mid new → DoesStep (act i p) old new
 charged_step i p old mid new k pays same d =
     after_plain (act i p) (does i p) old mid new (λ written. ap (λ k. act_as k i p (config_of written old)) k ∙ pays written (does i p)) same d
 
 -- or cannot be
-pub spent_step : (i : Option Instr) (p : ℕ) (old new : Client) → kind_of i ≡ kind.Charged → ((written : List Piece) (go : Config → Config) → paid go (config_of written old) ≡ config_of written new) → new.state.sections.items ≡ old.state.sections.items → DoesStep (act i p) old new
+pub spent_step : (i : Option Instr) (p : ℕ) (old new : Machine) → kind_of i ≡ kind.Charged → ((written : List Piece) (go : Config → Config) → paid go (config_of written old) ≡ config_of written new) → new.state.sections.items ≡ old.state.sections.items → DoesStep (act i p) old new
 spent_step i p old new k stops same =
     plain (act i p) old new (λ written. sym (ap (λ k. act_as k i p (config_of written old)) k ∙ stops written (does i p))) same
 
--- PUT
-module _ (old new : Client) (i : Option Instr) (p stream : ℕ) (items : Vec PutItem Global) (its : List PutItem) (at : i ≡ Some (Put stream items)) (same : its ≡ items.items) where
-  abbrev text_now : List ℕ
-  text_now = items_text its old.state.undoable.items old.state.kept.items
+-- a text that is written
+module _ (old new : Machine) (text : List ℕ) (mode : Mode) where
+  written_by : (b : Bool) (written : List Piece) → nat_lt 16777216 (old.state.size + length text) ≡ b → writes text mode (config_of written old) ≡ writes_if b text mode (config_of written old)
+  written_by b written e = ap (λ b. writes_if b text mode (config_of written old)) e
 
-  put_by : (b : Bool) (written : List Piece) → nat_lt 16777216 (old.state.size + length text_now) ≡ b → does i p (config_of written old) ≡ writes_if b text_now (p + 1) (config_of written old)
-  put_by b written e =
-      ap (λ i. does i p (config_of written old)) at
-      ∙ ap (λ xs. writes (items_text xs old.state.undoable.items old.state.kept.items) (p + 1) (config_of written old)) (sym same)
-      ∙ ap (λ b. writes_if b text_now (p + 1) (config_of written old)) e
-
-  pub put_fits : nat_lt 16777216 (old.state.size + length text_now) ≡ false → new.state.sections.items ≡ first_longer text_now old.state.sections.items → ((written : List Piece) → (let c : Config = record (config_of written old) { mode = Runs (p + 1); size = old.state.size + length text_now } in config_of written new ≡ c)) → DoesStep (does i p) old new
-  put_fits e sections is =
+  pub write_fits : nat_lt 16777216 (old.state.size + length text) ≡ false → new.state.sections.items ≡ first_longer text old.state.sections.items → ((written : List Piece) → (let c : Config = record (config_of written old) { mode = mode; size = old.state.size + length text } in config_of written new ≡ c)) → DoesStep (writes text mode) old new
+  write_fits e sections is =
       record {
-        config = λ written. ap (λ (c : Config). config_of c.written new) (put_by false written e) ∙ is (written ++ Wrote None text_now ∷ []) ∙ sym (put_by false written e);
-        sections = λ names written has. subst (λ (c : Config). HasWritten new names c.written) (sym (put_by false written e)) (sections ∙ ap (first_longer text_now) has ∙ sym (wrote_more names written text_now));
+        config = λ written. ap (λ (c : Config). config_of c.written new) (written_by false written e) ∙ is (written ++ Wrote None text ∷ []) ∙ sym (written_by false written e);
+        sections = λ names written has. subst (λ (c : Config). HasWritten (standing_of new) names c.written) (sym (written_by false written e)) (sections ∙ ap (first_longer text) has ∙ sym (wrote_more names written text));
       }
 
-  pub put_full : nat_lt 16777216 (old.state.size + length text_now) ≡ true → ((written : List Piece) → config_of written new ≡ stops (Stop why.OutputFull) (config_of written old)) → new.state.sections.items ≡ old.state.sections.items → DoesStep (does i p) old new
-  put_full e is sections = plain (does i p) old new (λ written. is written ∙ sym (put_by true written e)) sections
+  pub write_full : nat_lt 16777216 (old.state.size + length text) ≡ true → ((written : List Piece) → config_of written new ≡ stops (Stop why.OutputFull) (config_of written old)) → new.state.sections.items ≡ old.state.sections.items → DoesStep (writes text mode) old new
+  write_full e is sections = plain (writes text mode) old new (λ written. is written ∙ sym (written_by true written e)) sections
 
 -- the level that Enter began
 pub enters_is : (c d : Config) (depth n p : ℕ) → (let k : Mark = record { depth = depth; olds = n } in d ≡ begins p (Some k) c) → depth ≡ c.level + 1 → n ≡ length c.olds → (let x : Config = record d { level = depth } in x ≡ entered p c)
@@ -173,10 +165,10 @@ own_of (Over way) not waits = waits
 own_of Ended not waits = waits
 
 module _ (m : List Answer → Doing) (names : List (List ℕ)) (from : List Piece) where
-  pub begin_going : (c : Client) → IsUnendedIn c.mode → HasWritten c names from → Follows m (config_of from c) → Going m names from c
+  pub begin_going : (c : Machine) → IsUnendedIn c.mode → HasWritten (standing_of c) names from → Follows m (config_of from c) → Going m names from c
   begin_going c u has f = record { pieces = from; has = has; more = itself from; unended = u; follows = f }
 
-  pub step_going : (old new : Client) → DoesStep step old new → Going m names from old → Going m names from new
+  pub step_going : (old new : Machine) → DoesStep step old new → Going m names from old → Going m names from new
   step_going old new d g =
       let c : Config = config_of g.pieces old in
       let l = step_adds c (unended_of old.mode g.unended) in
@@ -188,7 +180,7 @@ module _ (m : List Answer → Doing) (names : List (List ℕ)) (from : List Piec
         follows = subst (Follows m) (sym (d.config g.pieces)) (step_keeps m c g.follows);
       }
 
-  pub stands_going : (c : Client) (want : Wants) → Going m names from c → asked_in c.mode ≡ Some want → GoesOn m names from c want
+  pub stands_going : (c : Machine) (want : Wants) → Going m names from c → asked_in c.mode ≡ Some want → GoesOn m names from (standing_of c) want
   stands_going c want g e =
       record {
         pieces = g.pieces;
@@ -197,7 +189,7 @@ module _ (m : List Answer → Doing) (names : List (List ℕ)) (from : List Piec
         stands = inl (record { follows = g.follows; does = wants_is m (config_of g.pieces c) want g.follows e });
       }
 
-  pub fails_going : (old new : Client) (want : Wants) → Going m names from old → new.state.sections.items ≡ old.state.sections.items → new.mode ≡ AsksEnd NoMemory → want ≡ Ask End → GoesOn m names from new want
+  pub fails_going : (old new : Machine) (want : Wants) → Going m names from old → new.state.sections.items ≡ old.state.sections.items → new.mode ≡ AsksEnd NoMemory → want ≡ Ask End → GoesOn m names from (standing_of new) want
   fails_going old new want g same e asks =
       let will = finishes m (config_of g.pieces old) (unended_of old.mode g.unended) g.follows in
       record {

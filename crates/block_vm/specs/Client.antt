@@ -1,15 +1,15 @@
--- What a client's fields stand for.
-use Rattle.std.specs.Prelude.{◌≡◌, ℕ, List, reverse}
+-- What the fields of a client's machine stand for.
+use Rattle.std.specs.Prelude.{◌≡◌, ℕ, List, [], reverse}
 use Rattle.block_code.specs.declared.code.Instr.{Instr}
 use Rattle.block_meaning.specs.declared.wants.Piece.{Piece}
 use Rattle.block_vm.specs.declared.mode.Iteration.{Iteration}
 use Rattle.block_vm.specs.declared.mode.Mode.{Mode}
 use Rattle.block_vm.specs.declared.state.State.{State}
-use Rattle.block_vm.specs.declared.client.Client.{Client}
-use Rattle.block_vm.specs.Sections.{sections_of}
+use Rattle.block_vm.specs.declared.machine.Machine.{Machine}
 use Rattle.block_vm.specs.Machine.{Config}
+use Rattle.block_vm.specs.Standing.{Standing, HasWritten}
 
--- a state, where the client is in this mode and has written these pieces
+-- a state, where the machine is in this mode and has written these pieces
 abbrev pub config_at : List Instr → Mode → List Iteration → List Piece → State → Config
 config_at code mode opened written s = record {
   code = code;
@@ -24,15 +24,15 @@ config_at code mode opened written s = record {
   size = s.size;
 }
 
--- a client that has written these pieces
-abbrev pub config_of : List Piece → Client → Config
-config_of written c = config_at c.code.items c.mode (reverse c.opened.items) written c.state
+-- a machine that has written these pieces
+abbrev pub config_of : List Piece → Machine → Config
+config_of written m = config_at m.code.items m.mode (reverse m.opened.items) written m.state
 
--- a client has written these pieces, where the named outputs have these names
-abbrev pub HasWritten : Client → List (List ℕ) → List Piece → Type 0
-HasWritten c names pieces = c.state.sections.items ≡ sections_of names pieces
+-- where its client stands
+abbrev pub standing_of : Machine → Standing
+standing_of m = record { config = config_of [] m; sections = m.state.sections.items }
 
--- a client does what this makes of its configuration, and its sections are those of the pieces
-pub record DoesStep (f : Config → Config) (from to : Client) : Type 0 where
+-- a machine does what this makes of its configuration, and its sections are those of the pieces
+pub record DoesStep (f : Config → Config) (from to : Machine) : Type 0 where
   pub config : (written : List Piece) → config_of (f (config_of written from)).written to ≡ f (config_of written from)
-  pub sections : (names : List (List ℕ)) (written : List Piece) → HasWritten from names written → HasWritten to names (f (config_of written from)).written
+  pub sections : (names : List (List ℕ)) (written : List Piece) → HasWritten (standing_of from) names written → HasWritten (standing_of to) names (f (config_of written from)).written

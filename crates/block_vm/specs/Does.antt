@@ -10,42 +10,41 @@ use Rattle.block_meaning.specs.GivesUp.{Begins, IsAsked, GaveUp}
 use Rattle.block_vm.specs.declared.mode.Ending.TheVariants.{NoMemory}
 use Rattle.block_vm.specs.declared.mode.Mode.{Mode}
 use Rattle.block_vm.specs.declared.mode.Mode.TheVariants.{Runs, Turns, Over, AsksEnter, AsksBack, AsksLeave, AsksEnd, Ended}
-use Rattle.block_vm.specs.declared.client.Client.{Client}
 use Rattle.block_vm.specs.Work.{IsWaiting}
 use Rattle.block_vm.specs.Follows.{Follows}
-use Rattle.block_vm.specs.Client.{config_of, HasWritten}
+use Rattle.block_vm.specs.Standing.{Standing, config_with, HasWritten}
 
 -- what a run does after these answers
 abbrev pub after : List Answer → (List Answer → Doing) → List Answer → Doing
 after heard m more = m (heard ++ more)
 
 -- a client that has heard these answers has written what m wrote, and goes on as m says. The named outputs have these names
-pub record Does (client : Client) (names : List (List ℕ)) (m : List Answer → Doing) (heard : List Answer) : Type 0 where
+pub record Does (client : Standing) (names : List (List ℕ)) (m : List Answer → Doing) (heard : List Answer) : Type 0 where
   pub written : List Piece
   pub has : HasWritten client names written
-  pub follows : Follows (after heard m) (config_of written client)
+  pub follows : Follows (after heard m) (config_with written client)
 
 -- memory was wanting after these answers: the client has written these pieces, and asks End
-pub record HasGivenUp (client : Client) (names : List (List ℕ)) (m : List Answer → Doing) (heard : List Answer) (pieces : List Piece) : Type 0 where
-  pub ends : client.mode ≡ AsksEnd NoMemory
+pub record HasGivenUp (client : Standing) (names : List (List ℕ)) (m : List Answer → Doing) (heard : List Answer) (pieces : List Piece) : Type 0 where
+  pub ends : client.config.mode ≡ AsksEnd NoMemory
   pub has : HasWritten client names pieces
   pub gave : GaveUp m heard pieces
 
 -- it does as m says: it has written and wants what m says after these answers
-pub record Keeps (client : Client) (names : List (List ℕ)) (m : List Answer → Doing) (heard : List Answer) (wants : Wants) : Type 0 where
+pub record Keeps (client : Standing) (names : List (List ℕ)) (m : List Answer → Doing) (heard : List Answer) (wants : Wants) : Type 0 where
   pub does : Does client names m heard
   pub pieces : List Piece
   pub has : HasWritten client names pieces
   pub meant : m heard ≡ record { written = pieces; wants = wants }
 
 -- it gives up, and asks End
-pub record GivesUpAt (client : Client) (names : List (List ℕ)) (m : List Answer → Doing) (heard : List Answer) (wants : Wants) : Type 0 where
+pub record GivesUpAt (client : Standing) (names : List (List ℕ)) (m : List Answer → Doing) (heard : List Answer) (wants : Wants) : Type 0 where
   pub pieces : List Piece
   pub given_up : HasGivenUp client names m heard pieces
   pub asks : wants ≡ Ask End
 
 -- what came of a call after these answers
-abbrev pub Came : Client → List (List ℕ) → (List Answer → Doing) → List Answer → Wants → Type 0
+abbrev pub Came : Standing → List (List ℕ) → (List Answer → Doing) → List Answer → Wants → Type 0
 Came client names m heard wants = Keeps client names m heard wants ⊎ GivesUpAt client names m heard wants
 
 -- it goes on by itself
@@ -60,11 +59,11 @@ GoesOnIn (AsksEnd ending) = ⊥
 GoesOnIn Ended = ⊥
 
 -- no call has begun it
-abbrev pub HasNotBegun : Client → Type 0
-HasNotBegun c = GoesOnIn c.mode
+abbrev pub HasNotBegun : Standing → Type 0
+HasNotBegun c = GoesOnIn c.config.mode
 
 -- an answer comes where one is waited for, and none at the first call
-abbrev pub IsExpected : Option Answer → Client → List Answer → Type 0
+abbrev pub IsExpected : Option Answer → Standing → List Answer → Type 0
 IsExpected None c heard = HasNotBegun c × (heard ≡ [])
 IsExpected (Some a) c heard = IsWaiting c
 
@@ -94,13 +93,13 @@ pub record GivesUp (m : List Answer → Doing) (written : List Piece) (mode : Mo
   pub more : Begins written (m []).written
 
 -- it stands where m stands, and wants what m wants
-pub record Stands (m : List Answer → Doing) (written : List Piece) (client : Client) (wants : Wants) : Type 0 where
-  pub follows : Follows m (config_of written client)
+pub record Stands (m : List Answer → Doing) (written : List Piece) (client : Standing) (wants : Wants) : Type 0 where
+  pub follows : Follows m (config_with written client)
   pub does : m [] ≡ record { written = written; wants = wants }
 
 -- it went on from what was written
-pub record GoesOn (m : List Answer → Doing) (names : List (List ℕ)) (written : List Piece) (client : Client) (wants : Wants) : Type 0 where
+pub record GoesOn (m : List Answer → Doing) (names : List (List ℕ)) (written : List Piece) (client : Standing) (wants : Wants) : Type 0 where
   pub pieces : List Piece
   pub has : HasWritten client names pieces
   pub more : Begins written pieces
-  pub stands : Stands m pieces client wants ⊎ GivesUp m pieces client.mode wants
+  pub stands : Stands m pieces client wants ⊎ GivesUp m pieces client.config.mode wants

@@ -28,7 +28,7 @@ use Rattle.block_meaning.specs.Streams.{no_stream}
 use Rattle.block_vm.specs.declared.mode.Mark.{Mark}
 use Rattle.block_vm.specs.declared.mode.Iteration.{Iteration}
 use Rattle.block_vm.specs.declared.mode.Way.{Way}
-use Rattle.block_vm.specs.declared.mode.Way.TheVariants.{Ran, Leaves, Undoes}
+use Rattle.block_vm.specs.declared.mode.Way.TheVariants.{Ran, Leaves, Undoes, Raises}
 use Rattle.block_vm.specs.declared.mode.Mode.{Mode}
 use Rattle.block_vm.specs.declared.mode.Mode.TheVariants.{Runs, Turns, Over, AsksEnter, AsksBack, AsksLeave, AsksEnd, Ended}
 use Rattle.block_vm.specs.declared.state.Old.{Old}
@@ -50,10 +50,11 @@ plain_header number kind flags = record {
   on_endkey = None;
 }
 
--- the header stands for that one, and its block does not iterate
+-- the header stands for that one; its block does not iterate and does not ask RETRY
 pub record IsPlain (h : SourceHeader) (b : Header) : Type 0 where
   pub is : b ≡ plain_header h.number h.kind h.flags
   pub once : blocks.is_repeat_or_for h.kind ≡ false
+  pub no_retry : h.flags.retry_seen ≡ false
 
 abbrev mutual
   -- the instructions from a place to another stand for a statement
@@ -178,6 +179,7 @@ abbrev pub way_of : Bool → List Old → List Value → Way → state.Way
 way_of retry olds undoable Ran = state.Ran
 way_of retry olds undoable (Leaves l) = state.Leaves l
 way_of retry olds undoable (Undoes block leave first) = state.Undoes block (ThenLeave leave) retry (record { first = copy_of olds undoable first; buffers = [] })
+way_of retry olds undoable (Raises first) = state.Raises (record { first = copy_of olds undoable first; buffers = [] })
 
 -- ---- marks
 
@@ -201,6 +203,7 @@ abbrev pub mark_of : Way → Option Mark
 mark_of Ran = None
 mark_of (Leaves l) = None
 mark_of (Undoes block leave first) = first
+mark_of (Raises first) = first
 
 -- the mark of a way is at most this far, and its level is at most this deep
 abbrev pub IsMarked : ℕ → ℕ → Option Mark → Type 0
@@ -224,6 +227,7 @@ pub record IsAt (code : List Instr) (units : ℕ) (os : List Outer) (o : Outer) 
   pub number : h.number ≡ o.number
   pub flags : h.flags ≡ o.flags
   pub once : blocks.is_repeat_or_for o.kind ≡ false
+  pub no_retry : h.flags.retry_seen ≡ false
   pub inside : StandsInside code (p + 1) o.body
   pub behind : StandsBehind os code to o.after
   pub enough : units ≤ o.fuel
@@ -275,11 +279,12 @@ module _ (w : Around) (streams : List Stream) where
     pub opened : AreOpenIn c (length c.olds) c.level os
     pub does : (ans : List Answer) → m ans ≡ goes_on w os (after_turn w o (state.hears op.Enter (λ a s ans. blocks.begins w.program (header_in o) (Some (state.copy_of s)) only_turn (retry_in o) (all_of w (retry_in o) o.body) (blocks.deeper s) ans) (state_of streams c) ans))
 
-  -- a way that is no UNDO
+  -- a way that is no UNDO and no ERROR
   abbrev pub IsOwn : Way → Type 0
   IsOwn Ran = Unit {0}
   IsOwn (Leaves l) = Unit {0}
   IsOwn (Undoes block leave first) = ⊥
+  IsOwn (Raises first) = ⊥
 
   -- what follows Leave makes a way of it
   pub record GoesAs (k : Course → Course) (way : Way) : Type 0 where

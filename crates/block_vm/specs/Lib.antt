@@ -1,6 +1,7 @@
 pub mod Wants
 pub mod Sections
 pub mod Machine
+pub mod Standing
 pub mod Client
 pub mod Work
 pub mod Follows

@@ -1,7 +1,8 @@
 -- What a client does with block code, step by step.
-use Rattle.std.specs.Prelude.{ℕ, zero, suc, ◌+◌, ◌-◌, ◌==◌, nat_lt, List, [], ◌∷◌, ◌++◌, length, Bool, true, false, Option, Some, None, Result, Ok, Err, slice_get, slice_set, slice_index_or, replicate}
+use Rattle.std.specs.Prelude.{ℕ, zero, suc, ◌+◌, ◌-◌, ◌==◌, nat_lt, nat_le, ◌&&◌, codes, List, [], ◌∷◌, ◌++◌, length, Bool, true, false, Option, Some, None, Result, Ok, Err, slice_get, slice_set, slice_index_or, replicate}
 use Rattle.abl_base.specs.declared.value.Value.{Value}
-use Rattle.abl_base.specs.declared.value.Value.TheVariants.{Unknown}
+use Rattle.abl_base.specs.declared.value.Value.TheVariants.{Text, Int, Int64, Dec, Logical, Date, Unknown}
+use Rattle.abl_base.specs.declared.value.TheConstants.{MAX_TEXT_BYTES}
 use Rattle.abl_values.specs.declared.arithmetic.ArithFault.{ArithFault}
 use Rattle.abl_values.specs.Fit.{fitted}
 use Rattle.abl_values.specs.Texts.{plain_text}
@@ -34,16 +35,21 @@ use Rattle.block_meaning.specs.declared.wants.Wants.TheVariants as wants
 use Rattle.block_vm.specs.declared.mode.Mark.{Mark}
 use Rattle.block_vm.specs.declared.mode.Iteration.{Iteration}
 use Rattle.block_vm.specs.declared.mode.Way.{Way}
-use Rattle.block_vm.specs.declared.mode.Way.TheVariants.{Ran, Leaves, Undoes}
+use Rattle.block_vm.specs.declared.mode.Way.TheVariants.{Ran, Leaves, Undoes, Raises}
 use Rattle.block_vm.specs.declared.mode.Ending.{Ending}
 use Rattle.block_vm.specs.declared.mode.Ending.TheVariants.{Normal, Stop, NoMemory}
 use Rattle.block_vm.specs.declared.mode.Mode.{Mode}
 use Rattle.block_vm.specs.declared.mode.Mode.TheVariants.{Runs, Turns, Over, AsksEnter, AsksBack, AsksLeave, AsksEnd, Ended}
 use Rattle.block_vm.specs.declared.state.Old.{Old}
-use Rattle.block_vm.specs.declared.client.Kind.{Kind}
-use Rattle.block_vm.specs.declared.client.Kind.TheVariants as kind
-use Rattle.block_vm.specs.declared.client.Heard.{Heard}
-use Rattle.block_vm.specs.declared.client.Heard.TheVariants.{Blocked, Done, Ends}
+use Rattle.block_vm.specs.declared.machine.Kind.{Kind}
+use Rattle.block_vm.specs.declared.machine.Kind.TheVariants as kind
+use Rattle.block_vm.specs.declared.machine.Heard.{Heard}
+use Rattle.block_vm.specs.declared.machine.Heard.TheVariants.{Blocked, Done, Ends}
+
+-- one of two, as a test says
+abbrev pub this_or : {A : Type 0} → Bool → A → A → A
+this_or true this other = this
+this_or false this other = other
 
 -- a client: the open iterations and the old values stand with the innermost and the last one first
 pub record Config : Type 0 where
@@ -106,6 +112,21 @@ set_as false n v c = record c { kept = slice_set c.kept n v }
 abbrev pub set_var : Variable → Value → Config → Config
 set_var x v c = set_as x.undoable x.number v c
 
+-- a text literal is at most 30,000 bytes long
+abbrev pub is_short : Value → Bool
+is_short (Text t) = nat_le (length t) MAX_TEXT_BYTES
+is_short (Int n) = true
+is_short (Int64 n) = true
+is_short (Dec n) = true
+is_short (Logical b) = true
+is_short (Date d) = true
+is_short Unknown = true
+
+-- there is a value
+abbrev pub is_value : Result Value ArithFault → Bool
+is_value (Ok v) = true
+is_value (Err fault) = false
+
 -- it has the value that fits its kind
 abbrev pub set_fitted : Variable → Result Value ArithFault → Config → Config
 set_fitted x (Ok v) c = set_var x v c
@@ -116,10 +137,20 @@ abbrev pub set_right : Target → Right → Config → Config
 set_right (target.Variable x) (right.Value (e.Literal v)) c = set_fitted x (fitted v x.kind) c
 set_right t r c = c
 
--- one after the other
+-- the right side is in range of its target
+abbrev pub fits : Target → Right → Bool
+fits (target.Variable x) (right.Value (e.Literal v)) = is_short v && is_value (fitted v x.kind)
+fits t r = true
+
+-- that of each assignment is
+abbrev pub all_fit : List Assignment → Bool
+all_fit [] = true
+all_fit (x ∷ xs) = fits x.target x.right && all_fit xs
+
+-- one after the other, up to one whose right side is out of range
 abbrev pub set_all : List Assignment → Config → Config
 set_all [] c = c
-set_all (x ∷ xs) c = set_all xs (set_right x.target x.right c)
+set_all (x ∷ xs) c = this_or (fits x.target x.right) (set_all xs (set_right x.target x.right c)) c
 
 -- ---- texts
 
@@ -140,14 +171,48 @@ abbrev pub items_text : List PutItem → List Value → List Value → List ℕ
 items_text [] undoable kept = []
 items_text (x ∷ xs) undoable kept = item_text x undoable kept ++ items_text xs undoable kept
 
--- the text is written, or the output is full
-abbrev pub writes_if : Bool → List ℕ → ℕ → Config → Config
-writes_if true text p c = stops (Stop why.OutputFull) c
-writes_if false text p c = record c { mode = Runs p; written = c.written ++ Wrote None text ∷ []; size = c.size + length text }
+-- what is shown is no text literal that is too long
+abbrev pub shown_is_short : Expr → Bool
+shown_is_short (e.Literal v) = is_short v
+shown_is_short a = true
 
--- and the client goes on at the instruction
-abbrev pub writes : List ℕ → ℕ → Config → Config
-writes text p c = writes_if (nat_lt 16777216 (c.size + length text)) text p c
+-- in an item
+abbrev pub item_is_short : PutItem → Bool
+item_is_short (put.Shows a mask) = shown_is_short a
+item_is_short (put.Skip n) = true
+item_is_short (put.Space n) = true
+
+-- in all items
+abbrev pub are_short : List PutItem → Bool
+are_short [] = true
+are_short (x ∷ xs) = item_is_short x && are_short xs
+
+-- the text is written and the client goes on in this mode, or the output is full
+abbrev pub writes_if : Bool → List ℕ → Mode → Config → Config
+writes_if true text mode c = stops (Stop why.OutputFull) c
+writes_if false text mode c = record c { mode = mode; written = c.written ++ Wrote None text ∷ []; size = c.size + length text }
+
+-- as much as fits into the output
+abbrev pub writes : List ℕ → Mode → Config → Config
+writes text mode c = writes_if (nat_lt 16777216 (c.size + length text)) text mode c
+
+-- the line about a value that is out of range
+abbrev pub range_line : List ℕ
+range_line = codes "** value out of range" ++ 10 ∷ []
+
+-- ERROR: the line is written, and ERROR goes on out of what is open
+abbrev pub errs : Config → Config
+errs c = writes range_line (Over (Raises None)) c
+
+-- a statement whose values are in range goes on, any other has a fault
+abbrev pub runs_or_errs : Bool → ℕ → Config → Config
+runs_or_errs true p c = runs p c
+runs_or_errs false p c = errs c
+
+-- PUT of a text
+abbrev pub puts : Bool → List ℕ → ℕ → Config → Config
+puts true text p c = writes text (Runs p) c
+puts false text p c = errs c
 
 -- ---- instructions
 
@@ -170,8 +235,8 @@ abbrev pub does : Option Instr → ℕ → Config → Config
 does None p c = c
 does (Some Close) p c = c
 does (Some (Open h to)) p c = record c { mode = Turns p }
-does (Some (Assign pairs quiet)) p c = runs (p + 1) (set_all pairs.items c)
-does (Some (Put stream items)) p c = writes (items_text items.items c.undoable c.kept) (p + 1) c
+does (Some (Assign pairs quiet)) p c = runs_or_errs (all_fit pairs.items) (p + 1) (set_all pairs.items c)
+does (Some (Put stream items)) p c = puts (are_short items.items) (items_text items.items c.undoable c.kept) (p + 1) c
 does (Some (Undo block action)) p c = undo_from block action c
 
 -- what is done about it
@@ -223,6 +288,11 @@ abbrev pub is_block : Option Instr → ℕ → Bool
 is_block (Some (Open h to)) n = n == h.number
 is_block instr n = false
 
+-- it has the undo property
+abbrev pub can_undo : Option Instr → Bool
+can_undo (Some (Open h to)) = h.flags.undo
+can_undo instr = false
+
 -- one of two ways
 abbrev pub ran_if : Bool → Way → Way
 ran_if true way = Ran
@@ -233,6 +303,7 @@ abbrev pub out_of : Option Instr → Way → Way
 out_of instr Ran = Ran
 out_of instr (Leaves l) = ran_if (is_block instr l) (Leaves l)
 out_of instr (Undoes block leave first) = Undoes block leave first
+out_of instr (Raises first) = Raises first
 
 -- behind the block
 abbrev pub behind : Option Instr → Config → Config
@@ -244,6 +315,7 @@ abbrev pub goes : Way → ℕ → Config → Config
 goes Ran p c = behind (slice_get c.code p) c
 goes (Leaves l) p c = goes_out (Leaves l) c
 goes (Undoes block leave first) p c = goes_out (Undoes block leave first) c
+goes (Raises first) p c = goes_out (Raises first) c
 
 -- the level is left, if the iteration has one
 abbrev pub level_ends : Option Mark → Way → ℕ → Config → Config
@@ -265,12 +337,18 @@ abbrev pub undo_comes : Bool → Option Instr → ℕ → ℕ → Option Mark �
 undo_comes true instr block leave first p c = undone first (out_of instr (Leaves leave)) p c
 undo_comes false instr block leave first p c = goes_out (Undoes block leave first) c
 
+-- ERROR reaches a block with the undo property, which is undone and left, since it does not ask RETRY; or it passes
+abbrev pub error_comes : Bool → Option Mark → ℕ → Config → Config
+error_comes true first p c = undone first Ran p c
+error_comes false first p c = goes_out (Raises first) c
+
 -- an iteration ends, which was taken out
 abbrev pub iteration_ends : Way → Option Instr → Iteration → Config → Config
 iteration_ends Ran instr it c = level_ends it.mark (out_of instr Ran) it.place c
 iteration_ends (Leaves l) instr it c = level_ends it.mark (out_of instr (Leaves l)) it.place c
 iteration_ends (Undoes block leave inner) instr it c =
     undo_comes (is_block instr block) instr block leave (first_mark it.mark inner) it.place c
+iteration_ends (Raises inner) instr it c = error_comes (can_undo instr) (first_mark it.mark inner) it.place c
 
 -- a way goes on out of the innermost iteration; where none is open the client ends
 abbrev pub unwind : Way → List Iteration → Config → Config
@@ -294,20 +372,15 @@ step c = step_in c.mode c
 
 -- ---- answers
 
--- one of two
-abbrev pub stay_or : {A : Type 0} → Bool → A → A → A
-stay_or true stay go = stay
-stay_or false stay go = go
-
 -- the variables once the old values from the mark on went back, the last one first
 abbrev pub values_at : ℕ → List Old → List Value → List Value
 values_at at [] values = values
-values_at at (o ∷ olds) values = stay_or (nat_lt (length olds) at) values (values_at at olds (slice_set values o.number o.value))
+values_at at (o ∷ olds) values = this_or (nat_lt (length olds) at) values (values_at at olds (slice_set values o.number o.value))
 
 -- the old values that are left then
 abbrev pub olds_at : ℕ → List Old → List Old
 olds_at at [] = []
-olds_at at (o ∷ olds) = stay_or (nat_lt (length olds) at) (o ∷ olds) (olds_at at olds)
+olds_at at (o ∷ olds) = this_or (nat_lt (length olds) at) (o ∷ olds) (olds_at at olds)
 
 -- the level that Enter began
 abbrev pub entered : ℕ → Config → Config

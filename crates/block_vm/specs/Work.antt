@@ -2,7 +2,8 @@
 use Rattle.std.specs.Prelude.{◌≡◌, ◌+◌, ◌*◌, ℕ, [], length}
 use Rattle.block_vm.specs.declared.mode.Mode.{Mode}
 use Rattle.block_vm.specs.declared.mode.Mode.TheVariants.{Runs, Turns, Over, AsksEnter, AsksBack, AsksLeave, AsksEnd, Ended}
-use Rattle.block_vm.specs.declared.client.Client.{Client}
+use Rattle.block_vm.specs.declared.machine.Machine.{Machine}
+use Rattle.block_vm.specs.Standing.{Standing}
 use Rattle.block_meaning.specs.declared.wants.Wants.{Wants}
 use Rattle.block_meaning.specs.declared.wants.Wants.TheVariants.{Ask}
 use Rattle.block_vm.specs.Wants.{IsEnded}
@@ -23,7 +24,7 @@ rank Ended = 0
 abbrev pub weight_in : ℕ → ℕ → Mode → ℕ
 weight_in units opened mode = 3 * units + 2 * opened + rank mode
 
-abbrev pub weight : Client → ℕ
+abbrev pub weight : Machine → ℕ
 weight c = weight_in c.state.units (length c.opened.items) c.mode
 
 -- the most operations that a client in this mode will still ask, the one that it asks included and beside those
@@ -38,8 +39,8 @@ operations_in (AsksLeave depth way place) units = units + 2
 operations_in (AsksEnd ending) units = 1
 operations_in Ended units = 0
 
-abbrev pub most_operations : Client → ℕ
-most_operations c = operations_in c.mode c.state.units
+abbrev pub most_operations : Standing → ℕ
+most_operations s = operations_in s.config.mode s.config.units
 
 -- it waits for the answer to an operation other than End
 abbrev pub AsksOwn : Mode → Type 0
@@ -53,16 +54,16 @@ abbrev pub Waits : Mode → Type 0
 Waits (AsksEnd ending) = Unit {0}
 Waits mode = AsksOwn mode
 
-abbrev pub IsWaiting : Client → Type 0
-IsWaiting c = Waits c.mode
+abbrev pub IsWaiting : Standing → Type 0
+IsWaiting s = Waits s.config.mode
 
 -- it waits for the answer to End
 abbrev pub AsksTheEnd : Mode → Type 0
 AsksTheEnd (AsksEnd ending) = Unit {0}
 AsksTheEnd mode = ⊥
 
-abbrev pub IsEnding : Client → Type 0
-IsEnding c = AsksTheEnd c.mode
+abbrev pub IsEnding : Standing → Type 0
+IsEnding s = AsksTheEnd s.config.mode
 
 -- what a client in this mode wants
 abbrev pub Shows : Mode → Wants → Type 0
@@ -75,5 +76,5 @@ Shows (AsksLeave depth way place) wants = wants ≡ Ask (Leave [])
 Shows (AsksEnd ending) wants = wants ≡ Ask End
 Shows Ended wants = IsEnded wants
 
-abbrev pub ShowsWants : Client → Wants → Type 0
-ShowsWants c wants = Shows c.mode wants
+abbrev pub ShowsWants : Standing → Wants → Type 0
+ShowsWants s wants = Shows s.config.mode wants

@@ -6,6 +6,7 @@
 #![tactic(auto)]
 
 pub mod client;
+mod machine;
 pub mod mode;
 pub mod output;
 mod plain_text;

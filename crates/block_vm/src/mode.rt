@@ -33,6 +33,10 @@ pub enum Way {
         leave: u32,
         first: Option<Mark>,
     },
+    /// ERROR is on its way out to the nearest block with the undo property; `first` as with UNDO.
+    Raises {
+        first: Option<Mark>,
+    },
 }
 
 /// How the client will have ended once End is answered.

@@ -1,6 +1,6 @@
 //! What a client has: its variables, its level, its units and its output.
 
-ghost use Rattle.std.specs.Prelude.{◌≡◌, ◌+◌, ◌++◌, ◌∷◌, [], ◌-◌, ◌≤◌, List, length, reverse, true, false, nat_lt, replicate, slice_index_or, slice_set, IfOk, OnOk, OnErr};
+ghost use Rattle.std.specs.Prelude.{◌≡◌, ◌+◌, ◌++◌, ◌∷◌, [], ◌-◌, ◌≤◌, List, length, reverse, true, false, nat_lt, replicate, slice_index_or, slice_set, Ok, IfOk, OnOk, OnErr};
 ghost use Rattle.abl_base.specs.declared.value.Value.{Value};
 ghost use Rattle.abl_values.specs.Texts.{plain_text};
 ghost use Rattle.block_code.specs.declared.code.Instr.{Instr};
@@ -8,13 +8,13 @@ ghost use Rattle.block_meaning.specs.declared.wants.Piece.{Piece};
 ghost use Rattle.block_vm.specs.declared.mode.Mode.{Mode};
 ghost use Rattle.block_vm.specs.declared.mode.Iteration.{Iteration};
 ghost use Rattle.block_vm.specs.Sections.{first_longer};
-ghost use Rattle.block_vm.specs.Machine.{set_var, set_right, set_all, value_in, item_text, items_text, values_at, olds_at, at_level};
+ghost use Rattle.block_vm.specs.Machine.{is_short, are_short, item_is_short, fits, all_fit, set_var, set_right, set_all, value_in, item_text, items_text, values_at, olds_at, at_level};
 ghost use Rattle.block_vm.specs.Client.{config_at};
 
 use crate::mode::Mark;
 use crate::output::{MAX_OUTPUT_BYTES, Section};
 use crate::plain_text::write_plain;
-use abl_base::{Bytes, Row, Value};
+use abl_base::{Bytes, MAX_TEXT_BYTES, Row, Value};
 use abl_values::{ArithFault, fit};
 use bound_tree::{Assignment, Expr, PutItem, Right, Target, Variable};
 use std::alloc::{AllocError, Global};
@@ -86,34 +86,48 @@ impl State {
         Ok(())
     }
 
-    /// An assignment: the variable gets the value in its own kind.
-    fn assign_one(&mut self, alloc: Global, pair: &Assignment) -> Result<(), AllocError>
-        ensures ok { OnOk result ((code : List Instr) (mode : Mode) (opened : List Iteration) (written : List Piece) → config_at code mode opened written self.new ≡ set_right pair.now.target pair.now.right (config_at code mode opened written self.old)) }
+    /// An assignment: the variable gets the value in its own kind. False, and nothing is changed,
+    /// where the value is out of range.
+    fn assign_one(&mut self, alloc: Global, pair: &Assignment) -> Result<bool, AllocError>
+        ensures fits { IfOk result (λ fitting. fitting ≡ fits pair.now.target pair.now.right) }
+        ensures ok { result ≡ Ok true → (code : List Instr) (mode : Mode) (opened : List Iteration) (written : List Piece) → config_at code mode opened written self.new ≡ set_right pair.now.target pair.now.right (config_at code mode opened written self.old) }
+        ensures out { result ≡ Ok false → self.new ≡ self.old }
         ensures units { self.new.units ≡ self.old.units }
         ensures sections { self.new.sections.items ≡ self.old.sections.items }
     {
-        match (&pair.target, &pair.right) {
-            (Target::Variable(variable), Right::Value(Expr::Literal(value))) => {
-                match fit(alloc, value, variable.kind) {
-                    Ok(value) => self.set(*variable, value),
-                    Err(ArithFault::Overflow) => Ok(()),
-                    Err(ArithFault::NoMemory) => Err(AllocError),
-                }
+        let (Target::Variable(variable), Right::Value(Expr::Literal(value))) = (
+            &pair.target,
+            &pair.right,
+        ) else {
+            return Ok(true);
+        };
+        if !is_short(value) {
+            return Ok(false);
+        }
+        match fit(alloc, value, variable.kind) {
+            Ok(value) => {
+                self.set(*variable, value)?;
+                Ok(true)
             }
-            _ => Ok(()),
+            Err(ArithFault::Overflow) => Ok(false),
+            Err(ArithFault::NoMemory) => Err(AllocError),
         }
     }
 
-    /// An assignment, or ASSIGN, from left to right.
-    pub fn assign(&mut self, alloc: Global, pairs: &[Assignment]) -> Result<(), AllocError>
+    /// An assignment, or ASSIGN, from left to right. False where a value is out of range: the
+    /// variables before it have their values.
+    pub fn assign(&mut self, alloc: Global, pairs: &[Assignment]) -> Result<bool, AllocError>
+        ensures fits { IfOk result (λ fitting. fitting ≡ all_fit pairs.now) }
         ensures ok { OnOk result ((code : List Instr) (mode : Mode) (opened : List Iteration) (written : List Piece) → config_at code mode opened written self.new ≡ set_all pairs.now (config_at code mode opened written self.old)) }
         ensures units { self.new.units ≡ self.old.units }
         ensures sections { self.new.sections.items ≡ self.old.sections.items }
     {
         for pair in pairs {
-            self.assign_one(alloc, pair)?;
+            if !self.assign_one(alloc, pair)? {
+                return Ok(false);
+            }
         }
-        Ok(())
+        Ok(true)
     }
 
     /// The old values from the mark on go back, the last one first.
@@ -138,19 +152,25 @@ impl State {
         }
     }
 
-    /// PUT to the default output: the items' texts as one piece. False, and nothing is written,
-    /// where the output would pass its limit.
-    pub fn put(&mut self, alloc: Global, items: &[PutItem]) -> Result<bool, AllocError>
-        ensures full { result ≡ Ok false → (nat_lt 16777216 (self.old.size + length (items_text items.now self.old.undoable.items self.old.kept.items)) ≡ true) × (self.new ≡ self.old) }
-        ensures fits { result ≡ Ok true → (nat_lt 16777216 (self.old.size + length (items_text items.now self.old.undoable.items self.old.kept.items)) ≡ false) × (self.new.sections.items ≡ first_longer (items_text items.now self.old.undoable.items self.old.kept.items) self.old.sections.items) × (self.new ≡ record self.old { sections = self.new.sections; size = self.old.size + length (items_text items.now self.old.undoable.items self.old.kept.items) }) }
+    /// The text of the items of a PUT.
+    pub fn text_of(&self, alloc: Global, items: &[PutItem]) -> Result<Vec<u8>, AllocError>
+        ensures { IfOk result (λ text. text.items ≡ items_text items.now self.now.undoable.items self.now.kept.items) }
+    {
+        text_of(alloc, &self.undoable, &self.kept, items)
+    }
+
+    /// Writes a piece to the default output. False, and nothing is written, where the output would
+    /// pass its limit.
+    pub fn write(&mut self, piece: &[u8]) -> Result<bool, AllocError>
+        ensures full { result ≡ Ok false → (nat_lt 16777216 (self.old.size + length piece.now) ≡ true) × (self.new ≡ self.old) }
+        ensures fits { result ≡ Ok true → (nat_lt 16777216 (self.old.size + length piece.now) ≡ false) × (self.new.sections.items ≡ first_longer piece.now self.old.sections.items) × (self.new ≡ record self.old { sections = self.new.sections; size = self.old.size + length piece.now }) }
         ensures err { OnErr result (self.new.sections.items ≡ self.old.sections.items) }
         ensures units { self.new.units ≡ self.old.units }
     {
-        let piece = text_of(alloc, &self.undoable, &self.kept, items)?;
         if self.size.saturating_add(piece.len()) > MAX_OUTPUT_BYTES {
             return Ok(false);
         }
-        write_first(&mut self.sections, &piece)?;
+        write_first(&mut self.sections, piece)?;
         self.size += piece.len();
         Ok(true)
     }
@@ -176,6 +196,41 @@ fn take_back(values: &mut Vec<Value>, olds: &mut Vec<Old>, at: usize)
         if let Some(old) = olds.pop() {
             let _ = set_value(values, old.number, old.value);
         }
+    }
+}
+
+/// Whether the literal is in range: a text has at most 30,000 bytes.
+fn is_short(value: &Value) -> bool
+    ensures { result ≡ is_short value.now }
+{
+    match value {
+        Value::Text(text) => text.len() <= MAX_TEXT_BYTES,
+        _ => true,
+    }
+}
+
+/// Whether each text literal among the items of a PUT is in range.
+pub fn are_short(items: &[PutItem]) -> bool
+    ensures { result ≡ are_short items.now }
+{
+    for item in items {
+        if !is_short_item(item) {
+            return false;
+        }
+    }
+    true
+}
+
+/// Whether the item is no text literal that is out of range.
+fn is_short_item(item: &PutItem) -> bool
+    ensures { result ≡ item_is_short item.now }
+{
+    match item {
+        PutItem::Shows {
+            value: Expr::Literal(value),
+            ..
+        } => is_short(value),
+        _ => true,
     }
 }
 

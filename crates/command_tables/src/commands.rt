@@ -37,7 +37,7 @@ fn words_of(alloc: Global, line: &str) -> Result<Vec<Word>, AllocError> {
 fn only_p(alloc: Global, source: &str) -> Result<MemFiles, AllocError> {
     let mut bytes = Vec::new(alloc);
     for byte in source.as_bytes() {
-        bytes.push(if *byte == b'|' { b'\n' } else { *byte })?;
+        add_byte(&mut bytes, *byte)?;
     }
     let mut files = Vec::new(alloc);
     files.push(NamedFile {
@@ -45,6 +45,16 @@ fn only_p(alloc: Global, source: &str) -> Result<MemFiles, AllocError> {
         bytes: Items::from_vec(bytes),
     })?;
     MemFiles::new(alloc, &Items::from_vec(files), &[])
+}
+
+/// Adds what a byte of a row's source stands for.
+fn add_byte(bytes: &mut Vec<u8>, byte: u8) -> Result<(), AllocError> {
+    match byte {
+        b'|' => bytes.push(b'\n')?,
+        b'^' => bytes.extend_from_slice(&[b'x'; 10_000])?,
+        _ => bytes.push(byte)?,
+    }
+    Ok(())
 }
 
 /// The bytes as a text, with `|` for a line feed.

@@ -1,6 +1,7 @@
 //! Runs commands: reads a row a line, which has the words of a command, a tab, and the source `p`,
 //! and writes the row with the status and what then stands on standard output and standard error.
-//! A line feed of a source or a stream is written `|`. The rows that it is run on, and what it must
+//! A line feed of a source or a stream is written `|`, and `^` in a source stands for 10,000 letters
+//! `x`. The rows that it is run on, and what it must
 //! write, are read off the description of the language and of the program (`docs/language.md`).
 #![tactic(auto)]
 

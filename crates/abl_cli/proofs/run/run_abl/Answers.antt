@@ -1,11 +1,10 @@
 -- A command is refused by its words or by what prevents its run; else its client runs.
-use Rattle.std.proofs.Common.{ℕ, List, subst, inl, inr, ◌⊎◌, ◌∙◌}
+use Rattle.std.proofs.Common.{ℕ, List, subst, inl, inr, ◌⊎◌}
 use Rattle.abl_cli.specs.declared.refusal.Refusal.TheVariants.{NoMemory}
 use Rattle.abl_cli.specs.declared.run.Report.{Report}
 use Rattle.abl_cli.specs.declared.words.RunWords.{RunWords}
 use Rattle.bound_tree.specs.Bound.{source_of}
 use Rattle.block_code.specs.declared.code.Code.{Code}
-use Rattle.block_code.proofs.Trees.{tree_is_built}
 use Rattle.abl_cli.specs.Words.{Names}
 use Rattle.abl_cli.specs.Writes.{Written}
 use Rattle.abl_cli.specs.Command.{Shelf, Did, Refused, Ran, HasText, IsCodeOf, HasRun, IsRefused}
@@ -30,7 +29,7 @@ performed words shelf faults old new report read names text has code is_code ens
     by_case : HasRun read.name.now read.steps (source_of is_code.bound) old new report ⊎ IsRefused read.name.now NoMemory old new report → Did words shelf faults old new report
     by_case (inl ran) =
         Ran (run_of words read names) names.is_run names.words_are text has
-        (source_of is_code.bound) is_code.form (tree_is_built is_code.bound ∙ is_code.built)
+        (source_of is_code.bound) is_code.form
         (subst (λ units. HasRun read.name.now units (source_of is_code.bound) old new report) names.number ran)
     by_case (inr refused) =
         Refused read.name.now NoMemory (cause_of_prevented words shelf faults read names NoMemory tt) refused

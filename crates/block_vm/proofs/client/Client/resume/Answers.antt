@@ -1,27 +1,9 @@
-use Rattle.std.proofs.Common.{◌≡◌, Option, sym, subst}
-use Rattle.std.specs.Prelude.{IfSome}
-use Rattle.block_meaning.specs.declared.ends.ClientEnd.TheVariants.{NoMemory}
-use Rattle.block_meaning.specs.declared.wants.Wants.TheVariants.{Ended}
-use Rattle.block_vm.specs.Client.{HasWritten}
-use Rattle.database_meaning.specs.declared.operation.Answer.{Answer}
-use Rattle.block_vm.specs.Does.{Does, Came, IsExpected, heard_too}
-use Rattle.block_vm.proofs.Resumes.{first_call}
+use Rattle.std.proofs.Common.{sym, subst}
+use Rattle.block_vm.specs.Standing.{Standing}
+use Rattle.block_vm.specs.Does.{HasGivenUp}
 use Rattle.block_vm.proofs.client.Client.resume.Goals as goal
 
-pub returns-in-Some-clause-does : goal.returns-in-Some-clause-does
-returns-in-Some-clause-does c =
-    λ names m heard.
-    subst (λ (a : Option Answer). IsExpected a c.args.self.now heard → Does c.args.self.now names m heard → Came c.resume_with.new.self names m (heard_too heard a) c.resume_with.result) (sym c.in-Some.is)
-    (λ waiting d. c.resume_with.ensures.does names m heard waiting d)
-
-pub returns-in-None-clause-does : goal.returns-in-None-clause-does
-returns-in-None-clause-does c =
-    λ names m heard.
-    subst (λ (a : Option Answer). IsExpected a c.args.self.now heard → Does c.args.self.now names m heard → Came c.go_on.new.self names m (heard_too heard a) c.go_on.result) (sym c.in-None.is)
-    (λ expected d. first_call names m heard c.args.self.now c.go_on.new.self c.go_on.result expected.0 expected.1 c.go_on.ensures.follows d)
-
-pub returns-in-Some-clause-given_up : goal.returns-in-Some-clause-given_up
-returns-in-Some-clause-given_up c =
+pub returns-clause-given_up : goal.returns-clause-given_up
+returns-clause-given_up c =
     λ names m heard pieces given.
-    subst (λ (a : Option Answer). IfSome a (λ _. (c.resume_with.result ≡ Ended NoMemory) × HasWritten c.resume_with.new.self names pieces)) (sym c.in-Some.is)
-    (c.resume_with.ensures.given_up names m heard pieces given)
+    c.resume.ensures.given_up names m heard pieces (subst (λ (s : Standing). HasGivenUp s names m heard pieces) (sym c.self.view_is) given)

@@ -4,7 +4,7 @@ use Rattle.block_meaning.specs.declared.wants.Piece.{Piece}
 use Rattle.block_vm.specs.declared.mode.Mode.{Mode}
 use Rattle.block_vm.specs.Machine.{proceeds_in, level_ends}
 use Rattle.block_vm.specs.Client.{config_of}
-use Rattle.block_vm.proofs.client.Client.proceed.Goals as goal
+use Rattle.block_vm.proofs.machine.Machine.proceed.Goals as goal
 
 pub returns-in-AsksEnter-clause-ok : goal.returns-in-AsksEnter-clause-ok
 returns-in-AsksEnter-clause-ok c =

@@ -3,7 +3,7 @@ use Rattle.std.specs.Prelude.{OnOk}
 use Rattle.block_meaning.specs.declared.wants.Piece.{Piece}
 use Rattle.block_vm.specs.Machine.{enters_if}
 use Rattle.block_vm.specs.Client.{config_of}
-use Rattle.block_vm.proofs.client.Client.enter_if.Goals as goal
+use Rattle.block_vm.proofs.machine.Machine.enter_if.Goals as goal
 
 pub returns-else-enters-clause-ok : goal.returns-else-enters-clause-ok
 returns-else-enters-clause-ok c =

@@ -1,21 +1,22 @@
 use Rattle.std.proofs.Common.{◌∷◌, ◌++◌, [], refl, sym, ap, ◌∙◌, subst, arith}
 use Rattle.block_meaning.specs.declared.ends.ClientEnd.{ClientEnd}
 use Rattle.block_meaning.specs.declared.wants.Wants.TheVariants.{Ended}
-use Rattle.block_vm.specs.declared.client.Client.{Client}
+use Rattle.block_vm.specs.declared.machine.Machine.{Machine}
 use Rattle.block_vm.specs.declared.mode.Mode.{Mode}
 use Rattle.block_vm.specs.declared.mode.Mode.TheVariants.{Ended as HasEnded}
+use Rattle.block_vm.specs.Client.{standing_of}
 use Rattle.block_vm.specs.Work.{AsksTheEnd, Shows}
 use Rattle.block_vm.specs.Does.{Came}
 use Rattle.block_vm.proofs.Steps.{own_of, own_most}
 use Rattle.block_vm.proofs.Resumes.{own_call, end_call, end_given_up}
-use Rattle.block_vm.proofs.client.Client.resume_with.Goals as goal
+use Rattle.block_vm.proofs.machine.Machine.resume_with.Goals as goal
 
 pub returns-in-AsksEnd-clause-does : goal.returns-in-AsksEnd-clause-does
 returns-in-AsksEnd-clause-does c =
     λ names m heard waiting d.
     let old = c.args.self.now in
-    let new : Client = record { alloc = old.alloc; code = old.code; mode = HasEnded; opened = old.opened; state = old.state } in
-    subst (λ (end : ClientEnd). Came new names m (heard ++ c.args.answer ∷ []) (Ended end)) (sym c.end_of.ensures)
+    let new : Machine = record { alloc = old.alloc; code = old.code; mode = HasEnded; opened = old.opened; state = old.state } in
+    subst (λ (end : ClientEnd). Came (standing_of new) names m (heard ++ c.args.answer ∷ []) (Ended end)) (sym c.end_of.ensures)
     (end_call names c.args.answer m heard old new c.in-AsksEnd.ending c.in-AsksEnd.is (λ written. refl) refl d)
 
 pub returns-in_default-clause-does : goal.returns-in_default-clause-does
@@ -28,7 +29,7 @@ returns-in_default-clause-does c =
       goes_on = c.go_on.ensures.follows;
       stays = λ e.
           let same = c.go_on.ensures.ending (subst AsksTheEnd (sym e) tt) in
-          (same, subst (λ (mode : Mode). Shows mode c.go_on.result) (ap (λ (x : Client). x.mode) same ∙ e) c.go_on.ensures.wants);
+          (same, subst (λ (mode : Mode). Shows mode c.go_on.result) (ap (λ (x : Machine). x.mode) same ∙ e) c.go_on.ensures.wants);
     }) d
 
 pub returns-in_default-clause-fewer : goal.returns-in_default-clause-fewer

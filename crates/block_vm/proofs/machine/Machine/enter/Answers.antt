@@ -2,7 +2,7 @@ use Rattle.std.proofs.Common.{◌≡◌, ◌+◌, sym, ◌∙◌, rules}
 use Rattle.std.proofs.lemmas.List.{length-reverse}
 use Rattle.block_vm.specs.Client.{config_of}
 use Rattle.block_vm.proofs.Steps.{enters_is}
-use Rattle.block_vm.proofs.client.Client.enter.Goals as goal
+use Rattle.block_vm.proofs.machine.Machine.enter.Goals as goal
 
 pub returns-clause-ok : goal.returns-clause-ok
 returns-clause-ok c =

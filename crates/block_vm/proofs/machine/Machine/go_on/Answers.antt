@@ -1,8 +1,12 @@
 use Rattle.std.proofs.Common.{◌≡◌, refl, sym, ◌∙◌, subst, Some, None, arith}
 use Rattle.block_vm.specs.Machine.{wants_in}
+use Rattle.block_vm.specs.declared.mode.Ending.TheVariants.{NoMemory}
+use Rattle.block_vm.specs.declared.mode.Mode.TheVariants.{AsksEnd}
+use Rattle.block_vm.specs.declared.machine.Machine.{Machine}
+use Rattle.block_vm.specs.Client.{standing_of}
 use Rattle.block_vm.specs.Work.{IsEnding}
 use Rattle.block_vm.proofs.Steps.{begin_going, step_going, stands_going, fails_going, asked_of, shows_of, going_rank, not_ending, going_most}
-use Rattle.block_vm.proofs.client.Client.go_on.Goals as goal
+use Rattle.block_vm.proofs.machine.Machine.go_on.Goals as goal
 
 pub returns-in-Some : goal.returns-in-Some
 returns-in-Some c =
@@ -17,11 +21,12 @@ returns-in-Some c =
 pub returns-in-Err : goal.returns-in-Err
 returns-in-Err c =
     let e : wants_in c.loop-wants.self.mode ≡ None = sym c.wanted.ensures ∙ c.in-None.is in
+    let new : Machine = record c.step.new.self { mode = AsksEnd NoMemory } in
     record {
-      follows = λ names m written u has f. fails_going m names written c.loop-wants.self _ _ (c.loop-wants.invariant.going names m written u has f) c.in-Err.ensures.err refl refl;
+      follows = λ names m written u has f. fails_going m names written c.loop-wants.self new _ (c.loop-wants.invariant.going names m written u has f) c.in-Err.ensures.err refl refl;
       most = let least = going_most c.loop-wants.self.mode c.loop-wants.self.state.units e in omega (arith, least, c.loop-wants.invariant.most);
       wants = refl;
-      ending = λ x. absurd (not_ending c.loop-wants.self.mode e (subst IsEnding (sym (c.loop-wants.invariant.ending x)) x));
+      ending = λ x. absurd (not_ending c.loop-wants.self.mode e (subst (λ (x : Machine). IsEnding (standing_of x)) (sym (c.loop-wants.invariant.ending x)) x));
     }
 
 pub loop-wants-init : goal.loop-wants-init
@@ -43,5 +48,5 @@ loop-wants-preserved c =
     record {
       going = λ names m written u has f. step_going m names written c.loop-wants.self c.step.new.self c.in-Ok.ensures.ok (c.loop-wants.invariant.going names m written u has f);
       most = omega (arith, c.in-Ok.ensures.asks, c.loop-wants.invariant.most);
-      ending = λ x. absurd (not_ending c.loop-wants.self.mode e (subst IsEnding (sym (c.loop-wants.invariant.ending x)) x));
+      ending = λ x. absurd (not_ending c.loop-wants.self.mode e (subst (λ (x : Machine). IsEnding (standing_of x)) (sym (c.loop-wants.invariant.ending x)) x));
     }

@@ -1,7 +1,7 @@
 use Rattle.std.proofs.Common.{[], ap, reverse}
 use Rattle.block_vm.specs.declared.mode.Mode.TheVariants.{Turns}
 use Rattle.block_vm.proofs.Starts.{starts_at}
-use Rattle.block_vm.proofs.client.Client.new.Goals as goal
+use Rattle.block_vm.proofs.machine.Machine.new.Goals as goal
 
 pub returns-clause-does : goal.returns-clause-does
 returns-clause-does c =
