@@ -6,7 +6,6 @@
 
 mod rows;
 mod shown;
-mod words;
 
 use std::io;
 

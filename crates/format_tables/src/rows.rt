@@ -3,9 +3,10 @@
 ghost use Rattle.std.specs.Prelude.{◌≡◌, ◌≤◌, length};
 ghost use Rattle.abl_masks.specs.Put.{is_mask_for};
 
-use crate::{shown, words};
+use crate::shown;
 use abl_base::{Items, Kind, Value};
 use abl_format::{ImportFault, export_line, import_line, mask_fits, number_in, plain, put_item};
+use row_words::{bytes_of, kind_of, push_bytes, value_of};
 use std::alloc::{AllocError, Global};
 
 /// The answer of a row: the name of a call and its arguments, with a blank between.
@@ -35,8 +36,8 @@ fn masked(alloc: Global, arguments: &str) -> Result<Option<String>, AllocError> 
     let Some((mask, word)) = arguments.split_once(' ') else {
         return Ok(None);
     };
-    let mask = words::bytes(alloc, mask.as_bytes())?;
-    match words::value(alloc, word)? {
+    let mask = bytes_of(alloc, mask.as_bytes())?;
+    match value_of(alloc, word)? {
         Some(value) => under(alloc, &value, mask.as_slice()),
         None => Ok(None),
     }
@@ -72,7 +73,7 @@ fn is_mask_for(value: &Value, mask: &[u8]) -> bool
 
 /// The plain text of a value.
 fn plain_text(alloc: Global, word: &str) -> Result<Option<String>, AllocError> {
-    match words::value(alloc, word)? {
+    match value_of(alloc, word)? {
         Some(value) => Ok(Some(text(alloc, plain(alloc, &value)?.as_slice())?)),
         None => Ok(None),
     }
@@ -80,7 +81,7 @@ fn plain_text(alloc: Global, word: &str) -> Result<Option<String>, AllocError> {
 
 /// The number that a text stands for, in units of 10^-10.
 fn number(alloc: Global, word: &str) -> Result<Option<String>, AllocError> {
-    match number_in(words::bytes(alloc, word.as_bytes())?.as_slice()) {
+    match number_in(bytes_of(alloc, word.as_bytes())?.as_slice()) {
         Some(n) => Ok(Some(format!(in alloc; "{n}")?)),
         None => Ok(Some(String::from_str(alloc, "no number")?)),
     }
@@ -90,7 +91,7 @@ fn number(alloc: Global, word: &str) -> Result<Option<String>, AllocError> {
 fn exported(alloc: Global, arguments: &str) -> Result<Option<String>, AllocError> {
     let mut row = Vec::new(alloc);
     for word in arguments.split_whitespace() {
-        match words::value(alloc, word)? {
+        match value_of(alloc, word)? {
             Some(value) => row.push(value)?,
             None => return Ok(None),
         }
@@ -123,7 +124,7 @@ fn input_of(alloc: Global, word: &str) -> Result<Vec<u8>, AllocError> {
             return vec![in alloc; b'a'; usize::from(length)];
         }
     }
-    words::bytes(alloc, word.as_bytes())
+    bytes_of(alloc, word.as_bytes())
 }
 
 /// The kinds of targets, without one for a word that names none.
@@ -131,7 +132,7 @@ fn kinds_of(alloc: Global, words: &str) -> Result<Vec<Option<Kind>>, AllocError>
     let mut kinds = Vec::new(alloc);
     for word in words.split(',') {
         if word != "none" {
-            kinds.push(words::kind(word))?;
+            kinds.push(kind_of(word))?;
         }
     }
     Ok(kinds)
@@ -159,6 +160,6 @@ fn line(
 /// Bytes as a word.
 fn text(alloc: Global, bytes: &[u8]) -> Result<String, AllocError> {
     let mut word = String::new(alloc);
-    shown::push_bytes(&mut word, bytes)?;
+    push_bytes(&mut word, bytes)?;
     Ok(word)
 }

@@ -28,6 +28,10 @@ transaction_set_other (c ∷ cs) zero (suc j) x ne = refl
 transaction_set_other (c ∷ cs) (suc k) zero x ne = refl
 transaction_set_other (c ∷ cs) (suc k) (suc j) x ne = transaction_set_other cs k j x (λ e. ne (ap suc e))
 
+-- the transaction of one of sixteen clients
+pub transaction_of_one : (cs : List Client) (k : ℕ) (x : Client) → length cs ≡ 16 → k < 16 → x ≡ slice_index_or cs k x → transaction_in cs k ≡ transaction_of x
+transaction_of_one cs k x sixteen lt is = transaction_at cs k x (omega (arith, sixteen, lt)) is
+
 -- a client that is changed to one that stands for the same
 pub transaction_same : (cs : List Client) (k : ℕ) (x : Client) → k < length cs → transaction_of x ≡ transaction_in cs k → transaction_in (slice_set cs k x) ≡ transaction_in cs
 transaction_same cs k x lt is = λ i j. at j i

@@ -1,3 +1,4 @@
 pub mod Places
 pub mod Clients
+pub mod Changes
 pub mod Composes

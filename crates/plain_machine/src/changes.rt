@@ -83,18 +83,7 @@ pub fn committed_after(
                 Ok(rows)
             }
         }
-        Op::Enter => Ok(rows),
-        Op::Back { .. } => Ok(rows),
-        Op::Next { .. } => Ok(rows),
-        Op::Get { .. } => Ok(rows),
-        Op::Lock { .. } => Ok(rows),
-        Op::Insert { .. } => Ok(rows),
-        Op::Put { .. } => Ok(rows),
-        Op::Delete { .. } => Ok(rows),
-        Op::Drop { .. } => Ok(rows),
-        Op::NextValue { .. } => Ok(rows),
-        Op::CurrentValue { .. } => Ok(rows),
-        Op::End => Ok(rows),
+        _ => Ok(rows),
     }
 }
 
@@ -133,18 +122,7 @@ pub fn sequences_after(
                 value,
             ),
         },
-        Op::Enter
-        | Op::Leave { .. }
-        | Op::Back { .. }
-        | Op::Next { .. }
-        | Op::Get { .. }
-        | Op::Lock { .. }
-        | Op::Insert { .. }
-        | Op::Put { .. }
-        | Op::Delete { .. }
-        | Op::Drop { .. }
-        | Op::CurrentValue { .. }
-        | Op::End => Vec::from_slice(alloc, machine.sequences.as_slice()),
+        _ => Vec::from_slice(alloc, machine.sequences.as_slice()),
     }
 }
 
@@ -197,15 +175,6 @@ pub fn frees_some(
             Ok(depth_of(machine, client) == 0 && held)
         }
         Op::End => end_frees(alloc, machine, client),
-        Op::Enter => Ok(false),
-        Op::Back { .. } => Ok(false),
-        Op::Next { .. } => Ok(false),
-        Op::Get { .. } => Ok(false),
-        Op::Lock { .. } => Ok(false),
-        Op::Insert { .. } => Ok(false),
-        Op::Put { .. } => Ok(false),
-        Op::Delete { .. } => Ok(false),
-        Op::NextValue { .. } => Ok(false),
-        Op::CurrentValue { .. } => Ok(false),
+        _ => Ok(false),
     }
 }

@@ -20,87 +20,30 @@ use std::alloc::{AllocError, Global};
 fn is_success(answer: &Answer) -> bool
     ensures { result ≡ is_success answer.now }
 {
-    match answer {
+    matches!(
+        answer,
         Answer::Done
-        | Answer::Committed { .. }
-        | Answer::Found { .. }
-        | Answer::Row(_)
-        | Answer::Granted
-        | Answer::Inserted { .. }
-        | Answer::Value(_) => true,
-        Answer::Refused
-        | Answer::Closed
-        | Answer::TraceFull
-        | Answer::Gone
-        | Answer::KeyTooLong { .. }
-        | Answer::Busy { .. }
-        | Answer::Blocked { .. }
-        | Answer::Deadlock { .. }
-        | Answer::Duplicate { .. }
-        | Answer::Full
-        | Answer::TxFull
-        | Answer::SequenceEnd
-        | Answer::AtEnd
-        | Answer::NoMemory => false,
-    }
+            | Answer::Committed { .. }
+            | Answer::Found { .. }
+            | Answer::Row(_)
+            | Answer::Granted
+            | Answer::Inserted { .. }
+            | Answer::Value(_)
+    )
 }
 
 /// Whether the answer says that the database is closed.
 fn is_closed(answer: &Answer) -> bool
     ensures { result ≡ is_closed answer.now }
 {
-    match answer {
-        Answer::Closed => true,
-        Answer::Done
-        | Answer::Committed { .. }
-        | Answer::Found { .. }
-        | Answer::Row(_)
-        | Answer::Granted
-        | Answer::Inserted { .. }
-        | Answer::Value(_)
-        | Answer::Refused
-        | Answer::TraceFull
-        | Answer::Gone
-        | Answer::KeyTooLong { .. }
-        | Answer::Busy { .. }
-        | Answer::Blocked { .. }
-        | Answer::Deadlock { .. }
-        | Answer::Duplicate { .. }
-        | Answer::Full
-        | Answer::TxFull
-        | Answer::SequenceEnd
-        | Answer::AtEnd
-        | Answer::NoMemory => false,
-    }
+    matches!(answer, Answer::Closed)
 }
 
 /// Whether the answer is TraceFull.
 fn is_trace_full(answer: &Answer) -> bool
     ensures { result ≡ is_trace_full answer.now }
 {
-    match answer {
-        Answer::TraceFull => true,
-        Answer::Done
-        | Answer::Committed { .. }
-        | Answer::Found { .. }
-        | Answer::Row(_)
-        | Answer::Granted
-        | Answer::Inserted { .. }
-        | Answer::Value(_)
-        | Answer::Refused
-        | Answer::Closed
-        | Answer::Gone
-        | Answer::KeyTooLong { .. }
-        | Answer::Busy { .. }
-        | Answer::Blocked { .. }
-        | Answer::Deadlock { .. }
-        | Answer::Duplicate { .. }
-        | Answer::Full
-        | Answer::TxFull
-        | Answer::SequenceEnd
-        | Answer::AtEnd
-        | Answer::NoMemory => false,
-    }
+    matches!(answer, Answer::TraceFull)
 }
 
 /// Whether the event is counted.
@@ -109,18 +52,7 @@ fn is_counted(op: &Op, answer: &Answer) -> bool
 {
     match op {
         Op::End => false,
-        Op::Enter
-        | Op::Leave { .. }
-        | Op::Back { .. }
-        | Op::Next { .. }
-        | Op::Get { .. }
-        | Op::Lock { .. }
-        | Op::Insert { .. }
-        | Op::Put { .. }
-        | Op::Delete { .. }
-        | Op::Drop { .. }
-        | Op::NextValue { .. }
-        | Op::CurrentValue { .. } => !is_trace_full(answer),
+        _ => !is_trace_full(answer),
     }
 }
 
@@ -130,26 +62,7 @@ fn row_of_answer(answer: &Answer) -> u32
 {
     match answer {
         Answer::Inserted { row } => row.0,
-        Answer::Done
-        | Answer::Committed { .. }
-        | Answer::Found { .. }
-        | Answer::Row(_)
-        | Answer::Granted
-        | Answer::Value(_)
-        | Answer::Refused
-        | Answer::Closed
-        | Answer::TraceFull
-        | Answer::Gone
-        | Answer::KeyTooLong { .. }
-        | Answer::Busy { .. }
-        | Answer::Blocked { .. }
-        | Answer::Deadlock { .. }
-        | Answer::Duplicate { .. }
-        | Answer::Full
-        | Answer::TxFull
-        | Answer::SequenceEnd
-        | Answer::AtEnd
-        | Answer::NoMemory => 0,
+        _ => 0,
     }
 }
 
@@ -206,25 +119,7 @@ fn want_after(
                 frees: machine.frees,
             }))
         }
-        Answer::Done
-        | Answer::Committed { .. }
-        | Answer::Found { .. }
-        | Answer::Row(_)
-        | Answer::Granted
-        | Answer::Inserted { .. }
-        | Answer::Value(_)
-        | Answer::Closed
-        | Answer::TraceFull
-        | Answer::Gone
-        | Answer::KeyTooLong { .. }
-        | Answer::Busy { .. }
-        | Answer::Deadlock { .. }
-        | Answer::Duplicate { .. }
-        | Answer::Full
-        | Answer::TxFull
-        | Answer::SequenceEnd
-        | Answer::AtEnd
-        | Answer::NoMemory => Ok(None),
+        _ => Ok(None),
     }
 }
 

@@ -7,7 +7,6 @@ mod rows;
 mod shown;
 #[cfg(test)]
 mod tests;
-mod words;
 
 use std::io;
 

@@ -1,11 +1,12 @@
 //! The answers of rows.
 
-use crate::{shown, words};
+use crate::shown;
 use abl_base::Value;
 use abl_values::{
     add, compare, date_of, date_parts, divide, export_value, fit, mask_fits, modulo, multiply,
     subtract,
 };
+use row_words::{bytes_of, kind_of, push_bytes, value_of};
 use std::alloc::{AllocError, Global};
 
 /// The answer of a row: the name of a call and its arguments, with a blank between.
@@ -35,10 +36,10 @@ fn computed(alloc: Global, operator: &str, operands: &str) -> Result<Option<Stri
     let Some((first, second)) = operands.split_once(' ') else {
         return Ok(None);
     };
-    let Some(a) = words::value(alloc, first)? else {
+    let Some(a) = value_of(alloc, first)? else {
         return Ok(None);
     };
-    let Some(b) = words::value(alloc, second)? else {
+    let Some(b) = value_of(alloc, second)? else {
         return Ok(None);
     };
     operated(alloc, operator, &a, &b)
@@ -67,10 +68,10 @@ fn fitted(alloc: Global, arguments: &str) -> Result<Option<String>, AllocError> 
     let Some((kind, word)) = arguments.split_once(' ') else {
         return Ok(None);
     };
-    let Some(kind) = words::kind(kind) else {
+    let Some(kind) = kind_of(kind) else {
         return Ok(None);
     };
-    match words::value(alloc, word)? {
+    match value_of(alloc, word)? {
         Some(value) => Ok(Some(shown::answer(alloc, fit(alloc, &value, kind))?)),
         None => Ok(None),
     }
@@ -78,11 +79,11 @@ fn fitted(alloc: Global, arguments: &str) -> Result<Option<String>, AllocError> 
 
 /// The text that EXPORT writes of a value.
 fn exported(alloc: Global, word: &str) -> Result<Option<String>, AllocError> {
-    let Some(value) = words::value(alloc, word)? else {
+    let Some(value) = value_of(alloc, word)? else {
         return Ok(None);
     };
     let mut text = String::new(alloc);
-    shown::push_bytes(&mut text, export_value(alloc, &value)?.as_slice())?;
+    push_bytes(&mut text, export_value(alloc, &value)?.as_slice())?;
     Ok(Some(text))
 }
 
@@ -91,10 +92,10 @@ fn mask(alloc: Global, arguments: &str) -> Result<Option<String>, AllocError> {
     let Some((kind, mask)) = arguments.split_once(' ') else {
         return Ok(None);
     };
-    let Some(kind) = words::kind(kind) else {
+    let Some(kind) = kind_of(kind) else {
         return Ok(None);
     };
-    let mask = words::bytes(alloc, mask.as_bytes())?;
+    let mask = bytes_of(alloc, mask.as_bytes())?;
     let fits = mask_fits(mask.as_slice(), kind);
     Ok(Some(String::from_str(alloc, if fits { "fits" } else { "does not fit" })?))
 }

@@ -1,10 +1,11 @@
-use Rattle.std.proofs.Common.{◌≡◌, ◌<◌, ◌∙◌, ℕ, List, true, [], length, sym, ap, subst, refl, arith}
-use Rattle.std.proofs.lemmas.List.{length-set}
+use Rattle.std.proofs.Common.{◌≡◌, ◌∙◌, List, true, sym, ap, subst, refl, arith}
+use Rattle.std.specs.Vec.{vec_capacity}
 use Rattle.abl_storage.specs.Slots.{Transaction}
 use Rattle.mem_slots.specs.declared.slot.Slot.{Slot}
 use Rattle.mem_slots.specs.Promised.{promised}
 use Rattle.mem_slots.specs.Sparse.{slot_in, kept_in, holds, AllHeld}
-use Rattle.mem_slots.proofs.Clients.{transaction_at, transaction_same, becomes, held_set, held_none, promised_set, promised_most, either_way}
+use Rattle.mem_slots.proofs.Clients.{held_none, promised_most, either_way}
+use Rattle.mem_slots.proofs.Changes.{stands, becomes_one, rests}
 use Rattle.mem_slots.proofs.mem_slots.MemSlotsSlots.begin.Goals as goal
 
 pub overflow_add-total : goal.overflow_add-total
@@ -14,60 +15,30 @@ overflow_add-total c =
 
 pub invariant_of-self : goal.invariant_of-self
 invariant_of-self c =
-    let cs = c.args.self.now.clients.items in
-    let within : c.args.client < length cs = omega (arith, c.args.self.now.sixteen) in
+    let s = c.args.self.now in
     let old = c.index_mut-client.result.now in
-    let at = transaction_at cs c.args.client old within c.index_mut-client.ensures.value in
-    let ss = c.args.self.now.slots.items in
     let X = c.reserve.new.self.items in
-    let same : X ≡ ss = c.reserve.ensures.items in
-    let x = c.begin.new.self in
-    let more : (j : ℕ) → holds ss j ≡ true → holds X j ≡ true = λ j h. ap (λ (l : List Slot). holds l j) same ∙ h in
-    let held_old : AllHeld X old.undo.items = λ i il. more _ (subst (λ (t : Transaction). AllHeld ss t.undo) at (c.args.self.now.held c.args.client) i il) in
-    let here : AllHeld X x.undo.items = either_way c.begin.result
+    let all : c.all_promised-total.result ≡ promised s.clients.items = c.all_promised-total.ensures ∙ ap promised c.deref.ensures.value in
+    stands s.slots.items s.clients.items c.args.client old s.sixteen c.requires.client c.index_mut-client.ensures.value c.begin.new.self X (vec_capacity c.reserve.new.self) s.held
+    (λ j h. ap (λ (l : List Slot). holds l j) c.reserve.ensures.items ∙ h)
+    (λ held. either_way c.begin.result
     (λ yes. subst (λ (t : Transaction). AllHeld X t.undo) (sym (c.begin.ensures.yes yes)) (held_none X))
-    (λ no. subst (λ (t : Transaction). AllHeld X t.undo) (sym (c.begin.ensures.no no)) held_old) in
-    let sum = promised_set cs c.args.client old x within c.index_mut-client.ensures.value in
-    let all : c.all_promised-total.result ≡ promised cs = c.all_promised-total.ensures ∙ ap promised c.deref.ensures.value in
-    record {
-      sixteen = length-set cs c.args.client x ∙ c.args.self.now.sixteen;
-      has_room = omega (arith, sum, all, c.begin.ensures.promised, c.in-Ok.ensures.ok, c.reserve.ensures.len);
-      held = held_set ss X cs c.args.client x within more c.args.self.now.held here;
-    }
+    (λ no. subst (λ (t : Transaction). AllHeld X t.undo) (sym (c.begin.ensures.no no)) held))
+    (omega (arith, all, c.begin.ensures.promised, c.in-Ok.ensures.ok, c.reserve.ensures.len))
 
 pub returns-then-begin-clause-ok : goal.returns-then-begin-clause-ok
 returns-then-begin-clause-ok c =
-    let cs = c.args.self.now.clients.items in
-    let within : c.args.client < length cs = omega (arith, c.args.self.now.sixteen) in
+    let s = c.args.self.now in
     let old = c.index_mut-client.result.now in
-    let at = transaction_at cs c.args.client old within c.index_mut-client.ensures.value in
-    let ss = c.args.self.now.slots.items in
-    let X = c.reserve.new.self.items in
-    let same : X ≡ ss = c.reserve.ensures.items in
-    let x = c.begin.new.self in
-    let more : (j : ℕ) → holds ss j ≡ true → holds X j ≡ true = λ j h. ap (λ (l : List Slot). holds l j) same ∙ h in
-    let held_old : AllHeld X old.undo.items = λ i il. more _ (subst (λ (t : Transaction). AllHeld ss t.undo) at (c.args.self.now.held c.args.client) i il) in
-    let is = c.begin.ensures.yes c.if-begin.true in
+    let same = c.reserve.ensures.items in
     record {
       keeps = record { told = refl; kept = λ _. ap kept_in same; doubt = λ _. ap kept_in same };
       reads = λ _. ap slot_in same;
-      transaction = becomes cs c.args.client x true [] 0 0 0 within (ap (λ (t : Transaction). t.begun) is) (ap (λ (t : Transaction). t.undo) is) (ap (λ (t : Transaction). t.counted) is) (ap (λ (t : Transaction). t.low) is) (omega arith);
+      transaction = becomes_one s.slots.items s.clients.items c.args.client old s.sixteen c.requires.client c.index_mut-client.ensures.value c.begin.new.self _ true 0 (c.begin.ensures.yes c.if-begin.true) refl (omega arith);
     }
 
 pub returns-else-begin-clause-err : goal.returns-else-begin-clause-err
 returns-else-begin-clause-err c =
-    let cs = c.args.self.now.clients.items in
-    let within : c.args.client < length cs = omega (arith, c.args.self.now.sixteen) in
+    let s = c.args.self.now in
     let old = c.index_mut-client.result.now in
-    let at = transaction_at cs c.args.client old within c.index_mut-client.ensures.value in
-    let ss = c.args.self.now.slots.items in
-    let X = c.reserve.new.self.items in
-    let same : X ≡ ss = c.reserve.ensures.items in
-    let x = c.begin.new.self in
-    let more : (j : ℕ) → holds ss j ≡ true → holds X j ≡ true = λ j h. ap (λ (l : List Slot). holds l j) same ∙ h in
-    let held_old : AllHeld X old.undo.items = λ i il. more _ (subst (λ (t : Transaction). AllHeld ss t.undo) at (c.args.self.now.held c.args.client) i il) in
-    record {
-      keeps = record { told = refl; kept = λ _. ap kept_in same; doubt = λ _. ap kept_in same };
-      reads = λ _. ap slot_in same;
-      transaction = transaction_same cs c.args.client x within (c.begin.ensures.no c.if-begin.false ∙ sym at);
-    }
+    rests s.slots.items s.clients.items c.args.client old s.sixteen c.requires.client c.index_mut-client.ensures.value c.begin.new.self c.reserve.new.self.items c.reserve.ensures.items (c.begin.ensures.no c.if-begin.false)

@@ -1,7 +1,8 @@
-use Rattle.std.proofs.Common.{◌≡◌, inl, ℕ, ◌+◌, List, Some, refl, sym, ◌∙◌, ap, subst, arith}
+use Rattle.std.proofs.Common.{◌≡◌, inl, ℕ, ◌+◌, List, Some, false, refl, sym, ◌∙◌, ap, arith}
 use Rattle.abl_storage.specs.Slots.{wrote, undone}
 use Rattle.abl_storage.specs.declared.slots.Undo.{Undo}
-use Rattle.prefix_store.specs.World.{World, Survives, IsInStep, first_of, world_of, opened_with, decoded}
+use Rattle.prefix_store.specs.World.{Survives, IsInStep, first_of, world_of, opened_with, decoded}
+use Rattle.prefix_store.proofs.Calls.{kept_in}
 use Rattle.prefix_store.proofs.db.Db.open.Goals as goal
 
 pub invariant_of-result : goal.invariant_of-result
@@ -29,8 +30,4 @@ invariant_of-result g c =
       none = λ speaks k lt is. (ap (λ (u : List Undo). wrote u (8192 + k)) (f.idle k).1, ap (λ (r : ℕ → List ℕ). r (8192 + k)) (f.reads speaks));
       back = λ speaks k lt. ap (λ (u : List Undo). undone u s.reads (8192 + k)) (f.idle k).1 ∙ ap (λ (r : ℕ → List ℕ). r (8192 + k)) (f.reads speaks);
     } in
-    record {
-      survives = subst (λ (v : World). Survives s (g.S.Slots.stop c.args.slots) first v) (sym w_is) survives;
-      in_step = subst (λ (v : World). IsInStep s v first) (sym w_is) in_step;
-      closed_is = sym (ap (λ (v : World). v.closed) w_is);
-    }
+    kept_in s _ c.args.opened.items c.new.result.items false (opened_with first) w_is survives in_step refl

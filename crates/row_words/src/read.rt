@@ -1,4 +1,4 @@
-//! The words of a row as values and kinds.
+//! What a word stands for: a value, a kind or bytes.
 
 ghost use Rattle.std.specs.Prelude.{◌<◌};
 
@@ -8,9 +8,9 @@ use std::alloc::{AllocError, Global};
 /// The value that a word stands for: `?`, `yes`, `no`, or a kind and a number or a text, as `int:5`,
 /// `dec:5` for five units of 10^-10, `date:5` for the day of that number, `text:a%20`, or `run:5`
 /// for five letters `a`.
-pub fn value(alloc: Global, word: &str) -> Result<Option<Value>, AllocError> {
+pub fn value_of(alloc: Global, word: &str) -> Result<Option<Value>, AllocError> {
     match word.split_once(':') {
-        Some((kind, rest)) => value_of(alloc, kind, rest),
+        Some((kind, rest)) => value_of_kind(alloc, kind, rest),
         None => Ok(bare_value(word)),
     }
 }
@@ -26,9 +26,9 @@ fn bare_value(word: &str) -> Option<Value> {
 }
 
 /// The value of a word with a kind.
-fn value_of(alloc: Global, kind: &str, rest: &str) -> Result<Option<Value>, AllocError> {
+fn value_of_kind(alloc: Global, kind: &str, rest: &str) -> Result<Option<Value>, AllocError> {
     match kind {
-        "text" => Ok(Some(Value::Text(Items::from_vec(bytes(alloc, rest.as_bytes())?)))),
+        "text" => Ok(Some(Value::Text(Items::from_vec(bytes_of(alloc, rest.as_bytes())?)))),
         "run" => run(alloc, rest),
         _ => Ok(number(kind, rest)),
     }
@@ -56,7 +56,7 @@ fn number(kind: &str, digits: &str) -> Option<Value> {
 }
 
 /// The kind with this name.
-pub fn kind(name: &str) -> Option<Kind> {
+pub fn kind_of(name: &str) -> Option<Kind> {
     match name {
         "character" => Some(Kind::Character),
         "integer" => Some(Kind::Integer),
@@ -69,7 +69,7 @@ pub fn kind(name: &str) -> Option<Kind> {
 }
 
 /// The bytes of a text, of which `%` and two digits stand for the byte of that number in base 16.
-pub fn bytes(alloc: Global, text: &[u8]) -> Result<Vec<u8>, AllocError> {
+pub fn bytes_of(alloc: Global, text: &[u8]) -> Result<Vec<u8>, AllocError> {
     let mut bytes = Vec::new(alloc);
     let mut rest = text;
     while let [first, tail @ ..] = rest {
