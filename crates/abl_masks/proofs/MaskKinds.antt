@@ -4,19 +4,19 @@ use Rattle.std.specs.Prelude.{◌==◌, codes, nat_le}
 use Rattle.std.specs.List.{list_all, list_any}
 use Rattle.std.proofs.lemmas.Bool.{cases_Bool, cond-true, cond-false, and_parts, and_from, or_cases, both_ways, eqb-true, false_from_ne_true}
 use Rattle.std.proofs.lemmas.Bool.Decides.{nat_tests}
-use Rattle.abl_values.specs.Masks.{after_run, is_date_mask, is_digit, is_digit_sign, is_fixed, is_floating, is_fraction, is_letter, is_nine, is_number_mask, is_second_word, is_text_mask, is_width, is_word_mask, is_x, same_bytes, without_minus}
+use Rattle.abl_values.specs.Masks.{after_run, is_date_mask, is_digit, is_digit_sign, is_fixed, is_floating, is_fraction, is_mask_word_byte, is_nine, is_number_mask, is_second_word, is_text_mask, is_width, is_word_mask, is_x, same_bytes, without_minus}
 use Rattle.abl_masks.specs.Put.{text_width, width_of, word_width}
 
 -- ---- a word mask has a `/`, and the others for texts and numbers have none
 
 abbrev are_letters : List ℕ → Bool
-are_letters xs = list_all is_letter xs
+are_letters xs = list_all is_mask_word_byte xs
 
-after_letters : (xs : List ℕ) → are_letters xs ≡ true → after_run is_letter xs ≡ []
+after_letters : (xs : List ℕ) → are_letters xs ≡ true → after_run is_mask_word_byte xs ≡ []
 after_letters [] h = refl
 after_letters (b ∷ bs) h =
-    let parts = and_parts (is_letter b) (are_letters bs) h in
-    cond-true (is_letter b) _ _ parts.0 ∙ after_letters bs parts.1
+    let parts = and_parts (is_mask_word_byte b) (are_letters bs) h in
+    cond-true (is_mask_word_byte b) _ _ parts.0 ∙ after_letters bs parts.1
 
 and_no : (b : Bool) → (b && false) ≡ false
 and_no true = refl
@@ -25,36 +25,36 @@ and_no false = refl
 no_word : (xs : List ℕ) → are_letters xs ≡ true → is_word_mask xs ≡ false
 no_word [] h = refl
 no_word (b ∷ bs) h =
-    let parts = and_parts (is_letter b) (are_letters bs) h in
-    ap (λ (ys : List ℕ). is_letter b && is_second_word ys) (after_letters bs parts.1) ∙ and_no (is_letter b)
+    let parts = and_parts (is_mask_word_byte b) (are_letters bs) h in
+    ap (λ (ys : List ℕ). is_mask_word_byte b && is_second_word ys) (after_letters bs parts.1) ∙ and_no (is_mask_word_byte b)
 
 -- ---- texts
 
-x_is_letter : (b : ℕ) → is_x b ≡ true → is_letter b ≡ true
+x_is_letter : (b : ℕ) → is_x b ≡ true → is_mask_word_byte b ≡ true
 x_is_letter b h = grind (arith, nat_tests)
 
-digit_is_letter : (b : ℕ) → is_digit b ≡ true → is_letter b ≡ true
+digit_is_letter : (b : ℕ) → is_digit b ≡ true → is_mask_word_byte b ≡ true
 digit_is_letter b h = grind (arith, nat_tests)
 
-end_is_letter : (b : ℕ) → (b == 41) ≡ true → is_letter b ≡ true
+end_is_letter : (b : ℕ) → (b == 41) ≡ true → is_mask_word_byte b ≡ true
 end_is_letter b h = grind (arith, nat_tests)
 
-nine_is_letter : (b : ℕ) → is_nine b ≡ true → is_letter b ≡ true
+nine_is_letter : (b : ℕ) → is_nine b ≡ true → is_mask_word_byte b ≡ true
 nine_is_letter b h = grind (arith, nat_tests)
 
-floating_is_letter : (b : ℕ) → is_floating b ≡ true → is_letter b ≡ true
+floating_is_letter : (b : ℕ) → is_floating b ≡ true → is_mask_word_byte b ≡ true
 floating_is_letter b h = grind (arith, nat_tests)
 
-fixed_is_letter : (b : ℕ) → is_fixed b ≡ true → is_letter b ≡ true
+fixed_is_letter : (b : ℕ) → is_fixed b ≡ true → is_mask_word_byte b ≡ true
 fixed_is_letter b h = grind (arith, nat_tests)
 
-all_letters : (p : ℕ → Bool) → ((b : ℕ) → p b ≡ true → is_letter b ≡ true) → (xs : List ℕ) → list_all p xs ≡ true → are_letters xs ≡ true
+all_letters : (p : ℕ → Bool) → ((b : ℕ) → p b ≡ true → is_mask_word_byte b ≡ true) → (xs : List ℕ) → list_all p xs ≡ true → are_letters xs ≡ true
 all_letters p each [] h = refl
 all_letters p each (b ∷ bs) h =
     let parts = and_parts (p b) (list_all p bs) h in
     and_from _ _ (each b parts.0) (all_letters p each bs parts.1)
 
-two_letters : (b c : ℕ) → is_letter b ≡ true → is_letter c ≡ true → are_letters (b ∷ c ∷ []) ≡ true
+two_letters : (b c : ℕ) → is_mask_word_byte b ≡ true → is_mask_word_byte c ≡ true → are_letters (b ∷ c ∷ []) ≡ true
 two_letters b c p q = and_from _ _ p (and_from _ _ q refl)
 
 width_letters : (xs : List ℕ) → is_width xs ≡ true → are_letters xs ≡ true
@@ -84,7 +84,7 @@ text_letters (b ∷ []) h = and_from _ _ (x_is_letter b h) refl
 text_letters (b ∷ c ∷ cs) h =
     let parts = and_parts (is_x b) _ h in
     elim (cases_Bool (c == 40)) [
-      | inl e ↦ and_from _ _ (x_is_letter b parts.0) (and_from _ _ (let h : is_letter c ≡ true = grind (arith, nat_tests) in h) (width_letters cs (sym (cond-true (c == 40) _ _ e) ∙ parts.1)))
+      | inl e ↦ and_from _ _ (x_is_letter b parts.0) (and_from _ _ (let h : is_mask_word_byte c ≡ true = grind (arith, nat_tests) in h) (width_letters cs (sym (cond-true (c == 40) _ _ e) ∙ parts.1)))
       | inr e ↦ and_from _ _ (x_is_letter b parts.0) (all_letters is_x x_is_letter (c ∷ cs) (sym (cond-false (c == 40) _ _ e) ∙ parts.1))
     ]
 
@@ -94,7 +94,7 @@ word_is_no_text mask h =
 
 -- ---- numbers
 
-run_letters : (p : ℕ → Bool) → ((b : ℕ) → p b ≡ true → is_letter b ≡ true) → (xs : List ℕ) → are_letters (after_run p xs) ≡ true → are_letters xs ≡ true
+run_letters : (p : ℕ → Bool) → ((b : ℕ) → p b ≡ true → is_mask_word_byte b ≡ true) → (xs : List ℕ) → are_letters (after_run p xs) ≡ true → are_letters xs ≡ true
 run_letters p each [] h = refl
 run_letters p each (b ∷ bs) h =
     elim (cases_Bool (p b)) [
@@ -106,11 +106,11 @@ minus_letters : (xs : List ℕ) → are_letters (without_minus xs) ≡ true → 
 minus_letters [] h = refl
 minus_letters (b ∷ bs) h =
     elim (cases_Bool (b == 45)) [
-      | inl e ↦ and_from _ _ (let l : is_letter b ≡ true = grind (arith, nat_tests) in l) (sym (ap are_letters (cond-true (b == 45) bs (b ∷ bs) e)) ∙ h)
+      | inl e ↦ and_from _ _ (let l : is_mask_word_byte b ≡ true = grind (arith, nat_tests) in l) (sym (ap are_letters (cond-true (b == 45) bs (b ∷ bs) e)) ∙ h)
       | inr e ↦ sym (ap are_letters (cond-false (b == 45) bs (b ∷ bs) e)) ∙ h
     ]
 
-point_is_letter : (b : ℕ) → (b == 46) ≡ true → is_letter b ≡ true
+point_is_letter : (b : ℕ) → (b == 46) ≡ true → is_mask_word_byte b ≡ true
 point_is_letter b h = grind (arith, nat_tests)
 
 fraction_letters : (decimals : Bool) (xs : List ℕ) → is_fraction decimals xs ≡ true → are_letters xs ≡ true

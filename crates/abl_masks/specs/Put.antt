@@ -7,7 +7,7 @@ use Rattle.abl_base.specs.declared.value.Value.TheVariants.{Text, Int, Int64, De
 use Rattle.abl_base.specs.declared.value.Kind.TheVariants.{Character, Integer, Int64 as Whole64, Decimal, Logical as Truth, Date as Day}
 use Rattle.abl_values.specs.Arithmetic.{rounded}
 use Rattle.abl_values.specs.Dates.{CivilDate, date_of_day}
-use Rattle.abl_values.specs.Masks.{is_digit_sign, is_letter, is_nine, is_number_mask, is_text_mask, is_word_mask, mask_is_for, without_minus}
+use Rattle.abl_values.specs.Masks.{is_digit_sign, is_mask_word_byte, is_nine, is_number_mask, is_text_mask, is_word_mask, mask_is_for, without_minus}
 use Rattle.abl_values.specs.Digits.{from_first_not, has_minus, number_of}
 use Rattle.abl_values.specs.Order.{scaled}
 use Rattle.abl_values.specs.Texts.{after_point, last_digits, minus_sign}
@@ -46,10 +46,10 @@ text_width (x ∷ b ∷ bs) = if b == 40 then number_of (take_while is_within bs
 
 -- the word for yes stands before the `/`, the word for no after it
 abbrev pub first_word : List ℕ → List ℕ
-first_word mask = take_while is_letter mask
+first_word mask = take_while is_mask_word_byte mask
 
 abbrev pub second_word : List ℕ → List ℕ
-second_word mask = drop 1 (from_first_not is_letter mask)
+second_word mask = drop 1 (from_first_not is_mask_word_byte mask)
 
 abbrev pub word_for : List ℕ → Bool → List ℕ
 word_for mask true = first_word mask

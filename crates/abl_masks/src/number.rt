@@ -11,6 +11,7 @@ ghost use Rattle.abl_masks.specs.Put.{decimals_of, digit_count, is_before_point,
 use crate::filled::{on_the_right, push_last_digits, push_times, question_marks};
 use crate::rounding::Magnitude;
 use abl_base::Bytes;
+use abl_values::{is_digit_sign, without_minus};
 use std::alloc::{AllocError, Global};
 
 /// A number, as a decimal is stored, under a mask for numbers.
@@ -138,16 +139,6 @@ fn has_minus(mask: &[u8]) -> bool
     }
 }
 
-/// The mask after its `-`, where it has one.
-fn without_minus(mask: &[u8]) -> &[u8]
-    ensures { result.now ≡ without_minus mask.now }
-{
-    match mask {
-        [b'-', rest @ ..] => rest,
-        _ => mask,
-    }
-}
-
 /// How many bytes stand before a point.
 fn len_before_point(bytes: &[u8]) -> usize
     ensures value { result ≡ prefix_len is_before_point bytes.now }
@@ -183,11 +174,4 @@ fn least_digits(part: &[u8]) -> usize
     ensures { result ≡ least_digits part.now }
 {
     part.iter().filter(|byte| **byte == b'9').count()
-}
-
-/// A sign of a digit.
-fn is_digit_sign(byte: u8) -> bool
-    ensures { result ≡ is_digit_sign byte }
-{
-    byte == b'>' || byte == b'z' || byte == b'Z' || byte == b'9'
 }

@@ -3,7 +3,7 @@
 ghost use Rattle.std.specs.Prelude.{◌≡◌, ◌≤◌, ◌-◌, IfOk, IsTrue, length, take_while};
 ghost use Rattle.std.specs.List.{prefix_len};
 ghost use Rattle.abl_values.specs.Dates.{date_of_day};
-ghost use Rattle.abl_values.specs.Masks.{is_date_mask, is_letter, is_number_mask, is_text_mask, is_width, is_word_mask};
+ghost use Rattle.abl_values.specs.Masks.{is_date_mask, is_mask_word_byte, is_number_mask, is_text_mask, is_width, is_word_mask};
 ghost use Rattle.abl_values.specs.Digits.{number_of};
 ghost use Rattle.abl_values.specs.Order.{scaled};
 ghost use Rattle.abl_masks.specs.Put.{date_under, first_word, is_mask_for, is_within, number_under, on_the_left, put, second_word, text_width, unknown_under, width_of, word_for, word_width};
@@ -81,7 +81,7 @@ fn digit(byte: u8) -> usize
 
 /// How many bytes stand before the first `/` of a mask.
 fn first_word_len(mask: &[u8]) -> usize
-    ensures value { result ≡ prefix_len is_letter mask.now }
+    ensures value { result ≡ prefix_len is_mask_word_byte mask.now }
     ensures within { result ≤ length mask.now }
 {
     mask.iter().take_while(|byte| **byte != b'/').count()

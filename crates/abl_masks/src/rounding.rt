@@ -5,6 +5,8 @@ ghost use Rattle.abl_values.specs.Arithmetic.{rounded};
 ghost use Rattle.abl_values.specs.Texts.{last_digits};
 ghost use Rattle.abl_masks.specs.Put.{units_of};
 
+use abl_values::rounded;
+
 /// How many decimals of a number are stored.
 const STORED_DECIMALS: usize = 10;
 
@@ -36,20 +38,6 @@ impl Magnitude {
             units,
             digits,
         }
-    }
-}
-
-/// The quotient of two natural numbers, rounded to the nearest one, a half up.
-fn rounded(n: u128, d: u128) -> u128
-    requires { 0 < d }
-    ensures { result ≡ rounded n d }
-{
-    let quotient = n / d;
-    let rest = n % d;
-    if rest < d - rest {
-        quotient
-    } else {
-        quotient + 1
     }
 }
 

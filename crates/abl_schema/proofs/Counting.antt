@@ -15,7 +15,8 @@ use Rattle.schema_lines.specs.Attributes.{has, is_primary, kind_of}
 use Rattle.abl_schema.specs.declared.census.Counted.{Counted}
 use Rattle.abl_schema.specs.declared.census.TableCensus.{TableCensus}
 use Rattle.abl_schema.specs.declared.census.Census.{Census}
-use Rattle.abl_schema.specs.Rules.{fields_in, field_name, has_twice, index_name, indexes_in, is_among, is_index_of, is_primary_of, lacks_table, sequence_name, sequences_in, table_name, tables_in}
+use Rattle.abl_schema.specs.Rules.{fields_in, field_name, index_name, indexes_in, is_index_of, is_primary_of, lacks_table, sequence_name, sequences_in, table_name, tables_in}
+use Rattle.abl_values.specs.Sound.{has_twice, is_among}
 use Rattle.abl_schema.specs.Census.{Counts, changed_at, counted_field, counted_name, fields_counted, has_name, names_after, names_of, no_census, sequences_after, table_at, table_counted, table_found, tables_after, with_field, with_index}
 use Rattle.abl_schema.proofs.SizesNames.{is_among-same, same_name-right, same_name-swap}
 use Rattle.abl_schema.proofs.SizesSound.{IsSoundSoFar, flat_map-along, has_its_table, tables_in-append}

@@ -19,7 +19,8 @@ use Rattle.schema_lines.specs.Attributes.{has, is_word, kind_of}
 use Rattle.abl_schema.specs.declared.census.Counted.{Counted}
 use Rattle.abl_schema.specs.declared.census.Census.{Census}
 use Rattle.abl_schema.specs.Meaning.{fields_in_text, field_said, ordered_field}
-use Rattle.abl_schema.specs.Rules.{first_after, is_among, lacks_table, tables_in}
+use Rattle.abl_schema.specs.Rules.{first_after, lacks_table, tables_in}
+use Rattle.abl_values.specs.Sound.{is_among}
 use Rattle.abl_schema.specs.Census.{Counts, counted_field, fields_counted, index_bytes, index_bytes_in, is_supported, item_bytes, line_bytes, line_is_supported, names_of, table_counted}
 use Rattle.abl_schema.proofs.SizesFound.{are_components_supported, field_in, found, is_attribute_supported, is_found_supported}
 use Rattle.abl_schema.proofs.SizesLines.{total}

@@ -19,11 +19,12 @@ use Rattle.schema_lines.specs.declared.item.Head.TheVariants.{Malformed, Table, 
 use Rattle.schema_lines.specs.declared.item.Attributed.{Attributed}
 use Rattle.schema_lines.specs.declared.item.Item.{Item}
 use Rattle.schema_lines.specs.Attributes.{has, is_primary}
-use Rattle.schema_lines.specs.Lines.{is_letter, is_name, is_name_byte}
+use Rattle.abl_values.specs.Names.{is_letter, is_name, is_name_byte}
 use Rattle.abl_schema.specs.declared.limits.TheConstants.{MAX_TABLES, MAX_FIELDS, MAX_INDEXES, MAX_PARTS}
 use Rattle.abl_schema.specs.InOrder.{AreApart, AreShort}
 use Rattle.abl_schema.specs.Meaning.{Listed, by_order, fields_in_text, fields_of, index_said, indexes_of, is_usable, listed_index, sequence_said, table_def, table_said}
-use Rattle.abl_schema.specs.Rules.{components_of, fields_in, field_name, first_after, first_in_item, has_twice, index_name, indexes_in, is_among, is_misnamed, is_past_limit, is_past_text, repeats_index, repeats_sequence, repeats_table, sequence_name, sequences_in, table_name, tables_in}
+use Rattle.abl_schema.specs.Rules.{components_of, fields_in, field_name, first_after, first_in_item, index_name, indexes_in, is_misnamed, is_past_limit, is_past_text, repeats_index, repeats_sequence, repeats_table, sequence_name, sequences_in, table_name, tables_in}
+use Rattle.abl_values.specs.Sound.{has_twice, is_among}
 use Rattle.abl_schema.proofs.SizesNames.{is_among-append, same_name-swap}
 use Rattle.abl_schema.proofs.SizesSound.{IsKept, fields_in-append, fields_in-same, grown, is_kept, is_sound, neither, tables_in-append}
 use Rattle.abl_schema.proofs.SizesFound.{field_in}

@@ -9,7 +9,7 @@ use Rattle.abl_values.specs.Schema.{field_names, same_name}
 use Rattle.abl_schema.specs.declared.meaning.OrderedField.{OrderedField}
 use Rattle.abl_schema.specs.InOrder.{as_ordered, field_of, place_of}
 use Rattle.abl_schema.specs.Meaning.{Ordered, by_order, placed}
-use Rattle.abl_schema.specs.Rules.{has_twice, is_among}
+use Rattle.abl_values.specs.Sound.{has_twice, is_among}
 use Rattle.abl_schema.proofs.SizesNames.{same_name-swap}
 use Rattle.abl_schema.proofs.SizesFound.{field_in}
 

@@ -14,13 +14,14 @@ use Rattle.schema_lines.specs.declared.item.Attribute.{Attribute}
 use Rattle.schema_lines.specs.declared.item.Attribute.TheVariants.{Initial, Format, Mandatory, Order, Extent, Unique, Primary, Word, IndexField, Increment}
 use Rattle.schema_lines.specs.declared.item.Attributed.{Attributed}
 use Rattle.schema_lines.specs.declared.item.Item.{Item}
-use Rattle.schema_lines.specs.Lines.{is_name}
+use Rattle.abl_values.specs.Names.{is_name}
 use Rattle.schema_lines.specs.Attributes.{format_of, kind_of}
 use Rattle.schema_lines.specs.Initials.{mask_of}
 use Rattle.abl_schema.specs.declared.limits.TheConstants.{MAX_TABLES, MAX_FIELDS, MAX_INDEXES, MAX_PARTS, MAX_SEQUENCES}
 use Rattle.abl_schema.specs.declared.census.Counted.{Counted}
 use Rattle.abl_schema.specs.declared.census.Census.{Census}
-use Rattle.abl_schema.specs.Rules.{Condition, component_line, component_name, components_of, fields_in, first_broken, first_in_lines, has_twice, indexes_in, initial_fits, is_among, is_ill_made, is_malformed, is_misnamed, is_past_limit, is_primary_of, lacks_table, line_conditions, number_fits, or_else, repeats_field, repeats_index, repeats_sequence, repeats_table, stands_still, start_fits, tables_in, sequences_in}
+use Rattle.abl_schema.specs.Rules.{Condition, component_line, component_name, components_of, fields_in, first_broken, first_in_lines, indexes_in, initial_fits, is_ill_made, is_malformed, is_misnamed, is_past_limit, is_primary_of, lacks_table, line_conditions, number_fits, or_else, repeats_field, repeats_index, repeats_sequence, repeats_table, stands_still, start_fits, tables_in, sequences_in}
+use Rattle.abl_values.specs.Sound.{has_twice, is_among}
 use Rattle.abl_schema.specs.Census.{Counts, at_line, component_count, field_rule, has_name, head_rule_in, index_line_rule, index_line_rule_in, index_rule, is_component, is_field_named, is_named_again, is_standstill, line_rule_in, line_violation_in, name_rule, names_of, names_twice, table_counted}
 use Rattle.abl_schema.proofs.Counting.{has_name-field, has_name-index, is_some-number_of_name, length-fields_counted, length-indexes_counted, table_found-is}
 

@@ -17,7 +17,8 @@ use Rattle.abl_base.specs.declared.value.Kind.{Kind}
 use Rattle.abl_values.specs.Order.{folded, folded_byte}
 use Rattle.abl_values.specs.Schema.{canonical_text, field_line, field_names, same_name, sequence_line}
 use Rattle.abl_schema.specs.Meaning.{Ordered, by_order, fields_in_text, fields_of, field_said, ordered_field, schema_of}
-use Rattle.abl_schema.specs.Rules.{first_after, has_twice, is_among, fields_in, field_name, lacks_field, lacks_table, repeats_field, repeats_table, tables_in, table_name}
+use Rattle.abl_schema.specs.Rules.{first_after, fields_in, field_name, lacks_field, lacks_table, repeats_field, repeats_table, tables_in, table_name}
+use Rattle.abl_values.specs.Sound.{has_twice, is_among}
 use Rattle.abl_schema.proofs.SizesNames.{for_each_same, for_each_same-once, has_twice_push, is_among-same, same_name-right}
 use Rattle.abl_schema.proofs.SizesSound.{IsSoundSoFar, is_sound, fields_in-same, flat_map-along, has_its_fields, has_its_table}
 use Rattle.abl_schema.proofs.SizesFound.{AllFoundAlike, AreFoundAlike, field_in, found_index_line, found_index_line-alike, own_index_line-found, found, found-append, found-by_order, own_index_line, own_index_line-alike}

@@ -16,7 +16,7 @@ use Rattle.schema_lines.specs.Attributes.{has, is_unique, is_word}
 use Rattle.abl_values.specs.Order.{folded}
 use Rattle.abl_values.specs.Schema.{field_names, index_line, letter, no_field, number_of_name, part_text, same_name}
 use Rattle.abl_schema.specs.Meaning.{Ordered, are_supported, by_order, is_usable, listed_index, part_named, part_of, part_said, parts_of, placed}
-use Rattle.abl_schema.specs.Rules.{has_twice, is_among}
+use Rattle.abl_values.specs.Sound.{has_twice, is_among}
 use Rattle.abl_schema.proofs.SizesNames.{is_among-same, same_name-swap}
 
 -- the first of these fields that has this name, in any case

@@ -6,7 +6,7 @@ use Rattle.std.proofs.lemmas.List.Folds.{list_any-append}
 use Rattle.abl_values.specs.Masks.{same_bytes}
 use Rattle.abl_values.specs.Order.{folded}
 use Rattle.abl_values.specs.Schema.{same_name}
-use Rattle.abl_schema.specs.Rules.{is_among, has_twice}
+use Rattle.abl_values.specs.Sound.{is_among, has_twice}
 
 -- ---- two names
 

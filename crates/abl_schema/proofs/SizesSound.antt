@@ -13,7 +13,8 @@ use Rattle.schema_lines.specs.declared.item.Attributed.{Attributed}
 use Rattle.schema_lines.specs.declared.item.Item.{Item}
 use Rattle.abl_values.specs.Schema.{same_name}
 use Rattle.abl_schema.specs.declared.violation.Violation.{Violation}
-use Rattle.abl_schema.specs.Rules.{Condition, is_among, has_twice, tables_in, fields_in, table_name, field_name, lacks_table, lacks_field, lacks_component, repeats_table, repeats_field, head_conditions, line_conditions, first_broken, or_else, first_in_lines, first_in_item, first_after}
+use Rattle.abl_schema.specs.Rules.{Condition, tables_in, fields_in, table_name, field_name, lacks_table, lacks_field, lacks_component, repeats_table, repeats_field, head_conditions, line_conditions, first_broken, or_else, first_in_lines, first_in_item, first_after}
+use Rattle.abl_values.specs.Sound.{is_among, has_twice}
 use Rattle.abl_schema.proofs.SizesNames.{has_twice_push, is_among-append, same_name-right}
 
 -- ---- conditions that hold

@@ -10,8 +10,8 @@ use Rattle.abl_values.specs.declared.schema.SequenceDef.{SequenceDef}
 use Rattle.abl_values.specs.Masks.{same_bytes}
 use Rattle.abl_values.specs.Order.{folded}
 use Rattle.abl_values.specs.Schema.{SchemaData, canonical_text, lines_in_order, sequence_line, table_lines, field_named, field_names, no_table, number_of_name, same_name, table_at, table_named, table_names}
-use Rattle.abl_schema.specs.Laws.{AnswerAlike, CanonicalTextTellsAll, told_field, told_sequence}
-use Rattle.abl_schema.specs.Sound.{IsSound, IsSoundSequence, IsSoundTable}
+use Rattle.abl_schema.specs.Laws.{AnswerAlike, told_field, told_sequence}
+use Rattle.abl_values.specs.Sound.{IsSound, IsSoundSequence, IsSoundTable}
 use Rattle.abl_schema.proofs.ToldTables.{AreSoundEntries, Entry, entries-tell, entry_sequences, entry_tables, entry_text, one_more, told_table}
 
 -- ---- the schema by its tables and sequences
@@ -122,7 +122,7 @@ entries_of-sound : (s : SchemaData) → IsSound s → AreSoundEntries (entries_o
 entries_of-sound s h =
     in_order-sound s.order s.tables s.sequences (recursion_from_All IsSoundTable s.tables h.tables) (recursion_from_All IsSoundSequence s.sequences h.sequences)
 
-pub canonical_text-tells_all : CanonicalTextTellsAll
+pub canonical_text-tells_all : (a b : SchemaData) → IsSound a → IsSound b → canonical_text a ≡ canonical_text b → AnswerAlike a b
 unfolding canonical_text
 canonical_text-tells_all a b ha hb same =
     let told = entries-tell (entries_of a) (entries_of b) (entries_of-sound a ha) (entries_of-sound b hb) (text_is a.order a.tables a.sequences ∙ same ∙ sym (text_is b.order b.tables b.sequences)) in

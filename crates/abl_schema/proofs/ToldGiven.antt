@@ -12,7 +12,7 @@ use Rattle.abl_values.specs.Arithmetic.{fits_bits, with_sign}
 use Rattle.abl_values.specs.Dates.{CivilDate, date_from, day_number, is_civil, is_day}
 use Rattle.abl_values.specs.Digits.{are_digits, from_first_not, has_minus, number_of}
 use Rattle.abl_values.specs.Fit.{IsOfField, IsOfKind}
-use Rattle.abl_values.specs.Masks.{after_run, is_digit, is_letter, without_minus}
+use Rattle.abl_values.specs.Masks.{after_run, is_digit, is_mask_word_byte, without_minus}
 use Rattle.abl_values.specs.Schema.{same_name}
 use Rattle.abl_values.proofs.DateLaws.{day_reads_back}
 use Rattle.text_values.specs.TextValues.{behind_slash, date_in, dated, is_one_or_two, magnitude_in, number_in, number_in_bits, signed_in_bits, truth_in, whole_in, with_day, with_year, year_of}
@@ -72,7 +72,7 @@ IsInYears d = is_day d ≡ true
 civil_is_day : (c : CivilDate) → is_civil c ≡ true → IsInYears (day_number c)
 civil_is_day c h =
     let back = day_reads_back c h in
-    date_has_day (day_number c) (record { civil = ap is_civil back ∙ h; back = ap day_number back })
+    date_has_day (day_number c) (record { civil = ap is_civil back ∙ h; number = ap day_number back })
 
 date_from-day : (month day year : ℤ) → Each IsInYears (date_from month day year)
 unfolding date_from
@@ -122,8 +122,8 @@ day-said (Some n) h = h
 
 logical-said : (mask text : List ℕ) → Each (IsOfKind Truth) (logical_spelt mask text)
 logical-said mask text =
-    either (IsOfKind Truth) (same_name text (run is_letter mask)) (Some (Logical true)) (cond (same_name text (second_word (after_run is_letter mask))) (Some (Logical false)) (option_map Logical (truth_in text))) (λ h. tt)
-    (λ h. either (IsOfKind Truth) (same_name text (second_word (after_run is_letter mask))) (Some (Logical false)) (option_map Logical (truth_in text)) (λ k. tt) (λ k. truth-said (truth_in text)))
+    either (IsOfKind Truth) (same_name text (run is_mask_word_byte mask)) (Some (Logical true)) (cond (same_name text (second_word (after_run is_mask_word_byte mask))) (Some (Logical false)) (option_map Logical (truth_in text))) (λ h. tt)
+    (λ h. either (IsOfKind Truth) (same_name text (second_word (after_run is_mask_word_byte mask))) (Some (Logical false)) (option_map Logical (truth_in text)) (λ k. tt) (λ k. truth-said (truth_in text)))
 
 value_spelt-said : (kind : Kind) (mask text : List ℕ) → Each (IsOfKind kind) (value_spelt kind mask text)
 value_spelt-said Character mask text = either (IsOfKind Character) (nat_le (length text) MAX_TEXT_BYTES) (Some (Text text)) None (λ h. leb-true (length text) MAX_TEXT_BYTES h) (λ h. tt)

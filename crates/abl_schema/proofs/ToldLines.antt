@@ -15,8 +15,7 @@ use Rattle.abl_values.specs.Schema.{field_line, field_names, kind_text, letter, 
 use Rattle.abl_values.specs.Texts.{export_text}
 use Rattle.schema_lines.specs.Forms.{kind_named}
 use Rattle.abl_schema.specs.Laws.{told_field}
-use Rattle.abl_schema.specs.Rules.{has_twice, is_among}
-use Rattle.abl_schema.specs.Sound.{IsSoundField}
+use Rattle.abl_values.specs.Sound.{has_twice, is_among, IsSoundField}
 use Rattle.abl_schema.proofs.SizesNames.{same_if}
 use Rattle.abl_schema.proofs.ToldBytes.{IsPlain, cut, heads, tails}
 use Rattle.abl_schema.proofs.ToldNames.{is_name-plain}

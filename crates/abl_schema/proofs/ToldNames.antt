@@ -7,7 +7,7 @@ use Rattle.std.proofs.lemmas.Bool.Decides.{nat_tests}
 use Rattle.abl_values.specs.declared.named.TheConstants.{MAX_NAME_BYTES}
 use Rattle.abl_values.specs.Masks.{is_digit}
 use Rattle.abl_values.specs.Order.{folded, folded_byte}
-use Rattle.schema_lines.specs.Lines.{is_letter, is_name, is_name_byte}
+use Rattle.abl_values.specs.Names.{is_letter, is_name, is_name_byte}
 use Rattle.abl_schema.proofs.ToldBytes.{IsPlain}
 
 name_byte-plain : (b : ℕ) → is_name_byte b ≡ true → 32 < b

@@ -26,11 +26,12 @@ use Rattle.schema_lines.specs.Attributes.{format_of, kind_of}
 use Rattle.schema_lines.specs.Files.{Lot, gathered, items_of, line_before}
 use Rattle.schema_lines.specs.Forms.{added, attribute_line, component, given, said, text_given}
 use Rattle.schema_lines.specs.Initials.{mask_of}
-use Rattle.schema_lines.specs.Lines.{after_word, begins, is_name, lines_of, quote_of, word_of}
+use Rattle.schema_lines.specs.Lines.{after_word, begins, lines_of, quote_of, word_of}
+use Rattle.abl_values.specs.Names.{is_name}
 use Rattle.schema_lines.specs.Numbers.{long_number, small_number}
 use Rattle.abl_schema.specs.Meaning.{Listed, Ordered, by_order, fields_in_text, fields_of, field_said, first_number, index_said, indexes_of, is_usable, listed_index, order_said, ordered_field, part_named, part_of, part_said, parts_of, placed, primary_of, schema_of, sequence_said, table_def, table_said}
-use Rattle.abl_schema.specs.Rules.{first_after, has_twice, is_among, is_misnamed, violation_of}
-use Rattle.abl_schema.specs.Sound.{IsSound, IsSoundField, IsSoundIndex, IsSoundSequence, IsSoundTable}
+use Rattle.abl_schema.specs.Rules.{first_after, is_misnamed, violation_of}
+use Rattle.abl_values.specs.Sound.{has_twice, is_among, IsSound, IsSoundField, IsSoundIndex, IsSoundSequence, IsSoundTable}
 use Rattle.abl_schema.specs.Laws.{SchemasOfFilesAreSound}
 use Rattle.abl_schema.proofs.SizesNames.{same_name-swap}
 use Rattle.abl_schema.proofs.SizesSound.{IsSoundSoFar, all_more, grown, is_sound}
@@ -39,6 +40,7 @@ use Rattle.abl_schema.proofs.SizesAdded.{fields_in_text-names}
 use Rattle.abl_schema.proofs.ToldGiven.{AreGoodAttributes, IsGoodAttribute, increment_of-fits, initial_of-fits, long_fits, start_of-fits}
 use Rattle.abl_schema.proofs.ToldLines.{AreSoundFields, AreWithin}
 use Rattle.abl_schema.proofs.ToldTables.{AreSoundIndexes, one_more}
+use Rattle.abl_schema.proofs.KeptItems.{within_limits}
 
 -- ---- names
 
@@ -336,6 +338,7 @@ unfolding schema_of
 schema_of-sound items g h =
     let named = are_named items h in
     record {
+      limits = within_limits items h;
       tables = All-from_recursion IsSoundTable (flat_map (λ i. table_said items i.head) items) (tables-sound items items (is_sound items h) named named);
       sequences = All-from_recursion IsSoundSequence (flat_map (λ i. sequence_said i.attributes i.head) items) (sequences-sound items named g);
       table_places = tables_placed items items;

@@ -17,8 +17,7 @@ use Rattle.abl_values.specs.Arithmetic.{fits_bits}
 use Rattle.abl_values.specs.Order.{folded}
 use Rattle.abl_values.specs.Schema.{field_line, field_names, index_line, index_lines, is_number, letter, part_text, sequence_line, table_lines}
 use Rattle.abl_schema.specs.Laws.{told_field, told_index, told_sequence}
-use Rattle.abl_schema.specs.Rules.{has_twice}
-use Rattle.abl_schema.specs.Sound.{IsSoundField, IsSoundIndex, IsSoundSequence, IsSoundTable}
+use Rattle.abl_values.specs.Sound.{has_twice, IsSoundField, IsSoundIndex, IsSoundSequence, IsSoundTable}
 use Rattle.abl_schema.proofs.ToldNames.{is_name-plain}
 use Rattle.abl_schema.proofs.ToldBytes.{cut, marks_are_plain, signed_decimal-marks, signed_decimal-tells, heads, tails}
 use Rattle.abl_schema.proofs.ToldLines.{AreSoundFields, fields-tell, first, letter-tells, letter_of, parts-tell}

@@ -11,11 +11,11 @@ use Rattle.abl_base.specs.declared.value.TheConstants.{MAX_TEXT_BYTES}
 use Rattle.abl_base.specs.declared.value.Value.{Value}
 use Rattle.abl_base.specs.declared.value.Value.TheVariants.{Text, Int, Int64, Dec, Logical, Date, Unknown}
 use Rattle.abl_values.specs.Arithmetic.{fits_bits}
-use Rattle.abl_values.specs.Dates.{CivilDate, date_of_day, day_number, is_civil, is_day, is_leap, length_at, months_of}
+use Rattle.abl_values.specs.Dates.{HasDate, CivilDate, date_of_day, day_number, is_civil, is_day, is_leap, length_at, months_of}
 use Rattle.abl_values.specs.Fit.{IsOfField, IsOfKind}
 use Rattle.abl_values.specs.Order.{kept_before, without_trailing}
 use Rattle.abl_values.specs.Texts.{after_point, date_text, decimal_text, doubled, export_text, last_digits, magnitude_text, plain_text, year_text}
-use Rattle.abl_schema.proofs.ToldDays.{IsDay, day_has_date}
+use Rattle.abl_values.proofs.DayDates.{has_date}
 use Rattle.abl_schema.proofs.ToldBytes.{IsDigits, IsMarks, IsMarks-append, cut, decimal-digits, decimal-tells, digits_are_marks, last_digits-digits, last_digits-tell, length-last_digits, marks_are_plain, marks_tell, signed_decimal-marks, signed_decimal-tells, heads, tails}
 
 -- ---- decimals
@@ -255,11 +255,11 @@ date_text-marks c =
     (IsMarks-append (last_digits 2 c.month) (47 ∷ last_digits 2 c.day) (digits_are_marks (last_digits 2 c.month) (last_digits-digits 2 c.month)) ((omega arith, omega arith), digits_are_marks (last_digits 2 c.day) (last_digits-digits 2 c.day)))
     ((omega arith, omega arith), digits_are_marks (year_text c.year) (year_text-digits c.year))
 
-day-tells : (d e : ℤ) → IsDay d → IsDay e → date_text (date_of_day d) ≡ date_text (date_of_day e) → d ≡ e
+day-tells : (d e : ℤ) → HasDate d → HasDate e → date_text (date_of_day d) ≡ date_text (date_of_day e) → d ≡ e
 day-tells d e hd he same =
     let c = date_of_day d in
     let k = date_of_day e in
-    sym hd.back ∙ ap day_number (date_text-tells c.year c.month c.day k.year k.month k.day hd.civil he.civil same) ∙ he.back
+    sym hd.number ∙ ap day_number (date_text-tells c.year c.month c.day k.year k.month k.day hd.civil he.civil same) ∙ he.number
 
 -- ---- values
 
@@ -374,7 +374,7 @@ date-tells : (d : ℤ) (w : Value) → is_day d ≡ true → IsOfKind Day w → 
 unfolding export_text plain_text
 date-tells d Unknown k h r s e = tells_back Unknown (Date d) (unknown-tells Day (Date d) k) r s e
 date-tells d (Date m) k h r s e =
-    marked (Date d) (Date m) (date_text (date_of_day d)) (date_text (date_of_day m)) r s (date_text-marks (date_of_day d)) (date_text-marks (date_of_day m)) (λ same. ap Date (day-tells d m (day_has_date d k) (day_has_date m h) same)) e
+    marked (Date d) (Date m) (date_text (date_of_day d)) (date_text (date_of_day m)) r s (date_text-marks (date_of_day d)) (date_text-marks (date_of_day m)) (λ same. ap Date (day-tells d m (has_date d k) (has_date m h) same)) e
 date-tells d w k h r s e = absurd h
 
 pub value-tells : (kind : Option Kind) (v w : Value) → IsOfField kind v → IsOfField kind w → Tells v w

@@ -12,7 +12,7 @@ use Rattle.schema_lines.specs.declared.item.Attribute.{Attribute}
 use Rattle.schema_lines.specs.declared.item.Attribute.TheVariants.{Primary, IndexField, Increment}
 use Rattle.schema_lines.specs.declared.item.Attributed.{Attributed}
 use Rattle.schema_lines.specs.declared.item.Item.{Item}
-use Rattle.schema_lines.specs.Lines.{is_name}
+use Rattle.abl_values.specs.Names.{is_name}
 use Rattle.schema_lines.specs.Attributes.{field_def, format_of, has, increment_of, is_primary, is_word, kind_of, start_of}
 use Rattle.schema_lines.specs.Initials.{mask_of}
 use Rattle.abl_schema.specs.declared.violation.Violation.{Violation}

@@ -5,7 +5,7 @@ use Rattle.abl_values.specs.declared.schema.FieldDef.{FieldDef}
 use Rattle.abl_values.specs.declared.named.TheConstants.{MAX_NAME_BYTES}
 use Rattle.abl_schema.specs.declared.meaning.OrderedField.{OrderedField}
 use Rattle.abl_schema.specs.Meaning.{Ordered}
-use Rattle.abl_schema.specs.Rules.{has_twice}
+use Rattle.abl_values.specs.Sound.{has_twice}
 
 abbrev pub as_ordered : OrderedField → Ordered
 as_ordered f = record { order = f.order; field = f.field }

@@ -5,11 +5,11 @@ use Rattle.abl_values.specs.declared.schema.FieldDef.{FieldDef}
 use Rattle.abl_values.specs.declared.schema.IndexDef.{IndexDef}
 use Rattle.abl_values.specs.declared.schema.SequenceDef.{SequenceDef}
 use Rattle.abl_values.specs.Order.{folded}
-use Rattle.abl_values.specs.Schema.{SchemaData, canonical_text, field_named, fields_of, indexes_of, name_of, primary_of, table_named}
+use Rattle.abl_values.specs.Schema.{SchemaData, field_named, fields_of, indexes_of, name_of, primary_of, table_named}
+use Rattle.abl_values.specs.Sound.{IsSound}
 use Rattle.schema_lines.specs.Files.{items_of}
 use Rattle.abl_schema.specs.Meaning.{schema_of}
 use Rattle.abl_schema.specs.Rules.{violation_of}
-use Rattle.abl_schema.specs.Sound.{IsSound}
 
 -- a field with its name in small letters and without its mask
 abbrev pub told_field : FieldDef → FieldDef
@@ -33,11 +33,6 @@ pub record AnswerAlike (a b : SchemaData) : Type 0 where
   pub primary : (t : ℕ) → t < length a.tables → primary_of a t ≡ primary_of b t
   pub sequences : map told_sequence a.sequences ≡ map told_sequence b.sequences
 
--- Two sound schemas with one canonical text answer alike
-abbrev pub CanonicalTextTellsAll : Type 0
-CanonicalTextTellsAll =
-    (a b : SchemaData) → IsSound a → IsSound b → canonical_text a ≡ canonical_text b → AnswerAlike a b
-
--- A file without violation means a sound schema
+-- a file without violation means a sound schema
 abbrev pub SchemasOfFilesAreSound : Type 0
 SchemasOfFilesAreSound = (text : List ℕ) → violation_of text ≡ None → IsSound (schema_of (items_of text))

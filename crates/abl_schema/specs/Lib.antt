@@ -1,6 +1,5 @@
 pub mod Meaning
 pub mod Rules
-pub mod Sound
 pub mod Laws
 pub mod Examples
 -- how the walk over the items counts, and how it lays out fields; no public contract cites these two

@@ -14,7 +14,8 @@ use Rattle.schema_lines.specs.declared.item.Attributed.{Attributed}
 use Rattle.schema_lines.specs.declared.item.Item.{Item}
 use Rattle.abl_schema.specs.declared.violation.Violation.{Violation}
 use Rattle.abl_schema.specs.declared.limits.TheConstants.{MAX_TABLES, MAX_FIELDS, MAX_INDEXES, MAX_PARTS, MAX_SEQUENCES, MAX_CANONICAL_BYTES}
-use Rattle.schema_lines.specs.Lines.{is_name}
+use Rattle.abl_values.specs.Names.{is_name}
+use Rattle.abl_values.specs.Sound.{has_twice, is_among}
 use Rattle.schema_lines.specs.Files.{items_of}
 use Rattle.schema_lines.specs.Initials.{initial_given, mask_of}
 use Rattle.schema_lines.specs.Attributes.{format_of, has, is_primary, kind_of, sequence_number}
@@ -51,10 +52,6 @@ fields_in items t = flat_map (λ i. field_name t i.head) items
 -- the indexes of a table, whether usable or not
 abbrev pub indexes_in : List Item → List ℕ → List (List ℕ)
 indexes_in items t = flat_map (λ i. index_name t i.head) items
-
--- the name is one of these, in any case
-abbrev pub is_among : List ℕ → List (List ℕ) → Bool
-is_among name names = list_any (λ n. same_name n name) names
 
 -- ---- conditions on the first line of an item, after the items `before` it
 
@@ -102,11 +99,6 @@ component_line attribute = []
 -- the INDEX-FIELD lines of an index
 abbrev pub components_of : List Attributed → List (Option Component)
 components_of attributes = flat_map (λ a. component_line a.attribute) attributes
-
--- a name stands twice, in any case
-abbrev pub has_twice : List (List ℕ) → Bool
-has_twice [] = false
-has_twice (name ∷ names) = is_among name names || has_twice names
 
 -- an index without components, or with a field twice
 abbrev pub is_ill_made : List Attributed → Head → Bool

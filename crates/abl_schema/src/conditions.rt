@@ -16,11 +16,10 @@ use crate::limits::{
 use crate::sizes::canonical_bytes;
 use crate::violation::Violation;
 use abl_base::{Bytes, Kind, Rule};
-use abl_values::{Named, same_name};
+use abl_values::{Named, is_name, same_name};
 use schema_lines::attributes::{format_of, kind_of, sequence_number};
 use schema_lines::initials::{initial_given, mask_of};
 use schema_lines::item::{Attribute, Attributed, Component, Given, Head, Item};
-use schema_lines::lines::is_name;
 use std::alloc::{AllocError, Global};
 
 /// The first violation of a file with these items: the first line that breaks a rule, and the least

@@ -1,15 +1,22 @@
-//! What the canonical text of a schema tells, and which schemas it tells.
+//! What the canonical text of a schema tells, and that a file means a schema.
 
-ghost use Rattle.abl_schema.specs.Laws.{CanonicalTextTellsAll, SchemasOfFilesAreSound};
+ghost use Rattle.std.specs.Prelude.{◌≡◌};
+ghost use Rattle.abl_values.specs.Schema.{canonical_text};
+ghost use Rattle.abl_schema.specs.Laws.{AnswerAlike, SchemasOfFilesAreSound};
 
-/// Two sound schemas with one canonical text answer every reader alike, names taken without case
-/// and masks left out.
-pub fn canonical_text_tells_all()
-    ensures { CanonicalTextTellsAll }
-{}
+use abl_values::Schema;
 
-/// A file without violation means a sound schema. So two such files that mean one canonical text
-/// mean schemas that answer every reader alike.
+/// Two schemas with one canonical text answer every reader alike, names taken without case. Masks
+/// are left out, since the canonical text has none.
+pub fn canonical_text_tells_all(a: &Schema, b: &Schema)
+    requires { canonical_text a.now ≡ canonical_text b.now }
+    ensures { AnswerAlike a.now b.now }
+{
+    a.soundness();
+    b.soundness();
+}
+
+/// What a file without violation means is a sound schema, as each `Schema` is.
 pub fn schemas_of_files_are_sound()
     ensures { SchemasOfFilesAreSound }
 {}

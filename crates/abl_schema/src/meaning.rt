@@ -3,6 +3,7 @@
 ghost use Rattle.std.specs.Prelude.{◌≡◌, ◌≤◌, [], ◌∷◌, ◌++◌, length, map, if◌then◌else◌, IfOk, None, OnOk, Some, option_to_list, is_some, slice_index_or};
 ghost use Rattle.std.specs.List.{flat_map};
 ghost use Rattle.abl_values.specs.Schema.{no_field, number_of_name};
+ghost use Rattle.abl_values.specs.Sound.{IsSound};
 ghost use Rattle.abl_values.specs.declared.named.TheConstants.{MAX_NAME_BYTES};
 ghost use Rattle.schema_lines.specs.Attributes.{increment_of, start_of};
 ghost use Rattle.abl_schema.specs.Meaning.{are_supported, by_order, field_said, fields_in_text, fields_of, index_said, indexes_of, order_said, part_said, parts_of, placed, primary_of, schema_of, sequence_said, table_def, table_said};
@@ -49,7 +50,8 @@ fn add<T: HasName>(items: &mut Named<T>, item: T) -> Result<(), AllocError>
 
 /// The schema that the items of a file without violation mean.
 pub fn schema_of(alloc: Global, items: &[Item]) -> Result<Schema, AllocError>
-    requires { first_after [] items.now ≡ None }
+    requires clean { first_after [] items.now ≡ None }
+    requires sound { IsSound (schema_of items.now) }
     ensures { IfOk result (λ schema. schema ≡ schema_of items.now) }
 {
     let tables = tables_of(alloc, items)?;

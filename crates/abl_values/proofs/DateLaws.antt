@@ -5,15 +5,15 @@ use Rattle.abl_values.specs.Dates.{CivilDate, is_civil, days_of_years, days_of_f
 use Rattle.abl_values.proofs.Days.{MayEnd, both_tests, test_le, before_is, year_bound, february_ends, abs_of_day, date_after-days_before}
 
 -- the numbers of a date stand in their ranges
-record Parts (y m d : ℕ) : Type 0 where
-  year_low : 1 ≤ y
-  year_high : y ≤ 9999
-  month_low : 1 ≤ m
-  month_high : m ≤ 12
-  day_low : 1 ≤ d
-  day_high : d ≤ length_at (months_of y) (m - 1)
+pub record Parts (y m d : ℕ) : Type 0 where
+  pub year_low : 1 ≤ y
+  pub year_high : y ≤ 9999
+  pub month_low : 1 ≤ m
+  pub month_high : m ≤ 12
+  pub day_low : 1 ≤ d
+  pub day_high : d ≤ length_at (months_of y) (m - 1)
 
-parts_of : (y m d : ℕ) → is_civil (record { year = y; month = m; day = d }) ≡ true → Parts y m d
+pub parts_of : (y m d : ℕ) → is_civil (record { year = y; month = m; day = d }) ≡ true → Parts y m d
 parts_of y m d h =
     let a = both_tests ((nat_le 1 y && nat_le y 9999) && (nat_le 1 m && nat_le m 12)) (nat_le 1 d && nat_le d (length_at (months_of y) (m - 1))) h in
     let b = both_tests (nat_le 1 y && nat_le y 9999) (nat_le 1 m && nat_le m 12) a.0 in
@@ -34,7 +34,7 @@ last_room : (k doy : ℕ) → k ≤ 9998 → doy < 366 → MayEnd (k % 400 / 100
 last_room k doy hk hd leap = elim leap [ inl h ↦ omega arith | inr h ↦ omega (arith, h.0) ]
 
 -- a day of the years 1 to 9999 is the nearest one
-nearest_itself : (b : ℕ) → b ≤ 3652058 → nearest_day (pos b -ℤ pos 719162) ≡ pos b -ℤ pos 719162
+pub nearest_itself : (b : ℕ) → b ≤ 3652058 → nearest_day (pos b -ℤ pos 719162) ≡ pos b -ℤ pos 719162
 nearest_itself b h = grind (arith, ints)
 
 reads_back : (y m d : ℕ) → is_civil (record { year = y; month = m; day = d }) ≡ true

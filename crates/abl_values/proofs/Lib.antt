@@ -15,3 +15,4 @@ pub mod Digits
 pub mod Sums
 pub mod Products
 pub mod DateLaws
+pub mod DayDates

@@ -1,5 +1,5 @@
 -- Dates of the years 1 to 9999 of the Gregorian calendar, and their day numbers: 0 is 1 January 1970.
-use Rattle.std.specs.Prelude.{ℕ, zero, suc, ◌+◌, ◌-◌, ◌*◌, ◌/◌, ◌%◌, min, Bool, not, ◌&&◌, ◌||◌, ◌==◌, nat_le, nat_lt, if◌then◌else◌, List, [], ◌∷◌, Option, Some, None, ℤ, pos, negsuc, ◌+ℤ◌, ◌-ℤ◌, int_le, int_lt, unsigned_abs}
+use Rattle.std.specs.Prelude.{ℕ, zero, suc, ◌+◌, ◌-◌, ◌*◌, ◌/◌, ◌%◌, min, Bool, not, ◌&&◌, ◌||◌, ◌==◌, nat_le, nat_lt, if◌then◌else◌, List, [], ◌∷◌, Option, Some, None, ℤ, pos, negsuc, ◌+ℤ◌, ◌-ℤ◌, int_le, int_lt, unsigned_abs, IsTrue, ◌≡◌}
 
 -- every fourth year is a leap year, but of the full hundreds only every fourth
 abbrev pub is_leap : ℕ → Bool
@@ -97,3 +97,8 @@ date_in_years day = date_after (unsigned_abs (day +ℤ pos 719162))
 -- the date of a day number, or of the nearest day of the years 1 to 9999
 unfoldable pub date_of_day : ℤ → CivilDate
 date_of_day day = date_in_years (nearest_day day)
+
+-- the day has a date of the calendar, whose number it is
+pub record HasDate (day : ℤ) : Type 0 where
+  pub civil : IsTrue (is_civil (date_of_day day))
+  pub number : day_number (date_of_day day) ≡ day

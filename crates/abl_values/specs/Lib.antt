@@ -10,4 +10,6 @@ pub mod Masks
 pub mod Digits
 pub mod Names
 pub mod Schema
+pub mod Sound
+pub mod SoundExamples
 pub mod Examples

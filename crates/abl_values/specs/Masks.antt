@@ -42,18 +42,19 @@ is_text_mask (b ∷ c ∷ cs) = is_x b && (if c == 40 then is_width cs else list
 
 -- ---- LOGICAL: two words with one `/` between them
 
-abbrev pub is_letter : ℕ → Bool
-is_letter b = not (b == 47)
+-- all bytes but `/`
+abbrev pub is_mask_word_byte : ℕ → Bool
+is_mask_word_byte b = not (b == 47)
 
 -- a `/` and a word
 abbrev pub is_second_word : List ℕ → Bool
 is_second_word [] = false
 is_second_word (b ∷ []) = false
-is_second_word (b ∷ c ∷ cs) = list_all is_letter (c ∷ cs)
+is_second_word (b ∷ c ∷ cs) = list_all is_mask_word_byte (c ∷ cs)
 
 abbrev pub is_word_mask : List ℕ → Bool
 is_word_mask [] = false
-is_word_mask (b ∷ bs) = is_letter b && is_second_word (after_run is_letter bs)
+is_word_mask (b ∷ bs) = is_mask_word_byte b && is_second_word (after_run is_mask_word_byte bs)
 
 -- ---- numbers: an optional `-`, then `>`, `z` and commas, then `9` and commas, then for a DECIMAL
 -- an optional point and `9`s, with at least one sign of a digit, in at most 40 bytes

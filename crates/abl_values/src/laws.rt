@@ -1,6 +1,6 @@
 //! What holds of the definitions alone. Each law is what its function ensures.
 
-ghost use Rattle.std.specs.Prelude.{◌≡◌, ◌≢◌, ◌≤◌, ◌<◌, ◌+◌, ◌*◌, ◌+ℤ◌, ◌-ℤ◌, ◌*ℤ◌, ◌↔◌, ℕ, pos, IsTrue, List, Option, Ok, Some};
+ghost use Rattle.std.specs.Prelude.{◌≡◌, ◌≢◌, ◌≤◌, ◌<◌, ◌+◌, ◌*◌, ◌+ℤ◌, ◌-ℤ◌, ◌*ℤ◌, ◌↔◌, ℕ, ℤ, pos, IsTrue, List, Option, Ok, Some};
 ghost use Rattle.std.specs.Cmp.{IsTotalOrder};
 ghost use Rattle.std.specs.Cmp.Lexicographic.{slice_cmp};
 ghost use Rattle.std.specs.Ordering.{nat_cmp};
@@ -9,7 +9,7 @@ ghost use Rattle.abl_values.specs.declared.schema.Part.{Part};
 ghost use Rattle.abl_base.specs.declared.value.Kind.{Kind};
 ghost use Rattle.abl_base.specs.declared.value.Value.{Value};
 ghost use Rattle.abl_values.specs.Arithmetic.{difference_of, IsNumber, IsWhole, product_of, quotient_of, rounded, rounded_quotient, rounded_whole, sum_of};
-ghost use Rattle.abl_values.specs.Dates.{CivilDate, date_of_day, day_number, is_civil};
+ghost use Rattle.abl_values.specs.Dates.{CivilDate, HasDate, date_of_day, day_number, is_civil, is_day};
 ghost use Rattle.abl_values.specs.Keys.{AreBytes, HaveBytes, key_bytes, key_order};
 ghost use Rattle.abl_values.specs.Order.{rank_of, scaled, value_order};
 ghost use Rattle.abl_values.specs.Rows.{bytes_of_row, FitsFields, fragments_of, row_in};
@@ -58,9 +58,11 @@ pub fn products_are_those_of_integers()
         → rank_of v ≡ rounded_quotient (scaled (rank_of a)) (rank_of b) }
 {}
 
-/// The day number of a date leads back to the date, so no two dates have one number.
+/// The day number of a date leads back to the date, so no two dates have one number; and each day of
+/// the years 1 to 9999 has a date, whose number it is.
 pub fn dates_are_read_back()
-    ensures { (d : CivilDate) → IsTrue (is_civil d) → date_of_day (day_number d) ≡ d }
+    ensures date { (d : CivilDate) → IsTrue (is_civil d) → date_of_day (day_number d) ≡ d }
+    ensures day { (day : ℤ) → IsTrue (is_day day) → HasDate day }
 {}
 
 /// A rounded quotient is the nearest natural number, and a half goes up.

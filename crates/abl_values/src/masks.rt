@@ -3,8 +3,9 @@
 
 ghost use Rattle.std.specs.Prelude.{◌≡◌, length, codes};
 ghost use Rattle.std.specs.List.{list_all, list_any};
-ghost use Rattle.abl_values.specs.Masks.{after_run, is_date_mask, is_digit, is_digit_sign, is_fixed, is_floating, is_fraction, is_letter, is_nine, is_number_mask, is_second_word, is_text_mask, is_width, is_word_mask, is_x, mask_is_for, same_bytes, without_minus};
+ghost use Rattle.abl_values.specs.Masks.{after_run, is_date_mask, is_digit, is_digit_sign, is_fixed, is_floating, is_fraction, is_mask_word_byte, is_nine, is_number_mask, is_second_word, is_text_mask, is_width, is_word_mask, is_x, mask_is_for, same_bytes, without_minus};
 
+use crate::names::is_digit;
 use abl_base::Kind;
 
 /// Says whether the mask is one for values of the kind: `x(n)` with n from 1 to 999 or a run of `x`
@@ -57,12 +58,6 @@ fn are_x(bytes: &[u8]) -> bool
     bytes.iter().all(|byte| is_x(*byte))
 }
 
-fn is_digit(byte: u8) -> bool
-    ensures { result ≡ is_digit byte }
-{
-    b'0' <= byte && byte <= b'9'
-}
-
 /// One to three digits that are not all zero, and a closing parenthesis.
 fn is_width(bytes: &[u8]) -> bool
     ensures { result ≡ is_width bytes.now }
@@ -87,12 +82,12 @@ fn is_word_mask(mask: &[u8]) -> bool
 {
     match mask {
         [] => false,
-        [first, rest @ ..] => is_letter(*first) && is_second_word(after_word(rest)),
+        [first, rest @ ..] => is_mask_word_byte(*first) && is_second_word(after_word(rest)),
     }
 }
 
-fn is_letter(byte: u8) -> bool
-    ensures { result ≡ is_letter byte }
+fn is_mask_word_byte(byte: u8) -> bool
+    ensures { result ≡ is_mask_word_byte byte }
 {
     byte != b'/'
 }
@@ -104,23 +99,23 @@ fn is_second_word(bytes: &[u8]) -> bool
     match bytes {
         [] => false,
         [_] => false,
-        [_, second, rest @ ..] => is_letter(*second) && are_letters(rest),
+        [_, second, rest @ ..] => is_mask_word_byte(*second) && are_letters(rest),
     }
 }
 
 fn are_letters(bytes: &[u8]) -> bool
-    ensures { result ≡ list_all is_letter bytes.now }
+    ensures { result ≡ list_all is_mask_word_byte bytes.now }
 {
-    bytes.iter().all(|byte| is_letter(*byte))
+    bytes.iter().all(|byte| is_mask_word_byte(*byte))
 }
 
 /// What is left after a word.
 fn after_word(bytes: &[u8]) -> &[u8]
-    ensures { result.now ≡ after_run is_letter bytes.now }
+    ensures { result.now ≡ after_run is_mask_word_byte bytes.now }
 {
     let mut rest = bytes;
     while let [first, tail @ ..] = rest {
-        if !is_letter(*first) {
+        if !is_mask_word_byte(*first) {
             break;
         }
         rest = tail;
@@ -147,7 +142,8 @@ fn has_digit_sign(mask: &[u8]) -> bool
     mask.iter().any(|byte| is_digit_sign(*byte))
 }
 
-fn is_digit_sign(byte: u8) -> bool
+/// A sign of a number mask that stands for a digit.
+pub fn is_digit_sign(byte: u8) -> bool
     ensures { result ≡ is_digit_sign byte }
 {
     byte == b'>' || byte == b'z' || byte == b'Z' || byte == b'9'
@@ -165,8 +161,8 @@ fn is_fixed(byte: u8) -> bool
     byte == b'9' || byte == b','
 }
 
-/// The mask after its `-`, where it has one.
-fn without_minus(mask: &[u8]) -> &[u8]
+/// The text after its `-`, where it has one.
+pub fn without_minus(mask: &[u8]) -> &[u8]
     ensures { result.now ≡ without_minus mask.now }
 {
     match mask {
@@ -230,7 +226,7 @@ fn is_date_mask(mask: &[u8]) -> bool
 }
 
 /// Says whether two texts have the same bytes.
-fn same_bytes(a: &[u8], b: &[u8]) -> bool
+pub fn same_bytes(a: &[u8], b: &[u8]) -> bool
     ensures { result ≡ same_bytes a.now b.now }
 {
     if a.len() != b.len() {

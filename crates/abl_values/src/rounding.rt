@@ -6,8 +6,9 @@ ghost use Rattle.abl_values.specs.Arithmetic.{decimal_in_range, rounded, rounded
 use crate::arithmetic::ArithFault;
 use abl_base::Value;
 
-/// The quotient of two natural numbers, rounded to the nearest one, a half up.
-fn rounded(n: u128, d: u128) -> u128
+/// The quotient of two natural numbers, rounded to the nearest one, a half up. (This project's
+/// choice.)
+pub fn rounded(n: u128, d: u128) -> u128
     requires { 0 < d }
     ensures { result ≡ rounded n d }
 {

@@ -95,22 +95,26 @@ pub struct Schema {
 }
 
 impl Model for Schema {
-    ghost use Rattle.abl_values.specs.Schema.{SchemaData, IsWithinLimits};
+    ghost use Rattle.abl_values.specs.Schema.{SchemaData};
+    ghost use Rattle.abl_values.specs.Sound.{IsSound};
 
     ghost Value = { SchemaData };
 
     ghost view = { λ s. record { tables = s.tables; sequences = s.sequences; order = s.order } };
 
-    ghost invariant = { λ s. IsWithinLimits s.tables };
+    ghost invariant = { λ s. IsSound (record { tables = s.tables; sequences = s.sequences; order = s.order }) };
 }
 
 impl Schema {
-    ghost use Rattle.abl_values.specs.Schema.{IsWithinLimits, canonical_text, fields_of, field_named, indexes_of, name_of, primary_of, table_named};
+    ghost use Rattle.abl_values.specs.Schema.{canonical_text, fields_of, field_named, indexes_of, name_of, primary_of, table_named};
+    ghost use Rattle.abl_values.specs.Sound.{IsSound};
 
     /// The schema with these tables and sequences, each in the order of the file. `order` has true
-    /// for a table and false for a sequence, as they stand there one after the other.
+    /// for a table and false for a sequence, as they stand there one after the other. It must be
+    /// sound: within the limits, each name a name, each value within its range, each number of a
+    /// field or an index one that there is. So every schema is.
     pub fn of(tables: Named<TableDef>, sequences: Named<SequenceDef>, order: Items<bool>) -> Schema
-        requires { IsWithinLimits tables }
+        requires { IsSound (record { tables = tables; sequences = sequences; order = order }) }
         ensures { result ≡ record { tables = tables; sequences = sequences; order = order } }
     {
         Schema {
@@ -118,6 +122,14 @@ impl Schema {
             sequences,
             order,
         }
+    }
+
+    /// Every schema is sound: within the limits, its names are names, its values are within their
+    /// ranges, and what refers to another part finds it.
+    pub fn soundness(&self)
+        ensures { IsSound self.now }
+    {
+        let _ = &self.tables;
     }
 
     /// How many tables there are.

@@ -9,6 +9,7 @@ use Rattle.database_meaning.specs.declared.state.StoredRow.{StoredRow}
 use Rattle.database_meaning.specs.declared.state.Key.{Key}
 use Rattle.abl_values.specs.Rows.{FitsFields, bytes_of_row, fragments_of}
 use Rattle.abl_values.specs.Keys.{key_bytes, unique_key}
+use Rattle.abl_values.specs.Masks.{same_bytes}
 use Rattle.abl_values.specs.Schema.{SchemaData, fields_of, indexes_of, field_kinds}
 
 -- the tables and sequences, and how many clients the database has, numbered from 0
@@ -67,12 +68,6 @@ keys_from table i (index ∷ indexes) values = key_at table i (unique_key index.
 unfoldable pub unique_keys : SchemaData → Option StoredRow → List Key
 unique_keys schema None = []
 unique_keys schema (Some row) = keys_from row.table 0 (indexes_of schema row.table) row.values
-
-abbrev pub same_bytes : List ℕ → List ℕ → Bool
-same_bytes [] [] = true
-same_bytes (x ∷ xs) (y ∷ ys) = (x == y) && same_bytes xs ys
-same_bytes [] (y ∷ ys) = false
-same_bytes (x ∷ xs) [] = false
 
 abbrev pub same_key : Key → Key → Bool
 same_key a b = (a.table == b.table) && ((a.index == b.index) && same_bytes a.bytes b.bytes)

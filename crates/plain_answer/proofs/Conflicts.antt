@@ -8,7 +8,8 @@ use Rattle.std.proofs.lemmas.Bool.{cases_lt, ne_eqb}
 use Rattle.database_meaning.specs.declared.state.Key.{Key}
 use Rattle.database_meaning.specs.declared.operation.Op.{Op}
 use Rattle.database_meaning.specs.declared.operation.Op.TheVariants.{Enter, Leave, Back, Next, Get, Lock, Insert, Put, Delete, Drop as DropLock, NextValue, CurrentValue, End}
-use Rattle.database_meaning.specs.Frame.{Frame, unique_keys, has_key, same_key, same_bytes}
+use Rattle.database_meaning.specs.Frame.{Frame, unique_keys, has_key, same_key}
+use Rattle.abl_values.specs.Masks.{same_bytes}
 use Rattle.database_meaning.specs.State.{State, Client}
 use Rattle.database_meaning.specs.Waiting.{StandsAgainst, Conflicts, IsAscending, IsHolders}
 use Rattle.database_meaning.specs.Answers.{entered}

@@ -3,13 +3,13 @@
 ghost use Rattle.std.specs.Prelude.{◌≡◌, ◌++◌, IfOk, OnOk};
 ghost use Rattle.std.specs.Option.{option_copied};
 ghost use Rattle.abl_values.specs.Keys.{component, has_unknown, is_unknown, unique_key};
-ghost use Rattle.database_meaning.specs.Frame.{has_key, key_at, keys_from, keys_without, same_bytes, same_key, unique_keys};
+ghost use Rattle.database_meaning.specs.Frame.{has_key, key_at, keys_from, keys_without, same_key, unique_keys};
 ghost use Rattle.database_meaning.specs.Steps.{keeping};
 ghost use Rattle.plain_state.specs.Schema.{schema_of};
 
 use crate::schema::{PlainSchema, indexes};
 use abl_base::{Row, Value};
-use abl_values::{IndexDef, Part, key_bytes};
+use abl_values::{IndexDef, Part, key_bytes, same_bytes};
 use database_meaning::{Key, StoredRow};
 use std::alloc::{AllocError, Global};
 
@@ -116,19 +116,6 @@ pub fn unique_keys(
         )?;
     }
     Ok(keys)
-}
-
-/// Whether two lists of bytes are the same.
-fn same_bytes(a: &[u8], b: &[u8]) -> bool
-    ensures { result ≡ same_bytes a.now b.now }
-{
-    match a.split_first() {
-        None => b.is_empty(),
-        Some((x, xs)) => match b.split_first() {
-            None => false,
-            Some((y, ys)) => *x == *y && same_bytes(xs, ys),
-        },
-    }
 }
 
 /// Whether two keys are the same.

@@ -7,7 +7,7 @@ use Rattle.abl_base.specs.declared.value.Value.TheVariants.{Text, Int, Int64, De
 use Rattle.abl_base.specs.declared.value.Kind.{Kind}
 use Rattle.abl_base.specs.declared.value.Kind.TheVariants.{Character, Integer, Int64 as Whole64, Decimal, Logical as Truth, Date as Day}
 use Rattle.abl_values.specs.Arithmetic.{fits_bits, with_sign}
-use Rattle.abl_values.specs.Masks.{after_run, is_letter, mask_is_for, same_bytes}
+use Rattle.abl_values.specs.Masks.{after_run, is_mask_word_byte, mask_is_for, same_bytes}
 use Rattle.abl_values.specs.Schema.{same_name}
 use Rattle.schema_lines.specs.declared.item.Given.{Given}
 use Rattle.schema_lines.specs.Lines.{run}
@@ -48,8 +48,8 @@ second_word (b ∷ bs) = bs
 -- a word of the mask, in any case, before the words that stand for yes and no without one
 abbrev pub logical_spelt : List ℕ → List ℕ → Option Value
 logical_spelt mask text =
-    if same_name text (run is_letter mask) then Some (Logical true)
-    else if same_name text (second_word (after_run is_letter mask)) then Some (Logical false)
+    if same_name text (run is_mask_word_byte mask) then Some (Logical true)
+    else if same_name text (second_word (after_run is_mask_word_byte mask)) then Some (Logical false)
     else option_map Logical (truth_in text)
 
 -- a decimal whose decimals are zeros, as a whole number

@@ -1,8 +1,6 @@
 -- The lines of a schema file, and the words and quoted texts that stand in a line.
-use Rattle.std.specs.Prelude.{ℕ, Bool, true, false, not, ◌&&◌, ◌||◌, ◌==◌, nat_le, if◌then◌else◌, List, [], ◌∷◌, length, map, Option, Some, None}
-use Rattle.std.specs.List.{list_all}
-use Rattle.abl_values.specs.Masks.{after_run, is_digit, same_bytes}
-use Rattle.abl_values.specs.declared.named.TheConstants.{MAX_NAME_BYTES}
+use Rattle.std.specs.Prelude.{ℕ, Bool, true, false, not, ◌&&◌, ◌||◌, ◌==◌, if◌then◌else◌, List, [], ◌∷◌, map, Option, Some, None}
+use Rattle.abl_values.specs.Masks.{after_run, same_bytes}
 
 -- ---- lines
 
@@ -120,17 +118,3 @@ text_of (Some q) = q.text
 -- the quoted text at the head of a line, empty where none is closed there
 abbrev pub quoted_bytes : List ℕ → List ℕ
 quoted_bytes line = text_of (quote_of line)
-
--- ---- names
-
-abbrev pub is_letter : ℕ → Bool
-is_letter b = (nat_le 65 b && nat_le b 90) || (nat_le 97 b && nat_le b 122)
-
--- letters, digits and `# $ % & - _`
-abbrev pub is_name_byte : ℕ → Bool
-is_name_byte b = (is_letter b || is_digit b) || ((nat_le 35 b && nat_le b 38) || ((b == 45) || (b == 95)))
-
--- a letter, then letters, digits and signs, at most 32 bytes
-abbrev pub is_name : List ℕ → Bool
-is_name [] = false
-is_name (b ∷ bs) = is_letter b && (list_all is_name_byte bs && nat_le (length (b ∷ bs)) MAX_NAME_BYTES)

@@ -6,8 +6,9 @@ ghost use Rattle.schema_lines.specs.Walk.{followed_by, under_last};
 
 use crate::forms::said;
 use crate::item::{Attribute, Attributed, Item, Line};
-use crate::lines::{first_piece, same_bytes, trimmed};
+use crate::lines::{first_piece, trimmed};
 use abl_base::Items;
+use abl_values::same_bytes;
 use std::alloc::{AllocError, Global};
 
 /// The items of the file in order: its lines up to one that is a single period. Attributes before

@@ -1,15 +1,15 @@
 //! The masks and initial values of fields.
 
 ghost use Rattle.std.specs.Prelude.{◌≡◌, ◌≤◌, length, IfOk};
-ghost use Rattle.abl_values.specs.Masks.{after_run, is_letter};
+ghost use Rattle.abl_values.specs.Masks.{after_run, is_mask_word_byte};
 ghost use Rattle.schema_lines.specs.Lines.{run};
 ghost use Rattle.schema_lines.specs.Initials.{day_spelt, default_initial, default_mask, initial_given, integer_value, is_character, is_unknown, logical_spelt, long_value, mask_of, second_word, text_value, value_spelt, whole_spelt, whole_units};
 ghost use Rattle.text_values.specs.TextValues.{number_in};
 
 use crate::item::Given;
-use crate::lines::{front_of, same_bytes};
+use crate::lines::front_of;
 use abl_base::{Bytes, Items, Kind, MAX_TEXT_BYTES, Value};
-use abl_values::{mask_fits, same_name};
+use abl_values::{mask_fits, same_bytes, same_name};
 use std::alloc::{AllocError, Global};
 use text_values::{date_in, number_in, truth_in};
 
@@ -62,19 +62,19 @@ pub fn default_initial(alloc: Global, kind: Kind) -> Value
 
 /// The word of a mask `a/b` before its `/`.
 fn first_word(mask: &[u8]) -> &[u8]
-    ensures { result.now ≡ run is_letter mask.now }
+    ensures { result.now ≡ run is_mask_word_byte mask.now }
 {
     front_of(mask, after_letters(mask))
 }
 
 /// The mask from its `/` on.
 fn after_letters(mask: &[u8]) -> &[u8]
-    ensures rest { result.now ≡ after_run is_letter mask.now }
+    ensures rest { result.now ≡ after_run is_mask_word_byte mask.now }
     ensures within { length result.now ≤ length mask.now }
 {
     let mut rest = mask;
     while let [first, tail @ ..] = rest {
-        if !is_letter(*first) {
+        if !is_mask_word_byte(*first) {
             break;
         }
         rest = tail;
@@ -83,15 +83,15 @@ fn after_letters(mask: &[u8]) -> &[u8]
 }
 
 /// All bytes but `/`.
-fn is_letter(byte: u8) -> bool
-    ensures { result ≡ is_letter byte }
+fn is_mask_word_byte(byte: u8) -> bool
+    ensures { result ≡ is_mask_word_byte byte }
 {
     byte != b'/'
 }
 
 /// The word of a mask `a/b` after its `/`.
 fn second_word(mask: &[u8]) -> &[u8]
-    ensures { result.now ≡ second_word (after_run is_letter mask.now) }
+    ensures { result.now ≡ second_word (after_run is_mask_word_byte mask.now) }
 {
     match after_letters(mask) {
         [] => &[],

@@ -1,12 +1,11 @@
 //! Lines, and the words and quoted texts that stand in a line.
 
 ghost use Rattle.std.specs.Prelude.{◌≡◌, ◌∷◌, ◌-◌, ◌<◌, ◌≤◌, [], false, length, take, IfOk, IfSome, MatchOption, Some, None};
-ghost use Rattle.std.specs.List.{list_all};
-ghost use Rattle.abl_values.specs.Masks.{after_run, is_digit, same_bytes};
-ghost use Rattle.schema_lines.specs.Lines.{after_word, begins, inside, is_blank, is_letter, is_line_byte, is_margin, is_name, is_name_byte, is_word_byte, past_word, pieces, quote_of, quoted_bytes, run, text_of, trimmed, without_end, word_of};
+ghost use Rattle.abl_values.specs.Masks.{after_run};
+ghost use Rattle.schema_lines.specs.Lines.{after_word, begins, inside, is_blank, is_line_byte, is_margin, is_word_byte, past_word, pieces, quote_of, quoted_bytes, run, text_of, trimmed, without_end, word_of};
 
 use abl_base::{Bytes, Items};
-use abl_values::named::MAX_NAME_BYTES;
+use abl_values::same_bytes;
 use std::alloc::{AllocError, Global};
 
 /// A blank or a tab.
@@ -163,21 +162,6 @@ pub fn begins(word: &[u8], line: &[u8]) -> bool
     same_bytes(word_of(line), word)
 }
 
-/// Says whether two texts have the same bytes.
-pub fn same_bytes(a: &[u8], b: &[u8]) -> bool
-    ensures { result ≡ same_bytes a.now b.now }
-{
-    if a.len() != b.len() {
-        return false;
-    }
-    for i in 0..a.len() {
-        if a[i] != b[i] {
-            return false;
-        }
-    }
-    true
-}
-
 /// What stands after this word, where it stands at the head of the line.
 pub fn past_word<'a>(word: &[u8], line: &'a [u8]) -> Option<&'a [u8]>
     ensures { MatchOption result (past_word word.now line.now ≡ None) (λ rest. past_word word.now line.now ≡ Some rest.now) }
@@ -251,44 +235,5 @@ fn bytes_inside(alloc: Global, bytes: &[u8]) -> Result<Bytes, AllocError>
         Ok(text)
     } else {
         Ok(Items::empty(alloc))
-    }
-}
-
-fn is_letter(byte: u8) -> bool
-    ensures { result ≡ is_letter byte }
-{
-    (b'A' <= byte && byte <= b'Z') || (b'a' <= byte && byte <= b'z')
-}
-
-/// A digit of ASCII.
-pub fn is_digit(byte: u8) -> bool
-    ensures { result ≡ is_digit byte }
-{
-    b'0' <= byte && byte <= b'9'
-}
-
-/// Letters, digits and `# $ % & - _`.
-fn is_name_byte(byte: u8) -> bool
-    ensures { result ≡ is_name_byte byte }
-{
-    (is_letter(byte) || is_digit(byte))
-        || ((b'#' <= byte && byte <= b'&') || (byte == b'-' || byte == b'_'))
-}
-
-fn are_name_bytes(bytes: &[u8]) -> bool
-    ensures { result ≡ list_all is_name_byte bytes.now }
-{
-    bytes.iter().all(|byte| is_name_byte(*byte))
-}
-
-/// Says whether the text is a name: a letter, then letters, digits and signs, at most 32 bytes.
-pub fn is_name(text: &[u8]) -> bool
-    ensures { result ≡ is_name text.now }
-{
-    match text {
-        [] => false,
-        [first, rest @ ..] => {
-            is_letter(*first) && (are_name_bytes(rest) && text.len() <= MAX_NAME_BYTES)
-        }
     }
 }

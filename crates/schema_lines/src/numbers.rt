@@ -1,28 +1,10 @@
 //! The numbers that a schema file spells without a leading zero.
 
 ghost use Rattle.std.specs.Prelude.{◌≡◌};
-ghost use Rattle.std.specs.List.{list_all};
-ghost use Rattle.abl_values.specs.Masks.{is_digit, without_minus};
-ghost use Rattle.abl_values.specs.Digits.{are_digits};
 ghost use Rattle.schema_lines.specs.Numbers.{is_number, long_number, small_number};
 
-use crate::lines::is_digit;
-use text_values::whole_in;
-
-fn all_digits(bytes: &[u8]) -> bool
-    ensures { result ≡ list_all is_digit bytes.now }
-{
-    bytes.iter().all(|byte| is_digit(*byte))
-}
-
-fn are_digits(bytes: &[u8]) -> bool
-    ensures { result ≡ are_digits bytes.now }
-{
-    match bytes {
-        [] => false,
-        [first, rest @ ..] => is_digit(*first) && all_digits(rest),
-    }
-}
+use abl_values::{is_digit, without_minus};
+use text_values::{are_digits, whole_in};
 
 /// Digits without a leading zero.
 fn is_number(bytes: &[u8]) -> bool
@@ -47,16 +29,6 @@ pub fn small_number(digits: &[u8]) -> Option<u32>
         Some(n as u32)
     } else {
         None
-    }
-}
-
-/// The text without a `-` at its head.
-fn without_minus(text: &[u8]) -> &[u8]
-    ensures { result.now ≡ without_minus text.now }
-{
-    match text {
-        [b'-', rest @ ..] => rest,
-        _ => text,
     }
 }
 

@@ -5,11 +5,7 @@ ghost use Rattle.std.specs.List.{list_all, prefix_len};
 ghost use Rattle.abl_values.specs.Masks.{is_digit};
 ghost use Rattle.abl_values.specs.Digits.{are_digits, number_of};
 
-fn is_digit(byte: u8) -> bool
-    ensures { result ≡ is_digit byte }
-{
-    b'0' <= byte && byte <= b'9'
-}
+use abl_values::is_digit;
 
 /// Whether each byte is a digit.
 pub fn all_digits(bytes: &[u8]) -> bool

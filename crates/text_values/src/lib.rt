@@ -12,6 +12,7 @@ mod truths;
 mod values;
 
 pub use dates::date_in;
+pub use digits::are_digits;
 pub use numbers::{number_in, whole_in};
 pub use truths::truth_in;
 pub use values::value_in;

@@ -1,12 +1,7 @@
-//! What rows do not show: schemas, rows and keys.
-
-ghost use Rattle.std.specs.Prelude.{◌≡◌, [], ◌∷◌, length, IfOk};
+//! What rows do not show: lists of names, rows and keys.
 
 use abl_base::{Bytes, Items, Kind, Row, Value, copy_row};
-use abl_values::{
-    FieldDef, HasName, IndexDef, NameFault, Named, Part, Schema, SequenceDef, TableDef, key_bytes,
-    row_bytes, row_of,
-};
+use abl_values::{FieldDef, HasName, NameFault, Named, Part, key_bytes, row_bytes, row_of};
 use std::alloc::{AllocError, Global};
 use std::test::Fail;
 
@@ -37,60 +32,12 @@ fn unsupported_field(alloc: Global, spelt: &[u8]) -> Result<FieldDef, AllocError
 }
 
 /// A list of one item.
-fn one<T: HasName>(alloc: Global, item: T) -> Result<Named<T>, AllocError>
-    ensures { IfOk result (λ list. list ≡ item ∷ []) }
-{
+fn one<T: HasName>(alloc: Global, item: T) -> Result<Named<T>, AllocError> {
     let mut list = Named::empty(alloc);
     match list.push(item) {
         Ok(()) => Ok(list),
         Err(_) => Err(AllocError),
     }
-}
-
-fn item_index(alloc: Global) -> Result<IndexDef, AllocError> {
-    let part = Part {
-        field: 0,
-        descending: false,
-    };
-    Ok(IndexDef {
-        name: name(alloc, b"ItemNum")?,
-        unique: true,
-        parts: Items::of(alloc, &[part])?,
-    })
-}
-
-#[tactic(auto, using(crate::proofs::Tables::within_one))]
-fn items(alloc: Global) -> Result<Schema, AllocError>
-    ensures { IfOk result (λ schema. length schema.tables ≡ 1) }
-{
-    let table = TableDef {
-        name: name(alloc, b"Item")?,
-        fields: one(alloc, number_field(alloc, b"ItemNum")?)?,
-        indexes: one(alloc, item_index(alloc)?)?,
-        primary: Some(0),
-    };
-    let sequence = SequenceDef {
-        name: name(alloc, b"NextItem")?,
-        initial: -5,
-        increment: 10,
-    };
-    Ok(Schema::of(
-        one(alloc, table)?,
-        one(alloc, sequence)?,
-        Items::of(alloc, &[true, false])?,
-    ))
-}
-
-#[test]
-fn a_schema_is_found_by_name_and_written_canonically(rt: HostRuntime) -> Result<(), Fail> {
-    let schema = items(rt.alloc())?;
-    assert_eq!(rt; schema.table(b"ITEM"), Some(0));
-    assert_eq!(rt; schema.table(b"items"), None);
-    assert_eq!(rt; schema.field(0, b"itemNUM"), Some(0));
-    assert_eq!(rt; schema.field(0, b"item"), None);
-    let wanted = b"T item\nF itemnum INTEGER M 0\nI itemnum U P itemnum A\nS nextitem -5 10\n";
-    assert_eq!(rt; schema.canonical()?, Items::of(rt.alloc(), wanted)?);
-    Ok(())
 }
 
 #[test]

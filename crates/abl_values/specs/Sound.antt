@@ -1,15 +1,24 @@
--- Which schemas are sound: their names are names, their numbers and values are within their ranges, and what
--- refers to another part finds it.
-use Rattle.std.specs.Prelude.{◌≡◌, ◌<◌, ℕ, false, not, length, count_by, All, IsTrue, IfSome}
+-- Which schemas are sound: they keep to the limits, their names are names, their numbers and values are within
+-- their ranges, and what refers to another part finds it.
+use Rattle.std.specs.Prelude.{◌≡◌, ◌<◌, ℕ, Bool, false, not, ◌||◌, List, [], ◌∷◌, length, count_by, All, IsTrue, IfSome}
+use Rattle.std.specs.List.{list_any}
 use Rattle.abl_values.specs.declared.schema.FieldDef.{FieldDef}
 use Rattle.abl_values.specs.declared.schema.IndexDef.{IndexDef}
 use Rattle.abl_values.specs.declared.schema.TableDef.{TableDef}
 use Rattle.abl_values.specs.declared.schema.SequenceDef.{SequenceDef}
 use Rattle.abl_values.specs.Arithmetic.{fits_bits}
 use Rattle.abl_values.specs.Fit.{IsOfField}
-use Rattle.abl_values.specs.Schema.{SchemaData, field_names}
-use Rattle.schema_lines.specs.Lines.{is_name}
-use Rattle.abl_schema.specs.Rules.{has_twice}
+use Rattle.abl_values.specs.Names.{is_name}
+use Rattle.abl_values.specs.Schema.{SchemaData, IsWithinLimits, field_names, same_name}
+
+-- the name is one of these, in any case
+abbrev pub is_among : List ℕ → List (List ℕ) → Bool
+is_among name names = list_any (λ n. same_name n name) names
+
+-- a name stands twice, in any case
+abbrev pub has_twice : List (List ℕ) → Bool
+has_twice [] = false
+has_twice (name ∷ names) = is_among name names || has_twice names
 
 -- a field with a name, and an initial value that it holds
 pub record IsSoundField (f : FieldDef) : Type 0 where
@@ -37,6 +46,7 @@ pub record IsSoundSequence (q : SequenceDef) : Type 0 where
 
 -- tables and sequences, and an order with one place for each of them
 pub record IsSound (s : SchemaData) : Type 0 where
+  pub limits : IsWithinLimits s.tables
   pub tables : All IsSoundTable s.tables
   pub sequences : All IsSoundSequence s.sequences
   pub table_places : count_by (λ b. b) s.order ≡ length s.tables
