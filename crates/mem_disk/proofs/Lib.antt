@@ -1,3 +1,4 @@
 pub mod Record
 pub mod Moments
 pub mod Crashes
+pub mod Passing

@@ -1,6 +1,6 @@
 -- How time goes on over a call that is recorded, and over one that is not.
-use Rattle.std.proofs.Common.{◌≡◌, ◌≢◌, inl, inr, ℕ, zero, suc, ◌+◌, ◌<◌, ◌≤◌, ◌^◌, ◌==◌, Bool, true, false, if◌then◌else◌, List, [], ◌∷◌, ◌++◌, length, take, slice_set, slice_index_or, Vec, refl, sym, ◌∙◌, ap, subst, arith, length-append, min}
-use Rattle.std.proofs.lemmas.Bool.{cases_eq, cases_lt}
+use Rattle.std.proofs.Common.{◌≡◌, ◌≢◌, inl, inr, ℕ, zero, suc, ◌+◌, ◌<◌, ◌≤◌, ◌^◌, ◌==◌, Bool, true, false, if◌then◌else◌, List, [], ◌∷◌, ◌++◌, length, take, slice_set, slice_index_or, Vec, refl, sym, ◌∙◌, ap, subst, arith, length-append}
+use Rattle.std.proofs.lemmas.Bool.{cases_eq}
 use Rattle.std.proofs.lemmas.Bool.Decides.{nat_tests}
 use Rattle.std.proofs.lemmas.List.{take_all}
 use Rattle.std.specs.declared.alloc.Global.{Global}
@@ -12,7 +12,7 @@ use Rattle.mem_disk.specs.Crash.{is_write}
 use Rattle.mem_disk.specs.Laws.{torn_none, torn_whole, seen_reaches}
 use Rattle.mem_disk.proofs.Record.{after_push, note_on, note_off}
 
-abbrev Image : Type 0
+abbrev pub Image : Type 0
 Image = ℕ → List ℕ
 
 take_push : {A : Type 0} (m : ℕ) (xs ys : List A) → m ≤ length xs → take m (xs ++ ys) ≡ take m xs
@@ -143,18 +143,14 @@ module _ (first : ℕ → List ℕ) (notes : List Note) (n : Note) where
   still_by Nothing c is r = r
 
   -- a call that is no write brings no image
-  pub still_step : is_write n.effect ≡ false → (image : Image) → LeftBy first (notes ++ n ∷ []) image → (d : Image) × LeftBy first notes d × (image ≡ d)
-  still_step is image left = (image, (λ k. each k), refl)
+  pub still_step : is_write n.effect ≡ false → (step : Image → Image → Type 0) → ((image : Image) → step image image) → (image : Image) → LeftBy first (notes ++ n ∷ []) image → (d : Image) × LeftBy first notes d × step d image
+  still_step is step still image left = (image, (λ k. each k), still image)
     where
       each : (k : ℕ) → Reaches (held first notes k).synced (held first notes k).pending (image k)
       each k = elim (cases_eq k n.area) [
         | inl e ↦ subst (λ (j : ℕ). Reaches (held first notes j).synced (held first notes j).pending (image j)) (sym e) (still_by n.effect (image n.area) is (subst (λ (h : Held). Reaches h.synced h.pending (image n.area)) here (left n.area)))
         | inr ne ↦ subst (λ (h : Held). Reaches h.synced h.pending (image k)) (elsewhere k ne) (left k)
       ]
-
-  -- a call that is no write, where a torn area would be permitted
-  pub still_torn : (area at m : ℕ) → is_write n.effect ≡ false → (image : Image) → LeftBy first (notes ++ n ∷ []) image → (d : Image) × LeftBy first notes d × TornIn area at m d image
-  still_torn area at m is image left = let s = still_step is image left in (s.0, s.1, subst (λ (x : Image). TornIn area at m s.0 x) (sym s.2) (torn_not area at m s.0))
 
   synced_by : (e : Effect) (a : Held) (c : List ℕ) → e ≡ Synced → Reaches (done_by e n a).synced (done_by e n a).pending c → c ≡ (done_by e n a).seen
   synced_by Written a c is r = absurd (cc)
@@ -197,26 +193,6 @@ held_same first notes n is k = elim (cases_eq k n.area) [
   | inr ne ↦ elsewhere first notes n k ne
 ]
 
--- a call that is recorded as nothing, or for which the record has no room
-module _ (first : ℕ → List ℕ) (notes new : List Note) (area time calls : ℕ) (many : length notes ≡ min time calls) (noted : time < calls → new ≡ notes ++ record { area = area; at = 0; bytes = []; effect = Nothing } ∷ []) (full : calls ≤ time → new ≡ notes) where
-  pub passed_held : (k : ℕ) → held first new k ≡ held first notes k
-  passed_held k = elim (cases_lt time calls) [
-    | inl lt ↦ ap (λ (l : List Note). held first l k) (noted lt) ∙ held_same first notes (record { area = area; at = 0; bytes = []; effect = Nothing }) refl k
-    | inr le ↦ ap (λ (l : List Note). held first l k) (full le)
-  ]
-
-  pub passed_still : Passes false time (time + 1) (Left first notes time) (Left first new (time + 1)) (λ old now. now ≡ old)
-  passed_still = elim (cases_lt time calls) [
-    | inl lt ↦ passes first notes new time (omega (arith, many, lt)) (record { area = area; at = 0; bytes = []; effect = Nothing }) (noted lt) false (λ old now. now ≡ old) (still_step first notes (record { area = area; at = 0; bytes = []; effect = Nothing }) refl)
-    | inr le ↦ passes_by first notes new time false (λ old now. now ≡ old) (omega (arith, many, le)) (full le) (λ image. refl)
-  ]
-
-  pub passed_torn : (range at m : ℕ) → Passes false time (time + 1) (Left first notes time) (Left first new (time + 1)) (TornIn range at m)
-  passed_torn range at m = elim (cases_lt time calls) [
-    | inl lt ↦ passes first notes new time (omega (arith, many, lt)) (record { area = area; at = 0; bytes = []; effect = Nothing }) (noted lt) false (TornIn range at m) (still_torn first notes (record { area = area; at = 0; bytes = []; effect = Nothing }) range at m refl)
-    | inr le ↦ passes_by first notes new time false (TornIn range at m) (omega (arith, many, le)) (full le) (torn_not range at m)
-  ]
-
 -- what is read after a write that was done, or that was cut
 pub written_torn : (first : ℕ → List ℕ) (notes : List Note) (n : Note) → n.effect ≡ Written → TornIn n.area n.at (length n.bytes) (λ k. (held first notes k).seen) (λ k. (held first (notes ++ n ∷ []) k).seen)
 written_torn first notes n is = record {
@@ -229,10 +205,3 @@ written_torn first notes n is = record {
     written_by Cut is = absurd (cc)
     written_by Synced is = absurd (cc)
     written_by Nothing is = absurd (cc)
-
--- the same of a disk whose first areas and whose time are told by equations
-pub moved : (first first_now : ℕ → List ℕ) (notes new : List Note) (time now : ℕ) (ok : Bool) (step : Image → Image → Type 0) → first_now ≡ first → now ≡ time + 1
-    → Passes ok time (time + 1) (Left first notes time) (Left first new (time + 1)) step → Passes ok time now (Left first notes time) (Left first_now new now) step
-moved first first_now notes new time now ok step p q passed =
-    subst (λ (x : ℕ). Passes ok time x (Left first notes time) (Left first_now new x) step) (sym q)
-    (subst (λ (f : ℕ → List ℕ). Passes ok time (time + 1) (Left first notes time) (Left f new (time + 1)) step) (sym p) passed)

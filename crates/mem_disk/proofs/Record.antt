@@ -82,10 +82,14 @@ inside_more n m [] call le all one (suc i) lt = absurd (omega arith)
 inside_more n m (c ∷ calls) call le all one zero lt = let h = all 0 (omega arith) in record { bytes = omega (arith, h.bytes, le); area = h.area; small = h.small }
 inside_more n m (c ∷ calls) call le all one (suc i) lt = inside_more n m calls call le (λ j jl. all (suc j) (omega arith)) one i (omega arith)
 
-pub capacity_at : (vs : List (Vec ℕ Global)) (k : ℕ) (v : Vec ℕ Global) → k < length vs → v ≡ slice_index_or vs k v → capacity_in vs k ≡ vec_capacity v
+capacity_at : (vs : List (Vec ℕ Global)) (k : ℕ) (v : Vec ℕ Global) → k < length vs → v ≡ slice_index_or vs k v → capacity_in vs k ≡ vec_capacity v
 capacity_at [] k v lt is = absurd (omega arith)
 capacity_at (x ∷ vs) zero v lt is = ap (λ (w : Vec ℕ Global). vec_capacity w) (sym is)
 capacity_at (x ∷ vs) (suc k) v lt is = capacity_at vs k v (omega arith) is
+
+-- one of the areas has memory for as many bytes as each has
+pub room_at : (n : ℕ) (vs : List (Vec ℕ Global)) (k : ℕ) (v : Vec ℕ Global) → HaveRoom n vs → k < length vs → v ≡ slice_index_or vs k v → n ≤ vec_capacity v
+room_at n vs k v all lt is = let cap = capacity_at vs k v lt is in let had = all k lt in omega (arith, cap, had)
 
 pub room_set : (n : ℕ) (vs : List (Vec ℕ Global)) (k : ℕ) (v : Vec ℕ Global) → HaveRoom n vs → n ≤ vec_capacity v → HaveRoom n (slice_set vs k v)
 room_set n [] k v all le j lt = absurd (omega arith)

@@ -74,6 +74,33 @@ fn areas_with_room(alloc: Global, images: &Images, count: u64) -> Result<Vec<Vec
     Ok(vec![in alloc; d0, b1, b2]?)
 }
 
+/// Adds a call with these bytes to a record that has memory for them.
+fn note(calls: &mut Vec<Call>, pool: &mut Vec<u8>, area: u8, at: u64, bytes: &[u8], effect: Effect)
+    requires area { area < 3 }
+    requires end { at + length bytes.now < 2 ^ 40 }
+    requires inside { AllInside (length pool.old.items) calls.old.items }
+    requires calls { length calls.old.items < vec_capacity calls.old }
+    requires pool { length pool.old.items + length bytes.now ≤ vec_capacity pool.old }
+    ensures notes { notes_of pool.new.items calls.new.items ≡ notes_of pool.old.items calls.old.items ++ record { area = area; at = at; bytes = bytes.now; effect = effect } ∷ [] }
+    ensures inside { AllInside (length pool.new.items) calls.new.items }
+    ensures calls { length calls.new.items ≡ length calls.old.items + 1 }
+    ensures pool { length pool.new.items ≡ length pool.old.items + length bytes.now }
+    ensures calls_room { vec_capacity calls.old ≤ vec_capacity calls.new }
+    ensures pool_room { vec_capacity pool.old ≤ vec_capacity pool.new }
+{
+    let from = pool.len();
+    pool.extend_from_slice(bytes).unwrap();
+    calls
+        .push(Call {
+            area,
+            at,
+            from,
+            length: bytes.len(),
+            effect,
+        })
+        .unwrap();
+}
+
 impl MemDisk {
     ghost use Rattle.mem_disk.specs.Shown.{shown, Passed, PassesRoom};
 
@@ -145,15 +172,7 @@ impl MemDisk {
         ensures counts { Passed (shown self.old) (shown self.new) }
         ensures notes { (shown self.new).notes ≡ (shown self.old).notes ++ record { area = area; at = 0; bytes = []; effect = effect } ∷ [] }
     {
-        self.calls
-            .push(Call {
-                area,
-                at: 0,
-                from: 0,
-                length: 0,
-                effect,
-            })
-            .unwrap();
+        note(&mut self.calls, &mut self.pool, area, 0, &[], effect);
         self.time += 1;
     }
 
@@ -192,17 +211,14 @@ impl MemDisk {
         ensures counts { Passed (shown self.old) (shown self.new) }
         ensures notes { (shown self.new).notes ≡ (shown self.old).notes ++ record { area = area; at = at; bytes = bytes.now; effect = Effect.Cut } ∷ [] }
     {
-        let from = self.pool.len();
-        self.pool.extend_from_slice(bytes).unwrap();
-        self.calls
-            .push(Call {
-                area,
-                at,
-                from,
-                length: bytes.len(),
-                effect: Effect::Cut,
-            })
-            .unwrap();
+        note(
+            &mut self.calls,
+            &mut self.pool,
+            area,
+            at,
+            bytes,
+            Effect::Cut,
+        );
         self.time += 1;
     }
 
@@ -217,17 +233,14 @@ impl MemDisk {
         ensures counts { Passed (shown self.old) (shown self.new) }
         ensures notes { (shown self.new).notes ≡ (shown self.old).notes ++ record { area = area; at = at; bytes = bytes.now; effect = Effect.Written } ∷ [] }
     {
-        let from = self.pool.len();
-        self.pool.extend_from_slice(bytes).unwrap();
-        self.calls
-            .push(Call {
-                area,
-                at,
-                from,
-                length: bytes.len(),
-                effect: Effect::Written,
-            })
-            .unwrap();
+        note(
+            &mut self.calls,
+            &mut self.pool,
+            area,
+            at,
+            bytes,
+            Effect::Written,
+        );
         let target = &mut self.current[area as usize];
         overlay(target, at as usize, bytes).unwrap();
         self.time += 1;
@@ -353,12 +366,7 @@ impl Disk for MemDisk {
             self.failed = self.failed.saturating_add(1);
             return Err(DiskFailed);
         }
-        if self.time >= self.room.calls {
-            self.pass_over(area);
-            self.failed = self.failed.saturating_add(1);
-            return Err(DiskFailed);
-        }
-        if is_among(&self.fails, self.number) {
+        if self.time >= self.room.calls || is_among(&self.fails, self.number) {
             self.pass_over(area);
             self.failed = self.failed.saturating_add(1);
             return Err(DiskFailed);
