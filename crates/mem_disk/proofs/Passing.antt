@@ -48,7 +48,9 @@ module _ {old new : Shown} (passed : Passed old new) (n : Note) (more : new.note
   pub torn_now : n.effect ≡ Written → TornIn n.area n.at (length n.bytes) (seen_of old) (seen_of new)
   torn_now is = subst (λ (f : Image). TornIn n.area n.at (length n.bytes) (seen_of old) f) (sym (λ j k. (held_now k j).seen)) (written_torn old.first old.notes n is)
 
+  -- where the record has room for the call
   module _ (many : length old.notes ≡ min old.time old.room.calls) (lt : old.time < old.room.calls) where
+    -- a moment passes, and what a crash may leave takes the step that the call takes
     moves : (ok : Bool) (step : Image → Image → Type 0) → ((image : Image) → LeftBy old.first (old.notes ++ n ∷ []) image → (d : Image) × LeftBy old.first old.notes d × step d image) → Passes ok old.time new.time (left_of old) (left_of new) step
     moves ok step each = moved passed ok step (passes old.first old.notes new.notes old.time (omega (arith, many, lt)) n more ok step each)
 
