@@ -1,14 +1,17 @@
 -- A call that changes one client, and slots: what the type keeps, and what the slots then stand for.
-use Rattle.std.proofs.Common.{◌≡◌, ℕ, ◌+◌, ◌<◌, ◌≤◌, ◌++◌, Bool, true, List, length, take, drop, slice_index_or, slice_set, sym, ◌∙◌, ap, subst, refl, arith}
+use Rattle.std.proofs.Common.{◌≡◌, ℕ, ◌+◌, ◌<◌, ◌≤◌, ◌++◌, Bool, true, List, length, take, drop, slice_index_or, slice_set, sym, ◌∙◌, ap, subst, refl, arith, Vec}
 use Rattle.std.proofs.lemmas.List.{length-set}
-use Rattle.abl_storage.specs.Slots.{Transaction, Becomes, Rests, undone}
+use Rattle.abl_storage.specs.Slots.{Transaction, Becomes, Keeps, Rests, undone}
 use Rattle.mem_slots.specs.declared.slot.Slot.{Slot}
+use Rattle.std.specs.Vec.{vec_capacity}
+use Rattle.std.specs.declared.alloc.Global.{Global}
 use Rattle.mem_slots.specs.declared.client.Client.{Client}
-use Rattle.mem_slots.specs.Mem.{transaction_of, transaction_in, state_of}
+use Rattle.mem_slots.specs.declared.mem_slots.MemSlots.{MemSlots}
+use Rattle.mem_slots.specs.Mem.{transaction_of, transaction_in, idle, state_of}
 use Rattle.mem_slots.specs.Promised.{promised_to, promised}
 use Rattle.mem_slots.specs.Sparse.{slot_in, kept_in, holds, AllHeld}
 use Rattle.mem_slots.proofs.Places.{take_front}
-use Rattle.mem_slots.proofs.Clients.{transaction_of_one, transaction_same, becomes, held_set, promised_set}
+use Rattle.mem_slots.proofs.Clients.{transaction_of_one, transaction_same, becomes, held_set, promised_set, held_none}
 
 -- what the type keeps of slots, clients and the memory for slots
 abbrev pub Stands : List Slot → List Client → ℕ → Type 0
@@ -18,53 +21,79 @@ Stands ss cs room = record {
   held : (k : ℕ) → AllHeld ss (transaction_in cs k).undo;
 }
 
-module _ (ss : List Slot) (cs : List Client) (k : ℕ) (old : Client) (sixteen : length cs ≡ 16) (lt : k < 16) (is : old ≡ slice_index_or cs k old) where
+-- a client's writes have their places where those of the transaction do that it stands for
+pub held_as : (ss : List Slot) (x : Client) {t : Transaction} → transaction_of x ≡ t → AllHeld ss t.undo → AllHeld ss x.undo.items
+held_as ss x stands_for held = subst (λ (u : Transaction). AllHeld ss u.undo) (sym stands_for) held
+
+-- a client without a transaction has no write
+pub held_idle : (ss : List Slot) (x : Client) → transaction_of x ≡ idle → AllHeld ss x.undo.items
+held_idle ss x stands_for = held_as ss x stands_for (held_none ss)
+
+-- slots that are changed as a slice
+module _ (ss : Vec Slot Global) {mid : List Slot} (was : mid ≡ ss.items) (size : length mid ≡ ss.len) (new : List Slot) (still : length new ≡ length mid) where
+  -- these they then are
+  pub sliced : take ss.len (new ++ drop (length new) ss.items) ≡ new
+  sliced = take_front new (drop (length new) ss.items) ss.len (still ∙ size)
+
+  -- a part of theirs that stays
+  pub part_of : (part : List Slot → ℕ → List ℕ) → ((j : ℕ) → part new j ≡ part mid j) → part (take ss.len (new ++ drop (length new) ss.items)) ≡ part ss.items
+  part_of part same = ap part sliced ∙ (λ i j. same j i) ∙ ap part was
+
+-- one of the clients of slots in memory
+module _ (s : MemSlots) {k : ℕ} {old : Client} (lt : k < 16) (is : old ≡ slice_index_or s.clients.items k old) where
+  -- it stands for the transaction of its number
+  pub here : transaction_in s.clients.items k ≡ transaction_of old
+  here = transaction_of_one s.clients.items k old s.sixteen lt is
+
   -- each write of the client has its place
-  pub held_here : ((j : ℕ) → AllHeld ss (transaction_in cs j).undo) → AllHeld ss old.undo.items
-  held_here held = subst (λ (t : Transaction). AllHeld ss t.undo) (transaction_of_one cs k old sixteen lt is) (held k)
+  pub held_here : {mid : List Slot} → mid ≡ s.slots.items → AllHeld mid old.undo.items
+  held_here was = subst (λ (l : List Slot). AllHeld l old.undo.items) (sym was) (subst (λ (t : Transaction). AllHeld s.slots.items t.undo) here (s.held k))
 
   -- the type goes on where no place goes, each write of the client has one, and there is memory for what it was promised more
-  pub stands : (x : Client) (new : List Slot) (room : ℕ) → ((j : ℕ) → AllHeld ss (transaction_in cs j).undo) → ((j : ℕ) → holds ss j ≡ true → holds new j ≡ true)
-      → (AllHeld new old.undo.items → AllHeld new x.undo.items) → length new + promised cs + promised_to x ≤ room + promised_to old → Stands new (slice_set cs k x) room
-  stands x new room held more here fits =
-      let within : k < length cs = omega (arith, sixteen, lt) in
-      let sum = promised_set cs k old x within is in
+  pub stands : (x : Client) (new : List Slot) (room : ℕ) → ((j : ℕ) → holds s.slots.items j ≡ true → holds new j ≡ true)
+      → (AllHeld new old.undo.items → AllHeld new x.undo.items) → length new + promised s.clients.items + promised_to x ≤ room + promised_to old → Stands new (slice_set s.clients.items k x) room
+  stands x new room more held fits =
+      let within : k < length s.clients.items = omega (arith, s.sixteen, lt) in
+      let sum = promised_set s.clients.items k old x within is in
       record {
-        sixteen = length-set cs k x ∙ sixteen;
+        sixteen = length-set s.clients.items k x ∙ s.sixteen;
         has_room = omega (arith, sum, fits);
-        held = held_set ss new cs k x within more held (here (λ i il. more _ (held_here held i il)));
+        held = held_set s.slots.items new s.clients.items k x within more s.held (held (λ i il. more _ (held_here refl i il)));
       }
-
-  -- the same where the slots are changed as a slice
-  pub stands_in : (x : Client) (new rest : List Slot) (n room : ℕ) → length new ≡ n → ((j : ℕ) → AllHeld ss (transaction_in cs j).undo) → ((j : ℕ) → holds ss j ≡ true → holds new j ≡ true)
-      → (AllHeld new old.undo.items → AllHeld new x.undo.items) → length new + promised cs + promised_to x ≤ room + promised_to old → Stands (take n (new ++ rest)) (slice_set cs k x) room
-  stands_in x new rest n room long held more here fits =
-      subst (λ (l : List Slot). Stands l (slice_set cs k x) room) (sym (take_front new rest n long)) (stands x new room held more here fits)
 
   -- the client stands for this transaction
   pub becomes_one : (x : Client) (t : Transaction) (goes_on : Bool) (more : ℕ) → transaction_of x ≡ t → t.begun ≡ goes_on → more ≤ t.room
-      → Becomes k (transaction_in cs) (transaction_in (slice_set cs k x)) goes_on t.undo t.counted t.low more
+      → Becomes k (transaction_in s.clients.items) (transaction_in (slice_set s.clients.items k x)) goes_on t.undo t.counted t.low more
   becomes_one x t goes_on more stands_for begun room =
-      becomes cs k x goes_on t.undo t.counted t.low more (omega (arith, sixteen, lt))
+      becomes s.clients.items k x goes_on t.undo t.counted t.low more (omega (arith, s.sixteen, lt))
       (ap (λ (u : Transaction). u.begun) stands_for ∙ begun) (ap (λ (u : Transaction). u.undo) stands_for) (ap (λ (u : Transaction). u.counted) stands_for) (ap (λ (u : Transaction). u.low) stands_for)
       (subst (λ (u : Transaction). more ≤ u.room) (sym stands_for) room)
 
   -- nothing changes where the client stands for what it did
-  pub rests : (x : Client) (new : List Slot) → new ≡ ss → transaction_of x ≡ transaction_of old → Rests (state_of ss cs) (state_of new (slice_set cs k x))
+  pub rests : (x : Client) (new : List Slot) → new ≡ s.slots.items → transaction_of x ≡ transaction_of old → Rests (state_of s.slots.items s.clients.items) (state_of new (slice_set s.clients.items k x))
   rests x new same stands_for = record {
     keeps = record { told = refl; kept = λ _. ap kept_in same; doubt = λ _. ap kept_in same };
     reads = λ _. ap slot_in same;
-    transaction = transaction_same cs k x (omega (arith, sixteen, lt)) (stands_for ∙ sym (transaction_of_one cs k old sixteen lt is));
+    transaction = transaction_same s.clients.items k x (omega (arith, s.sixteen, lt)) (stands_for ∙ sym here);
   }
 
-  -- what reads give after writes of the client since a mark were taken back
-  pub reads_back : (mid new rest : List Slot) (n mark : ℕ) → length new ≡ n → mid ≡ ss → ((j : ℕ) → slot_in new j ≡ undone (drop mark old.undo.items) (slot_in mid) j)
-      → slot_in (take n (new ++ rest)) ≡ undone (drop mark (transaction_in cs k).undo) (slot_in ss)
-  reads_back mid new rest n mark long was reads =
-      ap slot_in (take_front new rest n long) ∙ (λ i j. reads j i)
-      ∙ ap (λ (l : List Slot). undone (drop mark old.undo.items) (slot_in l)) was
-      ∙ sym (ap (λ (t : Transaction). undone (drop mark t.undo) (slot_in ss)) (transaction_of_one cs k old sixteen lt is))
+  -- where the slots are changed as a slice
+  module _ {mid : List Slot} (was : mid ≡ s.slots.items) (size : length mid ≡ s.slots.len) (new : List Slot) (still : length new ≡ length mid) where
+    -- the type goes on where no place goes, each write of the client has one, and it is promised no more
+    pub stands_sliced : (x : Client) → ((j : ℕ) → holds new j ≡ holds mid j) → (AllHeld new old.undo.items → AllHeld new x.undo.items) → promised_to x ≤ promised_to old
+        → Stands (take s.slots.len (new ++ drop (length new) s.slots.items)) (slice_set s.clients.items k x) (vec_capacity s.slots)
+    stands_sliced x same held fits =
+        subst (λ (l : List Slot). Stands l (slice_set s.clients.items k x) (vec_capacity s.slots)) (sym (sliced s.slots was size new still))
+        (stands x new (vec_capacity s.slots) (λ j h. same j ∙ ap (λ (l : List Slot). holds l j) was ∙ h) held (let long = ap length was in omega (arith, long, still, fits, s.has_room)))
 
--- what slots that are changed as a slice stand for
-pub part_of : (part : List Slot → ℕ → List ℕ) (mid ss new rest : List Slot) (n : ℕ) → length new ≡ n → mid ≡ ss → ((j : ℕ) → part new j ≡ part mid j) → part (take n (new ++ rest)) ≡ part ss
-part_of part mid ss new rest n long was same = ap part (take_front new rest n long) ∙ (λ i j. same j i) ∙ ap part was
+    -- what is kept stays
+    pub keeps_sliced : (x : Client) → ((j : ℕ) → kept_in new j ≡ kept_in mid j) → Keeps (state_of s.slots.items s.clients.items) (state_of (take s.slots.len (new ++ drop (length new) s.slots.items)) (slice_set s.clients.items k x))
+    keeps_sliced x same = let kept = part_of s.slots was size new still kept_in same in record { told = refl; kept = λ _. kept; doubt = λ _. kept }
+
+    -- what reads give after writes of the client since a mark were taken back
+    pub reads_back : (mark : ℕ) → ((j : ℕ) → slot_in new j ≡ undone (drop mark old.undo.items) (slot_in mid) j)
+        → slot_in (take s.slots.len (new ++ drop (length new) s.slots.items)) ≡ undone (drop mark (transaction_in s.clients.items k).undo) (slot_in s.slots.items)
+    reads_back mark reads =
+        ap slot_in (sliced s.slots was size new still) ∙ (λ i j. reads j i)
+        ∙ ap (λ (l : List Slot). undone (drop mark old.undo.items) (slot_in l)) was
+        ∙ sym (ap (λ (t : Transaction). undone (drop mark t.undo) (slot_in s.slots.items)) here)

@@ -20,8 +20,8 @@ pub record IsFirst (ss : List Slot) (i n : ℕ) : Type 0 where
   pub here : ((get_or ss i no_slot).number == n) ≡ true
   pub before : (k : ℕ) → k < i → ((get_or ss k no_slot).number == n) ≡ false
 
-pub is_first : (ss : List Slot) (n i : ℕ) → position (λ (s : Slot). s.number == n) ss ≡ Some i → IsFirst ss i n
-is_first ss n i at =
+pub is_first : {ss : List Slot} {n i : ℕ} → position (λ (s : Slot). s.number == n) ss ≡ Some i → IsFirst ss i n
+is_first {ss} {n} {i} at =
     let p = position-Some (λ (s : Slot). s.number == n) ss i no_slot at in
     record { within = p.0; here = p.1; before = p.2 }
 

@@ -1,6 +1,6 @@
 //! The slots that were written, each with what reads give and what was committed.
 
-ghost use Rattle.std.specs.Prelude.{◌≡◌, ◌<◌, ◌≤◌, ◌+◌, ◌==◌, ℕ, true, false, length, take, drop};
+ghost use Rattle.std.specs.Prelude.{◌≡◌, ◌<◌, ◌≤◌, ◌+◌, ◌==◌, ℕ, true, false, Some, length, take, drop};
 ghost use Rattle.std.specs.List.{position};
 ghost use Rattle.std.specs.Vec.{vec_capacity};
 ghost use Rattle.abl_storage.specs.Slots.{put, undone, joined};
@@ -21,6 +21,17 @@ pub fn find(slots: &[Slot], number: u32) -> Option<usize>
     ensures { result ≡ position (λ s. s.number == number) slots.now }
 {
     slots.iter().position(|slot| slot.number == number)
+}
+
+/// The place of a slot that has one.
+fn place_of(slots: &[Slot], number: u32) -> usize
+    requires { holds slots.now number ≡ true }
+    ensures { position (λ s. s.number == number) slots.now ≡ Some result }
+{
+    match find(slots, number) {
+        Some(place) => place,
+        None => unreachable!(),
+    }
 }
 
 /// The bytes of the slot: zeros where it was never written.
@@ -64,15 +75,11 @@ pub fn put_bytes(slots: &mut [Slot], number: u32, bytes: &[u8; 256]) -> [u8; 256
     ensures kept { (k : ℕ) → kept_in slots.new k ≡ kept_in slots.old k }
     ensures held { (k : ℕ) → holds slots.new k ≡ holds slots.old k }
 {
-    match find(slots, number) {
-        Some(place) => {
-            let slot = &mut slots[place];
-            let before = slot.now;
-            slot.now = *bytes;
-            before
-        }
-        None => unreachable!(),
-    }
+    let place = place_of(slots, number);
+    let slot = &mut slots[place];
+    let before = slot.now;
+    slot.now = *bytes;
+    before
 }
 
 /// Keeps what the slot reads as.
@@ -82,14 +89,10 @@ pub fn keep_bytes(slots: &mut [Slot], number: u32)
     ensures kept { (k : ℕ) → kept_in slots.new k ≡ put (kept_in slots.old) number (slot_in slots.old number) k }
     ensures held { (k : ℕ) → holds slots.new k ≡ holds slots.old k }
 {
-    match find(slots, number) {
-        Some(place) => {
-            let slot = &mut slots[place];
-            let now = slot.now;
-            slot.kept = now;
-        }
-        None => unreachable!(),
-    }
+    let place = place_of(slots, number);
+    let slot = &mut slots[place];
+    let now = slot.now;
+    slot.kept = now;
 }
 
 /// Takes writes back until so many stand.

@@ -5,7 +5,7 @@ use Rattle.mem_slots.proofs.Places.{is_first, part_at, holds_none, part_none}
 use Rattle.mem_slots.proofs.slot.bytes_of.Goals as goal
 
 pub returns-in-Some : goal.returns-in-Some
-returns-in-Some c = sym (part_at (λ (s : Slot). s.now) c.args.slots.now c.in-Some.place c.args.number (is_first c.args.slots.now c.args.number c.in-Some.place (sym c.find.ensures ∙ c.in-Some.is)))
+returns-in-Some c = sym (part_at (λ (s : Slot). s.now) _ _ _ (is_first (sym c.find.ensures ∙ c.in-Some.is)))
 
 pub returns-in-None : goal.returns-in-None
 unfolding zeros

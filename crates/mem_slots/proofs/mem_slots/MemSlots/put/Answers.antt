@@ -1,4 +1,4 @@
-use Rattle.std.proofs.Common.{◌≡◌, ◌≤◌, ◌<◌, ◌∙◌, ◌+◌, ◌-◌, if◌then◌else◌, ℕ, List, Bool, true, false, [], ◌∷◌, ◌++◌, length, drop, sym, ap, subst, refl, arith}
+use Rattle.std.proofs.Common.{◌≡◌, ◌≤◌, ◌<◌, ◌∙◌, ◌+◌, ◌-◌, if◌then◌else◌, ℕ, List, Bool, true, false, [], ◌∷◌, ◌++◌, length, slice_set, sym, ap, subst, refl, arith}
 use Rattle.std.specs.Vec.{vec_capacity}
 use Rattle.abl_storage.specs.Slots.{Transaction, is_low, put}
 use Rattle.abl_storage.specs.declared.slots.Undo.{Undo}
@@ -7,29 +7,29 @@ use Rattle.mem_slots.specs.declared.client.Client.{Client}
 use Rattle.mem_slots.specs.Mem.{transaction_in}
 use Rattle.mem_slots.specs.Promised.{promised}
 use Rattle.mem_slots.specs.Sparse.{slot_in, kept_in, holds, AllHeld}
-use Rattle.mem_slots.proofs.Places.{take_front, put_at}
-use Rattle.mem_slots.proofs.Clients.{transaction_of_one, becomes, held_push, room_within, low_within}
-use Rattle.mem_slots.proofs.Changes.{stands_in, part_of}
+use Rattle.mem_slots.proofs.Places.{put_at}
+use Rattle.mem_slots.proofs.Clients.{becomes, held_push, room_within, low_within}
+use Rattle.mem_slots.proofs.Changes.{Stands, here, stands, sliced, part_of}
 use Rattle.mem_slots.proofs.mem_slots.MemSlots.put.Goals as goal
 
 pub add-requires-clause-begun : goal.add-requires-clause-begun
 add-requires-clause-begun c =
-    let at = transaction_of_one _ _ _ c.args.self.now.sixteen c.requires.client c.index_mut-client.ensures.value in
+    let at = here c.args.self.now c.requires.client c.index_mut-client.ensures.value in
     sym (ap (λ (t : Transaction). t.begun) at) ∙ c.requires.begun
 
 pub add-requires-clause-room : goal.add-requires-clause-room
 add-requires-clause-room c =
-    let at = transaction_of_one _ _ _ c.args.self.now.sixteen c.requires.client c.index_mut-client.ensures.value in
+    let at = here c.args.self.now c.requires.client c.index_mut-client.ensures.value in
     λ high. subst (λ (t : Transaction). 0 < t.room) at (c.requires.room high)
 
 pub add-requires-clause-counted : goal.add-requires-clause-counted
 add-requires-clause-counted c =
-    let at = transaction_of_one _ _ _ c.args.self.now.sixteen c.requires.client c.index_mut-client.ensures.value in
+    let at = here c.args.self.now c.requires.client c.index_mut-client.ensures.value in
     λ high. subst (λ (t : Transaction). t.counted < 7989) at (c.requires.counted high)
 
 pub add-requires-clause-low : goal.add-requires-clause-low
 add-requires-clause-low c =
-    let at = transaction_of_one _ _ _ c.args.self.now.sixteen c.requires.client c.index_mut-client.ensures.value in
+    let at = here c.args.self.now c.requires.client c.index_mut-client.ensures.value in
     λ low. subst (λ (t : Transaction). t.low < 10) at (c.requires.low low)
 
 -- some write more of a client finds memory, whether the slot is low or not
@@ -48,28 +48,25 @@ invariant_of-self c =
     let old = c.index_mut-client.result.now in
     let X = c.put_bytes-before.new.slots in
     let mid = c.reach.new.slots in
-    let long : length X ≡ mid.len = omega (arith, c.put_bytes-before.auto.slots, c.deref_mut.ensures.len) in
-    let held_mid : (j : ℕ) → holds mid.items j ≡ true → holds X j ≡ true = λ j h. c.put_bytes-before.ensures.held j ∙ ap (λ (l : List Slot). holds l j) c.deref_mut.ensures.value ∙ h in
-    stands_in s.slots.items s.clients.items c.args.client old s.sixteen c.requires.client c.index_mut-client.ensures.value c.add.new.self X (drop (length X) mid.items) mid.len (vec_capacity mid) long s.held
+    let slice = c.deref_mut.ensures in
+    let held_mid : (j : ℕ) → holds mid.items j ≡ true → holds X j ≡ true = λ j h. c.put_bytes-before.ensures.held j ∙ ap (λ (l : List Slot). holds l j) slice.value ∙ h in
+    subst (λ (l : List Slot). Stands l (slice_set s.clients.items c.args.client c.add.new.self) (vec_capacity mid)) (sym (sliced mid slice.value slice.len c.put_bytes-before.new.slots c.put_bytes-before.auto.slots))
+    (stands s c.requires.client c.index_mut-client.ensures.value c.add.new.self X (vec_capacity mid)
     (λ j h. held_mid j (c.reach.ensures.held j h))
     (λ held. subst (λ (l : List Undo). AllHeld X l) (sym c.add.ensures.undo) (held_push X old.undo.items (record { slot = c.args.slot; old = c.put_bytes-before.result }) held (held_mid c.args.slot c.reach.ensures.here)))
-    (omega (arith, long, c.add.ensures.promised, c.reach.ensures.len, c.reach.ensures.capacity, s.has_room))
+    (let was = ap length slice.value in omega (arith, was, c.put_bytes-before.auto.slots, c.add.ensures.promised, c.reach.ensures.len, c.reach.ensures.capacity, s.has_room)))
 
 pub returns : goal.returns
 returns c =
     let s = c.args.self.now in
-    let old = c.index_mut-client.result.now in
     let ss = s.slots.items in
-    let at = transaction_of_one _ _ _ s.sixteen c.requires.client c.index_mut-client.ensures.value in
-    let X = c.put_bytes-before.new.slots in
+    let at = here s c.requires.client c.index_mut-client.ensures.value in
     let mid = c.reach.new.slots in
-    let rest = drop (length X) mid.items in
     let was : c.deref_mut.result.now ≡ mid.items = c.deref_mut.ensures.value in
-    let long : length X ≡ mid.len = omega (arith, c.put_bytes-before.auto.slots, c.deref_mut.ensures.len) in
-    let kept = part_of kept_in _ mid.items X rest mid.len long was c.put_bytes-before.ensures.kept ∙ (λ i k. c.reach.ensures.kept k i) in
+    let kept = part_of mid was c.deref_mut.ensures.len c.put_bytes-before.new.slots c.put_bytes-before.auto.slots kept_in c.put_bytes-before.ensures.kept ∙ (λ i k. c.reach.ensures.kept k i) in
     record {
       keeps = record { told = refl; kept = λ _. kept; doubt = λ _. kept };
-      reads = λ _. ap slot_in (take_front X rest mid.len long) ∙ (λ i k. (c.put_bytes-before.ensures.reads k ∙ ap (λ (l : List Slot). put (slot_in l) c.args.slot c.args.bytes.now k) was ∙ put_at (slot_in mid.items) (slot_in ss) c.args.slot c.args.bytes.now k (c.reach.ensures.reads k)) i);
+      reads = λ _. ap slot_in (sliced mid was c.deref_mut.ensures.len c.put_bytes-before.new.slots c.put_bytes-before.auto.slots) ∙ (λ i k. (c.put_bytes-before.ensures.reads k ∙ ap (λ (l : List Slot). put (slot_in l) c.args.slot c.args.bytes.now k) was ∙ put_at (slot_in mid.items) (slot_in ss) c.args.slot c.args.bytes.now k (c.reach.ensures.reads k)) i);
       before = c.put_bytes-before.result;
       before_is = λ _. c.put_bytes-before.ensures.before ∙ ap (λ (l : List Slot). slot_in l c.args.slot) was ∙ c.reach.ensures.reads c.args.slot;
       transaction = becomes s.clients.items c.args.client c.add.new.self true _ _ _ _ (omega (arith, s.sixteen, c.requires.client)) c.add.ensures.begun
