@@ -13,6 +13,9 @@ use crate::slot::{Slot, bytes_of, keep, put_bytes, reach};
 use abl_storage::{Mark, SlotFault, Slots};
 use std::alloc::{AllocError, Global};
 
+/// The most slots that a transaction may write, those of low numbers aside.
+const MAX_SLOT_WRITES: u32 = 7989;
+
 /// Slots in memory. Only those that were written take any.
 #[derive(Drop)]
 pub struct MemSlots {
@@ -147,7 +150,7 @@ impl Slots for MemSlots {
             self.put(client, slot, bytes);
             return Ok(());
         }
-        if self.clients[client].counted >= 7989 {
+        if self.clients[client].counted >= MAX_SLOT_WRITES {
             return Err(SlotFault::TxFull);
         }
         if self.clients[client].spare > 0 {

@@ -5,11 +5,11 @@ use Rattle.mem_slots.proofs.Composes.{writes_after_grows}
 use Rattle.mem_slots.specs.Mem.{transaction_in, state_of}
 use Rattle.mem_slots.proofs.mem_slots.MemSlotsSlots.write.Goals as goal
 
-pub returns-then-index-ge7989-clause-full : goal.returns-then-index-ge7989-clause-full
-returns-then-index-ge7989-clause-full c =
+pub returns-then-index-ge-MAX_SLOT_WRITES-clause-full : goal.returns-then-index-ge-MAX_SLOT_WRITES-clause-full
+returns-then-index-ge-MAX_SLOT_WRITES-clause-full c =
     let cs = c.args.self.now.clients.items in
     let at = transaction_at cs c.args.client c.index.result.now (omega (arith, c.args.self.now.sixteen)) c.index.ensures in
-    (λ _. (sym c.has_low_number.ensures ∙ c.if-has_low_number.false, subst (λ (t : Transaction). 7989 ≤ t.counted) (sym at) c.if-index-ge7989.true), λ _. refl)
+    (λ _. (sym c.has_low_number.ensures ∙ c.if-has_low_number.false, subst (λ (t : Transaction). 7989 ≤ t.counted) (sym at) c.if-index-ge-MAX_SLOT_WRITES.true), λ _. refl)
 
 pub put-requires-then-index-gt0-clause-room : goal.put-requires-then-index-gt0-clause-room
 put-requires-then-index-gt0-clause-room c =
@@ -19,18 +19,18 @@ put-requires-then-index-gt0-clause-room c =
 pub put-requires-then-index-gt0-clause-counted : goal.put-requires-then-index-gt0-clause-counted
 put-requires-then-index-gt0-clause-counted c =
     let at = transaction_at c.args.self.now.clients.items c.args.client c.index.result.now (omega (arith, c.args.self.now.sixteen)) c.index.ensures in
-    λ _. subst (λ (t : Transaction). t.counted < 7989) (sym at) c.if-index-ge7989.false
+    λ _. subst (λ (t : Transaction). t.counted < 7989) (sym at) c.if-index-ge-MAX_SLOT_WRITES.false
 
 pub returns-then-index-gt0-clause-full : goal.returns-then-index-gt0-clause-full
 returns-then-index-gt0-clause-full c =
     let at = transaction_at c.args.self.now.clients.items c.args.client c.index.result.now (omega (arith, c.args.self.now.sixteen)) c.index.ensures in
-    let few = subst (λ (t : Transaction). t.counted < 7989) (sym at) c.if-index-ge7989.false in
+    let few = subst (λ (t : Transaction). t.counted < 7989) (sym at) c.if-index-ge-MAX_SLOT_WRITES.false in
     (λ e. absurd (cc (e)), λ full. absurd (omega (arith, few, full.1)))
 
 pub returns-then-not-make_room-clause-full : goal.returns-then-not-make_room-clause-full
 returns-then-not-make_room-clause-full c =
     let at = transaction_at c.args.self.now.clients.items c.args.client c.index.result.now (omega (arith, c.args.self.now.sixteen)) c.index.ensures in
-    let few = subst (λ (t : Transaction). t.counted < 7989) (sym at) c.if-index-ge7989.false in
+    let few = subst (λ (t : Transaction). t.counted < 7989) (sym at) c.if-index-ge-MAX_SLOT_WRITES.false in
     (λ e. absurd (cc (e)), λ full. absurd (omega (arith, few, full.1)))
 
 pub returns-then-not-make_room-clause-room : goal.returns-then-not-make_room-clause-room
@@ -41,7 +41,7 @@ returns-then-not-make_room-clause-room c =
 pub put-requires-2-clause-counted : goal.put-requires-2-clause-counted
 put-requires-2-clause-counted c =
     let at = transaction_at c.args.self.now.clients.items c.args.client c.index.result.now (omega (arith, c.args.self.now.sixteen)) c.index.ensures in
-    let few = subst (λ (t : Transaction). t.counted < 7989) (sym at) c.if-index-ge7989.false in
+    let few = subst (λ (t : Transaction). t.counted < 7989) (sym at) c.if-index-ge-MAX_SLOT_WRITES.false in
     let grown = c.make_room.ensures.yes c.if-not-make_room.false in
     λ _. subst (λ (n : ℕ). n < 7989) (sym grown.transaction.counted) few
 
@@ -57,5 +57,5 @@ returns-clause-ok c =
 pub returns-clause-full : goal.returns-clause-full
 returns-clause-full c =
     let at = transaction_at c.args.self.now.clients.items c.args.client c.index.result.now (omega (arith, c.args.self.now.sixteen)) c.index.ensures in
-    let few = subst (λ (t : Transaction). t.counted < 7989) (sym at) c.if-index-ge7989.false in
+    let few = subst (λ (t : Transaction). t.counted < 7989) (sym at) c.if-index-ge-MAX_SLOT_WRITES.false in
     (λ e. absurd (cc (e)), λ full. absurd (omega (arith, few, full.1)))
