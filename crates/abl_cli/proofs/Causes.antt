@@ -8,7 +8,7 @@ use Rattle.abl_cli.specs.Command.{Shelf, HasText, IsOfSource, Prevents, Cause}
 
 -- the run that the words name
 abbrev pub run_of : (words : List (List ℕ)) (read : RunWords) → Names words read → Run
-run_of words read names = record { schema = read.schema.now; steps = names.steps; name = read.name.now; program = read.program.now }
+run_of words read names = record { schema = read.schema.now; steps = names.steps; mode = read.mode; name = read.name.now; program = read.program.now }
 
 pub cause_of_prevented :
     (words : List (List ℕ)) (shelf : Shelf) (faults : ℕ) (read : RunWords) → Names words read →

@@ -1,12 +1,14 @@
 -- Words that begin the form are those that stand where they may.
-use Rattle.std.proofs.Common.{◌≡◌, ◌≢◌, ◌<◌, ◌≤◌, ◌+◌, ℕ, List, [], ◌∷◌, ◌++◌, refl, ap, sym, ◌∙◌, subst, arith, length, take, get_or, inr, length-take-le}
+use Rattle.std.proofs.Common.{◌≡◌, ◌≢◌, ◌<◌, ◌≤◌, ◌+◌, ℕ, List, [], ◌∷◌, ◌++◌, refl, ap, sym, ◌∙◌, subst, arith, length, take, inr, length-take-le}
 use Rattle.std.proofs.lemmas.List.{take_all}
 use Rattle.std.proofs.lemmas.List.Elements.{All-cons, All-nil}
 use Rattle.std.specs.Prelude.{codes}
 use Rattle.std.specs.Char.{IsAsciiDigit, IsAsciiAlphanumeric}
+use Rattle.abl_cli.specs.declared.words.Mode.{Mode}
+use Rattle.abl_cli.specs.declared.words.Mode.TheVariants.{Quiet}
 use Rattle.abl_cli.specs.declared.words.Slot.{Slot}
-use Rattle.abl_cli.specs.Words.{Run, IsRun, IsSteps, IsName, IsProgram, words_of, HaveForm, Begin, IsWrong, at_word, missing}
-use Rattle.abl_cli.specs.Slots.{form, FitAll, IsClient}
+use Rattle.abl_cli.specs.Words.{Run, IsRun, IsSteps, IsName, IsProgram, words_of, mode_word, HaveForm, Begin, IsWrong, at_word, missing}
+use Rattle.abl_cli.specs.Slots.{form, FitAll}
 
 -- ---- words of the form that some others begin
 
@@ -30,47 +32,48 @@ a_is_name =
 p_is_program : IsProgram (112 ∷ [])
 p_is_program = record { some = omega arith; plain = All-cons (λ byte. byte ≢ 60) 112 [] (λ e. omega arith) (All-nil (λ byte. byte ≢ 60)) }
 
--- the words `run SCHEMA STEPS quiet a=p`, whose first ones are given
-run_with : List ℕ → List ℕ → Run
-run_with schema steps = record { schema = schema; steps = steps; name = 97 ∷ []; program = 112 ∷ [] }
+-- the words `run SCHEMA STEPS MODE a=p`, whose first ones are given
+run_with : List ℕ → List ℕ → Mode → Run
+run_with schema steps mode = record { schema = schema; steps = steps; mode = mode; name = 97 ∷ []; program = 112 ∷ [] }
 
-is_run_with : (schema steps : List ℕ) → 0 < length schema → IsSteps steps → IsRun (run_with schema steps)
+is_run_with : (schema steps : List ℕ) (mode : Mode) → 0 < length schema → IsSteps steps → IsRun (run_with schema steps mode)
 unfolding run_with
-is_run_with schema steps some is_steps = record { schema = some; steps = is_steps; name = a_is_name; program = p_is_program }
+is_run_with schema steps mode some is_steps = record { schema = some; steps = is_steps; name = a_is_name; program = p_is_program }
 
 -- words that stand where they may begin the form
 pub begin_of_fit : (words : List (List ℕ)) → FitAll form words → Begin words
 unfolding run_with
-begin_of_fit [] fit = (words_of (run_with (115 ∷ []) (49 ∷ [])), (run_with (115 ∷ []) (49 ∷ []), (is_run_with (115 ∷ []) (49 ∷ []) (omega arith) one_is_steps, refl)))
+begin_of_fit [] fit = (words_of (run_with (115 ∷ []) (49 ∷ []) Quiet), (run_with (115 ∷ []) (49 ∷ []) Quiet, (is_run_with (115 ∷ []) (49 ∷ []) Quiet (omega arith) one_is_steps, refl)))
 begin_of_fit (a ∷ []) fit =
     let rest : List (List ℕ) = (115 ∷ []) ∷ (49 ∷ []) ∷ codes "quiet" ∷ (97 ∷ 61 ∷ 112 ∷ []) ∷ [] in
-    (rest, (run_with (115 ∷ []) (49 ∷ []), (is_run_with (115 ∷ []) (49 ∷ []) (omega arith) one_is_steps, ap (λ w. w ∷ rest) fit.0)))
+    (rest, (run_with (115 ∷ []) (49 ∷ []) Quiet, (is_run_with (115 ∷ []) (49 ∷ []) Quiet (omega arith) one_is_steps, ap (λ w. w ∷ rest) fit.0)))
 begin_of_fit (a ∷ b ∷ []) fit =
     let rest : List (List ℕ) = (49 ∷ []) ∷ codes "quiet" ∷ (97 ∷ 61 ∷ 112 ∷ []) ∷ [] in
-    (rest, (run_with b (49 ∷ []), (is_run_with b (49 ∷ []) fit.1.0 one_is_steps, ap (λ w. w ∷ b ∷ rest) fit.0)))
+    (rest, (run_with b (49 ∷ []) Quiet, (is_run_with b (49 ∷ []) Quiet fit.1.0 one_is_steps, ap (λ w. w ∷ b ∷ rest) fit.0)))
 begin_of_fit (a ∷ b ∷ c ∷ []) fit =
     let rest : List (List ℕ) = codes "quiet" ∷ (97 ∷ 61 ∷ 112 ∷ []) ∷ [] in
-    (rest, (run_with b c, (is_run_with b c fit.1.0 fit.1.1.0, ap (λ w. w ∷ b ∷ c ∷ rest) fit.0)))
+    (rest, (run_with b c Quiet, (is_run_with b c Quiet fit.1.0 fit.1.1.0, ap (λ w. w ∷ b ∷ c ∷ rest) fit.0)))
 begin_of_fit (a ∷ b ∷ c ∷ d ∷ []) fit =
     let rest : List (List ℕ) = (97 ∷ 61 ∷ 112 ∷ []) ∷ [] in (
       rest,
       (
-        run_with b c,
+        run_with b c fit.1.1.1.0.0,
         (
-          is_run_with b c fit.1.0 fit.1.1.0,
-          ap (λ w. w ∷ b ∷ c ∷ d ∷ rest) fit.0 ∙ ap (λ w. codes "run" ∷ b ∷ c ∷ w ∷ rest) fit.1.1.1.0,
+          is_run_with b c fit.1.1.1.0.0 fit.1.0 fit.1.1.0,
+          ap (λ w. w ∷ b ∷ c ∷ d ∷ rest) fit.0 ∙ ap (λ w. codes "run" ∷ b ∷ c ∷ w ∷ rest) fit.1.1.1.0.1,
         ),
       ),
     )
 begin_of_fit (a ∷ b ∷ c ∷ d ∷ e ∷ []) fit =
+    let mode = fit.1.1.1.0 in
     let client = fit.1.1.1.1.0 in (
       [],
       (
-        record { schema = b; steps = c; name = client.name; program = client.program },
+        record { schema = b; steps = c; mode = mode.0; name = client.name; program = client.program },
         (
           record { schema = fit.1.0; steps = fit.1.1.0; name = client.is_name; program = client.is_program },
-          ap (λ w. w ∷ b ∷ c ∷ d ∷ e ∷ []) fit.0 ∙ ap (λ w. codes "run" ∷ b ∷ c ∷ w ∷ e ∷ []) fit.1.1.1.0
-              ∙ ap (λ w. codes "run" ∷ b ∷ c ∷ codes "quiet" ∷ w ∷ []) client.joined,
+          ap (λ w. w ∷ b ∷ c ∷ d ∷ e ∷ []) fit.0 ∙ ap (λ w. codes "run" ∷ b ∷ c ∷ w ∷ e ∷ []) mode.1
+              ∙ ap (λ w. codes "run" ∷ b ∷ c ∷ mode_word mode.0 ∷ w ∷ []) client.joined,
         ),
       ),
     )
@@ -86,7 +89,7 @@ first_fit (s ∷ slots) (w ∷ words) more fit = (fit.0, first_fit slots words m
 
 form_fits : (run : Run) → IsRun run → FitAll form (words_of run)
 form_fits run is_run =
-    (refl, (is_run.schema, (is_run.steps, (refl, (record { name = run.name; program = run.program; is_name = is_run.name; is_program = is_run.program; joined = refl }, tt)))))
+    (refl, (is_run.schema, (is_run.steps, ((run.mode, refl), (record { name = run.name; program = run.program; is_name = is_run.name; is_program = is_run.program; joined = refl }, tt)))))
 
 -- words that begin the form stand where they may
 pub fit_of_begin : (words : List (List ℕ)) → Begin words → FitAll form words
@@ -106,15 +109,6 @@ fit_is_short (a ∷ b ∷ c ∷ []) fit = omega arith
 fit_is_short (a ∷ b ∷ c ∷ d ∷ []) fit = omega arith
 fit_is_short (a ∷ b ∷ c ∷ d ∷ e ∷ []) fit = omega arith
 fit_is_short (a ∷ b ∷ c ∷ d ∷ e ∷ f ∷ fs) fit = absurd fit.1.1.1.1.1
-
--- the fifth word that stands where it may is a client's
-pub fifth_is_client : (words : List (List ℕ)) (d : List ℕ) → 4 < length words → FitAll form words → IsClient (get_or words 4 d)
-fifth_is_client [] x long fit = absurd (omega (arith, long))
-fifth_is_client (a ∷ []) x long fit = absurd (omega (arith, long))
-fifth_is_client (a ∷ b ∷ []) x long fit = absurd (omega (arith, long))
-fifth_is_client (a ∷ b ∷ c ∷ []) x long fit = absurd (omega (arith, long))
-fifth_is_client (a ∷ b ∷ c ∷ d ∷ []) x long fit = absurd (omega (arith, long))
-fifth_is_client (a ∷ b ∷ c ∷ d ∷ e ∷ fs) x long fit = fit.1.1.1.1.0
 
 -- ---- the wrong word
 

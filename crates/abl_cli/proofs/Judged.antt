@@ -1,5 +1,5 @@
 -- What follows from what a command did.
-use Rattle.std.proofs.Common.{◌≡◌, ◌⊎◌, inl, inr, ◌<◌, ◌≤◌, ◌+◌, ℕ, Bool, true, false, List, ◌∷◌, ◌++◌, Option, Some, None, refl, sym, ap, ◌∙◌, subst, arith, length, take, drop}
+use Rattle.std.proofs.Common.{◌≡◌, ◌⊎◌, inl, inr, ◌<◌, ◌≤◌, ◌+◌, ℕ, Bool, true, false, List, [], ◌∷◌, ◌++◌, Option, Some, None, refl, sym, ap, ◌∙◌, subst, arith, length, take, drop}
 use Rattle.std.specs.Prelude.{IsTrue}
 use Rattle.std.proofs.lemmas.List.{take-append-drop}
 use Rattle.fault_count.specs.Faults.{Rose}
@@ -16,7 +16,9 @@ use Rattle.abl_cli.specs.declared.refusal.Refusal.TheVariants.{Usage, File, TooL
 use Rattle.abl_cli.specs.declared.run.Report.{Report}
 use Rattle.abl_cli.specs.declared.prepare.TheConstants.{MAX_SOURCE_BYTES}
 use Rattle.abl_cli.specs.Words.{Run, IsRun, words_of, HaveForm, Begin, IsWrong, at_word, missing}
-use Rattle.abl_cli.specs.Report.{report_of, status_of}
+use Rattle.abl_values.specs.Schema.{SchemaData}
+use Rattle.abl_cli.specs.declared.words.Mode.{Mode}
+use Rattle.abl_cli.specs.Report.{run_text, status_of}
 use Rattle.abl_cli.specs.Writes.{Written}
 use Rattle.abl_cli.specs.Command.{Shelf, HasText, Cause, IsReported, Did, Refused, Ran, Tells, refusal_after, status_after, IsUsage, IsFile, IsTooLong, IsSource, IsNoMemory}
 use Rattle.abl_cli.proofs.Splits.{split_once_only, no_sign}
@@ -90,9 +92,13 @@ module _ (words : List (List ℕ)) (shelf : Shelf) (faults : ℕ) (old new : Wri
   told_later name ends None before after is = let e = ap (λ (w : Written). w.faults) is in omega (arith, e)
   told_later name ends (Some refusal) before after is = is.1.later
 
-  rose_in_report : (name : List ℕ) (how : ClientEnd) (sections : List Section) (r : IsReported name how sections old new report) → r.whole ≡ false → Rose old.faults new.faults
-  rose_in_report name how sections r broken =
-      rose_to r.between.faults (told_later name report.ends report.refusal r.between new r.lines) (r.text.cause broken)
+  -- the text is the same whatever the schema, so one with nothing in it tells
+  no_schema : SchemaData
+  no_schema = record { tables = []; sequences = []; order = [] }
+
+  rose_in_report : (mode : Mode) (name : List ℕ) (how : ClientEnd) (sections : List Section) (r : IsReported mode name how sections old new report) → r.whole ≡ false → Rose old.faults new.faults
+  rose_in_report mode name how sections r broken =
+      rose_to r.between.faults (told_later name report.ends report.refusal r.between new r.lines) ((r.text no_schema).cause broken)
     where
       rose_to : (mid : ℕ) → mid ≤ new.faults → Rose old.faults mid → Rose old.faults new.faults
       rose_to mid later (inl below) = inl (omega (arith, later, below))
@@ -111,7 +117,7 @@ module _ (words : List (List ℕ)) (shelf : Shelf) (faults : ℕ) (old new : Wri
   output_rose (Refused name refusal cause is) told =
       let same : refusal ≡ Output = cc (is.refusal, told) in absurd (subst (λ r. Cause words shelf faults name r) same cause).3.1
   output_rose (Ran named is_run are text has tree form ran) told =
-      rose_in_report named.name ran.end ran.sections ran.reported (output_breaks ran.reported.whole ran.end (sym ran.reported.refusal ∙ told))
+      rose_in_report named.mode named.name ran.end ran.sections ran.reported (output_breaks ran.reported.whole ran.end (sym ran.reported.refusal ∙ told))
 
   -- ---- status 0
 
@@ -133,13 +139,13 @@ module _ (words : List (List ℕ)) (shelf : Shelf) (faults : ℕ) (old new : Wri
   no_status_0 Output e = cc e
   no_status_0 NoMemory e = cc e
 
-  pub whole_at_0 : Did words shelf faults old new report → report.status ≡ 0 → IsTrue old.told → (name : List ℕ) × (sections : List Section) × (new.texts ≡ appended Standard (report_of name sections) old.texts)
+  pub whole_at_0 : Did words shelf faults old new report → report.status ≡ 0 → IsTrue old.told → (mode : Mode) × (name : List ℕ) × (sections : List Section) × ((schema : SchemaData) → new.texts ≡ appended Standard (run_text mode schema name sections report.trace) old.texts)
   whole_at_0 (Refused name refusal cause is) zero told = absurd (no_status_0 refusal (sym is.status ∙ zero))
   whole_at_0 (Ran named is_run are text has tree form ran) zero told =
       let r = ran.reported in
       let ok = status_of_run r.whole ran.end (ap status_after (sym r.refusal) ∙ sym r.status ∙ zero) in
       let same : new ≡ r.between = subst (λ refusal. Tells named.name report.ends refusal r.between new) (r.refusal ∙ ok.1) r.lines in
-      (named.name, ran.sections, ap (λ (w : Written). w.texts) same ∙ r.text.all ok.0 told)
+      (named.mode, named.name, ran.sections, λ schema. ap (λ (w : Written). w.texts) same ∙ (r.text schema).all ok.0 told)
 
   -- ---- a run without faults
 
@@ -180,7 +186,7 @@ module _ (words : List (List ℕ)) (shelf : Shelf) (faults : ℕ) (old new : Wri
     fine (Ran named is_named are_named own has own_tree own_form ran) quiet =
         let r = ran.reported in
         subst (λ status. (status ≡ 0) ⊎ ((status ≡ 8) ⊎ (status ≡ 7))) (sym (r.status ∙ ap status_after r.refusal))
-        (fine_end r.whole ran.end (λ broken. quiet (rose_in_report named.name ran.end ran.sections r broken)))
+        (fine_end r.whole ran.end (λ broken. quiet (rose_in_report named.mode named.name ran.end ran.sections r broken)))
 
   -- ---- a source that does not run
 

@@ -7,4 +7,5 @@ pub mod Judged
 pub mod Numbers
 pub mod Rooms
 pub mod Splits
+pub mod TraceLines
 pub mod Writing

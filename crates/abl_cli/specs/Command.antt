@@ -23,7 +23,9 @@ use Rattle.abl_cli.specs.declared.refusal.Refusal.TheVariants.{Usage, File, TooL
 use Rattle.abl_cli.specs.declared.run.Report.{Report}
 use Rattle.abl_cli.specs.declared.prepare.TheConstants.{MAX_SOURCE_BYTES}
 use Rattle.abl_cli.specs.Words.{Run, IsRun, words_of, IsWrong, number_of}
-use Rattle.abl_cli.specs.Report.{report_of, status_lines, status_of}
+use Rattle.abl_cli.specs.declared.words.Mode.{Mode}
+use Rattle.abl_values.specs.Schema.{SchemaData}
+use Rattle.abl_cli.specs.Report.{run_text, status_lines, status_of}
 use Rattle.abl_cli.specs.ClientRun.{ClientDid}
 use Rattle.abl_cli.specs.Writes.{Written, Writes}
 
@@ -107,26 +109,27 @@ refusal_after (end.Error text) whole = Some (Client 0)
 refusal_after (end.Stop why) whole = Some (Client 0)
 refusal_after end.NoMemory whole = Some NoMemory
 
--- the report of a run whose client ended so and wrote these sections: they are on standard output, or a prefix where a
--- write failed, and then the lines on standard error
-pub record IsReported (name : List ℕ) (end : ClientEnd) (sections : List Section) (old new : Written) (report : Report) : Type 0 where
+-- the report of a run whose client ended so and wrote these sections: its text is on standard output, or a prefix where a
+-- write failed, and then the lines on standard error. No operation of levels names a part of the schema, so the text is the same
+-- whatever the schema
+pub record IsReported (mode : Mode) (name : List ℕ) (end : ClientEnd) (sections : List Section) (old new : Written) (report : Report) : Type 0 where
   pub ends : report.ends ≡ end ∷ []
   pub whole : Bool
   pub between : Written
-  pub text : Writes whole Standard (report_of name sections) old between
+  pub text : (schema : SchemaData) → Writes whole Standard (run_text mode schema name sections report.trace) old between
   pub refusal : report.refusal ≡ refusal_after end whole
   pub status : report.status ≡ status_after report.refusal
   pub lines : Tells name report.ends report.refusal between new
 
--- a run of the client of this name and source, with so many units, and its report. It does as its source means, whatever
+-- a run of the client of this name and source in this mode, with so many units, and its report. It does as its source means, whatever
 -- its inputs are and whatever the forms of values in texts, which no source that is built so far speaks of. The trace is
 -- legal whatever the schema and the contents of the database, which no operation of levels looks at
-pub record HasRun (name : List ℕ) (units : ℕ) (tree : Tree) (old new : Written) (report : Report) : Type 0 where
+pub record HasRun (mode : Mode) (name : List ℕ) (units : ℕ) (tree : Tree) (old new : Written) (report : Report) : Type 0 where
   pub end : ClientEnd
   pub sections : List Section
   pub does : (p : Program) → p.source ≡ tree → ClientDid (run p units) report.trace end sections
   pub legal : (f : Frame) (contents : Contents) → 0 < f.clients → IsSoundContents f contents → IsLegal f contents report.trace
-  pub reported : IsReported name end sections old new report
+  pub reported : IsReported mode name end sections old new report
 
 -- what a command did: the words, what the files told before it and their count of faults after it, what stood on the streams
 -- before and after it, and its report
@@ -137,7 +140,7 @@ pub data Did (words : List (List ℕ)) (shelf : Shelf) (faults : ℕ) (old new :
   -- it ran the source that the words name
   Ran : (named : Run) → IsRun named → words ≡ words_of named →
       (text : List ℕ) → HasText shelf named.program text → (tree : Tree) → IsSourceOf text tree →
-      HasRun named.name (number_of named.steps) tree old new report → Did words shelf faults old new report
+      HasRun named.mode named.name (number_of named.steps) tree old new report → Did words shelf faults old new report
 
 -- ---- for laws
 

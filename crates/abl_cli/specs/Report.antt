@@ -5,7 +5,12 @@ use Rattle.abl_base.specs.Rules.{rule_name}
 use Rattle.block_meaning.specs.Ends.{stop_name}
 use Rattle.block_meaning.specs.declared.ends.ClientEnd.{ClientEnd}
 use Rattle.block_meaning.specs.declared.ends.ClientEnd.TheVariants as end
+use Rattle.abl_values.specs.Schema.{SchemaData}
+use Rattle.database_meaning.specs.declared.operation.Event.{Event}
 use Rattle.block_vm.specs.declared.output.Section.{Section}
+use Rattle.abl_cli.specs.declared.words.Mode.{Mode}
+use Rattle.abl_cli.specs.declared.words.Mode.TheVariants.{Trace, Quiet}
+use Rattle.abl_cli.specs.Trace.{trace_part}
 use Rattle.abl_cli.specs.declared.refusal.Refusal.{Refusal}
 use Rattle.abl_cli.specs.declared.refusal.Refusal.TheVariants.{Usage, File, TooLong, Source, Client, Output, NoMemory}
 
@@ -28,6 +33,11 @@ abbrev pub report_of : List ℕ → List Section → List ℕ
 report_of name [] = part_of name []
 report_of name (section ∷ named) =
     part_of name section.bytes ++ flat_map (λ s. part_of (name ++ 58 ∷ s.name) s.bytes) named
+
+-- the text of a run: the client's part, and its trace where the mode asks for it
+abbrev pub run_text : Mode → SchemaData → List ℕ → List Section → List Event → List ℕ
+run_text Quiet schema name sections trace = report_of name sections
+run_text Trace schema name sections trace = report_of name sections ++ trace_part schema (name ∷ []) trace
 
 -- the line about a client that ended in Error or Stop
 abbrev pub end_line : List ℕ → ClientEnd → List ℕ

@@ -2,7 +2,7 @@
 use Rattle.std.specs.Prelude.{◌≡◌, ℕ, ◌<◌, List, [], ◌∷◌, ◌++◌, length, codes}
 use Rattle.abl_cli.specs.declared.words.Slot.{Slot}
 use Rattle.abl_cli.specs.declared.words.Slot.TheVariants.{TheCommand, TheSchema, TheSteps, TheMode, TheClient}
-use Rattle.abl_cli.specs.Words.{IsSteps, IsName, IsProgram}
+use Rattle.abl_cli.specs.Words.{IsMode, IsSteps, IsName, IsProgram}
 
 -- the words of the form, in order
 abbrev pub form : List Slot
@@ -21,7 +21,7 @@ abbrev pub Fits : Slot → List ℕ → Type 0
 Fits TheCommand word = word ≡ codes "run"
 Fits TheSchema word = 0 < length word
 Fits TheSteps word = IsSteps word
-Fits TheMode word = word ≡ codes "quiet"
+Fits TheMode word = IsMode word
 Fits TheClient word = IsClient word
 
 -- each word fits its place, and there are no more words than places

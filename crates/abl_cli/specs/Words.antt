@@ -1,5 +1,7 @@
 -- The words of the command line: their form, and which word is the wrong one.
 use Rattle.std.specs.Prelude.{◌≡◌, ℕ, ◌+◌, ◌*◌, ◌-◌, ◌<◌, ◌≤◌, ◌≢◌, List, [], ◌∷◌, ◌++◌, length, All, take, codes, fold, slice_index}
+use Rattle.abl_cli.specs.declared.words.Mode.{Mode}
+use Rattle.abl_cli.specs.declared.words.Mode.TheVariants.{Trace, Quiet}
 use Rattle.abl_cli.specs.declared.words.RunWords.{RunWords}
 use Rattle.std.specs.Char.{IsAsciiDigit, IsAsciiAlphanumeric}
 
@@ -14,6 +16,14 @@ pub record IsSteps (word : List ℕ) : Type 0 where
   pub short : length word ≤ 9
   pub first : slice_index word 0 ≢ 48
 
+-- MODE: `trace` or `quiet`
+abbrev pub mode_word : Mode → List ℕ
+mode_word Trace = codes "trace"
+mode_word Quiet = codes "quiet"
+
+abbrev pub IsMode : List ℕ → Type 0
+IsMode word = (mode : Mode) × (word ≡ mode_word mode)
+
 -- NAME: 1 to 16 ASCII letters or digits
 pub record IsName (name : List ℕ) : Type 0 where
   pub letters : All IsAsciiAlphanumeric name
@@ -25,16 +35,17 @@ pub record IsProgram (program : List ℕ) : Type 0 where
   pub some : 0 < length program
   pub plain : All (λ byte. byte ≢ 60) program
 
--- what the words `run SCHEMA STEPS quiet NAME=PROG` name
+-- what the words `run SCHEMA STEPS MODE NAME=PROG` name
 pub record Run : Type 0 where
   pub schema : List ℕ
   pub steps : List ℕ
+  pub mode : Mode
   pub name : List ℕ
   pub program : List ℕ
 
 -- the words that name it
 abbrev pub words_of : Run → List (List ℕ)
-words_of run = codes "run" ∷ run.schema ∷ run.steps ∷ codes "quiet" ∷ (run.name ++ 61 ∷ run.program) ∷ []
+words_of run = codes "run" ∷ run.schema ∷ run.steps ∷ mode_word run.mode ∷ (run.name ++ 61 ∷ run.program) ∷ []
 
 -- each part has its form
 pub record IsRun (run : Run) : Type 0 where
@@ -60,6 +71,6 @@ pub data IsWrong : List (List ℕ) → ℕ → Type 0 where
 -- the words name what was read
 pub record Names (words : List (List ℕ)) (read : RunWords) : Type 0 where
   pub steps : List ℕ
-  pub is_run : IsRun (record { schema = read.schema.now; steps = steps; name = read.name.now; program = read.program.now })
-  pub words_are : words ≡ words_of (record { schema = read.schema.now; steps = steps; name = read.name.now; program = read.program.now })
+  pub is_run : IsRun (record { schema = read.schema.now; steps = steps; mode = read.mode; name = read.name.now; program = read.program.now })
+  pub words_are : words ≡ words_of (record { schema = read.schema.now; steps = steps; mode = read.mode; name = read.name.now; program = read.program.now })
   pub number : read.steps ≡ number_of steps

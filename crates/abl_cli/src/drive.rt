@@ -1,6 +1,6 @@
 //! A client and the answers to its operations.
 
-ghost use Rattle.std.specs.Prelude.{◌≡◌, ◌≢◌, ◌+◌, ◌≤◌, ◌<◌, ◌++◌, ◌∷◌, [], IsTrue, ◌↔◌, ℕ, List, vec_len, vec_capacity};
+ghost use Rattle.std.specs.Prelude.{◌≡◌, ◌≢◌, ◌+◌, ◌≤◌, ◌<◌, ◌++◌, ◌∷◌, [], IsTrue, ◌↔◌, ℕ, List, All, vec_len, vec_capacity};
 ghost use Rattle.block_meaning.specs.State.{Doing};
 ghost use Rattle.block_vm.specs.Wants.{IsPlain};
 ghost use Rattle.block_vm.specs.Does.{Does, HasNotBegun};
@@ -11,6 +11,7 @@ ghost use Rattle.database_meaning.specs.Traces.{IsSoundContents, IsLegal};
 ghost use Rattle.database_meaning.specs.declared.contents.Contents.{Contents};
 ghost use Rattle.database_meaning.specs.declared.operation.Op.{Op};
 ghost use Rattle.level_machine.specs.Turns.{IsLevelOp, IsAfter, event_of};
+ghost use Rattle.abl_cli.specs.Trace.{IsLevelEvent};
 
 use block_meaning::ClientEnd;
 use block_vm::{Client, Wants};
@@ -26,6 +27,7 @@ pub fn drive(client: &mut Client, trace: &mut Vec<Event>) -> ClientEnd
     requires room { 0 < vec_capacity trace.old }
     ensures does { (names : List (List ℕ)) (m : List Answer → Doing) → HasNotBegun client.old → OnlyGrows m → Does client.old names m [] → HasDone client.new names m trace.new.items result }
     ensures legal { (f : Frame) (contents : Contents) → 0 < f.clients → IsSoundContents f contents → IsLegal f contents trace.new.items }
+    ensures levels { All IsLevelEvent trace.new.items }
 {
     traces_begin_legal();
     let mut levels = Levels::new();
@@ -76,6 +78,7 @@ fn turn(levels: &mut Levels, trace: &mut Vec<Event>, op: Op) -> Answer
     ensures event { trace.new.items ≡ trace.old.items ++ event_of op result ∷ [] }
     ensures legal { (f : Frame) (contents : Contents) → 0 < f.clients → IsAfter f contents levels.old trace.old.items → IsAfter f contents levels.new trace.new.items }
     ensures plain { IsPlain result }
+    ensures level { IsLevelEvent (event_of op result) }
 {
     turns_keep_traces_legal();
     let reply = levels.reply(&op);

@@ -10,8 +10,10 @@ ghost use Rattle.block_vm.specs.declared.output.Section.{Section as Part};
 ghost use Rattle.abl_cli.specs.declared.refusal.Refusal.TheVariants.{Usage, Output};
 ghost use Rattle.abl_cli.specs.declared.run.Report.{Report as Told};
 ghost use Rattle.abl_cli.specs.declared.prepare.TheConstants.{MAX_SOURCE_BYTES as MOST};
+ghost use Rattle.abl_values.specs.Schema.{SchemaData};
+ghost use Rattle.abl_cli.specs.declared.words.Mode.{Mode};
 ghost use Rattle.abl_cli.specs.Words.{Run, IsRun, words_of, HaveForm, IsWrong};
-ghost use Rattle.abl_cli.specs.Report.{report_of};
+ghost use Rattle.abl_cli.specs.Report.{run_text};
 ghost use Rattle.abl_cli.specs.Writes.{Written};
 ghost use Rattle.abl_cli.specs.Command.{Shelf, Did, IsUsage, IsFile, IsTooLong, IsSource, IsNoMemory};
 
@@ -62,11 +64,11 @@ pub fn a_run_without_faults_is_done()
         (report.status ≡ 0) ⊎ ((report.status ≡ 8) ⊎ (report.status ≡ 7)) }
 {}
 
-/// Status 0 says that the whole report stands on standard output, and nothing on standard error.
+/// Status 0 says that the whole report, in the mode that the words ask for, stands on standard output, and nothing on standard error.
 pub fn status_0_says_that_the_report_is_whole()
     ensures { (words : List (List ℕ)) (shelf : Shelf) (faults : ℕ) (old new : Written) (report : Told) →
         Did words shelf faults old new report → report.status ≡ 0 → IsTrue old.told →
-        (name : List ℕ) × (sections : List Part) × (new.texts ≡ appended Standard (report_of name sections) old.texts) }
+        (mode : Mode) × (name : List ℕ) × (sections : List Part) × ((schema : SchemaData) → new.texts ≡ appended Standard (run_text mode schema name sections report.trace) old.texts) }
 {}
 
 /// The output is at fault only where the count of write faults rose.

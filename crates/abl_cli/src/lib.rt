@@ -9,12 +9,13 @@ mod prepare;
 pub mod refusal;
 mod report;
 pub mod run;
+mod trace;
 pub mod words;
 
 pub use prepare::MAX_SOURCE_BYTES;
 pub use refusal::Refusal;
 pub use run::{Ends, Report, run_abl};
-pub use words::Word;
+pub use words::{Mode, Word};
 
 #[cfg(test)]
 mod tests;

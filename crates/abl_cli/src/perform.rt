@@ -1,12 +1,13 @@
 //! A run: the client and its answers, the report, and the lines of the status.
 
-ghost use Rattle.std.specs.Prelude.{◌≡◌, ◌<◌, ◌⊎◌, ℕ, List, [], vec_capacity};
+ghost use Rattle.std.specs.Prelude.{◌≡◌, ◌<◌, ◌⊎◌, ℕ, List, [], All, vec_capacity};
 ghost use Rattle.bound_tree.specs.Bound.{source_of};
+ghost use Rattle.abl_cli.specs.Trace.{IsLevelEvent};
 ghost use Rattle.abl_cli.specs.Command.{IsCodeOf, HasRun, IsReported, IsRefused, Tells, refusal_after, output_refusal, status_after};
 
 use crate::drive::drive;
 use crate::refusal::Refusal;
-use crate::report::{write_report, write_status};
+use crate::report::{write_run, write_status};
 use crate::run::{Ends, Report, refused};
 use crate::words::RunWords;
 use abl_outside::Out;
@@ -19,7 +20,7 @@ use std::alloc::Global;
 
 /// Runs the client, and writes its report and the lines of the status.
 pub fn perform<O: Out>(alloc: Global, out: &mut O, run: &RunWords<'_>, code: Code) -> Report
-    ensures { (text : List ℕ) (is_code : IsCodeOf text code) → HasRun run.now.name.now run.now.steps (source_of is_code.bound) (record { told = O.told out.old; texts = O.written out.old; faults = O.failures out.old }) (record { told = O.told out.new; texts = O.written out.new; faults = O.failures out.new }) result ⊎ IsRefused run.now.name.now Refusal.NoMemory (record { told = O.told out.old; texts = O.written out.old; faults = O.failures out.old }) (record { told = O.told out.new; texts = O.written out.new; faults = O.failures out.new }) result }
+    ensures { (text : List ℕ) (is_code : IsCodeOf text code) → HasRun run.now.mode run.now.name.now run.now.steps (source_of is_code.bound) (record { told = O.told out.old; texts = O.written out.old; faults = O.failures out.old }) (record { told = O.told out.new; texts = O.written out.new; faults = O.failures out.new }) result ⊎ IsRefused run.now.name.now Refusal.NoMemory (record { told = O.told out.old; texts = O.written out.old; faults = O.failures out.old }) (record { told = O.told out.new; texts = O.written out.new; faults = O.failures out.new }) result }
 {
     let (Ok(mut trace), Ok(ends)) = (Vec::with_capacity(alloc, 1), Vec::with_capacity(alloc, 1))
     else {
@@ -29,9 +30,9 @@ pub fn perform<O: Out>(alloc: Global, out: &mut O, run: &RunWords<'_>, code: Cod
     match Client::new(alloc, code, run.steps) {
         Ok(mut client) => {
             let end = drive(&mut client, &mut trace);
-            report(out, run.name, client.output(), trace, ends, end)
+            report(out, run, client.output(), trace, ends, end)
         }
-        Err(_) => report(out, run.name, &[], trace, ends, ClientEnd::NoMemory),
+        Err(_) => report(out, run, &[], trace, ends, ClientEnd::NoMemory),
     }
 }
 
@@ -39,7 +40,7 @@ pub fn perform<O: Out>(alloc: Global, out: &mut O, run: &RunWords<'_>, code: Cod
 /// is in `ends`.
 fn report<O: Out>(
     out: &mut O,
-    name: &[u8],
+    run: &RunWords<'_>,
     sections: &[Section],
     trace: Vec<Event>,
     mut ends: Vec<ClientEnd>,
@@ -47,13 +48,14 @@ fn report<O: Out>(
 ) -> Report
     requires none { ends.items ≡ [] }
     requires room { 0 < vec_capacity ends }
-    ensures reported { IsReported name.now end sections.now (record { told = O.told out.old; texts = O.written out.old; faults = O.failures out.old }) (record { told = O.told out.new; texts = O.written out.new; faults = O.failures out.new }) result }
+    requires levels { All IsLevelEvent trace.items }
+    ensures reported { IsReported run.now.mode run.now.name.now end sections.now (record { told = O.told out.old; texts = O.written out.old; faults = O.failures out.old }) (record { told = O.told out.new; texts = O.written out.new; faults = O.failures out.new }) result }
     ensures trace { result.trace ≡ trace.items }
 {
-    let whole = write_report(out, name, sections).is_ok();
+    let whole = write_run(out, run.mode, run.name, sections, &trace).is_ok();
     let refusal = refusal_after(&end, whole);
     ends.push_reserved(end);
-    tell(out, name, &ends, &refusal);
+    tell(out, run.name, &ends, &refusal);
     Report {
         status: status_of(&refusal),
         trace: Trace::from_vec(trace),

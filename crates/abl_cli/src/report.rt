@@ -1,16 +1,21 @@
 //! The text that a run writes to standard output, and the lines that tell how a command ended.
 
-ghost use Rattle.std.specs.Prelude.{◌≡◌, ◌++◌, ◌∷◌, [], codes, decimal, is_ok};
+ghost use Rattle.std.specs.Prelude.{◌≡◌, ◌++◌, ◌∷◌, [], All, codes, decimal, is_ok};
 ghost use Rattle.std.specs.List.{flat_map};
 ghost use Rattle.abl_outside.specs.declared.out.Stream.{Stream};
 ghost use Rattle.abl_cli.specs.Writes.{Writes};
-ghost use Rattle.abl_cli.specs.Report.{line_end_of, line_end_after, part_of, report_of, end_line, status_lines};
+ghost use Rattle.abl_values.specs.Schema.{SchemaData};
+ghost use Rattle.abl_cli.specs.Trace.{IsLevelEvent};
+ghost use Rattle.abl_cli.specs.Report.{line_end_of, line_end_after, part_of, report_of, run_text, end_line, status_lines};
 
 use crate::refusal::Refusal;
+use crate::trace::write_trace;
+use crate::words::Mode;
 use abl_base::Place;
 use abl_outside::{Out, OutFailed, Stream};
 use block_meaning::ClientEnd;
 use block_vm::Section;
+use database_meaning::Event;
 use itoa::Buffer;
 
 /// Writes the piece. After an error a prefix of it was written.
@@ -24,7 +29,11 @@ fn write_piece<O: Out>(out: &mut O, stream: Stream, piece: &[u8]) -> Result<(), 
 }
 
 /// Writes the pieces one after the other. After an error a prefix of them was written.
-fn write_all<O: Out>(out: &mut O, stream: Stream, pieces: &[&[u8]]) -> Result<(), OutFailed>
+pub(crate) fn write_all<O: Out>(
+    out: &mut O,
+    stream: Stream,
+    pieces: &[&[u8]],
+) -> Result<(), OutFailed>
     ensures { Writes (is_ok result) stream (flat_map (λ piece. piece.now) pieces.now) (record { told = O.told out.old; texts = O.written out.old; faults = O.failures out.old }) (record { told = O.told out.new; texts = O.written out.new; faults = O.failures out.new }) }
 {
     for piece in pieces {
@@ -90,6 +99,26 @@ pub fn write_report<O: Out>(out: &mut O, name: &[u8], sections: &[Section]) -> R
     let bytes = default.bytes.as_slice();
     write_part(out, name, bytes, line_end(bytes))?;
     write_all_named(out, name, named)
+}
+
+/// Writes the text of a run: the client's part, and the trace where the mode asks for it.
+pub fn write_run<O: Out>(
+    out: &mut O,
+    mode: Mode,
+    name: &[u8],
+    sections: &[Section],
+    trace: &[Event],
+) -> Result<(), OutFailed>
+    requires { All IsLevelEvent trace.now }
+    ensures { (schema : SchemaData) → Writes (is_ok result) Stream.Output (run_text mode schema name.now sections.now trace.now) (record { told = O.told out.old; texts = O.written out.old; faults = O.failures out.old }) (record { told = O.told out.new; texts = O.written out.new; faults = O.failures out.new }) }
+{
+    match mode {
+        Mode::Quiet => write_report(out, name, sections),
+        Mode::Trace => {
+            write_report(out, name, sections)?;
+            write_trace(out, name, trace)
+        }
+    }
 }
 
 /// Writes the parts of the named outputs.

@@ -85,6 +85,26 @@ fn an_undo_asks_back_and_a_commit(rt: HostRuntime) -> Result<(), Fail> {
 }
 
 #[test]
+fn a_trace_follows_the_output(rt: HostRuntime) -> Result<(), Fail> {
+    let alloc = rt.alloc();
+    let line = b"run s.df 10 trace a=p";
+    let want =
+        b"== a ==\n0 1\n== trace ==\n1 a Enter Done\n2 a Back 1 Done\n3 a Leave 0 Committed\n4 a End Done\n";
+    expect(&rt, alloc, line, UNDO, (0, want, b""))?;
+
+    // The output takes the heading of the trace and its first line.
+    let mut out = MemOut::new(alloc, 39, &[])?;
+    let words = words_of(alloc, line)?;
+    let report = run_abl(alloc, &words, &mut only_p(alloc, UNDO, &[])?, &mut out);
+    assert_eq!(rt; report.status, 6);
+    assert!(rt; matches!(report.refusal, Some(Refusal::Output)));
+    assert_eq!(rt; report.trace.as_slice().len(), 4);
+    let taken = b"== a ==\n0 1\n== trace ==\n1 a Enter Done\n".as_slice();
+    assert_eq!(rt; out.text(Stream::Output), taken);
+    Ok(())
+}
+
+#[test]
 fn the_last_unit_decides(rt: HostRuntime) -> Result<(), Fail> {
     let want: (u8, &[u8], &[u8]) = (8, b"== a ==\n", b"abl: client a: stop Budget\n");
     let report = expect(&rt, rt.alloc(), b"run s.df 9 quiet a=p", UNDO, want)?;

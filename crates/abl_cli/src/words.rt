@@ -1,7 +1,7 @@
 //! The words of the command line (this project's choice).
 
 ghost use Rattle.std.specs.Prelude.{◌≡◌, ◌≤◌, ◌<◌, ◌+◌, ◌++◌, ◌∷◌, ◌↔◌, ℕ, List, length, take, drop, All, ◌≢◌, IsTrue, IfOk, IfErr, IfSome, IfNone, slice_get};
-ghost use Rattle.abl_cli.specs.Words.{IsSteps, IsName, IsProgram, IsWrong, Names, number_of};
+ghost use Rattle.abl_cli.specs.Words.{IsMode, IsSteps, IsName, IsProgram, IsWrong, Names, mode_word, number_of};
 ghost use Rattle.abl_cli.specs.Slots.{Fits, FitAll, IsClient, form};
 ghost use Rattle.std.specs.Char.{IsAsciiDigit, IsAsciiAlphanumeric};
 
@@ -10,13 +10,24 @@ use abl_base::Bytes;
 /// A word of the command line.
 pub type Word = Bytes;
 
-/// What the words `run SCHEMA STEPS quiet NAME=PROG` name.
+/// What a run writes besides the outputs of its clients.
+#[derive(Clone, Copy, Debug, PartialEq, Eq)]
+pub enum Mode {
+    /// The lines of the trace.
+    Trace,
+    /// Nothing.
+    Quiet,
+}
+
+/// What the words `run SCHEMA STEPS MODE NAME=PROG` name.
 #[derive(Clone, Copy)]
 pub struct RunWords<'a> {
     /// The name of the schema file, not empty.
     pub schema: &'a [u8],
     /// How many units the client may spend, from 1 to 999999999.
     pub steps: u64,
+    /// What is written besides the client's outputs.
+    pub mode: Mode,
     /// The client's name, 1 to 16 ASCII letters or digits.
     pub name: &'a [u8],
     /// The name of the source file, not empty and without `<`.
@@ -84,6 +95,20 @@ fn is_program(word: &[u8]) -> bool
     !word.is_empty() && word.iter().all(|byte| *byte != b'<')
 }
 
+/// The mode that the word names.
+fn mode_of(word: &[u8]) -> Option<Mode>
+    ensures some { IfSome result (λ mode. word.now ≡ mode_word mode) }
+    ensures none { IfNone result (¬ IsMode word.now) }
+{
+    if word == b"trace".as_slice() {
+        Some(Mode::Trace)
+    } else if word == b"quiet".as_slice() {
+        Some(Mode::Quiet)
+    } else {
+        None
+    }
+}
+
 /// Where the first `=` of the word stands.
 fn equals_sign_at(word: &[u8]) -> Option<usize>
     ensures some { IfSome result (λ at. (at < length word.now) × All (λ byte. byte ≢ 61) (take at word.now) × (word.now ≡ take at word.now ++ 61 ∷ drop (at + 1) word.now)) }
@@ -120,7 +145,7 @@ fn fits(slot: Slot, word: &[u8]) -> bool
         Slot::TheCommand => word == b"run".as_slice(),
         Slot::TheSchema => !word.is_empty(),
         Slot::TheSteps => is_steps(word),
-        Slot::TheMode => word == b"quiet".as_slice(),
+        Slot::TheMode => mode_of(word).is_some(),
         Slot::TheClient => client_of(word).is_some(),
     }
 }
@@ -143,7 +168,7 @@ fn first_misfit(words: &[Word]) -> usize
     words.len()
 }
 
-/// What the words name, where they have the form `run SCHEMA STEPS quiet NAME=PROG`; else the
+/// What the words name, where they have the form `run SCHEMA STEPS MODE NAME=PROG`; else the
 /// number of the wrong word, from 0, which is the count of words where more are missing.
 pub fn read_run(words: &[Word]) -> Result<RunWords<'_>, u32>
     ensures form { IfOk result (λ run. Names words.now run) }
@@ -156,12 +181,16 @@ pub fn read_run(words: &[Word]) -> Result<RunWords<'_>, u32>
     if words.len() < 5 {
         return Err(misfit as u32);
     }
+    let Some(mode) = mode_of(words[3].as_slice()) else {
+        unreachable!()
+    };
     let Some((name, program)) = client_of(words[4].as_slice()) else {
         unreachable!()
     };
     Ok(RunWords {
         schema: words[1].as_slice(),
         steps: number_in(words[2].as_slice()),
+        mode,
         name,
         program,
     })

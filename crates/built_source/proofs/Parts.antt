@@ -7,7 +7,7 @@ use Rattle.bound_tree.specs.declared.block.BlockKind.TheVariants.{Do}
 use Rattle.built_source.specs.declared.token.Token.{Token}
 use Rattle.built_source.specs.declared.token.Token.TheVariants as t
 use Rattle.built_source.specs.declared.token.Mark.TheVariants as m
-use Rattle.built_source.specs.Form.{IsItem, item_name, item_text, item_skip, AreItems, items_end, items_more, IsSet, assigns, puts, assign, IsInner, inner_set, inner_undo, AreInner, inner_end, inner_more, IsStatement, statement_set, statement_block, AreStatements, statements_end, statements_more, header}
+use Rattle.built_source.specs.Form.{IsItem, item_name, item_text, item_skip, AreItems, items_end, items_more, IsSet, assigns, puts, assign, IsInner, inner_statement, inner_undo, AreInner, inner_end, inner_more, IsStatement, statement_set, statement_block, AreStatements, statements_end, statements_more, header}
 
 -- two ways to read a part are the same
 pub record Same {A B : Type 0} (a b : A) (r q : B) : Type 0 where
@@ -54,44 +54,48 @@ no_set_define h = elim h [ ]
 pub no_set_nil : {names : List (Option Variable)} {rest : List Token} {a : Stmt} → IsSet names [] a rest → ⊥
 no_set_nil h = elim h [ ]
 
-pub one_inner : {names : List (Option Variable)} {block : ℕ} {tokens rest other : List Token} {a b : Stmt} → IsInner names block tokens a rest → IsInner names block tokens b other → Same a b rest other
-one_inner (inner_set s) (inner_set q) = set_unique s q
-one_inner (inner_set s) inner_undo = absurd (no_set_undo s)
-one_inner inner_undo (inner_set s) = absurd (no_set_undo s)
-one_inner inner_undo inner_undo = record { part = refl; rest = refl }
-
-pub no_inner_end : {names : List (Option Variable)} {block : ℕ} {tokens rest : List Token} {a : Stmt} → IsInner names block (t.Mark m.End ∷ tokens) a rest → ⊥
-no_inner_end (inner_set s) = no_set_end s
-
-pub inner_unique : {names : List (Option Variable)} {block : ℕ} {tokens rest other : List Token} {a b : Body} → AreInner names block tokens a rest → AreInner names block tokens b other → Same a b rest other
-inner_unique inner_end inner_end = record { part = refl; rest = refl }
-inner_unique inner_end (inner_more i a) = absurd (no_inner_end i)
-inner_unique (inner_more i a) inner_end = absurd (no_inner_end i)
-inner_unique {names} {block} (inner_more {rest} {body} i a) (inner_more {body = body'} j b) =
-    let e = one_inner i j in
-    let s = inner_unique (subst (λ q. AreInner names block q body rest) e.rest a) b in
-    let p = e.part in
-    let q = s.part in
-    record { part = cc; rest = s.rest }
-
 -- two ways to read a statement are the same
-pub record SameStatement (a b : Stmt) (m n : ℕ) (r q : List Token) : Type 0 where
+pub record SameStatement {A : Type 0} (a b : A) (m n : ℕ) (r q : List Token) : Type 0 where
   pub part : a ≡ b
   pub after : m ≡ n
   pub rest : r ≡ q
 
-pub statement_unique : {names : List (Option Variable)} {number m n : ℕ} {tokens rest other : List Token} {a b : Stmt} → IsStatement names number tokens a m rest → IsStatement names number tokens b n other → SameStatement a b m n rest other
-statement_unique (statement_set s) (statement_set q) = let e = set_unique s q in record { part = e.part; after = refl; rest = e.rest }
-statement_unique (statement_set s) (statement_block b) = absurd (no_set_do s)
-statement_unique (statement_block b) (statement_set s) = absurd (no_set_do s)
-statement_unique {number} (statement_block a) (statement_block b) =
-    let s = inner_unique a b in
-    record { part = ap (λ x. Inner (header number Do true) x) s.part; after = refl; rest = s.rest }
+pub no_statement_undo : {names : List (Option Variable)} {deeper number after : ℕ} {tokens rest : List Token} {a : Stmt} → IsStatement names deeper number (t.Mark m.Undo ∷ tokens) a after rest → ⊥
+no_statement_undo (statement_set s) = no_set_undo s
 
-pub no_statement_nil : {names : List (Option Variable)} {number m : ℕ} {rest : List Token} {a : Stmt} → IsStatement names number [] a m rest → ⊥
+pub no_inner_end : {names : List (Option Variable)} {deeper block number after : ℕ} {tokens rest : List Token} {a : Stmt} → IsInner names deeper block number (t.Mark m.End ∷ tokens) a after rest → ⊥
+no_inner_end (inner_statement (statement_set s)) = no_set_end s
+
+mutual
+  pub statement_unique : {names : List (Option Variable)} {deeper number m n : ℕ} {tokens rest other : List Token} {a b : Stmt} → IsStatement names deeper number tokens a m rest → IsStatement names deeper number tokens b n other → SameStatement a b m n rest other
+  statement_unique (statement_set s) (statement_set q) = let e = set_unique s q in record { part = e.part; after = refl; rest = e.rest }
+  statement_unique (statement_set s) (statement_block b) = absurd (no_set_do s)
+  statement_unique (statement_block b) (statement_set s) = absurd (no_set_do s)
+  statement_unique {number} (statement_block a) (statement_block b) =
+      let s = inner_unique a b in
+      record { part = ap (λ x. Inner (header number Do true) x) s.part; after = s.after; rest = s.rest }
+
+  pub one_inner : {names : List (Option Variable)} {deeper block number m n : ℕ} {tokens rest other : List Token} {a b : Stmt} → IsInner names deeper block number tokens a m rest → IsInner names deeper block number tokens b n other → SameStatement a b m n rest other
+  one_inner (inner_statement s) (inner_statement q) = statement_unique s q
+  one_inner (inner_statement s) inner_undo = absurd (no_statement_undo s)
+  one_inner inner_undo (inner_statement s) = absurd (no_statement_undo s)
+  one_inner inner_undo inner_undo = record { part = refl; after = refl; rest = refl }
+
+  pub inner_unique : {names : List (Option Variable)} {deeper block number m n : ℕ} {tokens rest other : List Token} {a b : Body} → AreInner names deeper block number tokens a m rest → AreInner names deeper block number tokens b n other → SameStatement a b m n rest other
+  inner_unique inner_end inner_end = record { part = refl; after = refl; rest = refl }
+  inner_unique inner_end (inner_more i a) = absurd (no_inner_end i)
+  inner_unique (inner_more i a) inner_end = absurd (no_inner_end i)
+  inner_unique {names} {deeper} {block} {m} {rest} (inner_more {next} {body} i a) (inner_more {behind = other_behind} {body = body'} j b) =
+      let e = one_inner i j in
+      let s = inner_unique (subst (λ k. AreInner names deeper block k other_behind body m rest) e.after (subst (λ q. AreInner names deeper block next q body m rest) e.rest a)) b in
+      let p = e.part in
+      let q = s.part in
+      record { part = cc; after = s.after; rest = s.rest }
+
+pub no_statement_nil : {names : List (Option Variable)} {deeper number m : ℕ} {rest : List Token} {a : Stmt} → IsStatement names deeper number [] a m rest → ⊥
 no_statement_nil (statement_set s) = no_set_nil s
 
-pub no_statement_define : {names : List (Option Variable)} {number after : ℕ} {tokens rest : List Token} {a : Stmt} → IsStatement names number (t.Mark m.Define ∷ tokens) a after rest → ⊥
+pub no_statement_define : {names : List (Option Variable)} {deeper number after : ℕ} {tokens rest : List Token} {a : Stmt} → IsStatement names deeper number (t.Mark m.Define ∷ tokens) a after rest → ⊥
 no_statement_define (statement_set s) = no_set_define s
 
 pub statements_unique : {names : List (Option Variable)} {number : ℕ} {tokens : List Token} {a b : Body} → AreStatements names number tokens a → AreStatements names number tokens b → a ≡ b
@@ -117,14 +121,15 @@ pub set_shorter : {names : List (Option Variable)} {tokens rest : List Token} {a
 set_shorter (assigns e) = omega arith
 set_shorter (puts a) = let h = items_shorter a in omega arith
 
-pub inner_one_shorter : {names : List (Option Variable)} {block : ℕ} {tokens rest : List Token} {a : Stmt} → IsInner names block tokens a rest → length rest < length tokens
-inner_one_shorter (inner_set s) = set_shorter s
-inner_one_shorter inner_undo = omega arith
+mutual
+  pub statement_shorter : {names : List (Option Variable)} {deeper number m : ℕ} {tokens rest : List Token} {a : Stmt} → IsStatement names deeper number tokens a m rest → length rest < length tokens
+  statement_shorter (statement_set s) = set_shorter s
+  statement_shorter (statement_block b) = let h = inner_shorter b in omega arith
 
-pub inner_shorter : {names : List (Option Variable)} {block : ℕ} {tokens rest : List Token} {a : Body} → AreInner names block tokens a rest → length rest < length tokens
-inner_shorter inner_end = omega arith
-inner_shorter (inner_more i a) = let h = inner_one_shorter i in let k = inner_shorter a in omega arith
+  pub inner_one_shorter : {names : List (Option Variable)} {deeper block number m : ℕ} {tokens rest : List Token} {a : Stmt} → IsInner names deeper block number tokens a m rest → length rest < length tokens
+  inner_one_shorter (inner_statement s) = statement_shorter s
+  inner_one_shorter inner_undo = omega arith
 
-pub statement_shorter : {names : List (Option Variable)} {number m : ℕ} {tokens rest : List Token} {a : Stmt} → IsStatement names number tokens a m rest → length rest < length tokens
-statement_shorter (statement_set s) = set_shorter s
-statement_shorter (statement_block b) = let h = inner_shorter b in omega arith
+  pub inner_shorter : {names : List (Option Variable)} {deeper block number m : ℕ} {tokens rest : List Token} {a : Body} → AreInner names deeper block number tokens a m rest → length rest < length tokens
+  inner_shorter inner_end = omega arith
+  inner_shorter (inner_more i a) = let h = inner_one_shorter i in let k = inner_shorter a in omega arith

@@ -6,6 +6,7 @@ use Rattle.bound_tree.specs.declared.statement.Stmt.{Stmt as SourceStmt}
 use Rattle.bound_tree.specs.Tree.{Item, Stmt, Body, Nothing, Then}
 use Rattle.bound_tree.specs.declared.statement.PutItem.{PutItem}
 use Rattle.bound_tree.specs.Bound.{body_of, item_of, stmt_of}
+use Rattle.built_source.specs.declared.statement.TheConstants.{MAX_OPEN_BLOCKS}
 use Rattle.built_source.specs.declared.token.Token.{Token}
 use Rattle.built_source.specs.declared.token.Token.TheVariants as t
 use Rattle.built_source.specs.declared.token.Mark.TheVariants as m
@@ -62,43 +63,47 @@ pub items_open : (names : List (Option Variable)) (start rest : List Token) (don
 items_open names start rest done s e items r a = let found = s.complete items r a in nil_items (subst (λ ts. AreItems names ts found.0 r) e found.1.0)
 
 -- THE STATEMENTS OF A BLOCK
-pub record InnerSofar (names : List (Option Variable)) (block : ℕ) (start rest : List Token) (done : List SourceStmt) : Type 0 where
-  pub sound : (body : Body) (behind : List Token) → AreInner names block rest body behind → AreInner names block start (onto done body) behind
-  pub complete : (body : Body) (behind : List Token) → AreInner names block start body behind → (more : Body) × (AreInner names block rest more behind × (body ≡ onto done more))
+pub record InnerSofar (names : List (Option Variable)) (deeper block first : ℕ) (start : List Token) (number : ℕ) (rest : List Token) (done : List SourceStmt) : Type 0 where
+  pub sound : (body : Body) (after : ℕ) (behind : List Token) → AreInner names deeper block number rest body after behind → AreInner names deeper block first start (onto done body) after behind
+  pub complete : (body : Body) (after : ℕ) (behind : List Token) → AreInner names deeper block first start body after behind → (more : Body) × (AreInner names deeper block number rest more after behind × (body ≡ onto done more))
 
-pub inner_begin : (names : List (Option Variable)) (block : ℕ) (start : List Token) → InnerSofar names block start start []
-inner_begin names block start = record { sound = λ body behind a. a; complete = λ body behind a. (body, (a, refl)) }
+pub inner_begin : (names : List (Option Variable)) (deeper block first : ℕ) (start : List Token) → InnerSofar names deeper block first start first start []
+inner_begin names deeper block first start = record { sound = λ body after behind a. a; complete = λ body after behind a. (body, (a, refl)) }
 
-cut_inner : {names : List (Option Variable)} {block : ℕ} {tokens behind rest : List Token} {stmt : Stmt} {body : Body} → IsInner names block tokens stmt rest → AreInner names block tokens body behind →
-    (more : Body) × (AreInner names block rest more behind × (body ≡ Then stmt more))
+cut_inner : {names : List (Option Variable)} {deeper block number next after : ℕ} {tokens behind rest : List Token} {stmt : Stmt} {body : Body} → IsInner names deeper block number tokens stmt next rest → AreInner names deeper block number tokens body after behind →
+    (more : Body) × (AreInner names deeper block next rest more after behind × (body ≡ Then stmt more))
 cut_inner i inner_end = absurd (no_inner_end i)
-cut_inner {names} {block} {behind} i (inner_more {body} j a) =
+cut_inner {names} {deeper} {block} {after} {behind} {rest} i (inner_more {next = other} {body} j a) =
     let s = one_inner j i in
-    (body, (subst (λ q. AreInner names block q body behind) s.rest a, ap (λ x. Then x body) s.part))
+    (body, (subst (λ n. AreInner names deeper block n rest body after behind) s.after (subst (λ q. AreInner names deeper block other q body after behind) s.rest a), ap (λ x. Then x body) s.part))
 
-pub inner_go_on : (names : List (Option Variable)) (block : ℕ) (start rest behind : List Token) (done : List SourceStmt) (stmt : SourceStmt) → InnerSofar names block start rest done → IsInner names block rest (stmt_of stmt) behind → InnerSofar names block start behind (done ++ stmt ∷ [])
-inner_go_on names block start rest behind done stmt s i = record {
-  sound = λ body r a. subst (λ x. AreInner names block start x r) (sym (onto-snoc done stmt body)) (s.sound (Then (stmt_of stmt) body) r (inner_more i a));
-  complete = λ body r a.
-      let found = s.complete body r a in
-      let c = cut_inner i found.1.0 in
-      (c.0, (c.1.0, found.1.1 ∙ ap (λ x. onto done x) c.1.1 ∙ sym (onto-snoc done stmt c.0)));
-}
+module _ (names : List (Option Variable)) (deeper block first : ℕ) (start : List Token) (number : ℕ) (rest : List Token) (done : List SourceStmt) (s : InnerSofar names deeper block first start number rest done) where
+  inner_go_on : (next : ℕ) (behind : List Token) (stmt : SourceStmt) → IsInner names deeper block number rest (stmt_of stmt) next behind → InnerSofar names deeper block first start next behind (done ++ stmt ∷ [])
+  inner_go_on next behind stmt i = record {
+    sound = λ body after r a. subst (λ x. AreInner names deeper block first start x after r) (sym (onto-snoc done stmt body)) (s.sound (Then (stmt_of stmt) body) after r (inner_more i a));
+    complete = λ body after r a.
+        let found = s.complete body after r a in
+        let c = cut_inner i found.1.0 in
+        (c.0, (c.1.0, found.1.1 ∙ ap (λ x. onto done x) c.1.1 ∙ sym (onto-snoc done stmt c.0)));
+  }
 
-pub inner_go_on_with : (names : List (Option Variable)) (block : ℕ) (start rest behind : List Token) (done new : List SourceStmt) (stmt : SourceStmt) → InnerSofar names block start rest done → IsInner names block rest (stmt_of stmt) behind → new ≡ done ++ stmt ∷ [] → InnerSofar names block start behind new
-inner_go_on_with names block start rest behind done new stmt s i n = subst (InnerSofar names block start behind) (sym n) (inner_go_on names block start rest behind done stmt s i)
+  pub inner_go_on_with : (next : ℕ) (behind : List Token) (new : List SourceStmt) (stmt : SourceStmt) → IsInner names deeper block number rest (stmt_of stmt) next behind → new ≡ done ++ stmt ∷ [] → InnerSofar names deeper block first start next behind new
+  inner_go_on_with next behind new stmt i n = subst (InnerSofar names deeper block first start next behind) (sym n) (inner_go_on next behind stmt i)
 
-pub inner_found : (names : List (Option Variable)) (block : ℕ) (start rest behind : List Token) (done : List SourceStmt) → InnerSofar names block start rest done → rest ≡ t.Mark m.End ∷ t.Mark m.Period ∷ behind → AreInner names block start (body_of done) behind
-inner_found names block start rest behind done s e =
-    subst (λ b. AreInner names block start b behind) (onto-nothing done) (s.sound Nothing behind (subst (λ ts. AreInner names block ts Nothing behind) (sym e) inner_end))
+  pub inner_found : (behind : List Token) → rest ≡ t.Mark m.End ∷ t.Mark m.Period ∷ behind → AreInner names deeper block first start (body_of done) number behind
+  inner_found behind e =
+      subst (λ b. AreInner names deeper block first start b number behind) (onto-nothing done) (s.sound Nothing number behind (subst (λ ts. AreInner names deeper block number ts Nothing number behind) (sym e) inner_end))
 
-no_inner_one : {names : List (Option Variable)} {block : ℕ} {tokens behind : List Token} {body : Body} → ((rest : List Token) → tokens ≡ t.Mark m.End ∷ t.Mark m.Period ∷ rest → ⊥) → ((stmt : Stmt) (rest : List Token) → IsInner names block tokens stmt rest → ⊥) → AreInner names block tokens body behind → ⊥
-no_inner_one p n (inner_end {rest}) = p rest refl
-no_inner_one p n (inner_more {behind} {stmt} i a) = n stmt behind i
+  no_inner_one : {body : Body} {after : ℕ} {behind : List Token} → ((r : List Token) → rest ≡ t.Mark m.End ∷ t.Mark m.Period ∷ r → ⊥) → ((stmt : Stmt) (next : ℕ) (r : List Token) → IsInner names deeper block number rest stmt next r → ⊥) → AreInner names deeper block number rest body after behind → ⊥
+  no_inner_one p n a = no_inner_in rest p n a
+    where
+      no_inner_in : (tokens : List Token) {body : Body} {after : ℕ} {behind : List Token} → ((r : List Token) → tokens ≡ t.Mark m.End ∷ t.Mark m.Period ∷ r → ⊥) → ((stmt : Stmt) (next : ℕ) (r : List Token) → IsInner names deeper block number tokens stmt next r → ⊥) → AreInner names deeper block number tokens body after behind → ⊥
+      no_inner_in tokens p n (inner_end {rest}) = p rest refl
+      no_inner_in tokens p n (inner_more {next} {behind} {stmt} i a) = n stmt next behind i
 
-pub no_inner : (names : List (Option Variable)) (block : ℕ) (start rest : List Token) (done : List SourceStmt) → InnerSofar names block start rest done → ((behind : List Token) → rest ≡ t.Mark m.End ∷ t.Mark m.Period ∷ behind → ⊥) →
-    ((stmt : Stmt) (behind : List Token) → IsInner names block rest stmt behind → ⊥) → (body : Body) (r : List Token) → AreInner names block start body r → ⊥
-no_inner names block start rest done s p n body r a = let found = s.complete body r a in no_inner_one p n found.1.0
+  pub no_inner : ((behind : List Token) → rest ≡ t.Mark m.End ∷ t.Mark m.Period ∷ behind → ⊥) → ((stmt : Stmt) (next : ℕ) (behind : List Token) → IsInner names deeper block number rest stmt next behind → ⊥) →
+      (body : Body) (after : ℕ) (r : List Token) → AreInner names deeper block first start body after r → ⊥
+  no_inner p n body after r a = let found = s.complete body after r a in no_inner_one p n found.1.0
 
 -- THE STATEMENTS OF A SOURCE
 pub record StatementsSofar (names : List (Option Variable)) (start rest : List Token) (number : ℕ) (done : List SourceStmt) : Type 0 where
@@ -108,14 +113,14 @@ pub record StatementsSofar (names : List (Option Variable)) (start rest : List T
 pub statements_begin : (names : List (Option Variable)) (start : List Token) → StatementsSofar names start start 1 []
 statements_begin names start = record { sound = λ body a. a; complete = λ body a. (body, (a, refl)) }
 
-cut_statements : {names : List (Option Variable)} {number after : ℕ} {tokens rest : List Token} {stmt : Stmt} {body : Body} → IsStatement names number tokens stmt after rest → AreStatements names number tokens body →
+cut_statements : {names : List (Option Variable)} {number after : ℕ} {tokens rest : List Token} {stmt : Stmt} {body : Body} → IsStatement names MAX_OPEN_BLOCKS number tokens stmt after rest → AreStatements names number tokens body →
     (more : Body) × (AreStatements names after rest more × (body ≡ Then stmt more))
 cut_statements i statements_end = absurd (no_statement_nil i)
 cut_statements {names} {rest} i (statements_more {after = other} {body} j a) =
     let s = statement_unique j i in
     (body, (subst (λ n. AreStatements names n rest body) s.after (subst (λ q. AreStatements names other q body) s.rest a), ap (λ x. Then x body) s.part))
 
-pub statements_go_on : (names : List (Option Variable)) (start rest behind : List Token) (number after : ℕ) (done : List SourceStmt) (stmt : SourceStmt) → StatementsSofar names start rest number done → IsStatement names number rest (stmt_of stmt) after behind → StatementsSofar names start behind after (done ++ stmt ∷ [])
+pub statements_go_on : (names : List (Option Variable)) (start rest behind : List Token) (number after : ℕ) (done : List SourceStmt) (stmt : SourceStmt) → StatementsSofar names start rest number done → IsStatement names MAX_OPEN_BLOCKS number rest (stmt_of stmt) after behind → StatementsSofar names start behind after (done ++ stmt ∷ [])
 statements_go_on names start rest behind number after done stmt s i = record {
   sound = λ body a. subst (λ x. AreStatements names 1 start x) (sym (onto-snoc done stmt body)) (s.sound (Then (stmt_of stmt) body) (statements_more i a));
   complete = λ body a.
@@ -124,7 +129,7 @@ statements_go_on names start rest behind number after done stmt s i = record {
       (c.0, (c.1.0, found.1.1 ∙ ap (λ x. onto done x) c.1.1 ∙ sym (onto-snoc done stmt c.0)));
 }
 
-pub statements_go_on_with : (names : List (Option Variable)) (start rest behind : List Token) (number after : ℕ) (done new : List SourceStmt) (stmt : SourceStmt) → StatementsSofar names start rest number done → IsStatement names number rest (stmt_of stmt) after behind → new ≡ done ++ stmt ∷ [] →
+pub statements_go_on_with : (names : List (Option Variable)) (start rest behind : List Token) (number after : ℕ) (done new : List SourceStmt) (stmt : SourceStmt) → StatementsSofar names start rest number done → IsStatement names MAX_OPEN_BLOCKS number rest (stmt_of stmt) after behind → new ≡ done ++ stmt ∷ [] →
     StatementsSofar names start behind after new
 statements_go_on_with names start rest behind number after done new stmt s i n = subst (StatementsSofar names start behind after) (sym n) (statements_go_on names start rest behind number after done stmt s i)
 
@@ -132,10 +137,10 @@ pub statements_found : (names : List (Option Variable)) (start rest : List Token
 statements_found names start rest number done s e =
     subst (λ b. AreStatements names 1 start b) (onto-nothing done) (s.sound Nothing (subst (λ ts. AreStatements names number ts Nothing) (sym e) statements_end))
 
-no_statements_one : {names : List (Option Variable)} {number : ℕ} {tokens : List Token} {body : Body} → (tokens ≡ [] → ⊥) → ((stmt : Stmt) (after : ℕ) (rest : List Token) → IsStatement names number tokens stmt after rest → ⊥) → AreStatements names number tokens body → ⊥
+no_statements_one : {names : List (Option Variable)} {number : ℕ} {tokens : List Token} {body : Body} → (tokens ≡ [] → ⊥) → ((stmt : Stmt) (after : ℕ) (rest : List Token) → IsStatement names MAX_OPEN_BLOCKS number tokens stmt after rest → ⊥) → AreStatements names number tokens body → ⊥
 no_statements_one p n statements_end = p refl
 no_statements_one p n (statements_more {after} {rest} {stmt} i a) = n stmt after rest i
 
 pub no_statements : (names : List (Option Variable)) (start rest : List Token) (number : ℕ) (done : List SourceStmt) → StatementsSofar names start rest number done → (rest ≡ [] → ⊥) →
-    ((stmt : Stmt) (after : ℕ) (behind : List Token) → IsStatement names number rest stmt after behind → ⊥) → (body : Body) → AreStatements names 1 start body → ⊥
+    ((stmt : Stmt) (after : ℕ) (behind : List Token) → IsStatement names MAX_OPEN_BLOCKS number rest stmt after behind → ⊥) → (body : Body) → AreStatements names 1 start body → ⊥
 no_statements names start rest number done s p n body a = let found = s.complete body a in no_statements_one p n found.1.0

@@ -2,10 +2,11 @@
 --   Source     : Definition* Statement*
 --   Definition : DEFINE VARIABLE N AS INTEGER [NO-UNDO] "."
 --   Statement  : Set | DO TRANSACTION ":" Inner* END "."
---   Inner      : Set | UNDO "," LEAVE "."
+--   Inner      : Statement | UNDO "," LEAVE "."
 --   Set        : N "=" I "." | PUT UNFORMATTED (N | T | SKIP)* "."
--- Each relation says that tokens begin with the part, what it stands for, and which tokens follow it.
-use Rattle.std.specs.Prelude.{ℕ, ℤ, ◌+◌, ◌<◌, ◌≡◌, Bool, true, false, List, [], ◌∷◌, ◌++◌, length, pos, Option, Some, None, slice_index_or, slice_set}
+-- At most 8 blocks are open at a place. Each relation says that tokens begin with the part, what it stands for, and which tokens
+-- follow it.
+use Rattle.std.specs.Prelude.{ℕ, suc, ℤ, ◌+◌, ◌<◌, ◌≡◌, Bool, true, false, List, [], ◌∷◌, ◌++◌, length, pos, Option, Some, None, slice_index_or, slice_set}
 use lib.ListN.{replicate}
 use Rattle.abl_base.specs.declared.value.Value.{Value}
 use Rattle.abl_base.specs.declared.value.Value.TheVariants as value
@@ -15,6 +16,7 @@ use Rattle.bound_tree.specs.declared.block.BlockKind.{BlockKind}
 use Rattle.bound_tree.specs.declared.block.BlockKind.TheVariants as block_kind
 use Rattle.bound_tree.specs.declared.statement.Target.TheVariants as target
 use Rattle.bound_tree.specs.Tree.{Header, ValueOf, Literal, TheVariable, ThenLeave, Item, Shows, Skips, Stmt, Inner, Assign, UndoBlock, PutItems, Body, Nothing, Then, Source}
+use Rattle.built_source.specs.declared.statement.TheConstants.{MAX_OPEN_BLOCKS}
 use Rattle.built_source.specs.declared.token.Token.{Token}
 use Rattle.built_source.specs.declared.token.Token.TheVariants as t
 use Rattle.built_source.specs.declared.token.Mark.TheVariants as m
@@ -93,26 +95,30 @@ pub data IsSet (names : List (Option Variable)) : List Token → Stmt → List T
   assigns : {letter : ℕ} {x : Variable} {number : ℤ} {rest : List Token} → slice_index_or names letter None ≡ Some x → IsSet names (t.Name letter ∷ t.Mark m.Equals ∷ t.Number number ∷ t.Mark m.Period ∷ rest) (assign x number) rest
   puts : {tokens rest : List Token} {items : List Item} → AreItems names tokens items rest → IsSet names (t.Mark m.Put ∷ t.Mark m.Unformatted ∷ tokens) (PutItems 0 items) rest
 
--- Inner, in the block of this number
-pub data IsInner (names : List (Option Variable)) (block : ℕ) : List Token → Stmt → List Token → Type 0 where
-  inner_set : {tokens rest : List Token} {stmt : Stmt} → IsSet names tokens stmt rest → IsInner names block tokens stmt rest
-  inner_undo : {rest : List Token} → IsInner names block (t.Mark m.Undo ∷ t.Mark m.Comma ∷ t.Mark m.Leave ∷ t.Mark m.Period ∷ rest) (UndoBlock block (ThenLeave block)) rest
+-- Blocks are numbered from 1 on in the order in which they begin. Each relation has the number of the next block before and after
+-- the part; `deeper` is how many blocks may still be opened inside of those that are open.
+mutual
+  -- Statement
+  pub data IsStatement (names : List (Option Variable)) : (deeper number : ℕ) → List Token → Stmt → ℕ → List Token → Type 0 where
+    statement_set : {deeper number : ℕ} {tokens rest : List Token} {stmt : Stmt} → IsSet names tokens stmt rest → IsStatement names deeper number tokens stmt number rest
+    statement_block : {deeper number after : ℕ} {tokens rest : List Token} {body : Body} → AreInner names deeper number (number + 1) tokens body after rest →
+        IsStatement names (suc deeper) number (t.Mark m.Do ∷ t.Mark m.Transaction ∷ t.Mark m.Colon ∷ tokens) (Inner (header number block_kind.Do true) body) after rest
 
--- Inner* END "."
-pub data AreInner (names : List (Option Variable)) (block : ℕ) : List Token → Body → List Token → Type 0 where
-  inner_end : {rest : List Token} → AreInner names block (t.Mark m.End ∷ t.Mark m.Period ∷ rest) Nothing rest
-  inner_more : {tokens behind rest : List Token} {stmt : Stmt} {body : Body} → IsInner names block tokens stmt behind → AreInner names block behind body rest → AreInner names block tokens (Then stmt body) rest
+  -- Inner, in the block of this number
+  pub data IsInner (names : List (Option Variable)) : (deeper block number : ℕ) → List Token → Stmt → ℕ → List Token → Type 0 where
+    inner_statement : {deeper block number after : ℕ} {tokens rest : List Token} {stmt : Stmt} → IsStatement names deeper number tokens stmt after rest → IsInner names deeper block number tokens stmt after rest
+    inner_undo : {deeper block number : ℕ} {rest : List Token} → IsInner names deeper block number (t.Mark m.Undo ∷ t.Mark m.Comma ∷ t.Mark m.Leave ∷ t.Mark m.Period ∷ rest) (UndoBlock block (ThenLeave block)) number rest
 
--- Statement, where its block has the first number, and the number of the next block
-pub data IsStatement (names : List (Option Variable)) (number : ℕ) : List Token → Stmt → ℕ → List Token → Type 0 where
-  statement_set : {tokens rest : List Token} {stmt : Stmt} → IsSet names tokens stmt rest → IsStatement names number tokens stmt number rest
-  statement_block : {tokens rest : List Token} {body : Body} → AreInner names number tokens body rest →
-      IsStatement names number (t.Mark m.Do ∷ t.Mark m.Transaction ∷ t.Mark m.Colon ∷ tokens) (Inner (header number block_kind.Do true) body) (number + 1) rest
+  -- Inner* END "."
+  pub data AreInner (names : List (Option Variable)) : (deeper block number : ℕ) → List Token → Body → ℕ → List Token → Type 0 where
+    inner_end : {deeper block number : ℕ} {rest : List Token} → AreInner names deeper block number (t.Mark m.End ∷ t.Mark m.Period ∷ rest) Nothing number rest
+    inner_more : {deeper block number next after : ℕ} {tokens behind rest : List Token} {stmt : Stmt} {body : Body} → IsInner names deeper block number tokens stmt next behind → AreInner names deeper block next behind body after rest →
+        AreInner names deeper block number tokens (Then stmt body) after rest
 
 -- Statement*, up to the end
 pub data AreStatements (names : List (Option Variable)) : ℕ → List Token → Body → Type 0 where
   statements_end : {number : ℕ} → AreStatements names number [] Nothing
-  statements_more : {number after : ℕ} {tokens rest : List Token} {stmt : Stmt} {body : Body} → IsStatement names number tokens stmt after rest → AreStatements names after rest body → AreStatements names number tokens (Then stmt body)
+  statements_more : {number after : ℕ} {tokens rest : List Token} {stmt : Stmt} {body : Body} → IsStatement names MAX_OPEN_BLOCKS number tokens stmt after rest → AreStatements names after rest body → AreStatements names number tokens (Then stmt body)
 
 -- Definition: its letter, and whether an UNDO takes the variable back
 pub data IsDefinition : List Token → ℕ → Bool → List Token → Type 0 where

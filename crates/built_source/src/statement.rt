@@ -1,6 +1,6 @@
 //! Statements, from their tokens to the bound tree.
 
-ghost use Rattle.std.specs.Prelude.{◌≡◌, ℕ, Err, IfOk, List, None, Some, map, slice_index_or};
+ghost use Rattle.std.specs.Prelude.{◌≡◌, ◌+◌, ℕ, Err, IfOk, List, None, Some, map, slice_index_or};
 ghost use Rattle.bound_tree.specs.Tree.{Body, Item, Stmt as TreeStmt};
 ghost use Rattle.bound_tree.specs.Bound.{body_of, item_of, stmt_of};
 ghost use Rattle.built_source.specs.declared.token.Token.{Token};
@@ -13,6 +13,9 @@ use crate::token::{Mark, Token};
 use abl_base::Value;
 use bound_tree::{Expr, PutItem, Stmt, Variable};
 use std::alloc::Global;
+
+/// How many blocks may be open at a place of a source.
+pub const MAX_OPEN_BLOCKS: u32 = 8;
 
 /// The statements that the tokens are. `lines` has the line of each token, and of those before.
 pub fn statements(
@@ -28,8 +31,7 @@ pub fn statements(
     let mut rest = tokens;
     let mut number = 1;
     while !rest.is_empty() {
-        let line = line_of(rest, lines);
-        let (stmt, next, after) = statement(alloc, names, number, line, rest)?;
+        let (stmt, next, after) = statement(alloc, names, MAX_OPEN_BLOCKS, number, lines, rest)?;
         body.push(stmt)?;
         number = next;
         rest = after;
@@ -45,23 +47,27 @@ fn line_of(rest: &[Token], lines: &[u32]) -> u32 {
     }
 }
 
-/// The statement in front, the number of the next block, and the rest.
+/// The statement in front, the number of the next block, and the rest. `deeper` blocks may still be
+/// opened there, and the first of them gets `number`.
+#[cycle(blocks)]
 fn statement<'a>(
     alloc: Global,
     names: &[Option<Variable>],
+    deeper: u32,
     number: u32,
-    line: u32,
+    lines: &[u32],
     tokens: &'a [Token],
 ) -> Result<(Stmt, u32, &'a [Token]), SourceFault>
-    ensures found { IfOk result (λ found. IsStatement names.now number tokens.now (stmt_of found.0) found.1 found.2.now) }
-    ensures none { result ≡ Err SourceFault.NotBuilt → (stmt : TreeStmt) (after : ℕ) (rest : List Token) → ¬ IsStatement names.now number tokens.now stmt after rest }
+    ensures found { IfOk result (λ found. IsStatement names.now deeper number tokens.now (stmt_of found.0) found.1 found.2.now) }
+    ensures none { result ≡ Err SourceFault.NotBuilt → (stmt : TreeStmt) (after : ℕ) (rest : List Token) → ¬ IsStatement names.now deeper number tokens.now stmt after rest }
 {
     match behind(tokens, &[Mark::Do, Mark::Transaction, Mark::Colon]) {
         Some(inside) => {
-            let (body, rest) = inner(alloc, names, number, inside)?;
-            let Some(after) = number.checked_add(1) else {
-                return Err(SourceFault::NoMemory);
+            let Some(deeper) = deeper.checked_sub(1) else {
+                return Err(SourceFault::NotBuilt);
             };
+            let (body, after, rest) = inner(alloc, names, deeper, number, lines, inside)?;
+            let line = line_of(tokens, lines);
             Ok((block_of(alloc, number, line, body), after, rest))
         }
         None => {
@@ -71,44 +77,56 @@ fn statement<'a>(
     }
 }
 
-/// The statements of a block up to its END and period, and the rest.
+/// The statements of a block up to its END and period, the number of the next block, and the rest.
+#[cycle(blocks)]
 fn inner<'a>(
     alloc: Global,
     names: &[Option<Variable>],
+    deeper: u32,
     block: u32,
+    lines: &[u32],
     tokens: &'a [Token],
-) -> Result<(Vec<Stmt>, &'a [Token]), SourceFault>
-    ensures found { IfOk result (λ found. AreInner names.now block tokens.now (body_of found.0.items) found.1.now) }
-    ensures none { result ≡ Err SourceFault.NotBuilt → (body : Body) (rest : List Token) → ¬ AreInner names.now block tokens.now body rest }
+) -> Result<(Vec<Stmt>, u32, &'a [Token]), SourceFault>
+    ensures found { IfOk result (λ found. AreInner names.now deeper block (block + 1) tokens.now (body_of found.0.items) found.1 found.2.now) }
+    ensures none { result ≡ Err SourceFault.NotBuilt → (body : Body) (after : ℕ) (rest : List Token) → ¬ AreInner names.now deeper block (block + 1) tokens.now body after rest }
 {
+    let Some(mut number) = block.checked_add(1) else {
+        return Err(SourceFault::NoMemory);
+    };
     let mut body = Vec::new(alloc);
     let mut rest = tokens;
     loop {
         if let Some(end) = behind(rest, &[Mark::End, Mark::Period]) {
-            return Ok((body, end));
+            return Ok((body, number, end));
         }
-        let (stmt, after) = inner_statement(alloc, names, block, rest)?;
+        let (stmt, next, after) =
+            inner_statement(alloc, names, deeper, block, number, lines, rest)?;
         body.push(stmt)?;
+        number = next;
         rest = after;
     }
 }
 
-/// The statement of a block in front, and the rest.
+/// The statement of a block in front, the number of the next block, and the rest.
+#[cycle(blocks)]
 fn inner_statement<'a>(
     alloc: Global,
     names: &[Option<Variable>],
+    deeper: u32,
     block: u32,
+    number: u32,
+    lines: &[u32],
     tokens: &'a [Token],
-) -> Result<(Stmt, &'a [Token]), SourceFault>
-    ensures found { IfOk result (λ found. IsInner names.now block tokens.now (stmt_of found.0) found.1.now) }
-    ensures none { result ≡ Err SourceFault.NotBuilt → (stmt : TreeStmt) (rest : List Token) → ¬ IsInner names.now block tokens.now stmt rest }
+) -> Result<(Stmt, u32, &'a [Token]), SourceFault>
+    ensures found { IfOk result (λ found. IsInner names.now deeper block number tokens.now (stmt_of found.0) found.1 found.2.now) }
+    ensures none { result ≡ Err SourceFault.NotBuilt → (stmt : TreeStmt) (after : ℕ) (rest : List Token) → ¬ IsInner names.now deeper block number tokens.now stmt after rest }
 {
     match behind(
         tokens,
         &[Mark::Undo, Mark::Comma, Mark::Leave, Mark::Period],
     ) {
-        Some(rest) => Ok((undo_of(block), rest)),
-        None => set(alloc, names, tokens),
+        Some(rest) => Ok((undo_of(block), number, rest)),
+        None => statement(alloc, names, deeper, number, lines, tokens),
     }
 }
 

@@ -1,4 +1,6 @@
 -- Each answer but Blocked takes an operation off those that the client still asks, and leaves room for the next event.
+use Rattle.std.specs.Prelude.{All}
+use Rattle.std.proofs.lemmas.List.Elements.{All-nil, All-push}
 use Rattle.std.proofs.Common.{rules, length, ◌++◌, ◌∷◌, [], refl, ◌∙◌, ◌≡◌, ◌≢◌, ◌≤◌, ◌+◌, arith, subst, sym, ap, vec_len, vec_capacity}
 use Rattle.block_vm.specs.Work.{ShowsWants}
 use Rattle.block_meaning.specs.declared.wants.Wants.TheVariants.{Ask}
@@ -10,6 +12,7 @@ use Rattle.block_meaning.specs.Meaning.{asked}
 use Rattle.block_meaning.specs.declared.ends.ClientEnd.TheVariants.{NoMemory}
 use Rattle.block_vm.specs.Does.{Came}
 use Rattle.abl_cli.specs.ClientRun.{HasDone}
+use Rattle.abl_cli.specs.Trace.{IsLevelEvent}
 use Rattle.abl_cli.proofs.Along.{Along, along_after, along_more, done_at_its_end, done_without_room}
 use Rattle.abl_cli.proofs.Rooms.{HasRoomFor, asking_waits, asking_end_ends, room_after, first_room}
 use Rattle.abl_cli.proofs.drive.drive.Goals as goal
@@ -40,6 +43,9 @@ loop-wants-preserved c =
             given_up = λ names m heard pieces given. c.resume-wants-in-loop-wants.ensures.given_up names m heard pieces given;
           })
           (subst (λ w. Along c.loop-wants.client names m c.loop-wants.trace.items w) c.in-Ask.is (c.loop-wants.invariant.along names m begins does)));
+      levels =
+          subst (All IsLevelEvent) (ap (λ items. items ++ event_of c.in-Ask.op c.turn-answer.result ∷ []) (sym c.has_room.ensures.items) ∙ ap (λ t. t) (sym c.turn-answer.ensures.event))
+          (All-push IsLevelEvent c.loop-wants.trace.items (event_of c.in-Ask.op c.turn-answer.result) c.loop-wants.invariant.levels c.turn-answer.ensures.level);
       legal =
           λ f contents clients sound.
           c.turn-answer.ensures.legal f contents clients
@@ -57,6 +63,7 @@ loop-wants-init c =
           along_after c.resume-wants.new.self names m c.args.trace.now.items c.resume-wants.result
           (subst (λ heard. Came c.resume-wants.new.self names m heard c.resume-wants.result) (sym none) (c.resume-wants.ensures.does names m [] (begins, refl) does))
           (ap (operations_of 0) c.requires.empty ∙ sym (ap (asked m) none));
+      levels = subst (All IsLevelEvent) (sym c.requires.empty) (All-nil IsLevelEvent);
       legal =
           λ f contents clients sound.
           subst (IsAfter f contents c.new-levels.result) (sym c.requires.empty)
@@ -77,3 +84,8 @@ returns-then-not-has_room-clause-does c =
     (done_without_room c.loop-wants.client names m c.loop-wants.trace.items c.in-Ask.op c.turn.result grows
     (λ is. let yes = c.has_room.ensures.end is in cc)
     (subst (λ w. Along c.loop-wants.client names m c.loop-wants.trace.items w) c.in-Ask.is (c.loop-wants.invariant.along names m begins does)))
+
+pub returns-then-not-has_room-clause-levels : goal.returns-then-not-has_room-clause-levels
+returns-then-not-has_room-clause-levels c =
+    subst (All IsLevelEvent) (ap (λ items. items ++ event_of End c.turn.result ∷ []) (sym c.has_room.ensures.items) ∙ ap (λ t. t) (sym c.turn.ensures.event))
+    (All-push IsLevelEvent c.loop-wants.trace.items (event_of End c.turn.result) c.loop-wants.invariant.levels c.turn.ensures.level)

@@ -1,3 +1,4 @@
+use Rattle.std.specs.Prelude.{All}
 use Rattle.std.proofs.Common.{ℕ, List, [], ◌<◌, vec_len, vec_capacity}
 use Rattle.database_meaning.specs.Frame.{Frame}
 use Rattle.database_meaning.specs.Traces.{IsSoundContents}
@@ -8,6 +9,7 @@ use Rattle.database_meaning.specs.declared.operation.Answer.{Answer}
 use Rattle.block_meaning.specs.State.{Doing}
 use Rattle.block_vm.specs.Does.{Does, HasNotBegun}
 use Rattle.abl_cli.proofs.Along.{Along}
+use Rattle.abl_cli.specs.Trace.{IsLevelEvent}
 use Rattle.abl_cli.proofs.Rooms.{HasRoomFor}
 use Rattle.abl_cli.proofs.drive.drive.Given as goal
 
@@ -17,6 +19,7 @@ invariant-loop-wants l =
       shows : ShowsWants l.client l.wants;
       room : HasRoomFor l.wants (vec_len l.trace) (vec_capacity l.trace);
       along : (names : List (List ℕ)) (m : List Answer → Doing) → HasNotBegun l.fn.client → Does l.fn.client names m [] → Along l.client names m l.trace.items l.wants;
+      levels : All IsLevelEvent l.trace.items;
       legal : (f : Frame) (contents : Contents) → 0 < f.clients → IsSoundContents f contents → IsAfter f contents l.levels l.trace.items;
     }
 

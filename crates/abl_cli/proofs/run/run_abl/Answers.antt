@@ -22,15 +22,15 @@ returns-in-Err-prepare g c =
 performed :
     (words : List (List ℕ)) (shelf : Shelf) (faults : ℕ) (old new : Written) (report : Report) (read : RunWords) →
     Names words read → (text : List ℕ) → HasText shelf read.program.now text → (code : Code) → IsCodeOf text code →
-    ((text : List ℕ) (is_code : IsCodeOf text code) → HasRun read.name.now read.steps (source_of is_code.bound) old new report ⊎ IsRefused read.name.now NoMemory old new report) →
+    ((text : List ℕ) (is_code : IsCodeOf text code) → HasRun read.mode read.name.now read.steps (source_of is_code.bound) old new report ⊎ IsRefused read.name.now NoMemory old new report) →
     Did words shelf faults old new report
 performed words shelf faults old new report read names text has code is_code ensured = by_case (ensured text is_code)
   where
-    by_case : HasRun read.name.now read.steps (source_of is_code.bound) old new report ⊎ IsRefused read.name.now NoMemory old new report → Did words shelf faults old new report
+    by_case : HasRun read.mode read.name.now read.steps (source_of is_code.bound) old new report ⊎ IsRefused read.name.now NoMemory old new report → Did words shelf faults old new report
     by_case (inl ran) =
         Ran (run_of words read names) names.is_run names.words_are text has
         (source_of is_code.bound) is_code.form
-        (subst (λ units. HasRun read.name.now units (source_of is_code.bound) old new report) names.number ran)
+        (subst (λ units. HasRun read.mode read.name.now units (source_of is_code.bound) old new report) names.number ran)
     by_case (inr refused) =
         Refused read.name.now NoMemory (cause_of_prevented words shelf faults read names NoMemory tt) refused
 

@@ -1,0 +1,30 @@
+-- Worked rows, each computed from the definitions.
+use Rattle.std.specs.Prelude.{◌≡◌, refl, true, [], ◌∷◌, ℕ, codes}
+use Rattle.std.specs.Fmt.{digits}
+use Rattle.abl_values.specs.Schema.{SchemaData}
+use Rattle.database_meaning.specs.declared.operation.Op.{Op}
+use Rattle.database_meaning.specs.declared.operation.Op.TheVariants.{Enter, Leave, Back, End, Lock}
+use Rattle.database_meaning.specs.declared.operation.Answer.{Answer}
+use Rattle.database_meaning.specs.declared.operation.Answer.TheVariants.{Done, Committed, Blocked}
+use Rattle.database_meaning.specs.declared.operation.Event.{Event}
+use Rattle.abl_cli.specs.Trace.{trace_line, trace_part}
+
+abbrev pub event_by : ℕ → Op → Answer → Event
+event_by client op answer = record { client = client; op = op; answer = answer }
+
+abbrev pub no_schema : SchemaData
+no_schema = record { tables = []; sequences = []; order = [] }
+
+-- an undo of a transaction, which then commits
+an_undo :
+    trace_part no_schema (codes "a" ∷ []) (event_by 0 Enter Done ∷ event_by 0 (Back 1) Done ∷ event_by 0 (Leave []) (Committed 0) ∷ event_by 0 End Done ∷ [])
+    ≡ codes "== trace ==\n1 a Enter Done\n2 a Back 1 Done\n3 a Leave 0 Committed\n4 a End Done\n"
+unfolding digits
+an_undo = refl
+
+-- a client that waits for another
+a_wait :
+    trace_line no_schema (codes "a" ∷ codes "b" ∷ []) 12 (event_by 1 (Lock 0 (record { 0 = 8192 }) true true) (Blocked (0 ∷ [])))
+    ≡ codes "12 b Lock 8192 X W Blocked a\n"
+unfolding digits
+a_wait = refl
