@@ -5,7 +5,7 @@ use Rattle.bound_tree.specs.declared.procedure.Bound.{Bound}
 use Rattle.bound_tree.specs.Bound.{source_of}
 use Rattle.bound_tree.specs.Tree.{Item, Stmt, Body, Source as Tree}
 use Rattle.built_source.specs.declared.token.Token.{Token}
-use Rattle.built_source.specs.Form.{Defined, AreItems, items_end, items_more, item_name, item_text, item_skip, IsSet, assigns, puts, IsInner, inner_set, inner_undo, AreInner, inner_end, inner_more, IsStatement, statement_set, statement_block, AreStatements, statements_end, statements_more, StandsFor, states, defines, IsSourceOf}
+use Rattle.built_source.specs.Form.{Defined, AreItems, items_end, items_more, item_name, item_text, item_skip, IsSet, assigns, puts, IsInner, inner_statement, inner_undo, AreInner, inner_end, inner_more, IsStatement, statement_set, statement_block, AreStatements, statements_end, statements_more, StandsFor, states, defines, IsSourceOf}
 use Rattle.block_code.specs.Built.{IsBuilt}
 use Rattle.block_code.specs.BuiltTree.{items_are_built, stmt_is_built, body_is_built, IsBuiltTree}
 use Rattle.block_code.proofs.Trees.{tree_is_built}
@@ -20,17 +20,18 @@ set_built : {names : List (Option Variable)} {tokens rest : List Token} {stmt : 
 set_built (assigns named) = refl
 set_built (puts items) = items_built items
 
-inner_built : {names : List (Option Variable)} {block : ℕ} {tokens rest : List Token} {stmt : Stmt} → IsInner names block tokens stmt rest → stmt_is_built stmt ≡ true
-inner_built (inner_set set) = set_built set
-inner_built inner_undo = refl
+mutual
+  statement_built : {names : List (Option Variable)} {deeper number after : ℕ} {tokens rest : List Token} {stmt : Stmt} → IsStatement names deeper number tokens stmt after rest → stmt_is_built stmt ≡ true
+  statement_built (statement_set set) = set_built set
+  statement_built (statement_block inner) = all_inner_built inner
 
-all_inner_built : {names : List (Option Variable)} {block : ℕ} {tokens rest : List Token} {body : Body} → AreInner names block tokens body rest → body_is_built body ≡ true
-all_inner_built inner_end = refl
-all_inner_built (inner_more inner more) = rw (inner_built inner) (all_inner_built more)
+  inner_built : {names : List (Option Variable)} {deeper block number after : ℕ} {tokens rest : List Token} {stmt : Stmt} → IsInner names deeper block number tokens stmt after rest → stmt_is_built stmt ≡ true
+  inner_built (inner_statement statement) = statement_built statement
+  inner_built inner_undo = refl
 
-statement_built : {names : List (Option Variable)} {number after : ℕ} {tokens rest : List Token} {stmt : Stmt} → IsStatement names number tokens stmt after rest → stmt_is_built stmt ≡ true
-statement_built (statement_set set) = set_built set
-statement_built (statement_block inner) = all_inner_built inner
+  all_inner_built : {names : List (Option Variable)} {deeper block number after : ℕ} {tokens rest : List Token} {body : Body} → AreInner names deeper block number tokens body after rest → body_is_built body ≡ true
+  all_inner_built inner_end = refl
+  all_inner_built (inner_more inner more) = rw (inner_built inner) (all_inner_built more)
 
 statements_built : {names : List (Option Variable)} {number : ℕ} {tokens : List Token} {body : Body} → AreStatements names number tokens body → body_is_built body ≡ true
 statements_built statements_end = refl

@@ -105,6 +105,17 @@ fn a_trace_follows_the_output(rt: HostRuntime) -> Result<(), Fail> {
 }
 
 #[test]
+fn an_undo_of_an_inner_block_keeps_the_outer_one(rt: HostRuntime) -> Result<(), Fail> {
+    let source =
+        b"DEFINE VARIABLE i AS INTEGER. DO TRANSACTION: i = 1. DO TRANSACTION: i = 2. UNDO, LEAVE. END. END. PUT UNFORMATTED i SKIP.";
+    let want =
+        b"== a ==\n1\n== trace ==\n1 a Enter Done\n2 a Enter Done\n3 a Back 2 Done\n4 a Leave 0 Done\n5 a Leave 0 Committed\n6 a End Done\n";
+    let line = b"run s.df 14 trace a=p";
+    expect(&rt, rt.alloc(), line, source, (0, want, b""))?;
+    Ok(())
+}
+
+#[test]
 fn the_last_unit_decides(rt: HostRuntime) -> Result<(), Fail> {
     let want: (u8, &[u8], &[u8]) = (8, b"== a ==\n", b"abl: client a: stop Budget\n");
     let report = expect(&rt, rt.alloc(), b"run s.df 9 quiet a=p", UNDO, want)?;

@@ -8,7 +8,7 @@ use Rattle.built_source.specs.declared.token.Token.TheVariants as t
 use Rattle.built_source.specs.declared.token.Mark.{Mark as TheMark}
 use Rattle.built_source.specs.declared.token.Mark.TheVariants as m
 use Rattle.built_source.specs.Text.{Begins, AreTokens, tokens_end, tokens_gap, tokens_more}
-use Rattle.built_source.specs.Form.{nothing, define, variable, header, assign, source_with, item_name, item_skip, items_end, items_more, assigns, puts, inner_set, inner_undo, inner_end, inner_more, statement_set, statement_block, statements_end, statements_more, with_undo, StandsFor, states, defines, IsSourceOf}
+use Rattle.built_source.specs.Form.{nothing, define, variable, header, assign, source_with, item_name, item_skip, items_end, items_more, assigns, puts, inner_statement, inner_undo, inner_end, inner_more, statement_set, statement_block, statements_end, statements_more, with_undo, StandsFor, states, defines, IsSourceOf}
 
 -- i is the ninth letter
 abbrev pub i : ℕ
@@ -39,8 +39,27 @@ pub undone_stands : StandsFor nothing undone (source_with (define nothing i true
     (Then (Inner (header 1 block_kind.Do true) (Then (assign (variable true 0) (pos 1)) (Then (UndoBlock 1 (ThenLeave 1)) Nothing)))
     (Then (PutItems 0 (Shows (TheVariable (variable true 0)) None ∷ [])) Nothing)))
 undone_stands = defines with_undo (lit< tt, refl) (states
-    (statements_more (statement_block (inner_more (inner_set (assigns refl)) (inner_more inner_undo inner_end)))
+    (statements_more (statement_block (inner_more (inner_statement (statement_set (assigns refl))) (inner_more inner_undo inner_end)))
     (statements_more (statement_set (puts (items_more (item_name refl) items_end))) statements_end)))
+
+-- DO TRANSACTION: DO TRANSACTION: UNDO, LEAVE. END. DO TRANSACTION: END. UNDO, LEAVE. END.
+abbrev pub nested : List Token
+nested =
+    t.Mark m.Do ∷ t.Mark m.Transaction ∷ t.Mark m.Colon
+    ∷ t.Mark m.Do ∷ t.Mark m.Transaction ∷ t.Mark m.Colon ∷ t.Mark m.Undo ∷ t.Mark m.Comma ∷ t.Mark m.Leave ∷ t.Mark m.Period ∷ t.Mark m.End ∷ t.Mark m.Period
+    ∷ t.Mark m.Do ∷ t.Mark m.Transaction ∷ t.Mark m.Colon ∷ t.Mark m.End ∷ t.Mark m.Period
+    ∷ t.Mark m.Undo ∷ t.Mark m.Comma ∷ t.Mark m.Leave ∷ t.Mark m.Period ∷ t.Mark m.End ∷ t.Mark m.Period ∷ []
+
+-- blocks are numbered as they begin, and an UNDO leaves the innermost one
+pub nested_stands : StandsFor nothing nested (source_with nothing
+    (Then (Inner (header 1 block_kind.Do true)
+    (Then (Inner (header 2 block_kind.Do true) (Then (UndoBlock 2 (ThenLeave 2)) Nothing))
+    (Then (Inner (header 3 block_kind.Do true) Nothing)
+    (Then (UndoBlock 1 (ThenLeave 1)) Nothing)))) Nothing))
+nested_stands = states (statements_more (statement_block
+    (inner_more (inner_statement (statement_block (inner_more inner_undo inner_end)))
+    (inner_more (inner_statement (statement_block inner_end))
+    (inner_more inner_undo inner_end)))) statements_end)
 
 -- UNDO, LEAVE. outside of a block has no form
 pub undo_outside : (tree : Source) → StandsFor nothing (t.Mark m.Undo ∷ t.Mark m.Comma ∷ t.Mark m.Leave ∷ t.Mark m.Period ∷ []) tree → ⊥

@@ -99,8 +99,9 @@ fn inner<'a>(
         if let Some(end) = behind(rest, &[Mark::End, Mark::Period]) {
             return Ok((body, number, end));
         }
-        let (stmt, next, after) =
-            inner_statement(alloc, names, deeper, block, number, lines, rest)?;
+        let (stmt, next, after) = inner_statement(
+            alloc, names, deeper, block, number, lines, rest,
+        )?;
         body.push(stmt)?;
         number = next;
         rest = after;
