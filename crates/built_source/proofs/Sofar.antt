@@ -19,9 +19,6 @@ pub record ItemsSofar (names : List (Option Variable)) (start rest : List Token)
   pub sound : (items : List Item) (behind : List Token) → AreItems names rest items behind → AreItems names start (done ++ items) behind
   pub complete : (items : List Item) (behind : List Token) → AreItems names start items behind → (more : List Item) × (AreItems names rest more behind × (items ≡ done ++ more))
 
-pub items_begin : (names : List (Option Variable)) (start : List Token) → ItemsSofar names start start []
-items_begin names start = record { sound = λ items behind a. a; complete = λ items behind a. (items, (a, refl)) }
-
 cut_items : {names : List (Option Variable)} {token : Token} {tokens behind : List Token} {item : Item} {items : List Item} → IsItem names token item → AreItems names (token ∷ tokens) items behind →
     (more : List Item) × (AreItems names tokens more behind × (items ≡ item ∷ more))
 cut_items i items_end = absurd (no_period_item i)
@@ -56,19 +53,10 @@ no_items names start rest behind token done s p e n items r a =
     let found = s.complete items r a in
     no_items_item (λ q. p behind (e ∙ ap (λ x. x ∷ behind) q)) n (subst (λ ts. AreItems names ts found.0 r) e found.1.0)
 
-nil_items : {names : List (Option Variable)} {behind : List Token} {items : List Item} → AreItems names [] items behind → ⊥
-nil_items h = elim h [ ]
-
-pub items_open : (names : List (Option Variable)) (start rest : List Token) (done : List Item) → ItemsSofar names start rest done → rest ≡ [] → (items : List Item) (r : List Token) → AreItems names start items r → ⊥
-items_open names start rest done s e items r a = let found = s.complete items r a in nil_items (subst (λ ts. AreItems names ts found.0 r) e found.1.0)
-
 -- THE STATEMENTS OF A BLOCK
 pub record InnerSofar (names : List (Option Variable)) (deeper block first : ℕ) (start : List Token) (number : ℕ) (rest : List Token) (done : List SourceStmt) : Type 0 where
   pub sound : (body : Body) (after : ℕ) (behind : List Token) → AreInner names deeper block number rest body after behind → AreInner names deeper block first start (onto done body) after behind
   pub complete : (body : Body) (after : ℕ) (behind : List Token) → AreInner names deeper block first start body after behind → (more : Body) × (AreInner names deeper block number rest more after behind × (body ≡ onto done more))
-
-pub inner_begin : (names : List (Option Variable)) (deeper block first : ℕ) (start : List Token) → InnerSofar names deeper block first start first start []
-inner_begin names deeper block first start = record { sound = λ body after behind a. a; complete = λ body after behind a. (body, (a, refl)) }
 
 cut_inner : {names : List (Option Variable)} {deeper block number next after : ℕ} {tokens behind rest : List Token} {stmt : Stmt} {body : Body} → IsInner names deeper block number tokens stmt next rest → AreInner names deeper block number tokens body after behind →
     (more : Body) × (AreInner names deeper block next rest more after behind × (body ≡ Then stmt more))
@@ -94,24 +82,10 @@ module _ (names : List (Option Variable)) (deeper block first : ℕ) (start : Li
   inner_found behind e =
       subst (λ b. AreInner names deeper block first start b number behind) (onto-nothing done) (s.sound Nothing number behind (subst (λ ts. AreInner names deeper block number ts Nothing number behind) (sym e) inner_end))
 
-  no_inner_one : {body : Body} {after : ℕ} {behind : List Token} → ((r : List Token) → rest ≡ t.Mark m.End ∷ t.Mark m.Period ∷ r → ⊥) → ((stmt : Stmt) (next : ℕ) (r : List Token) → IsInner names deeper block number rest stmt next r → ⊥) → AreInner names deeper block number rest body after behind → ⊥
-  no_inner_one p n a = no_inner_in rest p n a
-    where
-      no_inner_in : (tokens : List Token) {body : Body} {after : ℕ} {behind : List Token} → ((r : List Token) → tokens ≡ t.Mark m.End ∷ t.Mark m.Period ∷ r → ⊥) → ((stmt : Stmt) (next : ℕ) (r : List Token) → IsInner names deeper block number tokens stmt next r → ⊥) → AreInner names deeper block number tokens body after behind → ⊥
-      no_inner_in tokens p n (inner_end {rest}) = p rest refl
-      no_inner_in tokens p n (inner_more {next} {behind} {stmt} i a) = n stmt next behind i
-
-  pub no_inner : ((behind : List Token) → rest ≡ t.Mark m.End ∷ t.Mark m.Period ∷ behind → ⊥) → ((stmt : Stmt) (next : ℕ) (behind : List Token) → IsInner names deeper block number rest stmt next behind → ⊥) →
-      (body : Body) (after : ℕ) (r : List Token) → AreInner names deeper block first start body after r → ⊥
-  no_inner p n body after r a = let found = s.complete body after r a in no_inner_one p n found.1.0
-
 -- THE STATEMENTS OF A SOURCE
 pub record StatementsSofar (names : List (Option Variable)) (start rest : List Token) (number : ℕ) (done : List SourceStmt) : Type 0 where
   pub sound : (body : Body) → AreStatements names number rest body → AreStatements names 1 start (onto done body)
   pub complete : (body : Body) → AreStatements names 1 start body → (more : Body) × (AreStatements names number rest more × (body ≡ onto done more))
-
-pub statements_begin : (names : List (Option Variable)) (start : List Token) → StatementsSofar names start start 1 []
-statements_begin names start = record { sound = λ body a. a; complete = λ body a. (body, (a, refl)) }
 
 cut_statements : {names : List (Option Variable)} {number after : ℕ} {tokens rest : List Token} {stmt : Stmt} {body : Body} → IsStatement names MAX_OPEN_BLOCKS number tokens stmt after rest → AreStatements names number tokens body →
     (more : Body) × (AreStatements names after rest more × (body ≡ Then stmt more))
@@ -136,11 +110,3 @@ statements_go_on_with names start rest behind number after done new stmt s i n =
 pub statements_found : (names : List (Option Variable)) (start rest : List Token) (number : ℕ) (done : List SourceStmt) → StatementsSofar names start rest number done → rest ≡ [] → AreStatements names 1 start (body_of done)
 statements_found names start rest number done s e =
     subst (λ b. AreStatements names 1 start b) (onto-nothing done) (s.sound Nothing (subst (λ ts. AreStatements names number ts Nothing) (sym e) statements_end))
-
-no_statements_one : {names : List (Option Variable)} {number : ℕ} {tokens : List Token} {body : Body} → (tokens ≡ [] → ⊥) → ((stmt : Stmt) (after : ℕ) (rest : List Token) → IsStatement names MAX_OPEN_BLOCKS number tokens stmt after rest → ⊥) → AreStatements names number tokens body → ⊥
-no_statements_one p n statements_end = p refl
-no_statements_one p n (statements_more {after} {rest} {stmt} i a) = n stmt after rest i
-
-pub no_statements : (names : List (Option Variable)) (start rest : List Token) (number : ℕ) (done : List SourceStmt) → StatementsSofar names start rest number done → (rest ≡ [] → ⊥) →
-    ((stmt : Stmt) (after : ℕ) (behind : List Token) → IsStatement names MAX_OPEN_BLOCKS number rest stmt after behind → ⊥) → (body : Body) → AreStatements names 1 start body → ⊥
-no_statements names start rest number done s p n body a = let found = s.complete body a in no_statements_one p n found.1.0

@@ -1,13 +1,12 @@
 -- Worked rows of the form.
-use Rattle.std.specs.Prelude.{ℕ, ◌≡◌, true, false, List, [], ◌∷◌, pos, Option, Some, None, codes, refl}
+use Rattle.std.specs.Prelude.{ℕ, true, List, [], ◌∷◌, pos, None, codes, refl}
 use Rattle.std.proofs.Common.{lit<}
 use Rattle.bound_tree.specs.declared.block.BlockKind.TheVariants as block_kind
-use Rattle.bound_tree.specs.Tree.{Body, Nothing, Then, Inner, PutItems, Skips, Shows, TheVariable, UndoBlock, ThenLeave, Source}
+use Rattle.bound_tree.specs.Tree.{Nothing, Then, Inner, PutItems, Skips, Shows, TheVariable, UndoBlock, ThenLeave, Source}
 use Rattle.built_source.specs.declared.token.Token.{Token}
 use Rattle.built_source.specs.declared.token.Token.TheVariants as t
-use Rattle.built_source.specs.declared.token.Mark.{Mark as TheMark}
 use Rattle.built_source.specs.declared.token.Mark.TheVariants as m
-use Rattle.built_source.specs.Text.{Begins, AreTokens, tokens_end, tokens_gap, tokens_more}
+use Rattle.built_source.specs.Text.{tokens_end, tokens_gap, tokens_more}
 use Rattle.built_source.specs.Form.{nothing, define, variable, header, assign, source_with, item_name, item_skip, items_end, items_more, assigns, puts, inner_statement, inner_undo, inner_end, inner_more, statement_set, statement_block, statements_end, statements_more, with_undo, StandsFor, states, defines, IsSourceOf}
 
 -- i is the ninth letter

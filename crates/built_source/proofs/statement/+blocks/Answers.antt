@@ -1,4 +1,4 @@
-use Rattle.std.proofs.Common.{◌≡◌, ◌+◌, suc, sym, rules, subst, arith}
+use Rattle.std.proofs.Common.{◌≡◌, suc, rules}
 use Rattle.std.proofs.lemmas.Result.{IfOk-weaker}
 use Rattle.bound_tree.specs.Bound.{stmt_of}
 use Rattle.built_source.specs.Form.{IsStatement, IsInner, statement_set, statement_block, inner_statement, inner_undo}
