@@ -14,11 +14,13 @@ use std::process::ExitCode;
 use std::{env, io};
 
 const HELP: &str = "\
-abl DATABASE run SCHEMA STEPS quiet NAME=PROG
+abl DATABASE run SCHEMA STEPS MODE NAME=PROG
 
 Compiles the ABL source PROG and runs it as client NAME, which may spend STEPS
-units (1 to 999999999). The client's output goes to standard output; how the
-command ended goes to standard error, with the status:
+units (1 to 999999999). The client's output goes to standard output, and in
+MODE trace the lines of what it asked of the database and was answered too; in
+MODE quiet nothing else. How the command ended goes to standard error, with the
+status:
 
   0  the client ended          6  standard output was not taken
   1  wrong words               7  memory was wanting
