@@ -2,11 +2,12 @@
 
 use crate::{SourceFault, read_source};
 use bound_tree::Stmt;
+use std::alloc::{AllocError, Global};
 use std::process::Abort;
 use std::test::Fail;
 
 /// Texts, and whether each of them is a source.
-static TEXTS: [(&[u8], bool); 34] = [
+static TEXTS: [(&[u8], bool); 37] = [
     (b"", true),
     (b" \n\n  ", true),
     (b"PUT UNFORMATTED.", true),
@@ -18,6 +19,11 @@ static TEXTS: [(&[u8], bool); 34] = [
     (b"DO TRANSACTION: END.", true),
     (
         b"DO TRANSACTION:UNDO,LEAVE. PUT UNFORMATTED. END. DO TRANSACTION : END .",
+        true,
+    ),
+    (b"DO TRANSACTION: DO TRANSACTION: END. END.", true),
+    (
+        b"DO TRANSACTION: PUT UNFORMATTED. DO TRANSACTION: UNDO, LEAVE. END. UNDO, LEAVE. END.",
         true,
     ),
     (b"PUT UNFORMATTED", false),
@@ -43,7 +49,8 @@ static TEXTS: [(&[u8], bool); 34] = [
     (b"i = 1. DEFINE VARIABLE i AS INTEGER.", false),
     (b"DEFINE VARIABLE i AS INTEGER. i = 1234567890.", false),
     (b"DEFINE VARIABLE i AS INTEGER. i = -1.", false),
-    (b"DO TRANSACTION: DO TRANSACTION: END. END.", false),
+    (b"DO TRANSACTION: DO TRANSACTION: END.", false),
+    (b"DO TRANSACTION: DEFINE VARIABLE i AS INTEGER. END.", false),
     (b"DO TRANSACTION: END", false),
     (b"DO TRANSACTION: PUT UNFORMATTED.", false),
     (b"END.", false),
@@ -59,6 +66,27 @@ fn texts_are_sources_or_not(rt: HostRuntime) -> Result<(), Fail> {
             Err(SourceFault::NoMemory) => assert!(rt; false),
         }
     }
+    Ok(())
+}
+
+/// So many blocks, each but the first in the one before it.
+fn nested(alloc: Global, blocks: usize) -> Result<Vec<u8>, AllocError> {
+    let mut text = Vec::new(alloc);
+    for _ in 0..blocks {
+        text.extend_from_slice(b"DO TRANSACTION: ")?;
+    }
+    for _ in 0..blocks {
+        text.extend_from_slice(b"END. ")?;
+    }
+    Ok(text)
+}
+
+#[test]
+fn eight_blocks_may_be_open(rt: HostRuntime) -> Result<(), Fail> {
+    let alloc = rt.alloc();
+    assert!(rt; read_source(alloc, &nested(alloc, 8)?).is_ok());
+    let ninth = read_source(alloc, &nested(alloc, 9)?);
+    assert!(rt; matches!(ninth, Err(SourceFault::NotBuilt)));
     Ok(())
 }
 
@@ -86,5 +114,29 @@ fn blocks_have_their_lines(rt: HostRuntime) -> Result<(), Fail> {
         },
         Err(_) => assert!(rt; false),
     }
+    Ok(())
+}
+
+/// The first statement of the block, where it has one.
+fn first_inside(stmt: &Stmt) -> Option<&Stmt> {
+    match stmt {
+        Stmt::Block { body, .. } => body.first(),
+        _ => None,
+    }
+}
+
+#[test]
+fn inner_blocks_have_their_lines(rt: HostRuntime) -> Result<(), Fail> {
+    let text = b"DO TRANSACTION:\nDO TRANSACTION:\n\n  DO\nTRANSACTION: END. END. END.".as_slice();
+    let Ok(bound) = read_source(rt.alloc(), text) else {
+        assert!(rt; false, "a source");
+        return Ok(());
+    };
+    let outer = bound.procedures.first().and_then(|main| main.body.first());
+    let middle = outer.and_then(first_inside);
+    let inner = middle.and_then(first_inside);
+    assert_eq!(rt; outer.map(line_of), Some(1));
+    assert_eq!(rt; middle.map(line_of), Some(2));
+    assert_eq!(rt; inner.map(line_of), Some(4));
     Ok(())
 }
