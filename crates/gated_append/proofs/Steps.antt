@@ -1,10 +1,12 @@
 -- How a run of disk calls goes on, and what a write leaves.
-use Rattle.std.proofs.Common.{◌≡◌, ◌⊎◌, inl, inr, ⊎_elim, ℕ, zero, suc, ◌+◌, ◌-◌, ◌<◌, ◌≤◌, Bool, List, ◌++◌, length, take, drop, replicate, sym, ◌∙◌, ap, subst, arith, length-drop}
+use Rattle.std.proofs.Common.{◌≡◌, ◌⊎◌, inl, inr, ⊎_elim, ℕ, zero, suc, ◌+◌, ◌-◌, ◌<◌, ◌≤◌, Bool, List, IsTrue, Result, Ok, Err, OnOk, ◌++◌, length, take, drop, replicate, sym, ◌∙◌, ap, subst, arith, length-drop}
 use Rattle.std.proofs.lemmas.List.{length-take, ext_get_or, get_or-take, get_or-drop, append-nil}
-use Rattle.abl_storage.specs.Disk.{Passes}
+use Rattle.abl_storage.specs.Disk.{Passes, TornIn}
+use Rattle.abl_storage.specs.declared.disk.DiskFailed.{DiskFailed}
 use Rattle.gated_append.specs.Device.{Wrote}
 use Rattle.abl_storage.specs.Disk.{Torn as TornBytes}
 use Rattle.gated_append.specs.Device.{Torn, Holds, Kept}
+use Rattle.gated_append.specs.Journal.{Lies}
 
 abbrev Image : Type 0
 Image = ℕ → List ℕ
@@ -81,3 +83,21 @@ holds_now was now before after P k start image told = ⊎_elim
     (λ (past : now ≤ was). let same : now ≡ was = (let l = k.later in omega (arith, past, l)) in start image (subst (λ (m : ℕ). before m image) same (k.nothing_else now image past told)))
     (λ (new : was < now). k.here now image new told)
     (splits now was)
+
+-- after a write, where whatever it may leave of what lies there has P
+pub written : (ok : Bool) (was now at n : ℕ) (before after : ℕ → Image → Type 0) (seen : Image) (bytes : List ℕ) (P : List ℕ → Type 0) → Lies seen (before was) bytes → ((m : ℕ) (image : Image) → before m image → m ≤ was)
+    → Passes ok was now before after (TornIn 1 at n) → ((m : ℕ) (image : Image) → after m image → m ≤ now) → ((d c : List ℕ) → d ≡ bytes → TornBytes at n d c → P c) → Kept was now before after (λ image. P (image 1))
+written ok was now at n before after seen bytes P lies top pass top_after torn =
+    goes_on ok was was now before before after (TornIn 1 at n) (λ image. P (image 1)) (started was before (λ image. P (image 1)) top) pass top_after (λ d image left step. torn (d 1) (image 1) (lies.only d left ∙ lies.is) step.torn)
+
+-- and after a sync behind it, where what lay there has P too
+pub synced : (ok : Bool) (was mid now : ℕ) (before between after : ℕ → Image → Type 0) (seen : Image) (bytes : List ℕ) (P : List ℕ → Type 0) → Lies seen (before was) bytes → P bytes
+    → Kept was mid before between (λ image. P (image 1)) → Passes ok mid now between after (λ old new. new ≡ old) → ((m : ℕ) (image : Image) → after m image → m ≤ now) → Kept was now before after (λ image. P (image 1))
+synced ok was mid now before between after seen bytes P lies here so_far pass top =
+    goes_on ok was mid now before between after _ (λ image. P (image 1)) so_far pass top
+    (λ d image left same. subst (λ (x : Image). P (x 1)) (sym same) (holds_now was mid before between (λ image. P (image 1)) so_far (λ x told. subst P (sym (lies.only x told ∙ lies.is)) here) d left))
+
+-- a sync that is answered Ok leaves what a read gives
+pub lies_synced : (r : Result (Unit {0}) DiskFailed) (told : Bool) (seen : Image) (left : Image → Type 0) (bytes : List ℕ) → OnOk r ((image : Image) → left image → image 1 ≡ seen 1) → (IsTrue told → seen 1 ≡ bytes) → OnOk r (IsTrue told → Lies seen left bytes)
+lies_synced (Err e) told seen left bytes durable is = tt
+lies_synced (Ok u) told seen left bytes durable is = λ t. record { is = is t; only = durable }
