@@ -7,7 +7,7 @@ use Rattle.abl_storage.specs.Slots.{SlotState, Speaks, Transaction, Keeps, Rests
 use Rattle.abl_storage.specs.declared.slots.Undo.{Undo}
 use Rattle.prefix_store.specs.World.{World, Survives, IsNamedAt, afters, IsInStep, decoded, with_at, with_own, value_or, step}
 use Rattle.prefix_store.specs.declared.Event.TheVariants.{Begun, Set, Committed, Closed, Ended}
-use Rattle.prefix_store.proofs.Lookups.{dec_in, dec_out, with_same, with_other, put_same, put_other, joined_in, joined_out, get_left, get_next}
+use Rattle.prefix_store.proofs.Lookups.{dec_in, dec_out, with_same, with_other, with_id, put_same, put_other, joined_in, joined_out, get_left, get_next}
 use Rattle.prefix_store.proofs.Moves.{splits, still_survives, commit_survives}
 
 -- a slot is changed by what is taken back only where it was written, and then by itself alone
@@ -40,223 +40,165 @@ none_or_some : (o : Option (List ℕ)) → (o ≡ None) ⊎ ((b : List ℕ) × (
 none_or_some None = inl refl
 none_or_some (Some b) = inr (b, refl)
 
-module _ (old : SlotState) (w : World) (first : ℕ → List ℕ) (h : IsInStep old w first) where
-  speaks_back : (new : SlotState) → Keeps old new → new.failed ≡ old.failed → Speaks new → Speaks old
-  speaks_back new keeps same speaks = (subst (λ (b : Bool). IsTrue b) keeps.told speaks.0, sym same ∙ speaks.1)
+-- what is kept of one client between two calls: whether it has begun, and what it has set
+pub record IsAt (s : SlotState) (c : ℕ) (goes_on : Bool) (set : Option (List ℕ)) : Type 0 where
+  pub begun : (s.transaction c).begun ≡ goes_on
+  pub alone : (k : ℕ) → k ≢ 8192 + c → wrote (s.transaction c).undo k ≡ false
+  pub idle : goes_on ≡ false → set ≡ None
+  pub own : Speaks s → (b : List ℕ) → set ≡ Some b → (wrote (s.transaction c).undo (8192 + c) ≡ true) × (s.reads (8192 + c) ≡ b)
+  pub none : Speaks s → set ≡ None → (wrote (s.transaction c).undo (8192 + c) ≡ false) × (s.reads (8192 + c) ≡ s.kept (8192 + c))
+  pub back : Speaks s → undone (s.transaction c).undo s.reads (8192 + c) ≡ s.kept (8192 + c)
 
-  told_back : (new : SlotState) → Keeps old new → IsTrue new.told → IsTrue old.told
-  told_back new keeps told = subst (λ (b : Bool). IsTrue b) keeps.told told
+-- what is kept between two calls, from what the commits left and what is kept of each client
+pub in_step : (s : SlotState) (v : World) (first : ℕ → List ℕ) → (IsTrue s.told → decoded s.kept ≡ v.done) → slice_get (first ∷ v.lefts) (length v.moments) ≡ Some v.done → length v.lefts ≡ length v.moments
+    → (v.closed ≡ false → (s.failed ≡ false) × (v.last ≡ [])) → (IsTrue s.told → v.last ≡ [] → decoded s.doubt ≡ v.done)
+    → (IsTrue s.told → (b : ℕ → List ℕ) (rest : List (ℕ → List ℕ)) → v.last ≡ b ∷ rest → ∥ (decoded s.doubt ≡ v.done) ⊎ (decoded s.doubt ≡ b) ∥₁)
+    → ((c : ℕ) → c < 16 → IsAt s c (v.begun c) (v.own c)) → IsInStep s v first
+in_step s v first kept done as_many fine no_doubt doubt each = record {
+  kept = kept;
+  done = done;
+  as_many = as_many;
+  closed = λ no. (fine no).0;
+  no_last = λ no. (fine no).1;
+  no_doubt = no_doubt;
+  doubt = doubt;
+  begun = λ c lt. (each c lt).begun;
+  alone = λ c k lt ne. (each c lt).alone k ne;
+  idle = λ c lt no. (each c lt).idle no;
+  own = λ speaks c lt b is. (each c lt).own speaks b is;
+  none = λ speaks c lt is. (each c lt).none speaks is;
+  back = λ speaks c lt. (each c lt).back speaks;
+}
+
+-- a client that has set nothing, and whose slot reads as what is kept
+pub nothing_set : (s : SlotState) (c : ℕ) (goes_on : Bool) → (s.transaction c).begun ≡ goes_on → (s.transaction c).undo ≡ [] → (Speaks s → s.reads (8192 + c) ≡ s.kept (8192 + c)) → IsAt s c goes_on None
+nothing_set s c goes_on begun undo reads = record {
+  begun = begun;
+  alone = λ k ne. ap (λ (u : List Undo). wrote u k) undo;
+  idle = λ no. refl;
+  own = λ speaks b is. absurd (cc is);
+  none = λ speaks is. (ap (λ (u : List Undo). wrote u (8192 + c)) undo, reads speaks);
+  back = λ speaks. ap (λ (u : List Undo). undone u s.reads (8192 + c)) undo ∙ reads speaks;
+}
+
+module _ (old : SlotState) (w : World) (first : ℕ → List ℕ) (h : IsInStep old w first) where
+  told_back : (new : SlotState) → new.told ≡ old.told → IsTrue new.told → IsTrue old.told
+  told_back new same told = subst (λ (b : Bool). IsTrue b) same told
+
+  speaks_back : (new : SlotState) → Keeps old new → new.failed ≡ old.failed → Speaks new → Speaks old
+  speaks_back new keeps same speaks = (told_back new keeps.told speaks.0, sym same ∙ speaks.1)
+
+  still_open : (new : SlotState) → new.failed ≡ old.failed → w.closed ≡ false → (new.failed ≡ false) × (w.closed ≡ false)
+  still_open new same was = (same ∙ h.closed was, was)
+
+  -- a client's slot is read and kept as before
+  abbrev SameSlot : SlotState → ℕ → Type 0
+  SameSlot new c = Speaks old × (new.reads (8192 + c) ≡ old.reads (8192 + c)) × (old.kept (8192 + c) ≡ new.kept (8192 + c))
+
+  same_slot : (new : SlotState) (c : ℕ) → Keeps old new → Speaks old → new.reads (8192 + c) ≡ old.reads (8192 + c) → SameSlot new c
+  same_slot new c keeps s reads = (s, reads, ap (λ (f : ℕ → List ℕ). f (8192 + c)) (sym (keeps.kept s.0)))
+
+  -- a client of whom nothing changes
+  unchanged : (new : SlotState) (c : ℕ) (goes_on : Bool) (set : Option (List ℕ)) → c < 16 → goes_on ≡ w.begun c → set ≡ w.own c → new.transaction c ≡ old.transaction c → (Speaks new → SameSlot new c) → IsAt new c goes_on set
+  unchanged new c goes_on set lt begun_is set_is same slot = record {
+    begun = ap (λ (t : Transaction). t.begun) same ∙ h.begun c lt ∙ sym begun_is;
+    alone = λ k ne. ap (λ (t : Transaction). wrote t.undo k) same ∙ h.alone c k lt ne;
+    idle = λ no. set_is ∙ h.idle c lt (sym begun_is ∙ no);
+    own = λ speaks b is. let x = slot speaks in let o = h.own x.0 c lt b (sym set_is ∙ is) in (ap (λ (t : Transaction). wrote t.undo (8192 + c)) same ∙ o.0, x.1 ∙ o.1);
+    none = λ speaks is. let x = slot speaks in let o = h.none x.0 c lt (sym set_is ∙ is) in (ap (λ (t : Transaction). wrote t.undo (8192 + c)) same ∙ o.0, x.1 ∙ o.1 ∙ x.2);
+    back = λ speaks. let x = slot speaks in
+        ap (λ (t : Transaction). undone t.undo new.reads (8192 + c)) same ∙ undone_at (old.transaction c).undo new.reads old.reads (8192 + c) x.1 ∙ h.back x.0 c lt ∙ x.2;
+  }
+
+  -- one client's part becomes this, and nothing changes of the others
+  becomes : (new : SlotState) (client : ℕ) (goes_on : Bool) (set : Option (List ℕ)) → IsAt new client goes_on set → ((c : ℕ) → c ≢ client → new.transaction c ≡ old.transaction c)
+      → ((c : ℕ) → c < 16 → c ≢ client → Speaks new → SameSlot new c) → (c : ℕ) → c < 16 → IsAt new c (with_at w.begun client goes_on c) (with_at w.own client set c)
+  becomes new client goes_on set mine others slots c lt = elim (cases_eq c client) [
+    | inl e ↦ subst (λ (k : ℕ). IsAt new k (with_at w.begun client goes_on k) (with_at w.own client set k)) (sym e) (
+        subst (λ (b : Bool). IsAt new client b (with_at w.own client set client)) (sym (with_same w.begun client goes_on)) (subst (λ (o : Option (List ℕ)). IsAt new client goes_on o) (sym (with_same w.own client set)) mine))
+    | inr ne ↦ unchanged new c _ _ lt (with_other w.begun client goes_on c ne) (with_other w.own client set c ne) (others c ne) (slots c lt ne)
+  ]
+
+  -- a call that leaves what is kept and what is in doubt
+  keeps_on : (new : SlotState) (begun : ℕ → Bool) (own : ℕ → Option (List ℕ)) (closed : Bool) → Keeps old new → (closed ≡ false → (new.failed ≡ false) × (w.closed ≡ false))
+      → ((c : ℕ) → c < 16 → IsAt new c (begun c) (own c)) → IsInStep new (record w { own = own; begun = begun; closed = closed }) first
+  keeps_on new begun own closed keeps fine each = in_step new (record w { own = own; begun = begun; closed = closed }) first
+      (λ told. let t = told_back new keeps.told told in ap decoded (keeps.kept t) ∙ h.kept t)
+      h.done
+      h.as_many
+      (λ no. ((fine no).0, h.no_last (fine no).1))
+      (λ told none. let t = told_back new keeps.told told in ap decoded (keeps.doubt t) ∙ h.no_doubt t none)
+      (λ told v others_left is. let t = told_back new keeps.told told in subst (λ (d : ℕ → List ℕ). ∥ (decoded d ≡ w.done) ⊎ (decoded d ≡ v) ∥₁) (sym (keeps.doubt t)) (h.doubt t v others_left is))
+      each
+
+  -- nothing changes of any client
+  each_rests : (new : SlotState) → Rests old new → (Speaks new → Speaks old) → (c : ℕ) → c < 16 → IsAt new c (w.begun c) (w.own c)
+  each_rests new r before c lt = unchanged new c _ _ lt refl refl (ap (λ (t : ℕ → Transaction). t c) r.transaction)
+      (λ speaks. let s = before speaks in same_slot new c r.keeps s (ap (λ (f : ℕ → List ℕ). f (8192 + c)) (r.reads s)))
 
   -- a call that is refused for want of memory
   pub rests : (new : SlotState) → Rests old new → new.failed ≡ old.failed → IsInStep new w first
-  rests new r same = record {
-    kept = λ told. let t = told_back new r.keeps told in ap decoded (r.keeps.kept t) ∙ h.kept t;
-    done = h.done;
-    as_many = h.as_many;
-    closed = λ no. same ∙ h.closed no;
-    no_last = h.no_last;
-    no_doubt = λ told none. let t = told_back new r.keeps told in ap decoded (r.keeps.doubt t) ∙ h.no_doubt t none;
-    doubt = λ told v others_left is. let t = told_back new r.keeps told in subst (λ (d : ℕ → List ℕ). ∥ (decoded d ≡ w.done) ⊎ (decoded d ≡ v) ∥₁) (sym (r.keeps.doubt t)) (h.doubt t v others_left is);
-    begun = λ c lt. ap (λ (t : ℕ → Transaction). (t c).begun) r.transaction ∙ h.begun c lt;
-    alone = λ c k lt ne. ap (λ (t : ℕ → Transaction). wrote (t c).undo k) r.transaction ∙ h.alone c k lt ne;
-    idle = h.idle;
-    own = λ speaks c lt b is. let s = speaks_back new r.keeps same speaks in let o = h.own s c lt b is in
-        (ap (λ (t : ℕ → Transaction). wrote (t c).undo (8192 + c)) r.transaction ∙ o.0, ap (λ (f : ℕ → List ℕ). f (8192 + c)) (r.reads s) ∙ o.1);
-    none = λ speaks c lt is. let s = speaks_back new r.keeps same speaks in let o = h.none s c lt is in
-        (ap (λ (t : ℕ → Transaction). wrote (t c).undo (8192 + c)) r.transaction ∙ o.0, ap (λ (f : ℕ → List ℕ). f (8192 + c)) (r.reads s) ∙ o.1 ∙ ap (λ (f : ℕ → List ℕ). f (8192 + c)) (sym (r.keeps.kept s.0)));
-    back = λ speaks c lt. let s = speaks_back new r.keeps same speaks in
-        ap (λ (t : ℕ → Transaction). undone (t c).undo new.reads (8192 + c)) r.transaction
-        ∙ ap (λ (f : ℕ → List ℕ). undone (old.transaction c).undo f (8192 + c)) (r.reads s) ∙ h.back s c lt
-        ∙ ap (λ (f : ℕ → List ℕ). f (8192 + c)) (sym (r.keeps.kept s.0));
-  }
+  rests new r same = keeps_on new w.begun w.own w.closed r.keeps (still_open new same) (each_rests new r (speaks_back new r.keeps same))
 
   -- a call other than a commit that is answered Disk
   pub closes : (new : SlotState) (client : ℕ) → Rests old new → new.failed ≡ true → w.closed ≡ false → IsInStep new (step w (Closed client false)) first
-  closes new client r fails was = record {
-    kept = λ told. let t = told_back new r.keeps told in ap decoded (r.keeps.kept t) ∙ h.kept t;
-    done = h.done;
-    as_many = h.as_many;
-    closed = λ no. absurd (cc no);
-    no_last = λ no. absurd (cc no);
-    no_doubt = λ told none. let t = told_back new r.keeps told in ap decoded (r.keeps.doubt t) ∙ h.no_doubt t none;
-    doubt = λ told v others_left is. let t = told_back new r.keeps told in subst (λ (d : ℕ → List ℕ). ∥ (decoded d ≡ w.done) ⊎ (decoded d ≡ v) ∥₁) (sym (r.keeps.doubt t)) (h.doubt t v others_left is);
-    begun = λ c lt. ap (λ (t : ℕ → Transaction). (t c).begun) r.transaction ∙ h.begun c lt;
-    alone = λ c k lt ne. ap (λ (t : ℕ → Transaction). wrote (t c).undo k) r.transaction ∙ h.alone c k lt ne;
-    idle = h.idle;
-    own = λ speaks c lt b is. absurd (cc (speaks.1, fails));
-    none = λ speaks c lt is. absurd (cc (speaks.1, fails));
-    back = λ speaks c lt. absurd (cc (speaks.1, fails));
-  }
+  closes new client r fails was = keeps_on new w.begun w.own true r.keeps (λ no. absurd (cc no)) (each_rests new r (λ speaks. absurd (cc (speaks.1, fails))))
 
   -- another client's slot is another slot
   apart : (c d : ℕ) → d ≢ c → (8192 + d) ≢ (8192 + c)
   apart c d ne is = ne (omega (arith, is))
 
+  -- a transaction begins, goes on or ends with nothing set
+  cleared : (new : SlotState) (client : ℕ) (goes_on closed : Bool) → Keeps old new → (closed ≡ false → (new.failed ≡ false) × (w.closed ≡ false)) → ((c : ℕ) → c ≢ client → new.transaction c ≡ old.transaction c)
+      → (new.transaction client).begun ≡ goes_on → (new.transaction client).undo ≡ [] → ((c : ℕ) → c < 16 → c ≢ client → Speaks new → SameSlot new c) → (Speaks new → new.reads (8192 + client) ≡ new.kept (8192 + client))
+      → IsInStep new (record w { own = with_at w.own client None; begun = with_at w.begun client goes_on; closed = closed }) first
+  cleared new client goes_on closed keeps fine others begun undo slots reads =
+      keeps_on new (with_at w.begun client goes_on) (with_at w.own client None) closed keeps fine (becomes new client goes_on None (nothing_set new client goes_on begun undo reads) others slots)
+
   pub begins : (new : SlotState) (client : ℕ) → client < 16 → Begins old new client → new.failed ≡ old.failed → w.begun client ≡ false → IsInStep new (step w (Begun client)) first
-  begins new client small b same idle_before = record {
-    kept = λ told. let t = told_back new b.keeps told in ap decoded (b.keeps.kept t) ∙ h.kept t;
-    done = h.done;
-    as_many = h.as_many;
-    closed = λ no. same ∙ h.closed no;
-    no_last = h.no_last;
-    no_doubt = λ told none. let t = told_back new b.keeps told in ap decoded (b.keeps.doubt t) ∙ h.no_doubt t none;
-    doubt = λ told v others_left is. let t = told_back new b.keeps told in subst (λ (d : ℕ → List ℕ). ∥ (decoded d ≡ w.done) ⊎ (decoded d ≡ v) ∥₁) (sym (b.keeps.doubt t)) (h.doubt t v others_left is);
-    begun = λ c lt. elim (cases_eq c client) [
-      | inl e ↦ subst (λ (k : ℕ). (new.transaction k).begun ≡ with_at w.begun client true k) (sym e) (b.transaction.begun ∙ sym (with_same w.begun client true))
-      | inr ne ↦ ap (λ (t : Transaction). t.begun) (b.transaction.others c ne) ∙ h.begun c lt ∙ sym (with_other w.begun client true c ne)
-    ];
-    alone = λ c k lt ne. elim (cases_eq c client) [
-      | inl e ↦ subst (λ (j : ℕ). wrote (new.transaction j).undo k ≡ false) (sym e) (ap (λ (u : List Undo). wrote u k) b.transaction.undo)
-      | inr other ↦ ap (λ (t : Transaction). wrote t.undo k) (b.transaction.others c other) ∙ h.alone c k lt ne
-    ];
-    idle = λ c lt not_begun. elim (cases_eq c client) [
-      | inl e ↦ h.idle c lt (subst (λ (j : ℕ). w.begun j ≡ false) (sym e) idle_before)
-      | inr ne ↦ h.idle c lt (sym (with_other w.begun client true c ne) ∙ not_begun)
-    ];
-    own = λ speaks c lt v is. let s = speaks_back new b.keeps same speaks in elim (cases_eq c client) [
-      | inl e ↦ absurd (cc (is, h.idle c lt (subst (λ (j : ℕ). w.begun j ≡ false) (sym e) idle_before)))
-      | inr ne ↦ let o = h.own s c lt v is in (ap (λ (t : Transaction). wrote t.undo (8192 + c)) (b.transaction.others c ne) ∙ o.0, ap (λ (f : ℕ → List ℕ). f (8192 + c)) (b.reads s) ∙ o.1)
-    ];
-    none = λ speaks c lt is. let s = speaks_back new b.keeps same speaks in let o = h.none s c lt is in
-        let value = ap (λ (f : ℕ → List ℕ). f (8192 + c)) (b.reads s) ∙ o.1 ∙ ap (λ (f : ℕ → List ℕ). f (8192 + c)) (sym (b.keeps.kept s.0)) in elim (cases_eq c client) [
-          | inl e ↦ (subst (λ (j : ℕ). wrote (new.transaction j).undo (8192 + c) ≡ false) (sym e) (ap (λ (u : List Undo). wrote u (8192 + c)) b.transaction.undo), value)
-          | inr ne ↦ (ap (λ (t : Transaction). wrote t.undo (8192 + c)) (b.transaction.others c ne) ∙ o.0, value)
-        ];
-    back = λ speaks c lt. let s = speaks_back new b.keeps same speaks in
-        let kept_is = ap (λ (f : ℕ → List ℕ). f (8192 + c)) (sym (b.keeps.kept s.0)) in elim (cases_eq c client) [
-          | inl e ↦
-              let o = h.none s c lt (h.idle c lt (subst (λ (j : ℕ). w.begun j ≡ false) (sym e) idle_before)) in
-              subst (λ (j : ℕ). undone (new.transaction j).undo new.reads (8192 + c) ≡ new.kept (8192 + c)) (sym e)
-              (ap (λ (u : List Undo). undone u new.reads (8192 + c)) b.transaction.undo ∙ ap (λ (f : ℕ → List ℕ). f (8192 + c)) (b.reads s) ∙ o.1 ∙ kept_is)
-          | inr ne ↦ ap (λ (t : Transaction). undone t.undo new.reads (8192 + c)) (b.transaction.others c ne) ∙ ap (λ (f : ℕ → List ℕ). undone (old.transaction c).undo f (8192 + c)) (b.reads s) ∙ h.back s c lt ∙ kept_is
-        ];
-  }
+  begins new client small b same idle_before =
+      let none = h.idle client small idle_before in
+      let at : (c : ℕ) → Speaks new → SameSlot new c = λ c speaks. let s = speaks_back new b.keeps same speaks in same_slot new c b.keeps s (ap (λ (f : ℕ → List ℕ). f (8192 + c)) (b.reads s)) in
+      subst (λ (o : ℕ → Option (List ℕ)). IsInStep new (record w { own = o; begun = with_at w.begun client true }) first) (sym (with_id w.own client None none)) (
+      cleared new client true w.closed b.keeps (still_open new same) b.transaction.others b.transaction.begun b.transaction.undo (λ c lt ne. at c)
+      (λ speaks. let x = at client speaks in x.1 ∙ (h.none x.0 client small none).1 ∙ x.2))
 
   pub writes : (new : SlotState) (client : ℕ) (bytes : List ℕ) → client < 16 → Writes old new client (8192 + client) bytes → new.failed ≡ old.failed → w.begun client ≡ true → IsInStep new (step w (Set client bytes)) first
-  writes new client bytes small b same begun_before = record {
-    kept = λ told. let t = told_back new b.keeps told in ap decoded (b.keeps.kept t) ∙ h.kept t;
-    done = h.done;
-    as_many = h.as_many;
-    closed = λ no. same ∙ h.closed no;
-    no_last = h.no_last;
-    no_doubt = λ told none. let t = told_back new b.keeps told in ap decoded (b.keeps.doubt t) ∙ h.no_doubt t none;
-    doubt = λ told v others_left is. let t = told_back new b.keeps told in subst (λ (d : ℕ → List ℕ). ∥ (decoded d ≡ w.done) ⊎ (decoded d ≡ v) ∥₁) (sym (b.keeps.doubt t)) (h.doubt t v others_left is);
-    begun = λ c lt. elim (cases_eq c client) [
-      | inl e ↦ subst (λ (k : ℕ). (new.transaction k).begun ≡ w.begun k) (sym e) (b.transaction.begun ∙ sym begun_before)
-      | inr ne ↦ ap (λ (t : Transaction). t.begun) (b.transaction.others c ne) ∙ h.begun c lt
-    ];
-    alone = λ c k lt ne. elim (cases_eq c client) [
-      | inl e ↦ subst (λ (j : ℕ). wrote (new.transaction j).undo k ≡ false) (sym e) (ap (λ (u : List Undo). wrote u k) b.transaction.undo ∙ wrote_other (old.transaction client).undo _ k (subst (λ (j : ℕ). k ≢ (8192 + j)) e ne) ∙ h.alone client k small (subst (λ (j : ℕ). k ≢ (8192 + j)) e ne))
-      | inr other ↦ ap (λ (t : Transaction). wrote t.undo k) (b.transaction.others c other) ∙ h.alone c k lt ne
-    ];
-    idle = λ c lt not_begun. elim (cases_eq c client) [
-      | inl e ↦ absurd (cc (not_begun, subst (λ (j : ℕ). w.begun j ≡ true) (sym e) begun_before))
-      | inr ne ↦ with_other w.own client (Some bytes) c ne ∙ h.idle c lt not_begun
-    ];
-    own = λ speaks c lt v is. let s = speaks_back new b.keeps same speaks in elim (cases_eq c client) [
-      | inl e ↦ subst (λ (j : ℕ). (wrote (new.transaction j).undo (8192 + j) ≡ true) × (new.reads (8192 + j) ≡ v)) (sym e) (
-        ap (λ (u : List Undo). wrote u (8192 + client)) b.transaction.undo ∙ wrote_more (old.transaction client).undo _,
-        (let given : Some bytes ≡ Some v = sym (with_same w.own client (Some bytes)) ∙ subst (λ (j : ℕ). with_at w.own client (Some bytes) j ≡ Some v) e is in
-            ap (λ (f : ℕ → List ℕ). f (8192 + client)) (b.reads s) ∙ put_same old.reads (8192 + client) bytes ∙ cc given),
-      )
-      | inr ne ↦ let o = h.own s c lt v (sym (with_other w.own client (Some bytes) c ne) ∙ is) in
-          (ap (λ (t : Transaction). wrote t.undo (8192 + c)) (b.transaction.others c ne) ∙ o.0, ap (λ (f : ℕ → List ℕ). f (8192 + c)) (b.reads s) ∙ put_other old.reads (8192 + client) bytes (8192 + c) (apart client c ne) ∙ o.1)
-    ];
-    none = λ speaks c lt is. let s = speaks_back new b.keeps same speaks in elim (cases_eq c client) [
-      | inl e ↦ absurd (cc (with_same w.own client (Some bytes), subst (λ (j : ℕ). with_at w.own client (Some bytes) j ≡ None) e is))
-      | inr ne ↦ let o = h.none s c lt (sym (with_other w.own client (Some bytes) c ne) ∙ is) in (
-        ap (λ (t : Transaction). wrote t.undo (8192 + c)) (b.transaction.others c ne) ∙ o.0,
-        ap (λ (f : ℕ → List ℕ). f (8192 + c)) (b.reads s) ∙ put_other old.reads (8192 + client) bytes (8192 + c) (apart client c ne) ∙ o.1 ∙ ap (λ (f : ℕ → List ℕ). f (8192 + c)) (sym (b.keeps.kept s.0)),
-      )
-    ];
-    back = λ speaks c lt. let s = speaks_back new b.keeps same speaks in
-        let kept_is = ap (λ (f : ℕ → List ℕ). f (8192 + c)) (sym (b.keeps.kept s.0)) in elim (cases_eq c client) [
-          | inl e ↦
-              let u = (old.transaction client).undo in
-              let slot = 8192 + client in
-              let again : put new.reads slot b.before slot ≡ old.reads slot = put_same new.reads slot b.before ∙ b.before_is s in
-              subst (λ (j : ℕ). undone (new.transaction j).undo new.reads (8192 + j) ≡ new.kept (8192 + j)) (sym e)
-              (ap (λ (l : List Undo). undone l new.reads slot) b.transaction.undo ∙ undone_more u _ new.reads slot ∙ undone_at u (put new.reads slot b.before) old.reads slot again ∙ h.back s client small ∙ ap (λ (f : ℕ → List ℕ). f slot) (sym (b.keeps.kept s.0)))
-          | inr ne ↦
-              let point : new.reads (8192 + c) ≡ old.reads (8192 + c) = ap (λ (f : ℕ → List ℕ). f (8192 + c)) (b.reads s) ∙ put_other old.reads (8192 + client) bytes (8192 + c) (apart client c ne) in
-              ap (λ (t : Transaction). undone t.undo new.reads (8192 + c)) (b.transaction.others c ne) ∙ undone_at (old.transaction c).undo new.reads old.reads (8192 + c) point ∙ h.back s c lt ∙ kept_is
-        ];
-  }
+  writes new client bytes small b same begun_before =
+      let u = (old.transaction client).undo in
+      let slot = 8192 + client in
+      let before = speaks_back new b.keeps same in
+      let mine : IsAt new client true (Some bytes) = record {
+        begun = b.transaction.begun;
+        alone = λ k ne. ap (λ (l : List Undo). wrote l k) b.transaction.undo ∙ wrote_other u _ k ne ∙ h.alone client k small ne;
+        idle = λ no. absurd (cc no);
+        own = λ speaks v is. (ap (λ (l : List Undo). wrote l slot) b.transaction.undo ∙ wrote_more u _, ap (λ (f : ℕ → List ℕ). f slot) (b.reads (before speaks)) ∙ put_same old.reads slot bytes ∙ cc is);
+        none = λ speaks is. absurd (cc is);
+        back = λ speaks. let s = before speaks in
+            let again : put new.reads slot b.before slot ≡ old.reads slot = put_same new.reads slot b.before ∙ b.before_is s in
+            ap (λ (l : List Undo). undone l new.reads slot) b.transaction.undo ∙ undone_more u _ new.reads slot ∙ undone_at u (put new.reads slot b.before) old.reads slot again ∙ h.back s client small ∙ ap (λ (f : ℕ → List ℕ). f slot) (sym (b.keeps.kept s.0));
+      } in
+      subst (λ (f : ℕ → Bool). IsInStep new (record w { own = with_at w.own client (Some bytes); begun = f }) first) (sym (with_id w.begun client true begun_before)) (
+      keeps_on new (with_at w.begun client true) (with_at w.own client (Some bytes)) w.closed b.keeps (still_open new same) (becomes new client true (Some bytes) mine b.transaction.others
+      (λ c lt ne speaks. let s = before speaks in same_slot new c b.keeps s (ap (λ (f : ℕ → List ℕ). f (8192 + c)) (b.reads s) ∙ put_other old.reads slot bytes (8192 + c) (apart client c ne)))))
 
   -- all of a client's writes are taken back, and the transaction goes on or ends
   pub taken_back : (new : SlotState) (client : ℕ) (goes_on : Bool) (v : World) → client < 16 → Keeps old new → new.failed ≡ old.failed
       → (Speaks old → new.reads ≡ undone (old.transaction client).undo old.reads)
       → ((c : ℕ) → c ≢ client → new.transaction c ≡ old.transaction c) → (new.transaction client).begun ≡ goes_on → (new.transaction client).undo ≡ []
       → v ≡ record w { own = with_at w.own client None; begun = with_at w.begun client goes_on } → IsInStep new v first
-  taken_back new client goes_on v small keeps same reads others begun undo v_is = subst (λ (x : World). IsInStep new x first) (sym v_is) (record {
-    kept = λ told. let t = told_back new keeps told in ap decoded (keeps.kept t) ∙ h.kept t;
-    done = h.done;
-    as_many = h.as_many;
-    closed = λ no. same ∙ h.closed no;
-    no_last = h.no_last;
-    no_doubt = λ told none. let t = told_back new keeps told in ap decoded (keeps.doubt t) ∙ h.no_doubt t none;
-    doubt = λ told v others_left is. let t = told_back new keeps told in subst (λ (d : ℕ → List ℕ). ∥ (decoded d ≡ w.done) ⊎ (decoded d ≡ v) ∥₁) (sym (keeps.doubt t)) (h.doubt t v others_left is);
-    begun = λ c lt. elim (cases_eq c client) [
-      | inl e ↦ subst (λ (k : ℕ). (new.transaction k).begun ≡ with_at w.begun client goes_on k) (sym e) (begun ∙ sym (with_same w.begun client goes_on))
-      | inr ne ↦ ap (λ (t : Transaction). t.begun) (others c ne) ∙ h.begun c lt ∙ sym (with_other w.begun client goes_on c ne)
-    ];
-    alone = λ c k lt ne. elim (cases_eq c client) [
-      | inl e ↦ subst (λ (j : ℕ). wrote (new.transaction j).undo k ≡ false) (sym e) (ap (λ (u : List Undo). wrote u k) undo)
-      | inr other ↦ ap (λ (t : Transaction). wrote t.undo k) (others c other) ∙ h.alone c k lt ne
-    ];
-    idle = λ c lt not_begun. elim (cases_eq c client) [
-      | inl e ↦ subst (λ (j : ℕ). with_at w.own client None j ≡ None) (sym e) (with_same w.own client None)
-      | inr ne ↦ with_other w.own client None c ne ∙ h.idle c lt (sym (with_other w.begun client goes_on c ne) ∙ not_begun)
-    ];
-    own = λ speaks c lt v is. let s = speaks_back new keeps same speaks in elim (cases_eq c client) [
-      | inl e ↦ absurd (cc (with_same w.own client None, subst (λ (j : ℕ). with_at w.own client None j ≡ Some v) e is))
-      | inr ne ↦ let o = h.own s c lt v (sym (with_other w.own client None c ne) ∙ is) in (ap (λ (t : Transaction). wrote t.undo (8192 + c)) (others c ne) ∙ o.0, elsewhere s c lt ne ∙ o.1)
-    ];
-    none = λ speaks c lt is. let s = speaks_back new keeps same speaks in
-        let kept_is = ap (λ (f : ℕ → List ℕ). f (8192 + c)) (sym (keeps.kept s.0)) in elim (cases_eq c client) [
-          | inl e ↦ subst (λ (j : ℕ). (wrote (new.transaction j).undo (8192 + j) ≡ false) × (new.reads (8192 + j) ≡ new.kept (8192 + j))) (sym e)
-              (ap (λ (u : List Undo). wrote u (8192 + client)) undo, here s)
-          | inr ne ↦ let o = h.none s c lt (sym (with_other w.own client None c ne) ∙ is) in (ap (λ (t : Transaction). wrote t.undo (8192 + c)) (others c ne) ∙ o.0, elsewhere s c lt ne ∙ o.1 ∙ kept_is)
-        ];
-    back = λ speaks c lt. let s = speaks_back new keeps same speaks in
-        let kept_is = ap (λ (f : ℕ → List ℕ). f (8192 + c)) (sym (keeps.kept s.0)) in elim (cases_eq c client) [
-          | inl e ↦ subst (λ (j : ℕ). undone (new.transaction j).undo new.reads (8192 + j) ≡ new.kept (8192 + j)) (sym e) (ap (λ (u : List Undo). undone u new.reads (8192 + client)) undo ∙ here s)
-          | inr ne ↦ ap (λ (t : Transaction). undone t.undo new.reads (8192 + c)) (others c ne) ∙ undone_at (old.transaction c).undo new.reads old.reads (8192 + c) (elsewhere s c lt ne) ∙ h.back s c lt ∙ kept_is
-        ];
-  })
-    where
-      here : Speaks old → new.reads (8192 + client) ≡ new.kept (8192 + client)
-      here s = ap (λ (f : ℕ → List ℕ). f (8192 + client)) (reads s) ∙ h.back s client small ∙ ap (λ (f : ℕ → List ℕ). f (8192 + client)) (sym (keeps.kept s.0))
-
-      elsewhere : Speaks old → (c : ℕ) → c < 16 → c ≢ client → new.reads (8192 + c) ≡ old.reads (8192 + c)
-      elsewhere s c lt ne = ap (λ (f : ℕ → List ℕ). f (8192 + c)) (reads s) ∙ undone_out (old.transaction client).undo old.reads (8192 + c) (h.alone client (8192 + c) small (apart client c ne))
+  taken_back new client goes_on v small keeps same reads others begun undo v_is =
+      let before = speaks_back new keeps same in
+      subst (λ (x : World). IsInStep new x first) (sym v_is) (
+      cleared new client goes_on w.closed keeps (still_open new same) others begun undo
+      (λ c lt ne speaks. let s = before speaks in
+      same_slot new c keeps s (ap (λ (f : ℕ → List ℕ). f (8192 + c)) (reads s) ∙ undone_out (old.transaction client).undo old.reads (8192 + c) (h.alone client (8192 + c) small (apart client c ne))))
+      (λ speaks. let s = before speaks in ap (λ (f : ℕ → List ℕ). f (8192 + client)) (reads s) ∙ h.back s client small ∙ ap (λ (f : ℕ → List ℕ). f (8192 + client)) (sym (keeps.kept s.0))))
 
   -- a transaction that ended, with a fault of the disk on the way
   pub ended_failed : (new : SlotState) (client : ℕ) → client < 16 → Ends old new client → new.failed ≡ true → IsInStep new (step (step w (Ended client)) (Closed client false)) first
-  ended_failed new client small e fails = record {
-    kept = λ told. let t = told_back new e.keeps told in ap decoded (e.keeps.kept t) ∙ h.kept t;
-    done = h.done;
-    as_many = h.as_many;
-    closed = λ no. absurd (cc no);
-    no_last = λ no. absurd (cc no);
-    no_doubt = λ told none. let t = told_back new e.keeps told in ap decoded (e.keeps.doubt t) ∙ h.no_doubt t none;
-    doubt = λ told v others_left is. let t = told_back new e.keeps told in subst (λ (d : ℕ → List ℕ). ∥ (decoded d ≡ w.done) ⊎ (decoded d ≡ v) ∥₁) (sym (e.keeps.doubt t)) (h.doubt t v others_left is);
-    begun = λ c lt. elim (cases_eq c client) [
-      | inl q ↦ subst (λ (k : ℕ). (new.transaction k).begun ≡ with_at w.begun client false k) (sym q) (e.transaction.begun ∙ sym (with_same w.begun client false))
-      | inr ne ↦ ap (λ (t : Transaction). t.begun) (e.transaction.others c ne) ∙ h.begun c lt ∙ sym (with_other w.begun client false c ne)
-    ];
-    alone = λ c k lt ne. elim (cases_eq c client) [
-      | inl q ↦ subst (λ (j : ℕ). wrote (new.transaction j).undo k ≡ false) (sym q) (ap (λ (u : List Undo). wrote u k) e.transaction.undo)
-      | inr other ↦ ap (λ (t : Transaction). wrote t.undo k) (e.transaction.others c other) ∙ h.alone c k lt ne
-    ];
-    idle = λ c lt not_begun. elim (cases_eq c client) [
-      | inl q ↦ subst (λ (j : ℕ). with_at w.own client None j ≡ None) (sym q) (with_same w.own client None)
-      | inr ne ↦ with_other w.own client None c ne ∙ h.idle c lt (sym (with_other w.begun client false c ne) ∙ not_begun)
-    ];
-    own = λ speaks c lt b is. absurd (cc (speaks.1, fails));
-    none = λ speaks c lt is. absurd (cc (speaks.1, fails));
-    back = λ speaks c lt. absurd (cc (speaks.1, fails));
-  }
+  ended_failed new client small e fails = cleared new client false true e.keeps (λ no. absurd (cc no)) e.transaction.others e.transaction.begun e.transaction.undo
+      (λ c lt ne speaks. absurd (cc (speaks.1, fails))) (λ speaks. absurd (cc (speaks.1, fails)))
 
   -- what a commit of this client leaves
   pub joined_is : (client : ℕ) → client < 16 → Speaks old → decoded (joined (old.transaction client).undo old.reads old.kept) ≡ with_own w client
@@ -288,100 +230,52 @@ module _ (old : SlotState) (w : World) (first : ℕ → List ℕ) (h : IsInStep 
 
   -- a commit that is answered Disk, the first of all
   pub fails : (new : SlotState) (client : ℕ) → client < 16 → Fails old new client → w.closed ≡ false → old.failed ≡ false → new.failed ≡ true → IsInStep new (step w (Closed client true)) first
-  fails new client small f still was now = record {
-    kept = λ told. let t = back_told told in ap decoded (f.kept t) ∙ h.kept t;
-    done = h.done;
-    as_many = h.as_many;
-    closed = λ no. absurd (cc no);
-    no_last = λ no. absurd (cc no);
-    no_doubt = λ told none. absurd (cc none);
-    doubt = λ told v others_left is. let t = back_told told in
-        let last : with_own w client ≡ v = cc is in
-        ⊎_elim
-        (λ (e : new.doubt ≡ old.doubt). ∣ inl (ap decoded e ∙ h.no_doubt t (h.no_last still)) ∣₁)
-        (λ (e : (old.failed ≡ false) × (new.doubt ≡ joined (old.transaction client).undo old.reads old.kept)). ∣ inr (ap decoded e.1 ∙ joined_is client small (t, was) ∙ last) ∣₁)
-        (f.doubt t);
-    begun = λ c lt. ap (λ (t : ℕ → Transaction). (t c).begun) f.transaction ∙ h.begun c lt;
-    alone = λ c k lt ne. ap (λ (t : ℕ → Transaction). wrote (t c).undo k) f.transaction ∙ h.alone c k lt ne;
-    idle = h.idle;
-    own = λ speaks c lt b is. absurd (cc (speaks.1, now));
-    none = λ speaks c lt is. absurd (cc (speaks.1, now));
-    back = λ speaks c lt. absurd (cc (speaks.1, now));
-  }
-    where
-      back_told : IsTrue new.told → IsTrue old.told
-      back_told told = subst (λ (b : Bool). IsTrue b) f.told told
+  fails new client small f still was now = in_step new (step w (Closed client true)) first
+      (λ told. let t = told_back new f.told told in ap decoded (f.kept t) ∙ h.kept t)
+      h.done
+      h.as_many
+      (λ no. absurd (cc no))
+      (λ told none. absurd (cc none))
+      (λ told v others_left is. let t = told_back new f.told told in
+      let last : with_own w client ≡ v = cc is in
+      ⊎_elim
+      (λ (e : new.doubt ≡ old.doubt). ∣ inl (ap decoded e ∙ h.no_doubt t (h.no_last still)) ∣₁)
+      (λ (e : (old.failed ≡ false) × (new.doubt ≡ joined (old.transaction client).undo old.reads old.kept)). ∣ inr (ap decoded e.1 ∙ joined_is client small (t, was) ∙ last) ∣₁)
+      (f.doubt t))
+      (λ c lt. unchanged new c _ _ lt refl refl (ap (λ (t : ℕ → Transaction). t c) f.transaction) (λ speaks. absurd (cc (speaks.1, now))))
 
   -- a commit that is answered Ok
   pub commits : (new : SlotState) (client moment : ℕ) → client < 16 → Commits old new client → w.closed ≡ false → new.failed ≡ old.failed → IsInStep new (step w (Committed client moment)) first
-  commits new client moment small k still same = record {
-    kept = λ told. let t = back_told told in ap decoded (k.kept t) ∙ joined_is client small (t, k.before);
-    done = get_next (first ∷ w.lefts) [] (with_own w client) _ (omega (arith, h.as_many, length-append w.moments (moment ∷ [])));
-    as_many = omega (arith, h.as_many, length-append w.moments (moment ∷ []), length-append w.lefts (with_own w client ∷ []));
-    closed = λ no. same ∙ h.closed no;
-    no_last = h.no_last;
-    no_doubt = λ told none. let t = back_told told in ap decoded (k.doubt t ∙ k.kept t) ∙ joined_is client small (t, k.before);
-    doubt = λ told v others_left is. absurd (cc (is, h.no_last still));
-    begun = λ c lt. elim (cases_eq c client) [
-      | inl e ↦ subst (λ (j : ℕ). (new.transaction j).begun ≡ with_at w.begun client false j) (sym e) (k.transaction.begun ∙ sym (with_same w.begun client false))
-      | inr ne ↦ ap (λ (t : Transaction). t.begun) (k.transaction.others c ne) ∙ h.begun c lt ∙ sym (with_other w.begun client false c ne)
-    ];
-    alone = λ c j lt ne. elim (cases_eq c client) [
-      | inl e ↦ subst (λ (d : ℕ). wrote (new.transaction d).undo j ≡ false) (sym e) (ap (λ (u : List Undo). wrote u j) k.transaction.undo)
-      | inr other ↦ ap (λ (t : Transaction). wrote t.undo j) (k.transaction.others c other) ∙ h.alone c j lt ne
-    ];
-    idle = λ c lt not_begun. elim (cases_eq c client) [
-      | inl e ↦ subst (λ (j : ℕ). with_at w.own client None j ≡ None) (sym e) (with_same w.own client None)
-      | inr ne ↦ with_other w.own client None c ne ∙ h.idle c lt (sym (with_other w.begun client false c ne) ∙ not_begun)
-    ];
-    own = λ speaks c lt v is. let s = back_speaks speaks in elim (cases_eq c client) [
-      | inl e ↦ absurd (cc (with_same w.own client None, subst (λ (j : ℕ). with_at w.own client None j ≡ Some v) e is))
-      | inr ne ↦ let o = h.own s c lt v (sym (with_other w.own client None c ne) ∙ is) in (ap (λ (t : Transaction). wrote t.undo (8192 + c)) (k.transaction.others c ne) ∙ o.0, ap (λ (f : ℕ → List ℕ). f (8192 + c)) (k.reads s) ∙ o.1)
-    ];
-    none = λ speaks c lt is. let s = back_speaks speaks in elim (cases_eq c client) [
-      | inl e ↦ subst (λ (j : ℕ). (wrote (new.transaction j).undo (8192 + j) ≡ false) × (new.reads (8192 + j) ≡ new.kept (8192 + j))) (sym e)
-          (ap (λ (u : List Undo). wrote u (8192 + client)) k.transaction.undo, here s)
-      | inr ne ↦ let o = h.none s c lt (sym (with_other w.own client None c ne) ∙ is) in
-          (ap (λ (t : Transaction). wrote t.undo (8192 + c)) (k.transaction.others c ne) ∙ o.0, ap (λ (f : ℕ → List ℕ). f (8192 + c)) (k.reads s) ∙ o.1 ∙ kept_elsewhere s c lt ne)
-    ];
-    back = λ speaks c lt. let s = back_speaks speaks in elim (cases_eq c client) [
-      | inl e ↦ subst (λ (j : ℕ). undone (new.transaction j).undo new.reads (8192 + j) ≡ new.kept (8192 + j)) (sym e) (ap (λ (u : List Undo). undone u new.reads (8192 + client)) k.transaction.undo ∙ here s)
-      | inr ne ↦ ap (λ (t : Transaction). undone t.undo new.reads (8192 + c)) (k.transaction.others c ne) ∙ ap (λ (f : ℕ → List ℕ). undone (old.transaction c).undo f (8192 + c)) (k.reads s) ∙ h.back s c lt ∙ kept_elsewhere s c lt ne
-    ];
-  }
+  commits new client moment small k still same = in_step new (step w (Committed client moment)) first
+      left
+      (get_next (first ∷ w.lefts) [] (with_own w client) _ (omega (arith, h.as_many, length-append w.moments (moment ∷ []))))
+      (omega (arith, h.as_many, length-append w.moments (moment ∷ []), length-append w.lefts (with_own w client ∷ [])))
+      (λ no. (same ∙ h.closed no, h.no_last no))
+      (λ told none. ap decoded (k.doubt (told_back new k.told told)) ∙ left told)
+      (λ told v others_left is. absurd (cc (is, h.no_last still)))
+      (becomes new client false None (nothing_set new client false k.transaction.begun k.transaction.undo here) k.transaction.others
+      (λ c lt ne speaks. let s = back_speaks speaks in (s, ap (λ (f : ℕ → List ℕ). f (8192 + c)) (k.reads s), kept_elsewhere s c lt ne)))
     where
-      back_told : IsTrue new.told → IsTrue old.told
-      back_told told = subst (λ (b : Bool). IsTrue b) k.told told
-
       back_speaks : Speaks new → Speaks old
-      back_speaks speaks = (back_told speaks.0, k.before)
+      back_speaks speaks = (told_back new k.told speaks.0, k.before)
+
+      left : IsTrue new.told → decoded new.kept ≡ with_own w client
+      left told = let t = told_back new k.told told in ap decoded (k.kept t) ∙ joined_is client small (t, k.before)
 
       kept_elsewhere : Speaks old → (c : ℕ) → c < 16 → c ≢ client → old.kept (8192 + c) ≡ new.kept (8192 + c)
       kept_elsewhere s c lt ne = sym (ap (λ (f : ℕ → List ℕ). f (8192 + c)) (k.kept s.0) ∙ joined_out (old.transaction client).undo old.reads old.kept (8192 + c) (h.alone client (8192 + c) small (apart client c ne)))
 
-      here : Speaks old → new.reads (8192 + client) ≡ new.kept (8192 + client)
-      here s = ap (λ (f : ℕ → List ℕ). f (8192 + client)) (k.reads s) ∙ sym (ap (λ (f : ℕ → List ℕ). f (8192 + client)) (k.kept s.0) ∙ elim (none_or_some (w.own client)) [
+      here : Speaks new → new.reads (8192 + client) ≡ new.kept (8192 + client)
+      here speaks = let s = back_speaks speaks in ap (λ (f : ℕ → List ℕ). f (8192 + client)) (k.reads s) ∙ sym (ap (λ (f : ℕ → List ℕ). f (8192 + client)) (k.kept s.0) ∙ elim (none_or_some (w.own client)) [
         | inl none ↦ let o = h.none s client small none in joined_out (old.transaction client).undo old.reads old.kept (8192 + client) o.0 ∙ sym o.1
         | inr some ↦ let o = h.own s client small some.0 some.1 in joined_in (old.transaction client).undo old.reads old.kept (8192 + client) o.0
       ])
 
 -- the store closes
 pub shut : (s : SlotState) (v : World) (first : ℕ → List ℕ) (client : ℕ) → IsInStep s v first → IsInStep s (step v (Closed client false)) first
-shut s v first client h = record {
-  kept = h.kept;
-  done = h.done;
-  as_many = h.as_many;
-  closed = λ no. absurd (cc no);
-  no_last = λ no. absurd (cc no);
-  no_doubt = h.no_doubt;
-  doubt = h.doubt;
-  begun = h.begun;
-  alone = h.alone;
-  idle = h.idle;
-  own = h.own;
-  none = h.none;
-  back = h.back;
-}
+shut s v first client h =
+    let keeps : Keeps s s = record { told = refl; kept = λ _. refl; doubt = λ _. refl } in
+    keeps_on s v first h s v.begun v.own true keeps (λ no. absurd (cc no)) (each_rests s v first h s (record { keeps = keeps; reads = λ _. refl; transaction = refl }) (λ speaks. speaks))
 
 -- the clause after a call other than a commit that is answered Ok
 pub survives_call : (old new : SlotState) (before after : ℕ → (ℕ → List ℕ) → Type 0) (first : ℕ → List ℕ) (w v : World) → Survives old before first w → IsInStep new v first

@@ -1,9 +1,8 @@
-use Rattle.std.proofs.Common.{◌≡◌, ◌<◌, ◌≤◌, inl, inr, ℕ, List, [], Bool, true, get_or, replicate, refl, sym, ◌∙◌, ap, subst, arith}
+use Rattle.std.proofs.Common.{◌≡◌, inl, inr, ℕ, [], replicate, refl, sym, ◌∙◌, ap, subst, arith}
 use Rattle.std.proofs.lemmas.Bool.{cases_lt}
 use Rattle.std.proofs.lemmas.List.{get_or-replicate, get_or_past, length-replicate}
 use Rattle.abl_storage.specs.Slots.{SlotState}
 use Rattle.mem_slots.specs.Sparse.{zeros}
-use Rattle.mem_slots.specs.Mem.{at_rest}
 use Rattle.prefix_store.specs.World.{IsFresh, decoded, first_of}
 use Rattle.prefix_store.proofs.Lookups.{dec_in, dec_out}
 use Rattle.prefix_store.proofs.tests.empty_store.Goals as goal

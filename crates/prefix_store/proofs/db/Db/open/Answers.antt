@@ -1,7 +1,6 @@
 use Rattle.std.proofs.Common.{◌≡◌, inl, ℕ, ◌+◌, List, Some, false, refl, sym, ◌∙◌, ap, arith}
-use Rattle.abl_storage.specs.Slots.{wrote, undone}
-use Rattle.abl_storage.specs.declared.slots.Undo.{Undo}
-use Rattle.prefix_store.specs.World.{Survives, IsInStep, first_of, world_of, opened_with, decoded}
+use Rattle.prefix_store.specs.World.{Survives, first_of, world_of, opened_with, decoded}
+use Rattle.prefix_store.proofs.Steps.{in_step, nothing_set}
 use Rattle.prefix_store.proofs.Calls.{kept_in}
 use Rattle.prefix_store.proofs.db.Db.open.Goals as goal
 
@@ -15,19 +14,6 @@ invariant_of-result g c =
       stops = λ m x low high told. ∣ inl (ap (λ (v : ℕ → List ℕ). Some v) (sym (f.stops m x low high told))) ∣₁;
       ascend = record { order = f.past; within = λ i lt. absurd (omega arith); rises = λ i j le lt. absurd (omega arith) };
     } in
-    let in_step : IsInStep s (opened_with first) first = record {
-      kept = f.contents;
-      done = refl;
-      as_many = refl;
-      closed = λ _. f.fine;
-      no_last = λ _. refl;
-      no_doubt = λ told _. ap decoded (f.doubt told) ∙ f.contents told;
-      doubt = λ told v rest is. absurd (cc is);
-      begun = λ k lt. (f.idle k).0;
-      alone = λ k j lt ne. ap (λ (u : List Undo). wrote u j) (f.idle k).1;
-      idle = λ k lt no. refl;
-      own = λ speaks k lt b is. absurd (cc is);
-      none = λ speaks k lt is. (ap (λ (u : List Undo). wrote u (8192 + k)) (f.idle k).1, ap (λ (r : ℕ → List ℕ). r (8192 + k)) (f.reads speaks));
-      back = λ speaks k lt. ap (λ (u : List Undo). undone u s.reads (8192 + k)) (f.idle k).1 ∙ ap (λ (r : ℕ → List ℕ). r (8192 + k)) (f.reads speaks);
-    } in
-    kept_in s _ c.args.opened.items c.new.result.items false (opened_with first) w_is survives in_step refl
+    let held = in_step s (opened_with first) first f.contents refl refl (λ _. (f.fine, refl)) (λ told _. ap decoded (f.doubt told) ∙ f.contents told) (λ told v rest is. absurd (cc is))
+    (λ k lt. nothing_set s k false (f.idle k).0 (f.idle k).1 (λ speaks. ap (λ (r : ℕ → List ℕ). r (8192 + k)) (f.reads speaks))) in
+    kept_in s _ c.args.opened.items c.new.result.items false (opened_with first) w_is survives held refl
