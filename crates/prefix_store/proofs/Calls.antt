@@ -1,6 +1,8 @@
 -- What the type of the store keeps, over one call of the slots.
-use Rattle.std.proofs.Common.{◌≡◌, ◌⊎◌, inl, inr, ℕ, Bool, true, false, List, [], ◌∷◌, ◌++◌, IsTrue, refl, sym, ◌∙◌, ap, subst}
-use Rattle.abl_storage.specs.Slots.{SlotState, Goes, Rests, IsToldStop}
+use Rattle.std.proofs.Common.{◌≡◌, ◌≢◌, Err, ◌⊎◌, inl, inr, ℕ, Bool, true, false, List, [], ◌∷◌, ◌++◌, IsTrue, refl, sym, ◌∙◌, ap, subst}
+use Rattle.abl_storage.specs.Slots.{SlotState, Goes, Rests, HasCause, IsToldStop}
+use Rattle.abl_storage.specs.declared.slots.SlotFault.{SlotFault}
+use Rattle.abl_storage.specs.declared.slots.SlotFault.TheVariants.{Disk, TxFull, NoMemory}
 use Rattle.prefix_store.specs.declared.Event.{Event}
 use Rattle.prefix_store.specs.declared.Event.TheVariants.{Closed}
 use Rattle.prefix_store.specs.World.{World, Survives, IsInStep, first_of, world_of, opened_with, step}
@@ -54,3 +56,13 @@ module _ (old new : SlotState) (before after : ℕ → (ℕ → List ℕ) → Ty
   shuts client r fails fine now is =
       let still : w.closed ≡ false = sym closed_is ∙ fine in
       logged now (Closed client false) true is (closes old w (first_of opened) in_step new client r fails still) r.keeps.told r.keeps.kept refl refl (inl (in_step.no_last still)) refl
+
+  with_closed : (now : List Event) (shut is : Bool) → shut ≡ is → Kept new after opened now is → Kept new after opened now shut
+  with_closed now shut is same kept = subst (λ (b : Bool). Kept new after opened now b) (sym same) kept
+
+  -- after a call other than a commit that is answered with a fault
+  pub faulted : {T : Type 0} (client : ℕ) (fault : SlotFault) → Rests old new → HasCause {T = T} old new (Err fault) → closed ≡ false → (was now : List Event) (shut : Bool) → was ≡ trace
+      → (fault ≡ Disk → (shut ≡ true) × (now ≡ was ++ Closed client false ∷ [])) → (fault ≢ Disk → (shut ≡ closed) × (now ≡ was)) → Kept new after opened now shut
+  faulted client Disk r cause fine was now shut same disk rest = let d = disk refl in with_closed now shut true d.0 (shuts client r (cause.failed refl) fine now (d.1 ∙ ap (λ (t : List Event). t ++ Closed client false ∷ []) same))
+  faulted client TxFull r cause fine was now shut same disk rest = let d = rest (λ e. cc e) in with_closed now shut closed d.0 (refused r (cause.stays (λ e. cc e)) now (d.1 ∙ same))
+  faulted client NoMemory r cause fine was now shut same disk rest = let d = rest (λ e. cc e) in with_closed now shut closed d.0 (refused r (cause.stays (λ e. cc e)) now (d.1 ∙ same))

@@ -1,4 +1,4 @@
-ghost use Rattle.std.specs.Prelude.{◌≡◌, ◌⊎◌, ℕ, ◌<◌, ◌++◌, ◌∷◌, [], length, true, false, OnOk, OnErr};
+ghost use Rattle.std.specs.Prelude.{◌≡◌, ◌≢◌, ◌⊎◌, ℕ, ◌<◌, ◌++◌, ◌∷◌, [], length, true, false, if◌then◌else◌, OnOk, OnErr, IfErr, vec_len, vec_capacity};
 ghost use Rattle.prefix_store.specs.World.{Survives, IsInStep, IsFresh, first_of, world_of};
 ghost use Rattle.std.proofs.Props.{props};
 
@@ -50,24 +50,13 @@ impl<S: Slots + Drop> Db<S> {
         requires idle { (world_of self.old.opened.items self.old.trace.items).begun client ≡ false }
         ensures done { OnOk result (self.new.trace.items ≡ self.old.trace.items ++ Event.Begun client ∷ []) }
     {
-        if self.closed {
-            return Err(Refusal::Closed);
-        }
-        if self.trace.reserve(1).is_err() {
-            return Err(Refusal::NoMemory);
-        }
+        ready(self.closed, &mut self.trace)?;
         match self.slots.begin(client) {
             Ok(()) => {
                 let _ = self.trace.push(Event::Begun(client));
                 Ok(())
             }
-            Err(SlotFault::Disk) => {
-                self.closed = true;
-                let _ = self.trace.push(Event::Closed(client, false));
-                Err(Refusal::Closed)
-            }
-            Err(SlotFault::TxFull) => Err(Refusal::TxFull),
-            Err(SlotFault::NoMemory) => Err(Refusal::NoMemory),
+            Err(fault) => Err(refused(&mut self.closed, &mut self.trace, client, fault)),
         }
     }
 
@@ -77,12 +66,7 @@ impl<S: Slots + Drop> Db<S> {
         requires begun { (world_of self.old.opened.items self.old.trace.items).begun client ≡ true }
         ensures done { OnOk result (self.new.trace.items ≡ self.old.trace.items ++ Event.Set client bytes.now ∷ []) }
     {
-        if self.closed {
-            return Err(Refusal::Closed);
-        }
-        if self.trace.reserve(1).is_err() {
-            return Err(Refusal::NoMemory);
-        }
+        ready(self.closed, &mut self.trace)?;
         let slot = 8192 + client as u32;
         match self.slots.write(client, slot, bytes) {
             Ok(()) => {
@@ -90,13 +74,7 @@ impl<S: Slots + Drop> Db<S> {
                 let _ = self.trace.push(Event::Set(client, value));
                 Ok(())
             }
-            Err(SlotFault::Disk) => {
-                self.closed = true;
-                let _ = self.trace.push(Event::Closed(client, false));
-                Err(Refusal::Closed)
-            }
-            Err(SlotFault::TxFull) => Err(Refusal::TxFull),
-            Err(SlotFault::NoMemory) => Err(Refusal::NoMemory),
+            Err(fault) => Err(refused(&mut self.closed, &mut self.trace, client, fault)),
         }
     }
 
@@ -106,22 +84,13 @@ impl<S: Slots + Drop> Db<S> {
         requires begun { (world_of self.old.opened.items self.old.trace.items).begun client ≡ true }
         ensures done { OnOk result (self.new.trace.items ≡ self.old.trace.items ++ Event.Undone client ∷ []) }
     {
-        if self.closed {
-            return Err(Refusal::Closed);
-        }
-        if self.trace.reserve(1).is_err() {
-            return Err(Refusal::NoMemory);
-        }
+        ready(self.closed, &mut self.trace)?;
         match self.slots.back(client, Mark { at: 0 }) {
             Ok(()) => {
                 let _ = self.trace.push(Event::Undone(client));
                 Ok(())
             }
-            Err(_) => {
-                self.closed = true;
-                let _ = self.trace.push(Event::Closed(client, false));
-                Err(Refusal::Closed)
-            }
+            Err(fault) => Err(refused(&mut self.closed, &mut self.trace, client, fault)),
         }
     }
 
@@ -131,12 +100,7 @@ impl<S: Slots + Drop> Db<S> {
         requires begun { (world_of self.old.opened.items self.old.trace.items).begun client ≡ true }
         ensures done { OnOk result ((m : ℕ) × (self.new.trace.items ≡ self.old.trace.items ++ Event.Committed client m ∷ [])) }
     {
-        if self.closed {
-            return Err(Refusal::Closed);
-        }
-        if self.trace.reserve(1).is_err() {
-            return Err(Refusal::NoMemory);
-        }
+        ready(self.closed, &mut self.trace)?;
         match self.slots.commit(client) {
             Ok(moment) => {
                 let _ = self.trace.push(Event::Committed(client, moment));
@@ -181,5 +145,42 @@ impl<S: Slots + Drop> Db<S> {
             closed: _,
         } = self;
         (slots, opened, trace)
+    }
+}
+
+/// Whether a call may go on: the store has not closed, and the trace has room for an event.
+fn ready(closed: bool, trace: &mut Vec<Event>) -> Result<(), Refusal>
+    ensures same { trace.new.items ≡ trace.old.items }
+    ensures fine { OnOk result (closed ≡ false) }
+    ensures room { OnOk result (vec_len trace.new < vec_capacity trace.new) }
+    ensures err { IfErr result (λ refusal. refusal ≡ (if closed then Refusal.Closed else Refusal.NoMemory)) }
+{
+    if closed {
+        return Err(Refusal::Closed);
+    }
+    if trace.reserve(1).is_err() {
+        return Err(Refusal::NoMemory);
+    }
+    Ok(())
+}
+
+/// The answer to a call that the slots refused. The store closes where the disk failed, and nothing
+/// else closes it.
+fn refused(closed: &mut bool, trace: &mut Vec<Event>, client: u16, fault: SlotFault) -> Refusal
+    requires { vec_len trace.old < vec_capacity trace.old }
+    ensures disk { fault ≡ SlotFault.Disk → (closed.new ≡ true) × (trace.new.items ≡ trace.old.items ++ Event.Closed client false ∷ []) }
+    ensures rest { fault ≢ SlotFault.Disk → (closed.new ≡ closed.old) × (trace.new.items ≡ trace.old.items) }
+    ensures failed { fault ≡ SlotFault.Disk → result ≡ Refusal.Closed }
+    ensures full { fault ≡ SlotFault.TxFull → result ≡ Refusal.TxFull }
+    ensures memory { fault ≡ SlotFault.NoMemory → result ≡ Refusal.NoMemory }
+{
+    match fault {
+        SlotFault::Disk => {
+            *closed = true;
+            let _ = trace.push(Event::Closed(client, false));
+            Refusal::Closed
+        }
+        SlotFault::TxFull => Refusal::TxFull,
+        SlotFault::NoMemory => Refusal::NoMemory,
     }
 }

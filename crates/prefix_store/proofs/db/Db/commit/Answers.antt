@@ -14,7 +14,7 @@ invariant_of-self-in-Ok g c =
     let old = g.S.Slots.state db.slots in
     let new = g.S.Slots.state c.commit.new.self in
     let k = c.in-Ok.ensures.ok in
-    let still : w.closed ≡ false = sym db.closed_is ∙ c.if-self.false in
+    let still : w.closed ≡ false = sym db.closed_is ∙ c.in_ok-ready.ensures.fine in
     let raw : c.push.new.self.items ≡ db.trace.items ++ Committed c.args.client c.in-Ok.moment ∷ [] = search rules in
     let trace_is = subst (λ (m : ℕ). c.push.new.self.items ≡ db.trace.items ++ Committed c.args.client m ∷ []) c.in-Ok.ensures.moment raw in
     let h = commits old w first db.in_step new c.args.client new.moment c.requires.client k still (c.in-Ok.ensures.cause.stays (λ e. cc e)) in
@@ -26,7 +26,7 @@ invariant_of-self-in-Err g c =
     let db = c.args.self.now in
     let w = world_of db.opened.items db.trace.items in
     let f = c.in-Err.ensures.err in
-    let still : w.closed ≡ false = sym db.closed_is ∙ c.if-self.false in
+    let still : w.closed ≡ false = sym db.closed_is ∙ c.in_ok-ready.ensures.fine in
     let h = fails _ _ _ db.in_step _ c.args.client c.requires.client f still (db.in_step.closed still) (c.in-Err.ensures.cause.failed (only_disk c.in-Err.field-0 c.in-Err.ensures.only)) in
     logged _ _ _ _ db.opened.items db.trace.items _ db.survives db.in_step db.closed_is c.commit.ensures.time (g.met.S.Slots.stop_told c.commit.new.self)
     c.push-in-Err.new.self.items (Closed c.args.client true) _ (search rules) h f.told f.kept refl refl (inl (db.in_step.no_last still)) refl

@@ -1,7 +1,7 @@
 use Rattle.std.proofs.Common.{inr, refl, rules}
 use Rattle.prefix_store.specs.declared.Event.TheVariants.{Set}
 use Rattle.prefix_store.proofs.Steps.{writes}
-use Rattle.prefix_store.proofs.Calls.{logged, refused, shuts}
+use Rattle.prefix_store.proofs.Calls.{logged, faulted}
 use Rattle.prefix_store.proofs.db.Db.set.Goals as goal
 
 pub invariant_of-self-in-Ok : goal.invariant_of-self-in-Ok
@@ -12,20 +12,8 @@ invariant_of-self-in-Ok g c =
     logged _ _ _ _ db.opened.items db.trace.items _ db.survives db.in_step db.closed_is c.write.ensures.time (g.met.S.Slots.stop_told c.write.new.self)
     c.push.new.self.items (Set c.args.client c.args.bytes.now) _ (search rules) h b.keeps.told b.keeps.kept refl refl (inr refl) db.closed_is
 
-pub invariant_of-self-in-Err-Disk : goal.invariant_of-self-in-Err-Disk
-invariant_of-self-in-Err-Disk g c =
+pub invariant_of-self-in-Err : goal.invariant_of-self-in-Err
+invariant_of-self-in-Err g c =
     let db = c.args.self.now in
-    shuts _ _ _ _ db.opened.items db.trace.items _ db.survives db.in_step db.closed_is c.write.ensures.time (g.met.S.Slots.stop_told c.write.new.self)
-    c.args.client c.in-Err-Disk.ensures.err (c.in-Err-Disk.ensures.cause.failed (cc c.in-Err-Disk.field-0-is)) c.if-self.false c.push-in-Err-Disk.new.self.items (search rules)
-
-pub invariant_of-self-in-Err-TxFull : goal.invariant_of-self-in-Err-TxFull
-invariant_of-self-in-Err-TxFull g c =
-    let db = c.args.self.now in
-    refused _ _ _ _ db.opened.items db.trace.items _ db.survives db.in_step db.closed_is c.write.ensures.time (g.met.S.Slots.stop_told c.write.new.self)
-    c.in-Err-TxFull.ensures.err (c.in-Err-TxFull.ensures.cause.stays (λ e. cc e)) c.reserve.new.self.items (search rules)
-
-pub invariant_of-self-in-Err-NoMemory : goal.invariant_of-self-in-Err-NoMemory
-invariant_of-self-in-Err-NoMemory g c =
-    let db = c.args.self.now in
-    refused _ _ _ _ db.opened.items db.trace.items _ db.survives db.in_step db.closed_is c.write.ensures.time (g.met.S.Slots.stop_told c.write.new.self)
-    c.in-Err-NoMemory.ensures.err (c.in-Err-NoMemory.ensures.cause.stays (λ e. cc e)) c.reserve.new.self.items (search rules)
+    faulted _ _ _ _ db.opened.items db.trace.items _ db.survives db.in_step db.closed_is c.write.ensures.time (g.met.S.Slots.stop_told c.write.new.self)
+    c.args.client c.in-Err.fault c.in-Err.ensures.err c.in-Err.ensures.cause c.in_ok-ready.ensures.fine _ _ _ c.ready.ensures.same c.refused.ensures.disk c.refused.ensures.rest

@@ -1,9 +1,9 @@
 use Rattle.std.proofs.Common.{◌≡◌, ℕ, Bool, true, None, inr, refl, ap, rules}
 use Rattle.prefix_store.specs.World.{world_of, step, with_at}
 use Rattle.prefix_store.specs.declared.Event.TheVariants.{Undone}
-use Rattle.prefix_store.proofs.Lookups.{with_id, only_disk}
+use Rattle.prefix_store.proofs.Lookups.{with_id}
 use Rattle.prefix_store.proofs.Steps.{taken_back}
-use Rattle.prefix_store.proofs.Calls.{logged, shuts}
+use Rattle.prefix_store.proofs.Calls.{logged, faulted}
 use Rattle.prefix_store.proofs.db.Db.undo.Goals as goal
 
 pub invariant_of-self-in-Ok : goal.invariant_of-self-in-Ok
@@ -19,5 +19,5 @@ invariant_of-self-in-Ok g c =
 pub invariant_of-self-in-Err : goal.invariant_of-self-in-Err
 invariant_of-self-in-Err g c =
     let db = c.args.self.now in
-    shuts _ _ _ _ db.opened.items db.trace.items _ db.survives db.in_step db.closed_is c.back.ensures.time (g.met.S.Slots.stop_told c.back.new.self)
-    c.args.client c.in-Err.ensures.err (c.in-Err.ensures.cause.failed (only_disk c.in-Err.field-0 c.in-Err.ensures.only)) c.if-self.false c.push-in-Err.new.self.items (search rules)
+    faulted _ _ _ _ db.opened.items db.trace.items _ db.survives db.in_step db.closed_is c.back.ensures.time (g.met.S.Slots.stop_told c.back.new.self)
+    c.args.client c.in-Err.fault c.in-Err.ensures.err c.in-Err.ensures.cause c.in_ok-ready.ensures.fine _ _ _ c.ready.ensures.same c.refused.ensures.disk c.refused.ensures.rest
