@@ -57,6 +57,7 @@ module _ (old new : SlotState) (before after : ℕ → (ℕ → List ℕ) → Ty
       let still : w.closed ≡ false = sym closed_is ∙ fine in
       logged now (Closed client false) true is (closes old w (first_of opened) in_step new client r fails still) r.keeps.told r.keeps.kept refl refl (inl (in_step.no_last still)) refl
 
+  -- whether the store has closed, under another name
   with_closed : (now : List Event) (shut is : Bool) → shut ≡ is → Kept new after opened now is → Kept new after opened now shut
   with_closed now shut is same kept = subst (λ (b : Bool). Kept new after opened now b) (sym same) kept
 

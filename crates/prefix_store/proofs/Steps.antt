@@ -82,12 +82,14 @@ nothing_set s c goes_on begun undo reads = record {
 }
 
 module _ (old : SlotState) (w : World) (first : ℕ → List ℕ) (h : IsInStep old w first) where
+  -- what is told after a call was told before it
   told_back : (new : SlotState) → new.told ≡ old.told → IsTrue new.told → IsTrue old.told
   told_back new same told = subst (λ (b : Bool). IsTrue b) same told
 
   speaks_back : (new : SlotState) → Keeps old new → new.failed ≡ old.failed → Speaks new → Speaks old
   speaks_back new keeps same speaks = (told_back new keeps.told speaks.0, sym same ∙ speaks.1)
 
+  -- a call that met no fault leaves an open store open
   still_open : (new : SlotState) → new.failed ≡ old.failed → w.closed ≡ false → (new.failed ≡ false) × (w.closed ≡ false)
   still_open new same was = (same ∙ h.closed was, was)
 
@@ -95,6 +97,7 @@ module _ (old : SlotState) (w : World) (first : ℕ → List ℕ) (h : IsInStep 
   abbrev SameSlot : SlotState → ℕ → Type 0
   SameSlot new c = Speaks old × (new.reads (8192 + c) ≡ old.reads (8192 + c)) × (old.kept (8192 + c) ≡ new.kept (8192 + c))
 
+  -- so it is where it reads as before and the call leaves what is kept
   same_slot : (new : SlotState) (c : ℕ) → Keeps old new → Speaks old → new.reads (8192 + c) ≡ old.reads (8192 + c) → SameSlot new c
   same_slot new c keeps s reads = (s, reads, ap (λ (f : ℕ → List ℕ). f (8192 + c)) (sym (keeps.kept s.0)))
 
