@@ -6,10 +6,11 @@ use Rattle.std.specs.declared.alloc.Global.{Global}
 use Rattle.abl_storage.specs.Disk.{TornIn, Passes}
 use Rattle.mem_disk.specs.declared.call.Effect.TheVariants.{Written, Synced, Nothing}
 use Rattle.mem_disk.specs.declared.mem_disk.MemDisk.{MemDisk}
-use Rattle.mem_disk.specs.Notes.{Note, Held, done, held, LeftBy, Left, bytes_in}
+use Rattle.mem_disk.specs.Notes.{Note, Held, spent_by, done, held, LeftBy, Left, bytes_in}
 use Rattle.mem_disk.specs.Crash.{is_write}
 use Rattle.mem_disk.specs.Laws.{length-notes_of}
 use Rattle.mem_disk.specs.Shown.{Shown, shown, seen_of, left_of, Passed, SameHeld}
+use Rattle.mem_disk.proofs.Record.{spent_more}
 use Rattle.mem_disk.proofs.Moments.{Image, passes, passes_by, torn_not, seen_here, seen_same, still_step, write_step, durable, held_same, written_torn}
 
 -- so many moments are recorded as there were, or as there is room for
@@ -84,6 +85,13 @@ module _ {old new : Shown} (passed : Passed old new) (area : ℕ) (many : length
   -- what is read stays
   pub same_seen : seen_of new ≡ seen_of old
   same_seen = λ j k. (same_held k j).seen
+
+  -- no byte is spent
+  pub same_spent : spent_by new.notes ≡ spent_by old.notes
+  same_spent = elim (cases_lt old.time old.room.calls) [
+    | inl lt ↦ (let more = spent_more old.notes new.notes nothing (noted lt) in omega (arith, more))
+    | inr le ↦ ap (λ (l : List Note). spent_by l) (full le)
+  ]
 
   -- a moment passes, and what a crash may leave stays
   pub same_moves : (step : Image → Image → Type 0) → ((image : Image) → step image image) → Passes false old.time new.time (left_of old) (left_of new) step

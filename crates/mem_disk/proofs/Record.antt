@@ -8,12 +8,20 @@ use Rattle.std.proofs.lemmas.Bool.Decides.{nat_tests}
 use Rattle.mem_disk.specs.declared.call.Call.{Call}
 use Rattle.mem_disk.specs.declared.images.Torn.{Torn}
 use Rattle.mem_disk.specs.Sound.{IsInside, AllInside, no_call, capacity_in, HaveRoom}
-use Rattle.mem_disk.specs.Notes.{Note, Held, note_of, notes_of, done, after_note, after_notes}
+use Rattle.mem_disk.specs.Notes.{Note, Held, note_of, notes_of, spent_by, done, after_note, after_notes}
 use Rattle.mem_disk.specs.Crash.{is_unsynced, first_torn, torn_by, torn_all}
 
 pub notes_push : (pool : List ℕ) (calls : List Call) (call : Call) → notes_of pool (calls ++ call ∷ []) ≡ notes_of pool calls ++ note_of pool call ∷ []
 notes_push pool [] call = refl
 notes_push pool (c ∷ calls) call = ap (λ (l : List Note). note_of pool c ∷ l) (notes_push pool calls call)
+
+pub spent_push : (notes : List Note) (n : Note) → spent_by (notes ++ n ∷ []) ≡ spent_by notes + length n.bytes
+spent_push [] n = omega arith
+spent_push (m ∷ notes) n = omega (arith, spent_push notes n)
+
+-- a call more spends its bytes
+pub spent_more : (notes new : List Note) (n : Note) → new ≡ notes ++ n ∷ [] → spent_by new ≡ spent_by notes + length n.bytes
+spent_more notes new n more = ap (λ (l : List Note). spent_by l) more ∙ spent_push notes n
 
 pub after_push : (k : ℕ) (a : Held) (notes : List Note) (n : Note) → after_notes k a (notes ++ n ∷ []) ≡ after_note k (after_notes k a notes) n
 after_push k a [] n = refl

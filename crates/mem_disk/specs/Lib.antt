@@ -3,3 +3,4 @@ pub mod Crash
 pub mod Sound
 pub mod Shown
 pub mod Laws
+pub mod Examples

@@ -1,5 +1,5 @@
 -- What the record of a disk's calls stands for.
-use Rattle.std.specs.Prelude.{◌≡◌, ℕ, zero, suc, ◌≤◌, ◌==◌, if◌then◌else◌, List, [], ◌∷◌, length, take, drop, Vec}
+use Rattle.std.specs.Prelude.{◌≡◌, ℕ, zero, suc, ◌+◌, ◌≤◌, ◌==◌, if◌then◌else◌, List, [], ◌∷◌, length, take, drop, Vec}
 use Rattle.std.specs.declared.alloc.Global.{Global}
 use Rattle.mem_disk.specs.declared.call.Call.{Call}
 use Rattle.mem_disk.specs.declared.call.Effect.{Effect}
@@ -20,6 +20,11 @@ note_of pool call = record { area = call.area; at = call.at; bytes = take call.l
 abbrev pub notes_of : List ℕ → List Call → List Note
 notes_of pool [] = []
 notes_of pool (call ∷ calls) = note_of pool call ∷ notes_of pool calls
+
+-- the bytes of all of these together: how many of the room they spend
+abbrev pub spent_by : List Note → ℕ
+spent_by [] = 0
+spent_by (n ∷ notes) = length n.bytes + spent_by notes
 
 -- an area: what was last synced, the writes since, the newest first, and what a read gives
 pub record Held : Type 0 where

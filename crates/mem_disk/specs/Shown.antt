@@ -1,9 +1,9 @@
 -- What a disk in memory shows: what it was made from, its record, and how many calls there were.
-use Rattle.std.specs.Prelude.{◌≡◌, ◌<◌, ◌≤◌, ◌+◌, ◌^◌, ◌⊎◌, ℕ, List, length, Contains}
+use Rattle.std.specs.Prelude.{◌≡◌, ◌<◌, ◌≤◌, ◌+◌, ◌^◌, ◌⊎◌, ℕ, List, Contains}
 use Rattle.fault_count.specs.Faults.{counted}
 use Rattle.mem_disk.specs.declared.images.Room.{Room}
 use Rattle.mem_disk.specs.declared.mem_disk.MemDisk.{MemDisk}
-use Rattle.mem_disk.specs.Notes.{Note, notes_of, held, Left}
+use Rattle.mem_disk.specs.Notes.{Note, notes_of, spent_by, held, Left}
 use Rattle.mem_disk.specs.Crash.{area_of}
 
 pub record Shown : Type 0 where
@@ -11,8 +11,6 @@ pub record Shown : Type 0 where
   pub first : ℕ → List ℕ
   -- the writes and syncs, in order, as far as there was room for them
   pub notes : List Note
-  -- how many bytes were written
-  pub spent : ℕ
   pub room : Room
   -- the numbers of the calls that fail, and how many calls there have been
   pub fails : List ℕ
@@ -21,7 +19,7 @@ pub record Shown : Type 0 where
   pub faults : ℕ
 
 abbrev pub shown : MemDisk → Shown
-shown d = record { first = area_of d.first; notes = notes_of d.pool.items d.calls.items; spent = length d.pool.items; room = d.room; fails = d.fails.items; calls = d.number; time = d.time; faults = d.failed }
+shown d = record { first = area_of d.first; notes = notes_of d.pool.items d.calls.items; room = d.room; fails = d.fails.items; calls = d.number; time = d.time; faults = d.failed }
 
 -- what a read gives, of each area
 abbrev pub seen_of : Shown → ℕ → List ℕ
@@ -41,7 +39,7 @@ PassesCalls s = s.room.calls ≤ s.time
 
 -- a write of so many bytes there would pass the room
 abbrev pub PassesRoom : Shown → ℕ → ℕ → Type 0
-PassesRoom s at n = (s.room.calls ≤ s.time) ⊎ ((s.room.bytes < s.spent + n) ⊎ (s.room.length < at + n))
+PassesRoom s at n = (s.room.calls ≤ s.time) ⊎ ((s.room.bytes < spent_by s.notes + n) ⊎ (s.room.length < at + n))
 
 -- no moment is left
 abbrev pub IsLast : Shown → Type 0
@@ -71,5 +69,5 @@ SameHeld old new = (k : ℕ) → held new.first new.notes k ≡ held old.first o
 pub record Fits (s : Shown) (at n : ℕ) : Type 0 where
   pub moment : s.time + 1 < 2 ^ 64
   pub calls : s.time < s.room.calls
-  pub bytes : s.spent + n ≤ s.room.bytes
+  pub bytes : spent_by s.notes + n ≤ s.room.bytes
   pub length : at + n ≤ s.room.length

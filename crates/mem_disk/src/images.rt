@@ -31,7 +31,7 @@ impl Images {
 pub struct Room {
     /// The most writes and syncs.
     pub calls: u64,
-    /// The most bytes written in all.
+    /// The most bytes of all writes together, those that were cut included.
     pub bytes: u64,
     /// The greatest length of an area that a write makes or reaches.
     pub length: u64,

@@ -4,7 +4,7 @@ ghost use Rattle.std.specs.Prelude.{◌≡◌, ◌<◌, ◌≤◌, ◌+◌, ◌^
 ghost use Rattle.std.specs.Vec.{vec_capacity};
 ghost use Rattle.fault_count.specs.Faults.{Rose, counted};
 ghost use Rattle.abl_storage.specs.Disk.{Reads, Stays, overlaid, TornIn, Passes, HasCause};
-ghost use Rattle.mem_disk.specs.Notes.{notes_of, bytes_in, held};
+ghost use Rattle.mem_disk.specs.Notes.{notes_of, spent_by, bytes_in, held};
 ghost use Rattle.mem_disk.specs.Crash.{area_of, crashed, is_write};
 ghost use Rattle.mem_disk.specs.Sound.{AllInside, HaveRoom};
 
@@ -35,6 +35,7 @@ pub struct MemDisk {
     ghost calls_room: { room.calls ≤ vec_capacity calls },
     ghost pool_room: { room.bytes ≤ vec_capacity pool },
     ghost pool_within: { length pool.items ≤ room.bytes },
+    ghost spent: { length pool.items ≡ spent_by (notes_of pool.items calls.items) },
     ghost areas_room: { HaveRoom room.length current.items },
     ghost small: { (k : ℕ) → length (area_of first k) ≤ 2 ^ 40 },
     ghost inside: { AllInside (length pool.items) calls.items },
@@ -116,7 +117,7 @@ impl MemDisk {
         requires d0 { length areas.now.d0 ≤ 2 ^ 40 }
         requires b1 { length areas.now.b1 ≤ 2 ^ 40 }
         requires b2 { length areas.now.b2 ≤ 2 ^ 40 }
-        ensures { IfOk result (λ d. shown d ≡ record { first = area_of areas.now; notes = []; spent = 0; room = room.now; fails = fails.now; calls = 0; time = 0; faults = 0 }) }
+        ensures { IfOk result (λ d. shown d ≡ record { first = area_of areas.now; notes = []; room = room.now; fails = fails.now; calls = 0; time = 0; faults = 0 }) }
     {
         Ok(MemDisk {
             first: areas.copy()?,
@@ -314,7 +315,7 @@ impl Disk for MemDisk {
 
     /// Beyond what every disk does: it fails exactly where its number is in the list, where no
     /// moment is left or where it would pass the room; one that is refused for room changes no
-    /// byte, and one that fails otherwise stands in the record as cut.
+    /// byte and spends none, and one that fails otherwise stands in the record as cut.
     fn write(&mut self, area: u8, at: u64, bytes: &[u8]) -> Result<(), DiskFailed>
         requires area { area < 3 }
         requires end { at + length bytes.now < 2 ^ 40 }
@@ -327,6 +328,7 @@ impl Disk for MemDisk {
         ensures counts { Counts (shown self.old) (shown self.new) }
         ensures recorded { OnOk result ((shown self.new).notes ≡ (shown self.old).notes ++ record { area = area; at = at; bytes = bytes.now; effect = Effect.Written } ∷ []) }
         ensures refused { PassesRoom (shown self.old) at (length bytes.now) → SameHeld (shown self.old) (shown self.new) }
+        ensures unspent { (IsLast (shown self.old) ⊎ PassesRoom (shown self.old) at (length bytes.now)) → spent_by (shown self.new).notes ≡ spent_by (shown self.old).notes }
         ensures cut { OnErr result (Fits (shown self.old) at (length bytes.now) → (shown self.new).notes ≡ (shown self.old).notes ++ record { area = area; at = at; bytes = bytes.now; effect = Effect.Cut } ∷ []) }
     {
         self.number = self.number.saturating_add(1);
@@ -349,7 +351,8 @@ impl Disk for MemDisk {
     }
 
     /// Beyond what every disk does: it fails exactly where its number is in the list, where no
-    /// moment is left or where the record has no room; one that fails changes nothing.
+    /// moment is left or where the record has no room; one that fails changes nothing, and none
+    /// spends a byte of the room.
     fn sync(&mut self, area: u8) -> Result<(), DiskFailed>
         requires area { area < 3 }
         ensures seen { seen_of (shown self.new) ≡ seen_of (shown self.old) }
@@ -360,6 +363,7 @@ impl Disk for MemDisk {
         ensures counts { Counts (shown self.old) (shown self.new) }
         ensures recorded { OnOk result ((shown self.new).notes ≡ (shown self.old).notes ++ record { area = area; at = 0; bytes = []; effect = Effect.Synced } ∷ []) }
         ensures refused { OnErr result (SameHeld (shown self.old) (shown self.new)) }
+        ensures unspent { spent_by (shown self.new).notes ≡ spent_by (shown self.old).notes }
     {
         self.number = self.number.saturating_add(1);
         if self.time == u64::MAX {

@@ -10,7 +10,7 @@ use Rattle.gated_append.proofs.tests.closed_gate.Goals as goal
 pub returns : goal.returns
 returns c =
     let areas : Images = record { d0 = c.empty.result; b1 = c.in_ok-of.field-0; b2 = c.empty-2.result } in
-    let fresh : Shown = record { first = area_of areas; notes = []; spent = 0; room = record { calls = 16; bytes = 64; length = 64 }; fails = []; calls = 0; time = 0; faults = 0 } in
+    let fresh : Shown = record { first = area_of areas; notes = []; room = record { calls = 16; bytes = 64; length = 64 }; fails = []; calls = 0; time = 0; faults = 0 } in
     let P : MemDisk → Type 0 = λ (d : MemDisk). shown d ≡ fresh in
     let Q : MemDisk → Type 0 = λ (d : MemDisk). Lies (seen_of (shown d)) (left_of (shown d) d.time) (at_rest []) in
     ok_maps c.new.result P Q (λ (d : MemDisk) (is : P d). record {

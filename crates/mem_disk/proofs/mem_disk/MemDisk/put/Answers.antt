@@ -4,7 +4,7 @@ use Rattle.abl_storage.specs.Disk.{overlaid}
 use Rattle.mem_disk.specs.declared.call.Effect.TheVariants.{Written}
 use Rattle.mem_disk.specs.Notes.{Note, notes_of, held, bytes_in}
 use Rattle.mem_disk.specs.Crash.{area_of}
-use Rattle.mem_disk.proofs.Record.{room_at, room_set}
+use Rattle.mem_disk.proofs.Record.{spent_more, room_at, room_set}
 use Rattle.mem_disk.proofs.Moments.{seen_here, seen_elsewhere, bytes_at, bytes_set_same, bytes_set_other}
 use Rattle.mem_disk.proofs.mem_disk.MemDisk.put.Goals as goal
 
@@ -26,6 +26,11 @@ invariant_of-self-clause-agrees c =
           (bytes_set_same d.current.items c.args.area v within ∙ laid ∙ ap (λ (l : List ℕ). overlaid c.args.at c.args.bytes.now l) (sym at ∙ d.agrees c.args.area) ∙ sym (seen_here first notes n) ∙ sym (ap (λ (l : List Note). (held first l c.args.area).seen) more))
       | inr ne ↦ bytes_set_other d.current.items c.args.area k v ne ∙ d.agrees k ∙ sym (seen_elsewhere first notes n k ne) ∙ sym (ap (λ (l : List Note). (held first l k).seen) more)
     ]
+
+pub invariant_of-self-clause-spent : goal.invariant_of-self-clause-spent
+invariant_of-self-clause-spent c =
+    let more = spent_more _ _ _ c.note.ensures.notes in
+    omega (arith, more, c.note.ensures.pool, c.args.self.now.spent)
 
 pub invariant_of-self-clause-areas_room : goal.invariant_of-self-clause-areas_room
 invariant_of-self-clause-areas_room c =

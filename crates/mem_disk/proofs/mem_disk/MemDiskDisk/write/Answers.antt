@@ -1,7 +1,7 @@
 use Rattle.std.proofs.Common.{true, false, length, refl, arith}
 use Rattle.abl_storage.specs.Disk.{TornIn}
 use Rattle.mem_disk.proofs.Moments.{passes_not, torn_not}
-use Rattle.mem_disk.proofs.Passing.{many_notes, torn_same, seen_still, seen_here_now, torn_now, write_moves, same_held, same_seen, same_moves}
+use Rattle.mem_disk.proofs.Passing.{many_notes, torn_same, seen_still, seen_here_now, torn_now, write_moves, same_held, same_seen, same_spent, same_moves}
 use Rattle.mem_disk.proofs.mem_disk.MemDiskDisk.write.Goals as goal
 
 pub returns-then-self-clause-time : goal.returns-then-self-clause-time
@@ -11,6 +11,9 @@ returns-then-self-clause-time c =
 
 pub returns-then-not-has_room-clause-refused : goal.returns-then-not-has_room-clause-refused
 returns-then-not-has_room-clause-refused c = let p = c.pass_over.ensures in λ _. same_held p.counts c.args.area (many_notes c.args.self.now) p.notes p.full
+
+pub returns-then-not-has_room-clause-unspent : goal.returns-then-not-has_room-clause-unspent
+returns-then-not-has_room-clause-unspent c = let p = c.pass_over.ensures in λ _. same_spent p.counts c.args.area (many_notes c.args.self.now) p.notes p.full
 
 pub returns-then-not-has_room-clause-others : goal.returns-then-not-has_room-clause-others
 returns-then-not-has_room-clause-others c = let p = c.pass_over.ensures in torn_same _ _ _ (same_seen p.counts c.args.area (many_notes c.args.self.now) p.notes p.full)
