@@ -1,4 +1,3 @@
-pub mod Places
 pub mod Beyond
 pub mod KeyedNodes
 pub mod Changes

@@ -11,7 +11,7 @@ use Rattle.std.proofs.lemmas.Map.Views.{tells_apart}
 use Rattle.key_index.specs.declared.left.Seat.{Seat}
 use Rattle.key_index.specs.Left.{AreListed, IsListed, Lists, owner_at, owners_of, seat_at}
 use Rattle.key_index.specs.Standing.{Rows}
-use Rattle.key_index.proofs.Places.{at, get_at, one_put}
+use Rattle.abl_base.proofs.TreeEntries.{at, get_at, one_put}
 
 owner_pick : (seat : Seat) (es : List (ℕ × Option ℕ)) (fs : List (ℕ × Seat)) (q : ℕ) (b : Bool) → at es q ≡ option_map (λ (s : Seat). s.owner) (at fs q)
     → cond b (Some seat.owner) (at es q) ≡ option_map (λ (s : Seat). s.owner) (cond b (Some seat) (at fs q))

@@ -1,4 +1,3 @@
-pub mod TreeEntries
 pub mod Outcomes
 pub mod Sizes
 pub mod Agreeing

@@ -1,4 +1,3 @@
-pub mod Places
 pub mod Settling
 pub mod Tables
 pub mod Listing

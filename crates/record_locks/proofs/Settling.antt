@@ -11,7 +11,7 @@ use Rattle.std.proofs.lemmas.Bool.{or_left, or_right}
 use Rattle.std.proofs.lemmas.Map.Lookups.{exact_unsigned}
 use Rattle.std.proofs.lemmas.Map.Views.{All-found, tells_apart}
 use Rattle.record_locks.specs.Settled.{IsFreed, settled}
-use Rattle.record_locks.proofs.Places.{at, get_at}
+use Rattle.abl_base.proofs.TreeEntries.{at, get_at}
 
 -- a row is at itself
 at_itself : (row : ℕ) → is_at (nat_cmp row) row ≡ true

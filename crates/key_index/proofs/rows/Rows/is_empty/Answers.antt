@@ -2,7 +2,7 @@ use Rattle.std.proofs.Common.{◌≡◌, [], length, sym, ap, ◌∙◌}
 use Rattle.std.specs.Option.{option_map}
 use Rattle.std.proofs.lemmas.List.{nil_from_length}
 use Rattle.key_index.specs.declared.left.Seat.{Seat}
-use Rattle.key_index.proofs.Places.{at}
+use Rattle.abl_base.proofs.TreeEntries.{at}
 use Rattle.key_index.proofs.Owners.{get_owner, no_entry}
 use Rattle.key_index.proofs.rows.Rows.is_empty.Goals as goal
 

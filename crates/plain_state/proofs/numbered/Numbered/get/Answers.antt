@@ -1,6 +1,6 @@
 use Rattle.std.proofs.Common.{sym, ap, ◌∙◌}
 use Rattle.std.specs.FinMap as map
-use Rattle.plain_state.proofs.TreeEntries.{get_at}
+use Rattle.abl_base.proofs.TreeEntries.{get_at}
 use Rattle.plain_state.proofs.numbered.Numbered.get.Goals as goal
 
 pub returns : goal.returns

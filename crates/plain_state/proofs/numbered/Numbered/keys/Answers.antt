@@ -1,7 +1,7 @@
 use Rattle.std.proofs.Common.{sym, ap, ◌∙◌}
 use Rattle.std.specs.FinMap as map
 use Rattle.plain_state.proofs.Outcomes.{ok_more}
-use Rattle.plain_state.proofs.TreeEntries.{keys_from}
+use Rattle.abl_base.proofs.TreeEntries.{keys_from}
 use Rattle.plain_state.proofs.numbered.Numbered.keys.Goals as goal
 
 pub returns : goal.returns

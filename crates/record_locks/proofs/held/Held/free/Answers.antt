@@ -1,6 +1,6 @@
 use Rattle.std.proofs.Common.{sym, ap, ◌∙◌, is_some}
 use Rattle.std.specs.FinMap as map
-use Rattle.record_locks.proofs.Places.{one_gone, get_at}
+use Rattle.abl_base.proofs.TreeEntries.{one_gone, get_at}
 use Rattle.record_locks.proofs.held.Held.free.Goals as goal
 
 pub returns-clause-left : goal.returns-clause-left

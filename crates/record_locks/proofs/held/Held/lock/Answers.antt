@@ -1,6 +1,6 @@
 use Rattle.std.proofs.Common.{sym, ap, ◌∙◌}
 use Rattle.std.specs.FinMap as map
-use Rattle.record_locks.proofs.Places.{get_at}
+use Rattle.abl_base.proofs.TreeEntries.{get_at}
 use Rattle.record_locks.proofs.held.Held.lock.Goals as goal
 
 pub returns : goal.returns

@@ -1,6 +1,6 @@
 use Rattle.std.proofs.Common.{ap, ◌∙◌}
 use Rattle.std.specs.FinMap as map
-use Rattle.record_locks.proofs.Places.{one_put}
+use Rattle.abl_base.proofs.TreeEntries.{one_put}
 use Rattle.record_locks.proofs.held.Held.set.Goals as goal
 
 pub returns-clause-ok : goal.returns-clause-ok

@@ -1,7 +1,7 @@
 use Rattle.std.proofs.Common.{sym, ap, ◌∙◌, rules}
 use Rattle.std.specs.FinMap as map
 use Rattle.record_locks.specs.Settled.{has_row, settled}
-use Rattle.record_locks.proofs.Places.{get_at}
+use Rattle.abl_base.proofs.TreeEntries.{get_at}
 use Rattle.record_locks.proofs.Settling.{settled_pairs, frees_some}
 use Rattle.record_locks.proofs.held.Held.settle.Goals as goal
 
