@@ -8,7 +8,7 @@ use Rattle.abl_lex.specs.declared.form.Form.{Form}
 use Rattle.abl_lex.specs.declared.form.Form.TheVariants.{Word, Qualified, Digits, Fractional, Dated, Quoted, Symbol}
 use Rattle.abl_lex.specs.Bytes.{tilde, is_quote, is_symbol_byte, starts, starts_quote}
 use Rattle.abl_lex.specs.Forms.{form, closing, closes, is_at, plus, Longest, NoForm}
-use Rattle.abl_lex.proofs.Bools.{chosen_true, chosen_false, and_left, and_right, and_both, clash, not_so, so_not, tells, same, equal}
+use Rattle.abl_base.proofs.Bools.{chosen_true, chosen_false, and_left, and_right, and_both, clash, not_so, so_not, tells, same, equal}
 use Rattle.abl_lex.proofs.Comments.{plus_plus, plus_none}
 use Rattle.abl_lex.proofs.Prefixes.{length_take}
 use Rattle.abl_lex.proofs.Shapes.{letter_no_quote, digit_no_quote, quote_no_symbol, first_byte, no_empty}

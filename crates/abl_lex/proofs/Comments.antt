@@ -4,7 +4,7 @@ use Rattle.std.specs.Prelude.{◌==◌, slice_index}
 use Rattle.abl_lex.specs.Bytes.{pair_at, slash, star}
 use Rattle.abl_lex.specs.Forms.{plus}
 use Rattle.abl_lex.specs.Gaps.{comment}
-use Rattle.abl_lex.proofs.Bools.{chosen_true, chosen_false}
+use Rattle.abl_base.proofs.Bools.{chosen_true, chosen_false}
 
 record Two (text : List ℕ) (i : ℕ) : Type 0 where
   b : ℕ

@@ -5,7 +5,7 @@ use Rattle.std.proofs.lemmas.Bool.{eqb-true, eq-eqb, ltb-true}
 use Rattle.std.proofs.lemmas.Bool.Decides.{nat_tests}
 use Rattle.abl_lex.specs.Bytes.{star, slash, is_white, starts, comment_at, starts_gap}
 use Rattle.abl_lex.specs.Forms.{plus}
-use Rattle.abl_lex.proofs.Bools.{or_left, or_right, and_both, and_left, and_right, clash, either, both_no}
+use Rattle.abl_base.proofs.Bools.{or_left, or_right, and_both, and_left, and_right, clash, either, both_no}
 use Rattle.abl_lex.specs.Gaps.{comment, Gap, nothing, white, commented, OpenGap, opens, white_open, commented_open}
 
 white_starts : (b : ℕ) (bs : List ℕ) → is_white b ≡ true → starts_gap (b ∷ bs) ≡ true

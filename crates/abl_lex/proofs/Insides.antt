@@ -6,7 +6,7 @@ use Rattle.std.proofs.lemmas.List.{drop-drop}
 use Rattle.std.proofs.Math.ListN.{drop_of_length-le}
 use Rattle.abl_lex.specs.Bytes.{tilde, starts}
 use Rattle.abl_lex.specs.Meanings.{inside, escaped, escape_length}
-use Rattle.abl_lex.proofs.Bools.{chosen_true, chosen_false}
+use Rattle.abl_base.proofs.Bools.{chosen_true, chosen_false}
 
 inside_nil : (q n : ℕ) → inside q n [] ≡ []
 unfolding inside

@@ -1,4 +1,3 @@
-pub mod Bools
 pub mod Comments
 pub mod Gaps
 pub mod Prefixes

@@ -10,7 +10,7 @@ use Rattle.abl_tree.specs.declared.token.CivilDate.{CivilDate}
 use Rattle.abl_lex.specs.Forms.{form, is_dated}
 use Rattle.abl_lex.specs.Meanings.{is_date, date_of}
 use Rattle.abl_lex.specs.Texts.{Misfit, long_name, long_first, long_second, long_whole, long_before, long_behind, no_date, IsFirstMisfit, number, IsFit}
-use Rattle.abl_lex.proofs.Bools.{and_left, clash}
+use Rattle.abl_base.proofs.Bools.{and_left, clash}
 use Rattle.abl_lex.proofs.Prefixes.{front_length, behind_length}
 
 -- the rule that words of a form break

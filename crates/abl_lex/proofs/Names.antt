@@ -5,7 +5,7 @@ use Rattle.abl_lex.specs.declared.form.Form.{Form}
 use Rattle.abl_lex.specs.declared.form.Form.TheVariants.{Word, Qualified, Digits, Fractional, Dated, Quoted, Symbol}
 use Rattle.abl_lex.specs.Bytes.{point, is_digit, is_name_byte, is_quote, is_symbol_byte, starts, starts_letter}
 use Rattle.abl_lex.specs.Forms.{form, front, behind, parted, is_name, is_keyword, Longest}
-use Rattle.abl_lex.proofs.Bools.{and_left, and_right, and_both, clash, not_so, so_not}
+use Rattle.abl_base.proofs.Bools.{and_left, and_right, and_both, clash, not_so, so_not}
 use Rattle.abl_lex.proofs.Prefixes.{parts_made, parts_of, prefix_within, starts_inside, behind_length}
 use Rattle.abl_lex.proofs.Shapes.{letter_no_digit, letter_no_quote, letter_no_symbol, first_byte, name_front, name_whole}
 

@@ -7,7 +7,7 @@ use Rattle.abl_lex.specs.declared.form.Form.{Form}
 use Rattle.abl_lex.specs.declared.form.Form.TheVariants.{Word, Qualified, Digits, Fractional, Dated, Quoted, Symbol}
 use Rattle.abl_lex.specs.Bytes.{point, slash, is_digit, is_quote, is_symbol_byte, starts, starts_digit}
 use Rattle.abl_lex.specs.Forms.{form, front, behind, parted, is_digits, is_dated, is_day_year, one_or_two, two_or_four, Longest, DatedAt, DayYearAt}
-use Rattle.abl_lex.proofs.Bools.{and_left, and_right, and_both, clash, not_so, so_not, tells}
+use Rattle.abl_base.proofs.Bools.{and_left, and_right, and_both, clash, not_so, so_not, tells}
 use Rattle.abl_lex.proofs.Prefixes.{parts_made, parts_of, prefix_within, prefix_more, prefix_stops, starts_inside, starts_one, behind_length, front_length, length_take, follows}
 use Rattle.abl_lex.proofs.Shapes.{letter_no_digit, digit_no_quote, digit_no_symbol, first_byte, digits_front, digits_whole, digit_some}
 

@@ -12,7 +12,7 @@ use Rattle.abl_lex.specs.declared.form.Form.TheVariants.{Word, Qualified, Digits
 use Rattle.abl_lex.specs.Bytes.{point, slash, is_letter, is_digit, is_name_byte, is_quote, is_symbol_byte, starts}
 use Rattle.abl_lex.specs.Forms.{form, front, parted, is_name, is_digits, is_dated, one_or_two}
 use Rattle.abl_lex.specs.Meanings.{kind_of, symbol_kind, single_kind}
-use Rattle.abl_lex.proofs.Bools.{chosen_true, chosen_false, and_left, and_right, and_both, clash, refuted, tells, not_so}
+use Rattle.abl_base.proofs.Bools.{chosen_true, chosen_false, and_left, and_right, and_both, clash, refuted, tells, not_so}
 use Rattle.abl_lex.proofs.Prefixes.{all_take, prefix_within, starts_one}
 use Rattle.abl_lex.proofs.Shapes.{started, no_empty, letter_no_digit, letter_no_quote, letter_no_symbol, digit_no_quote, digit_no_symbol, quote_no_symbol, letter_byte}
 

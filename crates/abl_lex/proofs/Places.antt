@@ -8,7 +8,7 @@ use Rattle.std.proofs.lemmas.List.Sums.{count_by_more_yes, count_by_more_no, cou
 use Rattle.abl_base.specs.declared.place.Place.{Place}
 use Rattle.abl_lex.specs.Bytes.{line_feed}
 use Rattle.abl_lex.specs.Texts.{place_of}
-use Rattle.abl_lex.proofs.Bools.{same, different}
+use Rattle.abl_base.proofs.Bools.{same, different}
 use Rattle.abl_lex.proofs.Prefixes.{length_take, prefix_more, prefix_stops}
 
 abbrev pub is_feed : ℕ → Bool

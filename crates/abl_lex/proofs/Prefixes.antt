@@ -5,7 +5,7 @@ use Rattle.std.proofs.lemmas.List.{drop-drop, length-drop}
 use Rattle.std.proofs.lemmas.List.Sums.{prefix_len-le-length}
 use Rattle.abl_lex.specs.Bytes.{starts}
 use Rattle.abl_lex.specs.Forms.{front, behind, parted}
-use Rattle.abl_lex.proofs.Bools.{chosen_true, chosen_false, and_left, and_right, and_both, equal}
+use Rattle.abl_base.proofs.Bools.{chosen_true, chosen_false, and_left, and_right, and_both, equal}
 
 -- RUNS
 all_front : (p : ℕ → Bool) (x : ℕ) (xs : List ℕ) (v : Bool) → p x ≡ v → list_all p (take (prefix_len p xs) xs) ≡ true → list_all p (take (cond v (1 + prefix_len p xs) 0) (x ∷ xs)) ≡ true

@@ -14,7 +14,7 @@ use Rattle.abl_lex.specs.Forms.{form, Longest, NoForm}
 use Rattle.abl_lex.specs.Gaps.{Gap, nothing, white, commented, OpenGap, opens, white_open, commented_open}
 use Rattle.abl_lex.specs.Meanings.{kind_of, meaning_of}
 use Rattle.abl_lex.specs.Texts.{IsRefused, place_of, bytes_of, Stands, token_of, end_token, TokensFrom, ended, token, HasTokens, Misfit, Broken, no_token, open_comment, open_text, misfit, BreaksFrom, here, later, Breaks, IsFirst, number, EndsAt, IsFit, IsFirstMisfit, IsBrokenFirst, BreaksFront}
-use Rattle.abl_lex.proofs.Bools.{clash, and_both, so_not}
+use Rattle.abl_base.proofs.Bools.{clash, and_both, so_not}
 use Rattle.abl_lex.proofs.Gaps.{gap_unique, gap_open, open_unique}
 use Rattle.abl_lex.proofs.OneForm.{one_form, no_end}
 use Rattle.abl_lex.proofs.Misfits.{inside_word}

@@ -6,7 +6,7 @@ use Rattle.abl_lex.specs.declared.form.Form.{Form}
 use Rattle.abl_lex.specs.declared.form.Form.TheVariants.{Word, Qualified, Digits, Fractional, Dated, Quoted, Symbol}
 use Rattle.abl_lex.specs.Bytes.{point, slash, is_letter, is_digit, is_name_byte, is_name_sign, is_quote, is_symbol_byte, starts_digit, starts_letter}
 use Rattle.abl_lex.specs.Forms.{form, front, parted, is_name, is_digits, is_dated, one_or_two, is_pair}
-use Rattle.abl_lex.proofs.Bools.{and_left, and_right, and_both, or_left, tells}
+use Rattle.abl_base.proofs.Bools.{and_left, and_right, and_both, or_left, tells}
 use Rattle.abl_lex.proofs.Prefixes.{all_prefix, all_take, prefix_more, prefix_stops}
 
 pub letter_no_digit : (b : ℕ) → is_letter b ≡ true → is_digit b ≡ false

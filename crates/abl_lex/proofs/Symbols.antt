@@ -5,7 +5,7 @@ use Rattle.abl_lex.specs.declared.form.Form.{Form}
 use Rattle.abl_lex.specs.declared.form.Form.TheVariants.{Word, Qualified, Digits, Fractional, Dated, Quoted, Symbol}
 use Rattle.abl_lex.specs.Bytes.{is_letter, is_digit, is_quote, starts_digit, starts_letter, starts_quote}
 use Rattle.abl_lex.specs.Forms.{form, is_pair, is_single, starts_pair, Longest, NoForm}
-use Rattle.abl_lex.proofs.Bools.{clash}
+use Rattle.abl_base.proofs.Bools.{clash}
 use Rattle.abl_lex.proofs.Shapes.{first_byte, no_empty}
 
 -- no other form begins with such a byte

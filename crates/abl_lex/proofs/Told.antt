@@ -16,7 +16,7 @@ use Rattle.abl_lex.specs.Bytes.{point, is_digit, is_name_byte}
 use Rattle.abl_lex.specs.Forms.{form, front, behind, parted, is_name, is_digits}
 use Rattle.abl_lex.specs.Meanings.{kind_of, meaning_of, word_meaning, number_of, scaled_of, date_of, text_of, symbol_kind}
 use Rattle.abl_lex.specs.Texts.{IsFit, long_whole, long_before, long_behind}
-use Rattle.abl_lex.proofs.Bools.{and_left, and_right}
+use Rattle.abl_base.proofs.Bools.{and_left, and_right}
 use Rattle.abl_lex.proofs.Prefixes.{front_length, starts_inside}
 use Rattle.abl_lex.proofs.Values.{digits_all}
 

@@ -11,7 +11,7 @@ use Rattle.abl_tree.specs.declared.token.CivilDate.{CivilDate}
 use Rattle.abl_lex.specs.Bytes.{is_digit, slash}
 use Rattle.abl_lex.specs.Forms.{front, behind, parted, is_dated, is_digits, one_or_two}
 use Rattle.abl_lex.specs.Meanings.{number_of, date_of, year_of}
-use Rattle.abl_lex.proofs.Bools.{tells, clash, and_left, and_right}
+use Rattle.abl_base.proofs.Bools.{tells, clash, and_left, and_right}
 use Rattle.abl_lex.proofs.Prefixes.{all_prefix, front_length, starts_inside}
 
 -- a digit is between 48 and 57

@@ -16,7 +16,8 @@ use Rattle.abl_parse.specs.Table.{has, vanishes_as, some, is_nil, each, of_part}
 use Rattle.abl_parse.specs.Engine.{body, plain, source, Steps, done, take_one, open_one}
 use Rattle.abl_parse.specs.Completions.{short, first_of, expects, size}
 use Rattle.abl_parse.specs.Completing.{head, before, weigh, is_head, no_head, part_ok, suits}
-use Rattle.abl_parse.proofs.Flags.{and_left, and_right, and_both, not_true, parts_same, kinds_same, each_has, each_at, implied, same_first, no_first}
+use Rattle.abl_base.proofs.Bools.{and_left, and_right, and_both, not_true, implied}
+use Rattle.abl_parse.proofs.Flags.{parts_same, kinds_same, each_has, each_at, same_first, no_first}
 use Rattle.abl_parse.proofs.Sound.{starts_are, rule_part}
 use Rattle.abl_parse.proofs.Steps.{plain_append}
 

@@ -9,7 +9,7 @@ use Rattle.abl_parse.specs.declared.part.Part.TheVariants.{Program}
 use Rattle.abl_parse.specs.Grammar.{Production, row, rows_after, rule, rules, rule_count, parts, symbols, symbols_from, starts, starts_from, empty, blank}
 use Rattle.abl_parse.specs.Table.{rows_from}
 use Rattle.abl_parse.specs.Same.{part_number}
-use Rattle.abl_parse.proofs.Flags.{and_left, and_right}
+use Rattle.abl_base.proofs.Bools.{and_left, and_right}
 
 row_in : (n i r : ℕ) (d : Production) → r < n → slice_index_or (rows_after n i) r d ≡ row (i + r)
 row_in zero i r d h = absurd (omega arith)

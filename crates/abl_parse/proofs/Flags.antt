@@ -1,5 +1,6 @@
--- Tests, as flags, and what they say.
-use Rattle.std.proofs.Common.{ℕ, zero, suc, ◌<◌, ◌≡◌, Bool, true, false, not, ◌&&◌, ◌||◌, cond, List, [], ◌∷◌, ◌++◌, length, slice_index_or, refl, sym, ◌∙◌, subst, arith, ◌⊎◌, inl, inr}
+-- Tests of kinds and parts, and of lists of them.
+use Rattle.std.proofs.Common.{ℕ, zero, suc, ◌<◌, ◌≡◌, Bool, true, false, List, [], ◌∷◌, ◌++◌, length, slice_index_or, refl, subst, arith, ◌⊎◌, inl, inr}
+use Rattle.abl_base.proofs.Bools.{and_left, and_right, or_cases, or_left, or_right}
 use Rattle.abl_tree.specs.declared.token.TokenKind.{TokenKind}
 use Rattle.abl_parse.specs.declared.part.Part.{Part}
 use denote.Enum.Bare.{same_true, true_same, false_same}
@@ -7,57 +8,6 @@ use Rattle.abl_tree.specs.contracts.token.TokenKind.{the_type as kind_type}
 use Rattle.abl_parse.specs.contracts.part.Part.{the_type as part_type}
 use Rattle.abl_parse.specs.Same.{same_kind, same_part}
 use Rattle.abl_parse.specs.Table.{has, some, each, is_nil}
-
-pub and_left : (a b : Bool) → a && b ≡ true → a ≡ true
-and_left true b e = refl
-and_left false b e = cc
-
-pub and_right : (a b : Bool) → a && b ≡ true → b ≡ true
-and_right true b e = e
-and_right false b e = cc
-
-pub and_both : (a b : Bool) → a ≡ true → b ≡ true → a && b ≡ true
-and_both true b e h = h
-and_both false b e h = cc
-
-pub or_cases : (a b : Bool) → a || b ≡ true → (a ≡ true) ⊎ (b ≡ true)
-or_cases true b e = inl refl
-or_cases false b e = inr e
-
-pub or_left : (a b : Bool) → a ≡ true → a || b ≡ true
-or_left true b e = refl
-or_left false b e = cc
-
-pub or_right : (a b : Bool) → b ≡ true → a || b ≡ true
-or_right true b e = refl
-or_right false b e = e
-
-pub implied : (a b : Bool) → not a || b ≡ true → a ≡ true → b ≡ true
-implied true b e h = e
-implied false b e h = cc
-
-pub refuted : (a : Bool) → a ≡ true → a ≡ false → ⊥
-refuted a h e = let x : true ≡ false = sym h ∙ e in cc
-
-pub either : (a : Bool) → (a ≡ true) ⊎ (a ≡ false)
-either true = inl refl
-either false = inr refl
-
-pub not_true : (a : Bool) → not a ≡ true → a ≡ true → ⊥
-not_true true e h = cc
-not_true false e h = cc
-
-pub not_so : (b : Bool) → not b ≡ true → b ≡ false
-not_so true e = cc
-not_so false e = refl
-
-pub chosen_true : {A : Type 0} (b : Bool) (x y : A) → b ≡ true → cond b x y ≡ x
-chosen_true true x y e = refl
-chosen_true false x y e = cc
-
-pub chosen_false : {A : Type 0} (b : Bool) (x y : A) → b ≡ false → cond b x y ≡ y
-chosen_false true x y e = cc
-chosen_false false x y e = refl
 
 pub nil_is : {A : Type 0} (xs : List A) → is_nil xs ≡ true → xs ≡ []
 nil_is [] e = refl
@@ -90,10 +40,6 @@ parts_equal a b e = true_same part_type a b e
 pub parts_differ : (a b : Part) → (a ≡ b → ⊥) → same_part a b ≡ false
 unfolding same_part
 parts_differ a b h = false_same part_type tt a b h
-
-pub and_first : (a b : Bool) → a ≡ false → a && b ≡ false
-and_first true b e = cc
-and_first false b e = refl
 
 -- lists of tests
 pub each_at : {A : Type 0} (p : A → Bool) (xs : List A) (i : ℕ) (d : A) → each p xs ≡ true → i < length xs → p (slice_index_or xs i d) ≡ true

@@ -16,7 +16,8 @@ use Rattle.abl_parse.specs.Same.{same_kind, same_part}
 use Rattle.abl_parse.specs.Grammar.{Production, row, parts, symbols, symbols_from, starts, starts_from, empty, rule, rules as table, rule_count, Greedy, inside, opening}
 use Rattle.abl_parse.specs.Table.{has, starts_with}
 use Rattle.abl_parse.specs.Engine.{entries, body, Steps, open_one, OnlyRule}
-use Rattle.abl_parse.proofs.Flags.{and_left, and_right, and_both, or_cases, refuted, implied, parts_equal, same_first, same_rest}
+use Rattle.abl_base.proofs.Bools.{and_left, and_right, and_both, or_cases, clash, implied}
+use Rattle.abl_parse.proofs.Flags.{parts_equal, same_first, same_rest}
 use Rattle.abl_parse.proofs.Trees.{opened, Opened, taken}
 use Rattle.abl_parse.proofs.Checks.{only_named, named_hold, never_empty, label_row, assign_row}
 use Rattle.abl_parse.proofs.Sound.{rule_empty}
@@ -40,7 +41,7 @@ named r h p s = elim (named_at 0 table r _ named_hold h (and_both _ _ (parts_equ
 pub one_of_two : (at : ℕ) (room : Room) (rest : List Entry) (os : List Opening) (ts : List TokenKind) → (o : Opened at room rest os Statement (Name ∷ ts)) → (o.r ≡ label_row) ⊎ (o.r ≡ assign_row)
 one_of_two at room rest os ts o = elim (begun at room Statement Name rest os ts o) [
   | inl s ↦ named o.r o.within o.part s
-  | inr v ↦ absurd (refuted _ (rule_empty o.r Statement o.within o.part v) never_empty)
+  | inr v ↦ absurd (clash _ never_empty (rule_empty o.r Statement o.within o.part v))
 ]
 
 pub label_is : (rule label_row).symbols ≡ Take Name ∷ Take Colon ∷ Open Block ∷ []

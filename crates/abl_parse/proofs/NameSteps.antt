@@ -13,7 +13,7 @@ use Rattle.abl_parse.specs.declared.symbol.Opening.{Opening}
 use Rattle.abl_parse.specs.Same.{same_part}
 use Rattle.abl_parse.specs.Grammar.{row, parts, symbols, symbols_from, starts, starts_from, empty, rule, rules as table, inside, opening, statement, expression, too_deep, any_deep}
 use Rattle.abl_parse.specs.Engine.{entries, body, Named}
-use Rattle.abl_parse.proofs.Flags.{and_left, and_right, or_cases, refuted}
+use Rattle.abl_base.proofs.Bools.{and_left, and_right, or_cases, clash}
 use Rattle.abl_parse.proofs.Steps.{Along, along_by}
 use Rattle.abl_parse.proofs.Checks.{label_row, assign_row}
 use Rattle.abl_parse.proofs.NameRows.{AlongNext, label_along, assign_along, along_more, label_is, assign_is, form_is, target_is, form_only, target_only}
@@ -40,14 +40,14 @@ no_statement : (r : ℕ) (room : Room) → expression r ≡ false → too_deep r
 unfolding too_deep
 no_statement r room e d = elim (or_cases (statement r && room.statements == 0) _ d) [
   | inl h ↦ eqb-true room.statements 0 (and_right (statement r) _ h)
-  | inr h ↦ absurd (refuted _ (and_left (expression r) _ h) e)
+  | inr h ↦ absurd (clash _ e (and_left (expression r) _ h))
 ]
 
 never_deep : (r : ℕ) (room : Room) → (statement r ≡ false) × (expression r ≡ false) → too_deep r room ≡ true → ⊥
 unfolding too_deep
 never_deep r room e d = elim (or_cases (statement r && room.statements == 0) _ d) [
-  | inl h ↦ refuted _ (and_left (statement r) _ h) e.0
-  | inr h ↦ refuted _ (and_left (expression r) _ h) e.1
+  | inl h ↦ clash _ e.0 (and_left (statement r) _ h)
+  | inr h ↦ clash _ e.1 (and_left (expression r) _ h)
 ]
 
 label_deep : (at : ℕ) (room : Room) → any_deep (opening label_row at room ∷ []) ≡ true → room.statements ≡ 0

@@ -12,7 +12,8 @@ use Rattle.abl_parse.specs.declared.symbol.Opening.{Opening}
 use Rattle.abl_parse.specs.Grammar.{Viable, openings, full, rule, statement, too_deep, any_deep, DeepAt}
 use Rattle.abl_parse.specs.Violations.{Breaks, Stops, Overflows}
 use Rattle.abl_parse.specs.Engine.{source, Steps, done, take_one, open_one, AllAt, Went, plainly, looking, Reached}
-use Rattle.abl_parse.proofs.Flags.{or_cases, or_left, or_right, either, refuted, parts_equal}
+use Rattle.abl_base.proofs.Bools.{or_cases, or_left, or_right, tells, clash}
+use Rattle.abl_parse.proofs.Flags.{parts_equal}
 use Rattle.abl_parse.proofs.Trees.{opened}
 use Rattle.abl_parse.proofs.Runs.{seen_more, first_is, steps_of_forest, forest_of_steps, Finished}
 
@@ -38,21 +39,21 @@ any_append (x ∷ xs) ys e = elim (or_cases x.deep (any_deep (xs ++ ys)) e) [
 ]
 
 pub none_append : (xs ys : List Opening) → any_deep xs ≡ false → any_deep ys ≡ false → any_deep (xs ++ ys) ≡ false
-none_append xs ys e f = elim (either (any_deep (xs ++ ys))) [
-  | inl h ↦ elim (any_append xs ys h) [ inl g ↦ absurd (refuted _ g e) | inr g ↦ absurd (refuted _ g f) ]
+none_append xs ys e f = elim (tells (any_deep (xs ++ ys))) [
+  | inl h ↦ elim (any_append xs ys h) [ inl g ↦ absurd (clash _ e g) | inr g ↦ absurd (clash _ f g) ]
   | inr h ↦ h
 ]
 
 -- where all are here, one that finds no room is here
 pub deep_here : (at : ℕ) (xs : List Opening) → AllAt at xs → any_deep xs ≡ true → DeepAt at xs
-deep_here at [] h e = let z : false ≡ true = e in absurd (refuted _ refl (sym z))
+deep_here at [] h e = let z : false ≡ true = e in absurd (clash _ (sym z) refl)
 deep_here at (x ∷ xs) h e = elim (or_cases x.deep (any_deep xs) e) [ inl g ↦ inl (g, h.0) | inr g ↦ inr (deep_here at xs h.1 g) ]
 
 -- where none finds no room, none does at any place
 pub shallow_none : (at : ℕ) (xs : List Opening) → any_deep xs ≡ false → DeepAt at xs → ⊥
 shallow_none at [] e h = h
-shallow_none at (x ∷ xs) e (inl h) = refuted _ (or_left x.deep (any_deep xs) h.0) e
-shallow_none at (x ∷ xs) e (inr h) = shallow_none at xs (elim (either (any_deep xs)) [ inl g ↦ absurd (refuted _ (or_right x.deep (any_deep xs) g) e) | inr g ↦ g ]) h
+shallow_none at (x ∷ xs) e (inl h) = clash _ e (or_left x.deep (any_deep xs) h.0)
+shallow_none at (x ∷ xs) e (inr h) = shallow_none at xs (elim (tells (any_deep xs)) [ inl g ↦ absurd (clash _ e (or_right x.deep (any_deep xs) g)) | inr g ↦ g ]) h
 
 -- what comes later is opened later
 pub not_before : {at : ℕ} {stack : List Entry} {os : List Opening} {ts : List TokenKind} → Steps at stack os ts → (p : ℕ) → p < at → DeepAt p os → ⊥

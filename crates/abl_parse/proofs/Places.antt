@@ -16,7 +16,7 @@ use Rattle.abl_parse.specs.Violations.{Breaks, IsFirst, Stops, Overflows}
 use Rattle.abl_parse.specs.Table.{ends_once}
 use Rattle.abl_parse.specs.Completing.{suits}
 use Rattle.abl_parse.specs.Engine.{plain, source, Leads, Went, Stuck, IsTaking, Reached, IsRead}
-use Rattle.abl_parse.proofs.Flags.{and_left, and_right, not_so}
+use Rattle.abl_base.proofs.Bools.{and_left, and_right, not_so}
 use Rattle.abl_parse.proofs.Completes.{suits_take, suits_source}
 use Rattle.abl_parse.proofs.Runs.{refused, refused_went, reached, open_after, closed_after, ended, open_source, viable, finished, onward, Onward, forest_of_steps}
 use Rattle.abl_parse.proofs.Nesting.{overflows, no_overflow, unbroken, broken_within, none_append}

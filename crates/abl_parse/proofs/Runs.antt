@@ -13,7 +13,8 @@ use Rattle.abl_parse.specs.Grammar.{Forest, spelt, Derives, whole, nodes, Viable
 use Rattle.abl_parse.specs.Table.{ends_once, is_nil}
 use Rattle.abl_parse.specs.Completing.{suits, weigh}
 use Rattle.abl_parse.specs.Engine.{plain, source, Steps, done, take_one, Leads, Went, plainly, looking, FirstIs, Stuck, IsTaking, Reached, IsRead}
-use Rattle.abl_parse.proofs.Flags.{chosen_true, chosen_false, nil_is, kinds_differ, kinds_equal, same_first, same_rest}
+use Rattle.abl_base.proofs.Bools.{chosen_true, chosen_false}
+use Rattle.abl_parse.proofs.Flags.{nil_is, kinds_differ, kinds_equal, same_first, same_rest}
 use Rattle.abl_parse.proofs.Trees.{taken, steps_of, split, Split}
 use Rattle.abl_parse.proofs.Completes.{complete}
 

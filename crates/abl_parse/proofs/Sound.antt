@@ -12,7 +12,8 @@ use Rattle.abl_parse.specs.Same.{same_kind, same_part}
 use Rattle.abl_parse.specs.Grammar.{Production, blank, rule, rules as table, rule_count, Vanishes, nothing, both, Begins, here, inside_part, past}
 use Rattle.abl_parse.specs.Completions.{rank}
 use Rattle.abl_parse.specs.Table.{has, vanishes_as, some, front, is_nil, ends_free, each, of_part}
-use Rattle.abl_parse.proofs.Flags.{and_left, and_right, and_both, or_cases, or_left, implied, not_true, nil_is, kinds_same, kind_itself, parts_same, parts_equal, each_at, some_at, found, has_append, has_left, has_right, each_has}
+use Rattle.abl_base.proofs.Bools.{and_left, and_right, and_both, or_cases, or_left, implied, not_true}
+use Rattle.abl_parse.proofs.Flags.{nil_is, kinds_same, kind_itself, parts_same, parts_equal, each_at, some_at, found, has_append, has_left, has_right, each_has}
 use Rattle.abl_parse.proofs.Checks.{leads, all_vanish, within, row_ok, pair_ok, pairs_ok, rows_hold, pairs_hold}
 
 -- the tokens of a part are those of its rows

@@ -15,7 +15,8 @@ use Rattle.abl_parse.specs.Grammar.{rule, rules as table, rule_count, Begins, in
 use Rattle.abl_parse.specs.Completions.{rank}
 use Rattle.abl_parse.specs.Table.{has, starts_with, vanishes_as, some, front, is_nil, ends_free, ends_once}
 use Rattle.abl_parse.specs.Engine.{entry, entries, body, plain, symbol_of, Steps, open_one, OnlyRule, Stuck, Leads, AllAt, Named, Went, looking, IsTaking}
-use Rattle.abl_parse.proofs.Flags.{and_left, and_right, and_both, refuted, not_so, chosen_false, parts_same, parts_equal, same_first}
+use Rattle.abl_base.proofs.Bools.{and_left, and_right, and_both, clash, not_so, chosen_false}
+use Rattle.abl_parse.proofs.Flags.{parts_same, parts_equal, same_first}
 use Rattle.abl_parse.proofs.Checks.{all_vanish}
 use Rattle.abl_parse.proofs.Trees.{opened, Opened}
 use Rattle.abl_parse.proofs.First.{first, silent}
@@ -76,12 +77,12 @@ by_nothing a k r h e none =
     record {
       within = h;
       part = p;
-      greedy = λ ts nil q k' rest lq eq et b. refuted _ (and_both (same_part (rule q).part a) (has (rule q).starts k) (parts_equal (rule q).part a (eq ∙ p)) (starts_are q k lq (subst (λ x. Begins (rule q).symbols x) (sym (same_first et)) b))) (none q lq);
+      greedy = λ ts nil q k' rest lq eq et b. clash _ (none q lq) (and_both (same_part (rule q).part a) (has (rule q).starts k) (parts_equal (rule q).part a (eq ∙ p)) (starts_are q k lq (subst (λ x. Begins (rule q).symbols x) (sym (same_first et)) b)));
       only = λ at q room stack os ts d.
           let o = opened d in
           let same : q ≡ o.r = same_rule q o.r at room os o.rest o.is in
           same ∙ elim (begun at room a k stack (opening q at room ∷ os) ts o) [
-            | inl g ↦ absurd (refuted _ (and_both (same_part (rule o.r).part a) (has (rule o.r).starts k) (parts_equal (rule o.r).part a o.part) g) (none o.r o.within))
+            | inl g ↦ absurd (clash _ (none o.r o.within) (and_both (same_part (rule o.r).part a) (has (rule o.r).starts k) (parts_equal (rule o.r).part a o.part) g))
             | inr g ↦ elim (alike o.r r o.within h (o.part ∙ sym p)) [
               | inl x ↦ x
               | inr x ↦ absurd (x.one_empty g v)
@@ -94,8 +95,8 @@ pub by_none : (a : Part) (k : TokenKind) → ((q : ℕ) → q < rule_count → s
 by_none a k none empty_none at room stack os ts d =
     let o = opened d in
     elim (begun at room a k stack os ts o) [
-      | inl g ↦ refuted _ (and_both (same_part (rule o.r).part a) (has (rule o.r).starts k) (parts_equal (rule o.r).part a o.part) g) (none o.r o.within)
-      | inr g ↦ refuted _ (and_both (same_part (rule o.r).part a) (rule o.r).empty (parts_equal (rule o.r).part a o.part) g) (empty_none o.r o.within)
+      | inl g ↦ clash _ (none o.r o.within) (and_both (same_part (rule o.r).part a) (has (rule o.r).starts k) (parts_equal (rule o.r).part a o.part) g)
+      | inr g ↦ clash _ (empty_none o.r o.within) (and_both (same_part (rule o.r).part a) (rule o.r).empty (parts_equal (rule o.r).part a o.part) g)
     ]
 
 -- ONE STEP

@@ -1,30 +1,22 @@
 -- How a word is compared with the capitals of a reserved word, and looked up.
-use Rattle.std.proofs.Common.{ℕ, ◌+◌, ◌<◌, ◌≤◌, ◌≡◌, ◌≢◌, Bool, true, false, ◌&&◌, cond, List, [], ◌∷◌, length, drop, get_or, Option, Some, None, refl, sym, ◌∙◌, ap, arith, add-one, inl, inr}
+use Rattle.std.proofs.Common.{ℕ, ◌+◌, ◌<◌, ◌≤◌, ◌≡◌, ◌≢◌, true, false, ◌&&◌, List, [], ◌∷◌, length, drop, get_or, Some, None, refl, sym, ◌∙◌, ap, arith, add-one}
 use Rattle.std.proofs.Math.Seq.{drop-cons}
 use Rattle.std.proofs.Math.ListN.{drop_of_length-le}
 use Rattle.std.specs.Prelude.{◌==◌}
 use Rattle.std.specs.Char.{to_ascii_uppercase}
-use Rattle.std.proofs.lemmas.Bool.Decides.{eqb_tells}
+use Rattle.abl_base.proofs.Bools.{chosen_true, chosen_false, and_right, refuted, same, different}
 use Rattle.abl_tree.specs.declared.token.TokenKind.{TokenKind}
 use Rattle.abl_tree.specs.Keywords.{abbreviation, capitals, spells, spelled_in_full, spelled_short}
-
-right : (a b : Bool) → a && b ≡ true → b ≡ true
-right true b e = e
-right false b e = cc
 
 pub spells_length : (cs w : List ℕ) → spells cs w ≡ true → length cs ≡ length w
 unfolding spells
 spells_length [] [] e = refl
 spells_length [] (b ∷ bs) e = cc
 spells_length (c ∷ cs) [] e = cc
-spells_length (c ∷ cs) (b ∷ bs) e = let h = spells_length cs bs (right (c == to_ascii_uppercase b) _ e) in omega arith
-
-either : (v : Bool) → (v ≡ true → ⊥) → false ≡ v
-either true n = absurd (n refl)
-either false n = refl
+spells_length (c ∷ cs) (b ∷ bs) e = let h = spells_length cs bs (and_right (c == to_ascii_uppercase b) _ e) in omega arith
 
 pub other_length : (cs w : List ℕ) → length cs ≢ length w → false ≡ spells cs w
-other_length cs w n = either (spells cs w) (λ e. n (spells_length cs w e))
+other_length cs w n = sym (refuted (spells cs w) (λ e. n (spells_length cs w e)))
 
 step : (c b : ℕ) (cs bs : List ℕ) → (c == to_ascii_uppercase b) ≡ true → spells (c ∷ cs) (b ∷ bs) ≡ spells cs bs
 unfolding spells
@@ -37,21 +29,15 @@ stop c b cs bs e = ap (λ v. v && spells cs bs) e
 parts : (cs : List ℕ) (i : ℕ) → i < length cs → drop i cs ≡ get_or cs i 0 ∷ drop (i + 1) cs
 parts cs i h = rw (add-one, drop-cons cs i 0)
 
-test_true : (a b : ℕ) → a ≡ b → (a == b) ≡ true
-test_true a b e = elim (eqb_tells a b) [ inl t ↦ t.0 | inr t ↦ absurd (t.1 e) ]
-
-test_false : (a b : ℕ) → a ≢ b → (a == b) ≡ false
-test_false a b n = elim (eqb_tells a b) [ inl t ↦ absurd (n t.1) | inr t ↦ t.0 ]
-
 pub next_same : (cs w : List ℕ) (i : ℕ) → i < length cs → i < length w → get_or cs i 0 ≡ to_ascii_uppercase (get_or w i 0) → spells (drop i cs) (drop i w) ≡ spells (drop (i + 1) cs) (drop (i + 1) w)
 next_same cs w i h l e =
     ap (λ x. spells x (drop i w)) (parts cs i h) ∙ ap (λ x. spells (get_or cs i 0 ∷ drop (i + 1) cs) x) (parts w i l)
-    ∙ step (get_or cs i 0) (get_or w i 0) (drop (i + 1) cs) (drop (i + 1) w) (test_true _ _ e)
+    ∙ step (get_or cs i 0) (get_or w i 0) (drop (i + 1) cs) (drop (i + 1) w) (same _ _ e)
 
 pub next_other : (cs w : List ℕ) (i : ℕ) → i < length cs → i < length w → get_or cs i 0 ≢ to_ascii_uppercase (get_or w i 0) → spells (drop i cs) (drop i w) ≡ false
 next_other cs w i h l e =
     ap (λ x. spells x (drop i w)) (parts cs i h) ∙ ap (λ x. spells (get_or cs i 0 ∷ drop (i + 1) cs) x) (parts w i l)
-    ∙ stop (get_or cs i 0) (get_or w i 0) (drop (i + 1) cs) (drop (i + 1) w) (test_false _ _ e)
+    ∙ stop (get_or cs i 0) (get_or w i 0) (drop (i + 1) cs) (drop (i + 1) w) (different _ _ e)
 
 drop_all : (xs : List ℕ) → drop (length xs) xs ≡ []
 drop_all [] = refl
@@ -67,14 +53,6 @@ all_same cs w e =
     ∙ ap (spells []) (drop_all w) ∙ nil
 
 -- LOOKING UP
-chosen_true : (b : Bool) (x y : Option TokenKind) → b ≡ true → cond b x y ≡ x
-chosen_true true x y e = refl
-chosen_true false x y e = cc
-
-chosen_false : (b : Bool) (x y : Option TokenKind) → b ≡ false → cond b x y ≡ y
-chosen_false true x y e = cc
-chosen_false false x y e = refl
-
 pub full_nil : (w : List ℕ) → spelled_in_full [] w ≡ None
 unfolding spelled_in_full
 full_nil w = refl

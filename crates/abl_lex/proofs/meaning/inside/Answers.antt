@@ -1,5 +1,5 @@
 use Rattle.std.proofs.Common.{sym, ◌∙◌}
-use Rattle.abl_lex.proofs.Bools.{different, same}
+use Rattle.abl_base.proofs.Bools.{different, same}
 use Rattle.abl_lex.proofs.Insides.{at_doubled, at_end, at_last, at_plain, at_start, at_tilde}
 use Rattle.abl_lex.proofs.meaning.inside.Goals as goal
 

@@ -1,6 +1,7 @@
 use Rattle.std.proofs.Common.{arith}
 use Rattle.std.proofs.Math.Decide.{dec_lt}
-use Rattle.abl_parse.proofs.Flags.{parts_differ, and_first}
+use Rattle.abl_base.proofs.Bools.{and_first}
+use Rattle.abl_parse.proofs.Flags.{parts_differ}
 use Rattle.abl_parse.proofs.choice.starting.Goals as goal
 
 pub loop-r-init : goal.loop-r-init

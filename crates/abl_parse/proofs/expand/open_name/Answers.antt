@@ -1,7 +1,8 @@
 use Rattle.std.proofs.Common.{sym, ◌∙◌, ap, arith}
 use Rattle.abl_tree.specs.declared.token.TokenKind.TheVariants.{Colon}
 use Rattle.abl_parse.specs.Same.{same_kind}
-use Rattle.abl_parse.proofs.Flags.{kinds_same, kind_itself, refuted}
+use Rattle.abl_base.proofs.Bools.{clash}
+use Rattle.abl_parse.proofs.Flags.{kinds_same, kind_itself}
 use Rattle.abl_parse.proofs.Steps.{ends_row}
 use Rattle.abl_parse.proofs.Completes.{suits_row}
 use Rattle.abl_parse.proofs.NameRows.{rows_there, parts_are, form_only, target_only}
@@ -59,7 +60,7 @@ returns-clause-named c = λ rest e.
     let s3 = c.in_ok-open_row-4.ensures.stack _ t3 in
     assign_step c.args.at c.args.room c.inside-within.result c.inside-target.result rest c.open_row-4.new.stack c.args.used.now.items c.open_row-2.new.used.items c.open_row-3.new.used.items c.open_row-4.new.used.items c.args.next
     c.inside-within.ensures c.inside-target.ensures s3 c.in_ok-open_row-2.ensures.used c.in_ok-open_row-3.ensures.used c.in_ok-open_row-4.ensures.used
-    (λ f. refuted _ (ap (λ x. same_kind x Colon) f ∙ kind_itself Colon) (sym c.same_kind.ensures ∙ c.if-same_kind.false))
+    (λ f. clash _ (sym c.same_kind.ensures ∙ c.if-same_kind.false) (ap (λ x. same_kind x Colon) f ∙ kind_itself Colon))
 
 pub returns-clause-ends : goal.returns-clause-ends
 returns-clause-ends c = λ p.

@@ -1,15 +1,8 @@
 -- Tests put together and taken apart.
-use Rattle.std.proofs.Common.{ℕ, ◌<◌, ◌≤◌, ◌≡◌, ◌≢◌, Bool, true, false, not, ◌&&◌, ◌||◌, cond, refl, ◌⊎◌, inl, inr, arith}
+use Rattle.std.proofs.Common.{ℕ, ◌<◌, ◌≤◌, ◌≡◌, ◌≢◌, Bool, true, false, not, ◌&&◌, ◌||◌, refl, ◌⊎◌, inl, inr, arith}
 use Rattle.std.specs.Prelude.{◌==◌, nat_lt}
 use Rattle.std.proofs.lemmas.Bool.Decides.{nat_tests, eqb_tells}
-
-pub chosen_true : {A : Type 0} (b : Bool) (x y : A) → b ≡ true → cond b x y ≡ x
-chosen_true true x y e = refl
-chosen_true false x y e = cc
-
-pub chosen_false : {A : Type 0} (b : Bool) (x y : A) → b ≡ false → cond b x y ≡ y
-chosen_false true x y e = cc
-chosen_false false x y e = refl
+pub use Rattle.std.proofs.lemmas.Bool.{cond-true as chosen_true, cond-false as chosen_false, and_from as and_both, or_left, or_right, or_cases, or_from as either, and_left as and_first, false_from_ne_true as refuted, true_from_ne_false as affirmed, not_from_false as so_not, cases_Bool as tells}
 
 pub and_left : (a b : Bool) → a && b ≡ true → a ≡ true
 and_left true b e = refl
@@ -19,46 +12,26 @@ pub and_right : (a b : Bool) → a && b ≡ true → b ≡ true
 and_right true b e = e
 and_right false b e = cc
 
-pub and_both : (a b : Bool) → a ≡ true → b ≡ true → a && b ≡ true
-and_both true b e h = h
-and_both false b e h = cc
-
-pub or_left : (a b : Bool) → a ≡ true → a || b ≡ true
-or_left true b e = refl
-or_left false b e = cc
-
-pub or_right : (a b : Bool) → b ≡ true → a || b ≡ true
-or_right true b e = refl
-or_right false b e = e
-
-pub either : (a b : Bool) → a ≡ false → b ≡ false → a || b ≡ false
-either true b e h = cc
-either false b e h = h
-
 pub both_no : (a b : Bool) → (a ≡ true → b ≡ true → ⊥) → a && b ≡ false
 both_no true true n = absurd (n refl refl)
 both_no true false n = refl
 both_no false b n = refl
 
+pub implied : (a b : Bool) → not a || b ≡ true → a ≡ true → b ≡ true
+implied true b e h = e
+implied false b e h = cc
+
 pub not_so : (a : Bool) → not a ≡ true → a ≡ false
 not_so true e = cc
 not_so false e = refl
 
-pub so_not : (a : Bool) → a ≡ false → not a ≡ true
-so_not true e = cc
-so_not false e = refl
+pub not_true : (a : Bool) → not a ≡ true → a ≡ true → ⊥
+not_true true e h = cc
+not_true false e h = cc
 
 pub clash : (a : Bool) → a ≡ false → a ≡ true → ⊥
 clash true e h = cc
 clash false e h = cc
-
-pub refuted : (a : Bool) → (a ≡ true → ⊥) → a ≡ false
-refuted true n = absurd (n refl)
-refuted false n = refl
-
-pub tells : (a : Bool) → (a ≡ true) ⊎ (a ≡ false)
-tells true = inl refl
-tells false = inr refl
 
 pub same : (a b : ℕ) → a ≡ b → (a == b) ≡ true
 same a b e = elim (eqb_tells a b) [ inl t ↦ t.0 | inr t ↦ absurd (t.1 e) ]
