@@ -3,6 +3,7 @@ use Rattle.std.proofs.Common.{◌≡◌, ◌≢◌, ◌↔◌, ◌⊎◌, inl, i
 use Rattle.std.specs.Option.{option_map}
 use Rattle.std.specs.BTreeMap.{BTreeMap}
 use Rattle.std.proofs.lemmas.Grind.{common_steps}
+use Rattle.abl_base.proofs.Bools.{clash}
 use Rattle.key_index.specs.declared.left.Seat.{Seat}
 use Rattle.key_index.specs.Left.{AreListed, IsListed, Lists, owner_at, seat_at}
 use Rattle.key_index.specs.Standing.{IsLeft, without_left}
@@ -13,9 +14,6 @@ same_or_other a b = grind (arith, common_steps)
 eqb_itself : (a : ℕ) → eqb a a ≡ true
 eqb_itself a = grind (arith, common_steps)
 
-no_clash : (b : Bool) → b ≡ true → b ≡ false → ⊥
-no_clash b t f = cc
-
 -- what is left of a place is no placeholder of the client
 pub not_left : (client : ℕ) (o : Option (Option ℕ)) → without_left client o ≡ Some (Some client) → ⊥
 not_left client None is = cc
@@ -24,7 +22,7 @@ not_left client (Some (Some other)) is = pick (eqb other client) refl is
   where
     pick : (b : Bool) → eqb other client ≡ b → cond b None (Some (Some other)) ≡ Some (Some client) → ⊥
     pick true same h = cc
-    pick false same h = no_clash (eqb other client) (subst (λ (c : ℕ). eqb other c ≡ true) (other_is h) (eqb_itself other)) same
+    pick false same h = clash (eqb other client) same (subst (λ (c : ℕ). eqb other c ≡ true) (other_is h) (eqb_itself other))
       where
         other_is : Some (Some other) ≡ Some (Some client) → other ≡ client
         other_is e = cc

@@ -20,6 +20,7 @@ use Rattle.std.proofs.lemmas.Map.Entries.{lookup-filter-keys}
 use Rattle.std.proofs.lemmas.Map.Keys.{sorted_head, sorted_tail}
 use Rattle.std.proofs.lemmas.Map.Views.{IsInRange-from_range_contains, range_contains-from_IsInRange}
 use Rattle.abl_base.specs.declared.row.Cursor.{Cursor}
+use Rattle.abl_base.proofs.Bools.{clash}
 use Rattle.key_index.specs.declared.index.Node.{Node}
 use Rattle.key_index.specs.Index.{Keys, IsEntry}
 use Rattle.key_index.specs.Keyed.{by_bytes}
@@ -29,9 +30,6 @@ use Rattle.key_index.specs.Span.{IsFromStart, IsUpToEnd, IsSpan}
 use Rattle.key_index.specs.Standing.{HasEntry}
 use Rattle.key_index.proofs.KeyedNodes.{node_at, same_bytes, seen}
 use Rattle.key_index.proofs.Orders.{not_itself}
-
-no_clash : (b : Bool) → b ≡ true → b ≡ false → ⊥
-no_clash b t f = cc
 
 pub some_same : {X : Type 0} (x y : X) → Some x ≡ Some y → x ≡ y
 some_same x y h = cc
@@ -118,7 +116,7 @@ module _ {Z : Type 0} where
       (was.0, ap (λ t. cond t (Some e.1) (node_at es key)) at ∙ was.1)
   was_one lo hi e es rest key n below false is true at h =
       let was = below h in
-      absurd (no_clash (range.range_contains by_items lo hi e.0) (inside lo hi e.0 key (same_bytes key e.0.items at) was.0.0 was.0.1) is)
+      absurd (clash (range.range_contains by_items lo hi e.0) is (inside lo hi e.0 key (same_bytes key e.0.items at) was.0.0 was.0.1))
   was_one lo hi e es rest key n below false is false at h =
       let was = below h in
       (was.0, ap (λ t. cond t (Some e.1) (node_at es key)) at ∙ was.1)

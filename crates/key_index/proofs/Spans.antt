@@ -3,20 +3,17 @@ use Rattle.std.proofs.Common.{◌≡◌, ◌↔◌, ℕ, List, Bool, true, false
 use Rattle.std.specs.declared.ops.Bound.{Bound}
 use Rattle.std.specs.declared.ops.Bound.TheVariants.{Included, Excluded}
 use Rattle.abl_base.specs.declared.row.Cursor.{Cursor}
+use Rattle.abl_base.proofs.Bools.{not_true}
 use Rattle.key_index.specs.Search.{BeginsWith, IsKeyBefore, IsKeyBeyond}
 use Rattle.key_index.specs.Span.{IsFromStart, IsUpToEnd, IsBeforeEnd, IsInOrder, IsNoSpan, IsSpan, StartsBefore, end_at}
 use Rattle.key_index.proofs.Orders.{before_before, before_upto, upto_before, upto_from_not_before}
-
-not_both : (b : Bool) → not b ≡ true → b ≡ true → ⊥
-not_both true h is = cc
-not_both false h is = cc
 
 false_not_true : false ≡ true → ⊥
 false_not_true h = cc
 
 -- a key that does not stand before the end stands behind all that do
 pub past_end : (b : Bool) (key bytes other : List ℕ) → (IsTrue b ↔ IsKeyBefore key bytes) → IsTrue (not b) → IsKeyBefore other bytes → IsKeyBefore other key
-past_end b key bytes other iff past before = before_upto other bytes key before (upto_from_not_before bytes key (λ less. not_both b past (iff.1 less)))
+past_end b key bytes other iff past before = before_upto other bytes key before (upto_from_not_before bytes key (λ less. not_true b past (iff.1 less)))
 
 module _ {Z : Type 0} where
   pub starts_included : (from : Vec ℕ Z) (bytes : List ℕ) (b : Bool) → (IsTrue b ↔ IsKeyBefore from.items bytes) → StartsBefore (Included from) bytes b

@@ -5,6 +5,7 @@ use Rattle.std.specs.Ordering.{is_eq}
 use Rattle.std.specs.Cmp.Lexicographic.{slice_cmp}
 use Rattle.std.specs.BTreeMap.{BTreeMap, UpdatesBy, WritesThrough}
 use Rattle.std.proofs.lemmas.Grind.{common_steps}
+use Rattle.abl_base.proofs.Bools.{clash}
 use Rattle.key_index.specs.declared.touched.Keyed.{Keyed}
 use Rattle.key_index.specs.Nodes.{IsNodeEnded, IsTouched}
 use Rattle.key_index.specs.Standing.{without_keeper, without_left}
@@ -19,15 +20,12 @@ eqb_itself a = grind (arith, common_steps)
 eqb_same : (a b : ℕ) → eqb a b ≡ true → a ≡ b
 eqb_same a b h = grind (arith, common_steps)
 
-no_clash : (b : Bool) → b ≡ true → b ≡ false → ⊥
-no_clash b t f = cc
-
 pub same_key_or_other : (a b : List ℕ) → (a ≡ b) ⊎ (a ≢ b)
 same_key_or_other a b = pick (is_eq (slice_cmp nat_cmp a b)) refl
   where
     pick : (t : Bool) → is_eq (slice_cmp nat_cmp a b) ≡ t → (a ≡ b) ⊎ (a ≢ b)
     pick true is = inl (same_bytes a b is)
-    pick false is = inr (λ same. no_clash (is_eq (slice_cmp nat_cmp a b)) (subst (λ (c : List ℕ). is_eq (slice_cmp nat_cmp a c) ≡ true) same (equal_itself a)) is)
+    pick false is = inr (λ same. clash (is_eq (slice_cmp nat_cmp a b)) is (subst (λ (c : List ℕ). is_eq (slice_cmp nat_cmp a c) ≡ true) same (equal_itself a)))
 
 -- what is left of a keeper is not the client
 not_kept : (client : ℕ) (o : Option ℕ) → without_keeper client o ≡ Some client → ⊥
@@ -36,7 +34,7 @@ not_kept client (Some other) is = pick (eqb other client) refl is
   where
     pick : (b : Bool) → eqb other client ≡ b → cond b None (Some other) ≡ Some client → ⊥
     pick true same h = cc
-    pick false same h = no_clash (eqb other client) (subst (λ (c : ℕ). eqb other c ≡ true) (other_is h) (eqb_itself other)) same
+    pick false same h = clash (eqb other client) same (subst (λ (c : ℕ). eqb other c ≡ true) (other_is h) (eqb_itself other))
       where
         other_is : Some other ≡ Some client → other ≡ client
         other_is e = cc

@@ -1,11 +1,9 @@
-use Rattle.std.proofs.Common.{◌≡◌, ◌⊎◌, inl, inr, ℕ, Bool, true, false, List, sym, ap, subst}
+use Rattle.std.proofs.Common.{◌≡◌, ◌⊎◌, inl, inr, ℕ, List, sym, ap, subst}
+use Rattle.abl_base.proofs.Bools.{clash}
 use Rattle.key_index.specs.Chain.{items_of}
 use Rattle.key_index.specs.Left.{Lists, owner_at}
 use Rattle.key_index.specs.Standing.{IsLeft}
 use Rattle.key_index.proofs.left.any_left.Goals as goal
-
-no_clash : (b : Bool) → b ≡ true → b ≡ false → ⊥
-no_clash b t f = cc
 
 past : (first row : ℕ) (rest : List ℕ) → (first ≡ row → ⊥) → (first ≡ row) ⊎ Lists rest row → Lists rest row
 past first row rest differs (inl same) = absurd (differs same)
@@ -14,5 +12,5 @@ past first row rest differs (inr there) = there
 pub loop-rest-preserved : goal.loop-rest-preserved
 loop-rest-preserved c row listed was_left =
     rw c.as_ref-rest.ensures (past c.in-More.row row (items_of c.in-More.more.value)
-    (λ same. no_clash c.is_left.result (c.is_left.ensures.1 (subst (λ (r : ℕ). IsLeft (owner_at c.args.seats.now r)) (sym same) was_left)) c.if-is_left.false)
+    (λ same. clash c.is_left.result c.if-is_left.false (c.is_left.ensures.1 (subst (λ (r : ℕ). IsLeft (owner_at c.args.seats.now r)) (sym same) was_left)))
     (subst (λ (xs : List ℕ). Lists xs row) (ap items_of c.in-More.is) (c.loop-rest.invariant row listed was_left)))

@@ -1,13 +1,11 @@
-use Rattle.std.proofs.Common.{◌≡◌, ℕ, Bool, true, false, List, inl, Some, None, IfSome, refl, sym, ap, subst, ◌∙◌}
+use Rattle.std.proofs.Common.{◌≡◌, ℕ, List, inl, Some, None, IfSome, refl, sym, ap, subst, ◌∙◌}
 use Rattle.std.specs.Option.{is_some}
+use Rattle.abl_base.proofs.Bools.{clash}
 use Rattle.key_index.specs.declared.touched.Keyed.{Keyed}
 use Rattle.key_index.specs.Nodes.{IsTouched}
 use Rattle.key_index.specs.Touched.{IsKeyListed, ListsKey, keyed_at}
 use Rattle.key_index.proofs.TouchedKeys.{ends_at, none_keyed, some_keyed, updated, written}
 use Rattle.key_index.proofs.touched.end_key.Goals as goal
-
-no_clash : (b : Bool) → b ≡ true → b ≡ false → ⊥
-no_clash b t f = cc
 
 no_spare : {X : Type 0} (x : X) → Some x ≡ None → ⊥
 no_spare x h = cc
@@ -68,7 +66,7 @@ returns-clause-listed c keyed is =
     let w : Keyed = record { node = c.end.new.self; spare = Some (record { key = c.args.key; room = c.args.room }) } in
     let puts = written c.args.nodes.now (c.get_mut.follows.lender w) c.as_slice.result.now c.args.key.items c.in-Some.keyed.now w c.as_slice.ensures.value (c.get_mut.follows.holds w) c.in-Some.ensures.value in
     subst (IsKeyListed c.args.touched.now c.args.key.items) (some_keyed w keyed (sym puts.0 ∙ is)) (record {
-      listed = λ is_touched. absurd (no_clash c.is_touched.result (c.is_touched.ensures.1 is_touched) c.if-is_touched.false);
+      listed = λ is_touched. absurd (clash c.is_touched.result c.if-is_touched.false (c.is_touched.ensures.1 is_touched));
       used = λ none. absurd (no_spare (record { key = c.args.key; room = c.args.room }) none);
       own = refl;
     })
