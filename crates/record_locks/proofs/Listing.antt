@@ -1,5 +1,5 @@
 -- Ascending lists of the numbers of which a fact holds.
-use Rattle.std.proofs.Common.{◌≡◌, ℕ, suc, ◌+◌, ◌<◌, Bool, true, false, List, [], ◌∷◌, ◌++◌, length, inl, inr, refl, sym, subst, ◌∙◌, arith}
+use Rattle.std.proofs.Common.{ℕ, suc, ◌+◌, ◌<◌, Bool, List, [], ◌∷◌, ◌++◌, length, inl, inr, refl, sym, subst, ◌∙◌, arith}
 use Rattle.std.specs.List.{Contains}
 use Rattle.std.proofs.lemmas.Bool.{cases_lt, cases_eq}
 use Rattle.std.proofs.lemmas.List.{get_or_append_left, length_push}
@@ -8,10 +8,6 @@ use Rattle.database_meaning.specs.Waiting.{IsAscending, ListsAll, StandsAgainst}
 use Rattle.record_locks.specs.declared.locks.Client.{Client}
 use Rattle.record_locks.specs.Table.{StandsInWay}
 use Rattle.record_locks.proofs.Tables.{lock_past}
-
--- a test has one answer
-pub not_both : (b : Bool) → b ≡ true → b ≡ false → ⊥
-not_both b is isnt = cc
 
 -- an element stays when another comes to the end
 pub Contains-more : {X : Type 0} (xs : List X) (y x : X) → Contains xs x → Contains (xs ++ y ∷ []) x

@@ -1,9 +1,9 @@
 use Rattle.std.proofs.Common.{◌≡◌, ◌<◌, ◌≤◌, length, sym, ap, subst, ◌∙◌, arith}
 use Rattle.std.proofs.lemmas.List.{get_or_default}
+use Rattle.abl_base.proofs.Bools.{clash}
 use Rattle.record_locks.specs.declared.search.Path.{Path}
 use Rattle.record_locks.specs.Table.{WaitsAgainst}
 use Rattle.record_locks.specs.Paths.{IsPath}
-use Rattle.record_locks.proofs.Listing.{not_both}
 use Rattle.record_locks.proofs.PathLemmas.{starts_search, goes_on, no_cycle, is_cycle, waits_below}
 use Rattle.record_locks.proofs.search.find_cycle.Goals as goal
 
@@ -41,7 +41,7 @@ loop-at-preserved c =
     goes_on waits c.args.search.client c.bound-bound.result c.loop-at.paths.items c.follow.new.paths.items c.loop-at.at c.index.result.now.end inside c.loop-at.invariant
     c.in_ok-follow.ensures.are c.in_ok-follow.ensures.longer
     (λ (d : Path). ap (λ (p : Path). p.end) (c.index.ensures ∙ get_or_default c.loop-at.paths.items c.loop-at.at c.index.result.now d inside))
-    (λ back. not_both c.waits_with.result (c.waits_with.ensures.1 back) c.if-waits_with.false)
+    (λ back. clash c.waits_with.result c.if-waits_with.false (c.waits_with.ensures.1 back))
     c.in_ok-follow.ensures.followed
 
 pub returns : goal.returns

@@ -1,6 +1,7 @@
 use Rattle.std.proofs.Common.{◌<◌, length, sym, subst, arith}
+use Rattle.abl_base.proofs.Bools.{clash}
 use Rattle.record_locks.specs.Table.{StandsInWay}
-use Rattle.record_locks.proofs.Listing.{ListsBelow, none_listed, listed_more, skipped_more, all_listed, stands_within, not_both}
+use Rattle.record_locks.proofs.Listing.{ListsBelow, none_listed, listed_more, skipped_more, all_listed, stands_within}
 use Rattle.record_locks.proofs.search.holders.Goals as goal
 use Rattle.record_locks.proofs.search.holders.Goals.{then-stands_in_way+in_ok-push, else-stands_in_way}
 
@@ -16,7 +17,7 @@ loop-number-preserved c = elim c.if-stands_in_way.branch [
   | else-stands_in_way w ↦
       rw w.holders-is
       (skipped_more c.loop-number.number (StandsInWay c.args.table.now c.args.client c.args.row.0 c.args.exclusive) c.loop-number.holders.items c.loop-number.invariant
-      (λ here. not_both c.stands_in_way.result (c.stands_in_way.ensures.1 here) w.if-stands_in_way.false))
+      (λ here. clash c.stands_in_way.result w.if-stands_in_way.false (c.stands_in_way.ensures.1 here)))
 ]
 
 pub returns : goal.returns
