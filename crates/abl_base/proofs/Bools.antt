@@ -1,8 +1,8 @@
 -- Tests put together and taken apart.
-use Rattle.std.proofs.Common.{ℕ, ◌<◌, ◌≤◌, ◌≡◌, ◌≢◌, Bool, true, false, not, ◌&&◌, ◌||◌, refl, ◌⊎◌, inl, inr, arith}
-use Rattle.std.specs.Prelude.{◌==◌, nat_lt}
-use Rattle.std.proofs.lemmas.Bool.Decides.{nat_tests, eqb_tells}
-pub use Rattle.std.proofs.lemmas.Bool.{cond-true as chosen_true, cond-false as chosen_false, and_from as and_both, or_left, or_right, or_cases, or_from as either, and_left as and_first, false_from_ne_true as refuted, true_from_ne_false as affirmed, not_from_false as so_not, cases_Bool as tells}
+use Rattle.std.proofs.Common.{ℕ, ◌≡◌, ◌≢◌, Bool, true, false, not, ◌&&◌, ◌||◌, refl, inl, inr}
+use Rattle.std.specs.Prelude.{◌==◌}
+use Rattle.std.proofs.lemmas.Bool.Decides.{eqb_tells}
+pub use Rattle.std.proofs.lemmas.Bool.{cond-true as chosen_true, cond-false as chosen_false, and_parts, and_from as and_both, or_left, or_right, or_cases, or_parts, or_from as either, and_left as and_first, false_from_ne_true as refuted, true_from_ne_false as affirmed, not_from_false as so_not, cases_Bool as tells}
 
 pub and_left : (a b : Bool) → a && b ≡ true → a ≡ true
 and_left true b e = refl
@@ -41,12 +41,3 @@ different a b n = elim (eqb_tells a b) [ inl t ↦ absurd (n t.1) | inr t ↦ t.
 
 pub equal : (a b : ℕ) → (a == b) ≡ true → a ≡ b
 equal a b e = elim (eqb_tells a b) [ inl t ↦ t.1 | inr t ↦ absurd (clash (a == b) t.0 e) ]
-
-pub unequal : (a b : ℕ) → (a == b) ≡ false → a ≢ b
-unequal a b e = elim (eqb_tells a b) [ inl t ↦ absurd (clash (a == b) e t.0) | inr t ↦ t.1 ]
-
-pub below_true : (a b : ℕ) → a < b → nat_lt a b ≡ true
-below_true a b h = grind (arith, nat_tests)
-
-pub below_false : (a b : ℕ) → b ≤ a → nat_lt a b ≡ false
-below_false a b h = grind (arith, nat_tests)

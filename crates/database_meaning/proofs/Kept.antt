@@ -2,6 +2,7 @@
 use Rattle.std.proofs.Common.{◌≡◌, ◌⊎◌, ℕ, zero, suc, ◌+◌, ◌-◌, ◌<◌, Bool, true, false, cond, List, [], ◌∷◌, ◌++◌, length, take, Option, Some, None, refl, sym, ap, ◌∙◌, subst, inl, inr, arith, nat_cmp, eqb, eqb-true, get_or, length-append, length-take}
 use Rattle.std.specs.FinMap.{get, insert, empty, entries, get-empty, get-entries}
 use Rattle.std.proofs.lemmas.Bool.{cases_eq, cases_lt}
+use Rattle.abl_base.proofs.Bools.{tells}
 use Rattle.abl_base.specs.declared.row.RowId.{RowId}
 use Rattle.database_meaning.specs.declared.state.StoredRow.{StoredRow}
 use Rattle.database_meaning.specs.declared.state.Key.{Key}
@@ -19,7 +20,7 @@ use Rattle.database_meaning.specs.declared.operation.Op.{Op}
 use Rattle.database_meaning.specs.declared.operation.Op.TheVariants.{Enter, Leave, Back, Next, Get, Lock, Insert, Put, Delete, Drop as DropLock, NextValue, CurrentValue, End}
 use Rattle.database_meaning.specs.declared.operation.Answer.{Answer}
 use Rattle.database_meaning.proofs.Maps.{get_insert_same, get_insert_other, insert_cases, empty_cases, get_laid_on}
-use Rattle.database_meaning.proofs.Keys.{Has, test, has_left, has_right, has_cases, has_without, without_cases}
+use Rattle.database_meaning.proofs.Keys.{Has, has_left, has_right, has_cases, has_without, without_cases}
 use Rattle.database_meaning.proofs.TableRows.{Success, success_of}
 use Rattle.database_meaning.proofs.Own.{Covers, CoversAll, Grows, sound, stable_lt, stable_true, grows_lock, grows_true}
 use Rattle.database_meaning.proofs.Good.{Good, good_step, good_opened, self_after, other_after}
@@ -251,7 +252,7 @@ module _ (f : Frame) (s : State) (g : Good f s) (gk : GoodKeys f s) (c row : ℕ
       elim (insert_cases cl.overlay row new q change e) [
         | inl p ↦
             let mine : Has (unique_keys f.schema new) k = subst (λ o. Has (unique_keys f.schema o) k) (sym p.1) h in
-            elim (test (has_key (unique_keys f.schema old) k)) [
+            elim (tells (has_key (unique_keys f.schema old) k)) [
               | inl had ↦ elim (old_adds k had) [
                 | inl x ↦ inl (subst (λ r. Has (unique_keys f.schema (get rows r)) k) (sym p.0) x)
                 | inr x ↦ inr (kept_still f old new cl.kept k x)
@@ -269,7 +270,7 @@ module _ (f : Frame) (s : State) (g : Good f s) (gk : GoodKeys f s) (c row : ℕ
       elim (insert_cases cl.overlay row new q change e) [
         | inl p ↦
             let there : Has (unique_keys f.schema (get rows row)) k = subst (λ r. Has (unique_keys f.schema (get rows r)) k) p.0 h in
-            elim (test (has_key (unique_keys f.schema new) k)) [
+            elim (tells (has_key (unique_keys f.schema new) k)) [
               | inl has ↦ inl (subst (λ o. Has (unique_keys f.schema o) k) p.1 has)
               | inr lost ↦ elim (old_takes k there) [
                 | inl had ↦ inr (kept_left f old new cl.kept k had lost)
@@ -290,7 +291,7 @@ module _ (f : Frame) (s : State) (g : Good f s) (gk : GoodKeys f s) (c row : ℕ
 
   one_other : (q : ℕ) (k : Key) → (q ≡ row → ⊥) → Has (unique_keys f.schema new) k → Has (unique_keys f.schema (over (get cl.overlay q) (get rows q))) k → row ≡ q
   one_other q k ne mine other =
-      elim (test (has_key (unique_keys f.schema old) k)) [
+      elim (tells (has_key (unique_keys f.schema old) k)) [
         | inl had ↦ (gk.own c).now.one row q k (subst (λ o. Has (unique_keys f.schema o) k) w.own_old had) other
         | inr fresh ↦ elim (own_or_kept f s g gk c q k w.known other) [
           | inl seen ↦ absurd (w.no_twin k mine fresh q ne seen)

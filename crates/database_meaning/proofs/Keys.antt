@@ -1,5 +1,6 @@
 -- Lists of unique keys.
-use Rattle.std.proofs.Common.{◌≡◌, ◌⊎◌, ℕ, Bool, true, false, cond, ◌||◌, ◌&&◌, List, [], ◌∷◌, ◌++◌, refl, sym, ap, ◌∙◌, inl, inr, eqb, eqb-true}
+use Rattle.std.proofs.Common.{◌≡◌, ◌⊎◌, ℕ, Bool, true, false, cond, List, [], ◌∷◌, ◌++◌, refl, sym, ap, ◌∙◌, inl, inr, eqb, eqb-true}
+use Rattle.abl_base.proofs.Bools.{and_parts, or_left, or_right, or_cases}
 use Rattle.database_meaning.specs.declared.state.Key.{Key}
 use Rattle.abl_values.specs.Masks.{same_bytes}
 use Rattle.database_meaning.specs.Frame.{same_key, has_key, keys_without}
@@ -7,44 +8,24 @@ use Rattle.database_meaning.specs.Frame.{same_key, has_key, keys_without}
 abbrev pub Has : List Key → Key → Type 0
 Has ks k = has_key ks k ≡ true
 
-pub test : (b : Bool) → (b ≡ true) ⊎ (b ≡ false)
-test true = inl refl
-test false = inr refl
-
-both_true : (a b : Bool) → (a && b) ≡ true → (a ≡ true) × (b ≡ true)
-both_true true b e = (refl, e)
-both_true false b e = cc
-
 same_bytes_eq : (xs ys : List ℕ) → same_bytes xs ys ≡ true → xs ≡ ys
 same_bytes_eq [] [] e = refl
 same_bytes_eq [] (y ∷ ys) e = cc
 same_bytes_eq (x ∷ xs) [] e = cc
 same_bytes_eq (x ∷ xs) (y ∷ ys) e =
-    let p = both_true (eqb x y) (same_bytes xs ys) e in
+    let p = and_parts (eqb x y) (same_bytes xs ys) e in
     let h : x ≡ y = eqb-true x y p.0 in
     let t : xs ≡ ys = same_bytes_eq xs ys p.1 in
     cc
 
 pub same_key_eq : (a b : Key) → same_key a b ≡ true → a ≡ b
 same_key_eq a b e =
-    let p = both_true (eqb a.table b.table) _ e in
-    let q = both_true (eqb a.index b.index) (same_bytes a.bytes b.bytes) p.1 in
+    let p = and_parts (eqb a.table b.table) _ e in
+    let q = and_parts (eqb a.index b.index) (same_bytes a.bytes b.bytes) p.1 in
     let t : a.table ≡ b.table = eqb-true _ _ p.0 in
     let i : a.index ≡ b.index = eqb-true _ _ q.0 in
     let s : a.bytes ≡ b.bytes = same_bytes_eq _ _ q.1 in
     λ z. record { table = t z; index = i z; bytes = s z }
-
-or_left : (a b : Bool) → a ≡ true → (a || b) ≡ true
-or_left true b e = refl
-or_left false b e = cc
-
-or_right : (a b : Bool) → b ≡ true → (a || b) ≡ true
-or_right true b e = refl
-or_right false b e = e
-
-or_cases : (a b : Bool) → (a || b) ≡ true → (a ≡ true) ⊎ (b ≡ true)
-or_cases true b e = inl refl
-or_cases false b e = inr e
 
 pub has_left : (xs ys : List Key) (k : Key) → Has xs k → Has (xs ++ ys) k
 has_left [] ys k h = cc

@@ -2,6 +2,7 @@
 use Rattle.std.proofs.Common.{◌≡◌, ◌≢◌, ℕ, zero, suc, ◌+◌, ◌<◌, ◌≤◌, true, false, not, eqb, eqb-true, eq-eqb, List, [], ◌∷◌, ◌++◌, length, Some, None, refl, sym, ap, ◌∙◌, subst, inl, inr, arith}
 use Rattle.std.specs.List.{Contains}
 use Rattle.std.proofs.lemmas.Bool.{cases_lt}
+use Rattle.abl_base.proofs.Bools.{and_parts, or_cases, or_left, or_right, not_so}
 use Rattle.database_meaning.specs.declared.state.Want.{Want}
 use Rattle.database_meaning.specs.declared.operation.Op.{Op}
 use Rattle.database_meaning.specs.Frame.{Frame}
@@ -13,38 +14,37 @@ use Rattle.plain_answer.specs.Decide.{is_among, edges_of, is_chain, is_distinct,
 use Rattle.plain_state.specs.declared.client.PlainClient.{PlainClient}
 use Rattle.plain_state.specs.Plain.{client_at}
 use Rattle.plain_answer.specs.Graph.{IsGraph, Waits}
-use Rattle.plain_answer.proofs.Conflicts.{both_true, either_true, true_left, true_right, not_true}
 
 -- ---- members
 
 among : (x : ℕ) (ys : List ℕ) → is_among x ys ≡ true → Contains ys x
 among x [] e = cc
 among x (y ∷ ys) e =
-    elim (either_true (eqb x y) (is_among x ys) e) [
+    elim (or_cases (eqb x y) (is_among x ys) e) [
       | inl p ↦ subst (λ z. Contains (z ∷ ys) x) (eqb-true x y p) (here x ys)
       | inr p ↦ there x y ys (among x ys p)
     ]
 
 among_back : (x : ℕ) (ys : List ℕ) → Contains ys x → is_among x ys ≡ true
 among_back x [] p = absurd (omega (arith, p.1))
-among_back x (y ∷ ys) p = elim (uncons x y ys p) [ inl e ↦ true_left _ _ (eq-eqb x y (sym e)) | inr q ↦ true_right (eqb x y) _ (among_back x ys q) ]
+among_back x (y ∷ ys) p = elim (uncons x y ys p) [ inl e ↦ or_left _ _ (eq-eqb x y (sym e)) | inr q ↦ or_right (eqb x y) _ (among_back x ys q) ]
 
 distinct : (xs : List ℕ) → is_distinct xs ≡ true → IsDistinct xs
 distinct [] e = tt
 distinct (x ∷ xs) e =
-    let b = both_true (not (is_among x xs)) (is_distinct xs) e in
-    ((λ p. let t : is_among x xs ≡ true = among_back x xs p in let n : is_among x xs ≡ false = not_true _ b.0 in cc), distinct xs b.1)
+    let b = and_parts (not (is_among x xs)) (is_distinct xs) e in
+    ((λ p. let t : is_among x xs ≡ true = among_back x xs p in let n : is_among x xs ≡ false = not_so _ b.0 in cc), distinct xs b.1)
 
 all_among : (xs ys : List ℕ) → are_among xs ys ≡ true → (d : ℕ) → Contains xs d → is_among d ys ≡ true
 all_among [] ys e d p = absurd (omega (arith, p.1))
 all_among (x ∷ xs) ys e d p =
-    let b = both_true (is_among x ys) (are_among xs ys) e in
+    let b = and_parts (is_among x ys) (are_among xs ys) e in
     elim (uncons d x xs p) [ inl same ↦ ap (λ z. is_among z ys) (sym same) ∙ b.0 | inr q ↦ all_among xs ys b.1 d q ]
 
 closed : (graph : List (List ℕ)) (xs ys : List ℕ) → is_closed_under graph xs ys ≡ true → (a d : ℕ) → Contains xs a → Contains (edges_of graph a) d → is_among d ys ≡ true
 closed graph [] ys e a d p q = absurd (omega (arith, p.1))
 closed graph (x ∷ xs) ys e a d p q =
-    let b = both_true (are_among (edges_of graph x) ys) (is_closed_under graph xs ys) e in
+    let b = and_parts (are_among (edges_of graph x) ys) (is_closed_under graph xs ys) e in
     elim (uncons a x xs p) [
       | inl same ↦ all_among (edges_of graph x) ys b.0 d (subst (λ z. Contains (edges_of graph z) d) (sym same) q)
       | inr more ↦ closed graph xs ys b.1 a d more q
@@ -108,7 +108,7 @@ module _ (f : Frame) (s : State) (c : ℕ) (op : Op) where
     chain : (a : ℕ) (xs : List ℕ) (b : ℕ) → is_chain graph a xs b ≡ true → Chain (WouldWait f s c op) a xs b
     chain a [] b e = edge a b (among b (edges_of graph a) e)
     chain a (x ∷ xs) b e =
-        let p = both_true (is_among x (edges_of graph a)) (is_chain graph x xs b) e in
+        let p = and_parts (is_among x (edges_of graph a)) (is_chain graph x xs b) e in
         (edge a x (among x (edges_of graph a) p.0), chain x xs b p.1)
 
     pub cycle_found : (others : List ℕ) → is_chain graph c others c ≡ true → is_distinct (c ∷ others) ≡ true → IsCycle f s c op (c ∷ others)
@@ -129,16 +129,16 @@ module _ (f : Frame) (s : State) (c : ℕ) (op : Op) where
     pub cycle_told : (list : List ℕ) → is_cycle graph c list ≡ true → IsCycle f s c op list
     cycle_told [] e = let clash : false ≡ true = e in cc
     cycle_told (x ∷ xs) e =
-        let p = both_true (eqb x c) _ e in
-        let q = both_true (is_chain graph c xs c) _ p.1 in
+        let p = and_parts (eqb x c) _ e in
+        let q = and_parts (is_chain graph c xs c) _ p.1 in
         let same : c ≡ x = sym (eqb-true x c p.0) in
         subst (λ z. IsCycle f s c op (z ∷ xs)) same (cycle_found xs q.0 (subst (λ z. is_distinct (z ∷ xs) ≡ true) (sym same) q.1))
 
     pub apart_told : (ys : List ℕ) → is_apart graph c ys ≡ true → ¬ Closes f s c op
     apart_told ys e =
-        let p = both_true (are_among (edges_of graph c) ys) _ e in
-        let q = both_true (is_closed_under graph ys ys) _ p.1 in
-        none_closes ys p.0 q.0 (not_true _ q.1)
+        let p = and_parts (are_among (edges_of graph c) ys) _ e in
+        let q = and_parts (is_closed_under graph ys ys) _ p.1 in
+        none_closes ys p.0 q.0 (not_so _ q.1)
 
 -- ---- whom a client waits for
 

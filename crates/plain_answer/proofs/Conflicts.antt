@@ -1,10 +1,11 @@
 -- The tests of the plain machine, and the conflicts that they stand for.
-use Rattle.std.proofs.Common.{◌≡◌, ◌≢◌, ◌⊎◌, ℕ, zero, suc, ◌+◌, ◌<◌, ◌≤◌, Bool, true, false, not, ◌&&◌, ◌||◌, cond, eqb, eq-eqb, List, [], ◌∷◌, ◌++◌, length, Option, Some, None, refl, sym, ap, ◌∙◌, subst, inl, inr, arith}
+use Rattle.std.proofs.Common.{◌≡◌, ◌≢◌, ◌⊎◌, ℕ, zero, suc, ◌+◌, ◌<◌, ◌≤◌, Bool, true, false, not, ◌&&◌, cond, eqb, eq-eqb, List, [], ◌∷◌, ◌++◌, length, Option, Some, None, refl, sym, ap, ◌∙◌, subst, inl, inr, arith}
 use Rattle.std.specs.Prelude.{IsTrue, IsFalse}
 use Rattle.std.specs.List.{Contains}
 use Rattle.std.specs.FinMap.{get, get-empty}
 use Rattle.std.specs.Ordering.{nat_cmp}
 use Rattle.std.proofs.lemmas.Bool.{cases_lt, ne_eqb}
+use Rattle.abl_base.proofs.Bools.{and_parts, and_both, or_cases, or_left, or_right, not_so, so_not}
 use Rattle.database_meaning.specs.declared.state.Key.{Key}
 use Rattle.database_meaning.specs.declared.operation.Op.{Op}
 use Rattle.database_meaning.specs.declared.operation.Op.TheVariants.{Enter, Leave, Back, Next, Get, Lock, Insert, Put, Delete, Drop as DropLock, NextValue, CurrentValue, End}
@@ -22,38 +23,6 @@ use Rattle.plain_answer.specs.Decide.{stands_against, keeps_some, meets, met_fro
 
 -- ---- tests
 
-pub both_true : (a b : Bool) → (a && b) ≡ true → (a ≡ true) × (b ≡ true)
-both_true true b e = (refl, e)
-both_true false b e = cc
-
-pub true_both : (a b : Bool) → a ≡ true → b ≡ true → (a && b) ≡ true
-true_both true b e h = h
-true_both false b e h = cc
-
-pub either_true : (a b : Bool) → (a || b) ≡ true → (a ≡ true) ⊎ (b ≡ true)
-either_true true b e = inl refl
-either_true false b e = inr e
-
-pub true_left : (a b : Bool) → a ≡ true → (a || b) ≡ true
-true_left true b e = refl
-true_left false b e = cc
-
-pub true_right : (a b : Bool) → b ≡ true → (a || b) ≡ true
-true_right true b e = refl
-true_right false b e = e
-
-pub not_true : (b : Bool) → not b ≡ true → b ≡ false
-not_true true e = cc
-not_true false e = refl
-
-pub true_not : (b : Bool) → b ≡ false → not b ≡ true
-true_not true e = cc
-true_not false e = refl
-
-pub tested : (b : Bool) → (b ≡ true) ⊎ (b ≡ false)
-tested true = inl refl
-tested false = inr refl
-
 -- ---- locks and keys
 
 stands : (o : Option Bool) (x : Bool) → stands_against o x ≡ true → StandsAgainst o x
@@ -68,10 +37,10 @@ stands_back (Some false) x h = h
 
 same_bytes_self : (xs : List ℕ) → same_bytes xs xs ≡ true
 same_bytes_self [] = refl
-same_bytes_self (x ∷ xs) = true_both _ _ (eq-eqb x x refl) (same_bytes_self xs)
+same_bytes_self (x ∷ xs) = and_both _ _ (eq-eqb x x refl) (same_bytes_self xs)
 
 pub same_key_self : (k : Key) → same_key k k ≡ true
-same_key_self k = true_both _ _ (eq-eqb k.table k.table refl) (true_both _ _ (eq-eqb k.index k.index refl) (same_bytes_self k.bytes))
+same_key_self k = and_both _ _ (eq-eqb k.table k.table refl) (and_both _ _ (eq-eqb k.index k.index refl) (same_bytes_self k.bytes))
 
 Kept : List Key → List Key → List Key → Type 0
 Kept new old kept = (k : Key) × IsTrue (has_key new k) × IsFalse (has_key old k) × IsTrue (has_key kept k)
@@ -80,22 +49,22 @@ keeps : (new old kept : List Key) → keeps_some new old kept ≡ true → Kept 
 unfolding Kept
 keeps [] old kept e = cc
 keeps (k ∷ new) old kept e =
-    elim (either_true (not (has_key old k) && has_key kept k) _ e) [
+    elim (or_cases (not (has_key old k) && has_key kept k) _ e) [
       | inl p ↦
-          let q = both_true _ _ p in
-          (k, true_left (same_key k k) (has_key new k) (same_key_self k), not_true _ q.0, q.1)
-      | inr p ↦ let rest = keeps new old kept p in (rest.0, true_right (same_key k rest.0) _ rest.1, rest.2, rest.3)
+          let q = and_parts _ _ p in
+          (k, or_left (same_key k k) (has_key new k) (same_key_self k), not_so _ q.0, q.1)
+      | inr p ↦ let rest = keeps new old kept p in (rest.0, or_right (same_key k rest.0) _ rest.1, rest.2, rest.3)
     ]
 
 keeps_back : (new old kept : List Key) → Kept new old kept → keeps_some new old kept ≡ true
 unfolding Kept
 keeps_back [] old kept h = let e : false ≡ true = h.1 in cc
 keeps_back (k ∷ new) old kept h =
-    elim (either_true (same_key k h.0) (has_key new h.0) h.1) [
+    elim (or_cases (same_key k h.0) (has_key new h.0) h.1) [
       | inl p ↦
           let same : k ≡ h.0 = same_key_eq k h.0 p in
-          true_left _ _ (true_both _ _ (true_not _ (ap (has_key old) same ∙ h.2)) (ap (has_key kept) same ∙ h.3))
-      | inr p ↦ true_right _ _ (keeps_back new old kept (h.0, p, h.2, h.3))
+          or_left _ _ (and_both _ _ (so_not _ (ap (has_key old) same ∙ h.2)) (ap (has_key kept) same ∙ h.3))
+      | inr p ↦ or_right _ _ (keeps_back new old kept (h.0, p, h.2, h.3))
     ]
 
 -- ---- one client
@@ -213,8 +182,8 @@ module _ (f : Frame) (s : State) (c : ℕ) (op : Op) where
   met_conflict n (x ∷ ds) st d p =
       elim (choose_cases (not (eqb n c) && meets op new old x) n _ d p) [
         | inl q ↦
-            let b = both_true _ _ q.0 in
-            let ne : n ≢ c = λ e. let t : eqb n c ≡ true = ap (λ k. eqb k c) e ∙ eq-eqb c c refl in let z : eqb n c ≡ false = not_true _ b.0 in cc in
+            let b = and_parts _ _ q.0 in
+            let ne : n ≢ c = λ e. let t : eqb n c ≡ true = ap (λ k. eqb k c) e ∙ eq-eqb c c refl in let z : eqb n c ≡ false = not_so _ b.0 in cc in
             subst (λ k. Conflicts f s c op k) q.1 (meets_conflict f s c n x (head_stands n x ds st) op ne b.1)
         | inr q ↦ met_conflict (n + 1) ds (tail_stands n x ds st) d q
       ]
@@ -225,7 +194,7 @@ module _ (f : Frame) (s : State) (c : ℕ) (op : Op) where
       let at : n + 0 ≡ n = omega arith in
       let here_met = conflict_meets f s c n x (head_stands n x ds st) op (subst (λ k. Conflicts f s c op k) at h) in
       subst (λ k. Contains (met_from op new old c n (x ∷ ds)) k) (sym at)
-      (choose_here (not (eqb n c) && meets op new old x) n _ (true_both _ _ (true_not _ (ne_eqb n c here_met.0)) here_met.1))
+      (choose_here (not (eqb n c) && meets op new old x) n _ (and_both _ _ (so_not _ (ne_eqb n c here_met.0)) here_met.1))
   conflict_met n (x ∷ ds) st (suc i) lt h =
       let at : n + suc i ≡ (n + 1) + i = omega arith in
       subst (λ k. Contains (met_from op new old c n (x ∷ ds)) k) (sym at)

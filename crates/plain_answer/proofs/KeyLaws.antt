@@ -1,7 +1,8 @@
 -- The first key that is too long, and the first that another row has.
-use Rattle.std.proofs.Common.{◌≡◌, ◌⊎◌, ℕ, zero, suc, ◌+◌, ◌<◌, Bool, true, false, cond, ltb, List, [], ◌∷◌, ◌++◌, length, Option, Some, None, MatchOption, refl, sym, ap, ◌∙◌, subst, inl, inr, arith, get_or}
+use Rattle.std.proofs.Common.{◌≡◌, ℕ, zero, suc, ◌+◌, ◌<◌, Bool, true, false, cond, ltb, List, [], ◌∷◌, ◌++◌, length, Option, Some, None, MatchOption, refl, sym, ap, ◌∙◌, subst, inl, inr, arith, get_or}
 use Rattle.std.specs.List.{Contains}
 use borrow.Author.Tests.{ltb-true, lt-ltb}
+use Rattle.abl_base.proofs.Bools.{or_cases, or_left, or_right, tells}
 use Rattle.abl_base.specs.declared.value.Value.{Value}
 use Rattle.abl_base.specs.declared.row.RowId.{RowId}
 use Rattle.abl_values.specs.declared.schema.IndexDef.{IndexDef}
@@ -21,7 +22,7 @@ use Rattle.plain_answer.specs.declared.twins.Twin.{Twin}
 use Rattle.plain_state.specs.Plain.{frame_of, state_of}
 use Rattle.plain_answer.specs.SearchPlaces.{candidates}
 use Rattle.plain_answer.specs.KeyTwins.{long_from, TwinAt, NoTwinIn, IsTwinOf}
-use Rattle.plain_answer.proofs.Conflicts.{either_true, true_left, true_right, same_key_self}
+use Rattle.plain_answer.proofs.Conflicts.{same_key_self}
 use Rattle.plain_answer.proofs.BestPlaces.{seen_among}
 
 -- ---- long keys
@@ -40,15 +41,11 @@ none_false : (b : Bool) (x y : Option ℕ) (i : ℕ) → b ≡ false → cond b 
 none_false true x y i e h = cc
 none_false false x y i e h = h
 
-test_cases : (b : Bool) → (b ≡ true) ⊎ (b ≡ false)
-test_cases true = inl refl
-test_cases false = inr refl
-
 long_some : (n : ℕ) (indexes : List IndexDef) (values : List Value) (i : ℕ) → long_from n indexes values ≡ Some i → FirstFrom n indexes values i
 unfolding FirstFrom
 long_some n [] values i e = cc
 long_some n (index ∷ indexes) values i e =
-    elim (test_cases (ltb 200 (length (key_bytes index.parts values)))) [
+    elim (tells (ltb 200 (length (key_bytes index.parts values)))) [
       | inl long ↦
           let two : Some n ≡ Some i = sym (ap (λ b. cond b (Some n) (long_from (n + 1) indexes values)) long) ∙ e in
           let at : n ≡ i = cc in
@@ -115,7 +112,7 @@ none_has : (f : Frame) (s : State) (op : Op) (keys : List Key) (rows : List ℕ)
 unfolding NoneHas
 none_has f s op [] rows h k has q p t = let clash : false ≡ true = has in cc
 none_has f s op (x ∷ keys) rows h k has q p t =
-    elim (either_true (same_key x k) (has_key keys k) has) [
+    elim (or_cases (same_key x k) (has_key keys k) has) [
       | inl e ↦ none_in f s op x rows h.0 q p (subst (λ y. TwinAt f s op y q) (sym (same_key_eq x k e)) t)
       | inr more ↦ none_has f s op keys rows h.1 k more q p t
     ]
@@ -131,10 +128,10 @@ module _ (f : Frame) (s : State) (op : Op) (rows : List ℕ) (t : Twin) where
   with_one table i (Some bytes) rest later go (inl h) =
       let k : Key = record { table = table; index = i; bytes = bytes } in (
         k,
-        true_left (same_key k k) (has_key rest k) (same_key_self k),
+        or_left (same_key k k) (has_key rest k) (same_key_self k),
         sym h.0,
         h.1,
-        λ x has less q p tw. elim (either_true (same_key k x) (has_key rest x) has) [
+        λ x has less q p tw. elim (or_cases (same_key k x) (has_key rest x) has) [
           | inl e ↦ let at : i ≡ x.index = ap (λ (y : Key). y.index) (same_key_eq k x e) in let here : t.index ≡ i = h.0 in absurd (omega arith)
           | inr more ↦ let above : i < x.index = later x more in let here : t.index ≡ i = h.0 in absurd (omega arith)
         ],
@@ -143,10 +140,10 @@ module _ (f : Frame) (s : State) (op : Op) (rows : List ℕ) (t : Twin) where
       let k : Key = record { table = table; index = i; bytes = bytes } in
       let r = go h.1 in (
         r.0,
-        true_right (same_key k r.0) (has_key rest r.0) r.1,
+        or_right (same_key k r.0) (has_key rest r.0) r.1,
         r.2,
         r.3,
-        λ x has less q p tw. elim (either_true (same_key k x) (has_key rest x) has) [
+        λ x has less q p tw. elim (or_cases (same_key k x) (has_key rest x) has) [
           | inl e ↦ none_in f s op k rows h.0 q p (subst (λ y. TwinAt f s op y q) (sym (same_key_eq k x e)) tw)
           | inr more ↦ r.4 x more less q p tw
         ],
