@@ -1,8 +1,9 @@
 -- The day number of a date leads back to the date.
 use Rattle.std.proofs.Common.{◌≡◌, inl, inr, ℕ, zero, suc, ◌+◌, ◌-◌, ◌/◌, ◌%◌, ◌<◌, ◌≤◌, true, nat_le, ◌&&◌, pos, ◌-ℤ◌, ap, ◌∙◌, arith}
 use Rattle.std.proofs.lemmas.Int.{ints}
+use Rattle.abl_base.proofs.Bools.{and_parts}
 use Rattle.abl_values.specs.Dates.{CivilDate, is_civil, days_of_years, days_of_first, length_at, months_of, days_before, day_number, nearest_day, date_after, date_in_years, date_of_day}
-use Rattle.abl_values.proofs.Days.{MayEnd, both_tests, test_le, before_is, year_bound, february_ends, abs_of_day, date_after-days_before}
+use Rattle.abl_values.proofs.Days.{MayEnd, test_le, before_is, year_bound, february_ends, abs_of_day, date_after-days_before}
 
 -- the numbers of a date stand in their ranges
 pub record Parts (y m d : ℕ) : Type 0 where
@@ -15,11 +16,11 @@ pub record Parts (y m d : ℕ) : Type 0 where
 
 pub parts_of : (y m d : ℕ) → is_civil (record { year = y; month = m; day = d }) ≡ true → Parts y m d
 parts_of y m d h =
-    let a = both_tests ((nat_le 1 y && nat_le y 9999) && (nat_le 1 m && nat_le m 12)) (nat_le 1 d && nat_le d (length_at (months_of y) (m - 1))) h in
-    let b = both_tests (nat_le 1 y && nat_le y 9999) (nat_le 1 m && nat_le m 12) a.0 in
-    let ys = both_tests (nat_le 1 y) (nat_le y 9999) b.0 in
-    let ms = both_tests (nat_le 1 m) (nat_le m 12) b.1 in
-    let ds = both_tests (nat_le 1 d) (nat_le d (length_at (months_of y) (m - 1))) a.1 in
+    let a = and_parts ((nat_le 1 y && nat_le y 9999) && (nat_le 1 m && nat_le m 12)) (nat_le 1 d && nat_le d (length_at (months_of y) (m - 1))) h in
+    let b = and_parts (nat_le 1 y && nat_le y 9999) (nat_le 1 m && nat_le m 12) a.0 in
+    let ys = and_parts (nat_le 1 y) (nat_le y 9999) b.0 in
+    let ms = and_parts (nat_le 1 m) (nat_le m 12) b.1 in
+    let ds = and_parts (nat_le 1 d) (nat_le d (length_at (months_of y) (m - 1))) a.1 in
     record {
       year_low = test_le 1 y ys.0;
       year_high = test_le y 9999 ys.1;

@@ -1,10 +1,10 @@
 -- Each day of the years 1 to 9999 has a date, whose number it is.
-use Rattle.std.proofs.Common.{◌≡◌, ℕ, zero, suc, ◌+◌, ◌-◌, ◌<◌, ◌≤◌, ◌⊎◌, inl, inr, Bool, true, false, ◌&&◌, nat_le, if◌then◌else◌, List, [], ◌∷◌, ℤ, pos, negsuc, ◌-ℤ◌, refl, sym, ap, ◌∙◌, subst, arith}
+use Rattle.std.proofs.Common.{◌≡◌, ℕ, zero, suc, ◌+◌, ◌-◌, ◌<◌, ◌≤◌, ◌⊎◌, inl, inr, Bool, true, false, nat_le, if◌then◌else◌, List, [], ◌∷◌, ℤ, pos, negsuc, ◌-ℤ◌, refl, sym, ap, ◌∙◌, subst, arith}
 use Rattle.std.proofs.lemmas.Int.{ints}
 use Rattle.std.proofs.lemmas.Bool.{cases_lt, le-leb}
 use Rattle.std.proofs.lemmas.Bool.Decides.{nat_tests}
 use Rattle.abl_values.specs.Dates.{HasDate, is_leap, months_of, days_of_years, days_of_first, length_at, day_number, is_civil, is_day, date_after, date_in_years, date_of_day}
-use Rattle.abl_values.proofs.Days.{abs_of_day, before_is, date_after-days_before}
+use Rattle.abl_values.proofs.Days.{all_tests, abs_of_day, before_is, date_after-days_before}
 use Rattle.abl_values.proofs.DateLaws.{nearest_itself}
 
 -- ---- the place of a day in the calendar
@@ -131,13 +131,10 @@ month_lengths y j =
     let e : suc j - 1 ≡ j = omega arith in
     ap (length_at (months_of y)) e
 
-six_tests : (a b c d e f : Bool) → a ≡ true → b ≡ true → c ≡ true → d ≡ true → e ≡ true → f ≡ true → ((a && b) && (c && d)) && (e && f) ≡ true
-six_tests a b c d e f ha hb hc hd he hf = rw (ha, hb, hc, hd, he, hf) refl
-
 civil_of : (k j i : ℕ) → k ≤ 9998 → j < 12 → i < length_at (months_of (suc k)) j → is_civil (record { year = suc k; month = suc j; day = suc i }) ≡ true
 civil_of k j i hk hj hi =
     let room : suc i ≤ length_at (months_of (suc k)) (suc j - 1) = omega (arith, month_lengths (suc k) j) in
-    six_tests (nat_le 1 (suc k)) (nat_le (suc k) 9999) (nat_le 1 (suc j)) (nat_le (suc j) 12) (nat_le 1 (suc i)) (nat_le (suc i) (length_at (months_of (suc k)) (suc j - 1)))
+    all_tests (nat_le 1 (suc k)) (nat_le (suc k) 9999) (nat_le 1 (suc j)) (nat_le (suc j) 12) (nat_le 1 (suc i)) (nat_le (suc i) (length_at (months_of (suc k)) (suc j - 1)))
     (le-leb 1 (suc k) (omega arith)) (le-leb (suc k) 9999 (omega arith)) (le-leb 1 (suc j) (omega arith)) (le-leb (suc j) 12 (omega arith)) (le-leb 1 (suc i) (omega arith)) (le-leb (suc i) (length_at (months_of (suc k)) (suc j - 1)) room)
 
 -- a day of the years 1 to 9999 by its number from 1 January of the year 1

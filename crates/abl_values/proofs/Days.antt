@@ -1,12 +1,12 @@
 -- The day numbers of the definitions are those that the calendar counts.
 use Rattle.std.proofs.Common.{◌≡◌, ◌≢◌, ◌⊎◌, inl, inr, not, ◌||◌, ◌==◌, min, nat_lt, ℕ, zero, suc, ◌+◌, ◌-◌, ◌*◌, ◌/◌, ◌%◌, ◌<◌, ◌≤◌, Bool, true, false, cond, ◌&&◌, nat_le, if◌then◌else◌, List, [], ◌∷◌, Some, None, ℤ, pos, negsuc, ◌+ℤ◌, ◌-ℤ◌, ◌≤ℤ◌, ◌<ℤ◌, unsigned_abs, refl, sym, ap, ◌∙◌, arith, subst}
-use Rattle.std.proofs.lemmas.Bool.{false≢true}
 use Rattle.std.proofs.lemmas.Bool.Decides.{nat_tests}
 use borrow.Author.Differences.{up, down}
 use Rattle.jiff_core.specs.Calendar.{IsDate, IsCivilDate, days_from_civil, day_count, day_of_year, days_of_months, days_in_month, days_in_year}
 use Rattle.jiff_core.proofs.CalendarLemmas.{day_count-lt_year, days_in_month_bounds, days_from_civil-day_count, day_count-day_of_year, day_count-next_year}
 use Rattle.jiff_core.proofs.MarchLemmas.{day_count-early}
 use Rattle.jiff_core.proofs.SignedLemmas.{signed_arith}
+use Rattle.abl_base.proofs.Bools.{and_parts}
 use Rattle.abl_values.specs.Dates.{CivilDate, is_leap, months_of, days_of_years, days_of_first, length_at, days_before, day_number, is_civil, date_from, month_and_day, date_after, date_in_years}
 
 -- 1 January of the year 1, from 1 January of the year -10000
@@ -87,7 +87,7 @@ length_is y (suc (suc (suc (suc (suc (suc (suc (suc (suc (suc (suc (suc zero))))
 length_is y zero l h = absurd (omega arith)
 length_is y (suc (suc (suc (suc (suc (suc (suc (suc (suc (suc (suc (suc (suc n))))))))))))) l h = absurd (omega arith)
 
-all_tests : (a b c d e f : Bool) → a ≡ true → b ≡ true → c ≡ true → d ≡ true → e ≡ true → f ≡ true → ((a && b) && (c && d)) && (e && f) ≡ true
+pub all_tests : (a b c d e f : Bool) → a ≡ true → b ≡ true → c ≡ true → d ≡ true → e ≡ true → f ≡ true → ((a && b) && (c && d)) && (e && f) ≡ true
 all_tests a b c d e f ha hb hc hd he hf = rw (ha, hb, hc, hd, he, hf) refl
 
 le_test : (m n : ℕ) → m ≤ n → nat_le m n ≡ true
@@ -95,10 +95,6 @@ le_test m n h = grind (arith, nat_tests)
 
 pub test_le : (m n : ℕ) → nat_le m n ≡ true → m ≤ n
 test_le m n h = grind (arith, nat_tests)
-
-pub both_tests : (a b : Bool) → (a && b) ≡ true → (a ≡ true) × (b ≡ true)
-both_tests true b h = (refl, h)
-both_tests false b h = absurd (false≢true h)
 
 civil_test : (y m d : ℕ) → 1 ≤ y → y ≤ 9999 → 1 ≤ m → m ≤ 12 → 1 ≤ d → d ≤ days_in_month (pos y) m → is_civil (record { year = y; month = m; day = d }) ≡ true
 civil_test y m d y1 y2 m1 m2 d1 d2 =
@@ -122,11 +118,11 @@ date_found (pos y) mo da month day year y1 y2 ey em ed m1 m2 d1 d2 =
 
 civil_facts : (y m d : ℕ) → is_civil (record { year = y; month = m; day = d }) ≡ true → IsDate (pos y) (pos m) (pos d)
 civil_facts y m d h =
-    let a = both_tests ((nat_le 1 y && nat_le y 9999) && (nat_le 1 m && nat_le m 12)) (nat_le 1 d && nat_le d (length_at (months_of y) (m - 1))) h in
-    let b = both_tests (nat_le 1 y && nat_le y 9999) (nat_le 1 m && nat_le m 12) a.0 in
-    let ys = both_tests (nat_le 1 y) (nat_le y 9999) b.0 in
-    let ms = both_tests (nat_le 1 m) (nat_le m 12) b.1 in
-    let ds = both_tests (nat_le 1 d) (nat_le d (length_at (months_of y) (m - 1))) a.1 in
+    let a = and_parts ((nat_le 1 y && nat_le y 9999) && (nat_le 1 m && nat_le m 12)) (nat_le 1 d && nat_le d (length_at (months_of y) (m - 1))) h in
+    let b = and_parts (nat_le 1 y && nat_le y 9999) (nat_le 1 m && nat_le m 12) a.0 in
+    let ys = and_parts (nat_le 1 y) (nat_le y 9999) b.0 in
+    let ms = and_parts (nat_le 1 m) (nat_le m 12) b.1 in
+    let ds = and_parts (nat_le 1 d) (nat_le d (length_at (months_of y) (m - 1))) a.1 in
     let m1 = test_le 1 m ms.0 in
     let m2 = test_le m 12 ms.1 in
     let y2 = test_le y 9999 ys.1 in
@@ -136,9 +132,9 @@ civil_facts y m d h =
 
 civil_year : (y m d : ℕ) → is_civil (record { year = y; month = m; day = d }) ≡ true → pos 1 ≤ℤ pos y
 civil_year y m d h =
-    let a = both_tests ((nat_le 1 y && nat_le y 9999) && (nat_le 1 m && nat_le m 12)) (nat_le 1 d && nat_le d (length_at (months_of y) (m - 1))) h in
-    let b = both_tests (nat_le 1 y && nat_le y 9999) (nat_le 1 m && nat_le m 12) a.0 in
-    let y1 = test_le 1 y (both_tests (nat_le 1 y) (nat_le y 9999) b.0).0 in
+    let a = and_parts ((nat_le 1 y && nat_le y 9999) && (nat_le 1 m && nat_le m 12)) (nat_le 1 d && nat_le d (length_at (months_of y) (m - 1))) h in
+    let b = and_parts (nat_le 1 y && nat_le y 9999) (nat_le 1 m && nat_le m 12) a.0 in
+    let y1 = test_le 1 y (and_parts (nat_le 1 y) (nat_le y 9999) b.0).0 in
     omega (arith, signed_arith)
 
 -- a month has at most 31 days, whatever its number
@@ -229,7 +225,7 @@ ne_of_test m n h = grind (arith, nat_tests)
 
 leap_cases : (y : ℕ) → is_leap y ≡ true → (y % 4 ≡ 0) × ((y % 100 ≢ 0) ⊎ (y % 400 ≡ 0))
 leap_cases y h =
-    let both = both_tests (y % 4 == 0) (not (y % 100 == 0) || (y % 400 == 0)) h in
+    let both = and_parts (y % 4 == 0) (not (y % 100 == 0) || (y % 400 == 0)) h in
     (eq_of_test (y % 4) 0 both.0, elim (either_true (y % 100 == 0) (y % 400 == 0) both.1) [ inl e ↦ inl (ne_of_test (y % 100) 0 e) | inr e ↦ inr (eq_of_test (y % 400) 0 e) ])
 
 -- a date of this year, from a month and a day
