@@ -1,9 +1,10 @@
 -- The code of a bound source that is built stands for its tree, instruction by instruction.
-use Rattle.std.proofs.Common.{◌≡◌, ℕ, ◌+◌, List, [], ◌∷◌, ◌++◌, length, Bool, true, false, Option, Some, None, refl, sym, ap, ◌∙◌, arith, append_assoc, append-nil, length-append}
-use Rattle.std.specs.Prelude.{◌&&◌, ◌==◌, not, slice_get}
+use Rattle.std.proofs.Common.{◌≡◌, ℕ, ◌+◌, List, [], ◌∷◌, ◌++◌, length, true, false, Option, Some, None, refl, sym, ap, ◌∙◌, arith, append_assoc, append-nil, length-append}
+use Rattle.std.specs.Prelude.{◌==◌, not, slice_get}
 use Rattle.std.proofs.lemmas.Bool.{eqb-true}
 use Rattle.std.proofs.lemmas.Option.{slice_get_past, slice_get-get_or}
 use Rattle.std.proofs.Math.Seq.{get_or-append_seam}
+use Rattle.abl_base.proofs.Bools.{and_left, and_right, not_so}
 use Rattle.bound_tree.specs.declared.block.BlockKind.{BlockKind}
 use Rattle.bound_tree.specs.declared.block.BlockKind.TheVariants as kind
 use Rattle.bound_tree.specs.declared.block.OnPhrase.{OnPhrase as SourceOnPhrase}
@@ -24,19 +25,7 @@ use Rattle.block_code.specs.Built.{is_nil, is_left_out, is_built_kind, is_built_
 use Rattle.block_meaning.specs.Blocks.{is_repeat_or_for}
 use Rattle.block_vm.specs.Follows.{plain_header, IsPlain, StandsAs, StandsInside}
 
-both_left : (a b : Bool) → a && b ≡ true → a ≡ true
-both_left true b h = refl
-both_left false b h = absurd (cc)
-
-both_right : (a b : Bool) → a && b ≡ true → b ≡ true
-both_right true b h = h
-both_right false b h = absurd (cc)
-
 -- ---- headers
-
-not_quiet : (q : Bool) → not q ≡ true → q ≡ false
-not_quiet true e = absurd (cc)
-not_quiet false e = refl
 
 no_items : {A : Type 0} (xs : List A) → is_nil xs ≡ true → xs ≡ []
 no_items [] e = refl
@@ -66,22 +55,22 @@ header_is h scoped to test fetch error endkey =
 
 pub header_plain : (h : SourceHeader) → is_built_header h ≡ true → IsPlain h (header_of h)
 header_plain h e =
-    let e5 = both_left _ (is_left_out h.on_endkey) e in
-    let e4 = both_left _ (is_left_out h.on_error) e5 in
-    let e3 = both_left _ (is_left_out h.fetch) e4 in
-    let e2 = both_left _ (is_left_out h.while_test) e3 in
-    let e1 = both_left _ (is_left_out h.to) e2 in
-    let e0 = both_left _ (is_nil h.scoped.items) e1 in
-    let scoped : h.scoped.items ≡ [] = no_items h.scoped.items (both_right _ (is_nil h.scoped.items) e1) in
-    let to : h.to ≡ None = nothing_there h.to (both_right _ (is_left_out h.to) e2) in
-    let test : h.while_test ≡ None = nothing_there h.while_test (both_right _ (is_left_out h.while_test) e3) in
-    let fetch : h.fetch ≡ None = nothing_there h.fetch (both_right _ (is_left_out h.fetch) e4) in
-    let error : h.on_error ≡ None = nothing_there h.on_error (both_right _ (is_left_out h.on_error) e5) in
-    let endkey : h.on_endkey ≡ None = nothing_there h.on_endkey (both_right _ (is_left_out h.on_endkey) e) in
+    let e5 = and_left _ (is_left_out h.on_endkey) e in
+    let e4 = and_left _ (is_left_out h.on_error) e5 in
+    let e3 = and_left _ (is_left_out h.fetch) e4 in
+    let e2 = and_left _ (is_left_out h.while_test) e3 in
+    let e1 = and_left _ (is_left_out h.to) e2 in
+    let e0 = and_left _ (is_nil h.scoped.items) e1 in
+    let scoped : h.scoped.items ≡ [] = no_items h.scoped.items (and_right _ (is_nil h.scoped.items) e1) in
+    let to : h.to ≡ None = nothing_there h.to (and_right _ (is_left_out h.to) e2) in
+    let test : h.while_test ≡ None = nothing_there h.while_test (and_right _ (is_left_out h.while_test) e3) in
+    let fetch : h.fetch ≡ None = nothing_there h.fetch (and_right _ (is_left_out h.fetch) e4) in
+    let error : h.on_error ≡ None = nothing_there h.on_error (and_right _ (is_left_out h.on_error) e5) in
+    let endkey : h.on_endkey ≡ None = nothing_there h.on_endkey (and_right _ (is_left_out h.on_endkey) e) in
     record {
       is = header_is h scoped to test fetch error endkey;
-      once = runs_once h.kind (both_left (is_built_kind h.kind) (not h.flags.retry_seen) e0);
-      no_retry = not_quiet h.flags.retry_seen (both_right (is_built_kind h.kind) (not h.flags.retry_seen) e0);
+      once = runs_once h.kind (and_left (is_built_kind h.kind) (not h.flags.retry_seen) e0);
+      no_retry = not_so h.flags.retry_seen (and_right (is_built_kind h.kind) (not h.flags.retry_seen) e0);
     }
 
 -- ---- places
@@ -142,11 +131,11 @@ mutual
   stmt_stands : (code after : List Instr) (p : ℕ) (t : SourceStmt) → IsThere code (code_of p t) after p → is_built_stmt t ≡ true → StandsAs code p (next p t) (stmt_of t)
   stmt_stands code after p (stmt.Block' h shape body) t built =
       let b = block_there code (row_code (p + 1) body) after h p t in
-      (h, b.0, header_plain h (both_left (is_built_header h) (is_built_row body) built), row_stands code after (p + 1) body b.1 (both_right (is_built_header h) (is_built_row body) built))
+      (h, b.0, header_plain h (and_left (is_built_header h) (is_built_row body) built), row_stands code after (p + 1) body b.1 (and_right (is_built_header h) (is_built_row body) built))
   stmt_stands code after p (stmt.Assign pairs quiet) t built =
-      (pairs, one_there code after (Assign pairs quiet) p t, refl, both_right (not quiet) (are_built_assignments pairs.items) built, not_quiet quiet (both_left (not quiet) (are_built_assignments pairs.items) built), refl)
+      (pairs, one_there code after (Assign pairs quiet) p t, refl, and_right (not quiet) (are_built_assignments pairs.items) built, not_so quiet (and_left (not quiet) (are_built_assignments pairs.items) built), refl)
   stmt_stands code after p (stmt.Put stream items) t built =
-      (items, one_there code after (Put stream items) p t, refl, both_right (stream == 0) (are_built_items items.items) built, eqb-true stream 0 (both_left (stream == 0) (are_built_items items.items) built), refl)
+      (items, one_there code after (Put stream items) p t, refl, and_right (stream == 0) (are_built_items items.items) built, eqb-true stream 0 (and_left (stream == 0) (are_built_items items.items) built), refl)
   stmt_stands code after p (stmt.Undo block a) t built = undo_stands code after p block a t built
   stmt_stands code after p (stmt.If' test s1 b1 s2 b2) t built = absurd (cc)
   stmt_stands code after p (stmt.Find word reading wait quiet) t built = absurd (cc)
@@ -173,16 +162,16 @@ mutual
   row_stands code after p end_of-Stmt t built = first_there code Close after p (record { before = t.before; is = t.is; length_is = t.length_is })
   row_stands code after p (more_of-Stmt s rest) t built = (
     next p s,
-    stmt_stands code (row_code (next p s) rest ++ Close ∷ after) p s (part_left code (code_of p s) (row_code (next p s) rest) (Close ∷ after) p t) (both_left (is_built_stmt s) (is_built_row rest) built),
-    row_stands code after (next p s) rest (part_right code (code_of p s) (row_code (next p s) rest) (Close ∷ after) p t) (both_right (is_built_stmt s) (is_built_row rest) built),
+    stmt_stands code (row_code (next p s) rest ++ Close ∷ after) p s (part_left code (code_of p s) (row_code (next p s) rest) (Close ∷ after) p t) (and_left (is_built_stmt s) (is_built_row rest) built),
+    row_stands code after (next p s) rest (part_right code (code_of p s) (row_code (next p s) rest) (Close ∷ after) p t) (and_right (is_built_stmt s) (is_built_row rest) built),
   )
 
 pub body_stands : (code after : List Instr) (p : ℕ) (ts : List SourceStmt) → IsThere code (body_code p ts) (Close ∷ after) p → is_built_body ts ≡ true → StandsInside code p (body_of ts)
 body_stands code after p [] t built = first_there code Close after p (record { before = t.before; is = t.is; length_is = t.length_is })
 body_stands code after p (s ∷ ts) t built = (
   next p s,
-  stmt_stands code (body_code (next p s) ts ++ Close ∷ after) p s (part_left code (code_of p s) (body_code (next p s) ts) (Close ∷ after) p t) (both_left (is_built_stmt s) (is_built_body ts) built),
-  body_stands code after (next p s) ts (part_right code (code_of p s) (body_code (next p s) ts) (Close ∷ after) p t) (both_right (is_built_stmt s) (is_built_body ts) built),
+  stmt_stands code (body_code (next p s) ts ++ Close ∷ after) p s (part_left code (code_of p s) (body_code (next p s) ts) (Close ∷ after) p t) (and_left (is_built_stmt s) (is_built_body ts) built),
+  body_stands code after (next p s) ts (part_right code (code_of p s) (body_code (next p s) ts) (Close ∷ after) p t) (and_right (is_built_stmt s) (is_built_body ts) built),
 )
 
 -- the code of the external procedure

@@ -1,6 +1,7 @@
 -- A client that has not begun stands where its run begins.
-use Rattle.std.proofs.Common.{◌≡◌, ℕ, zero, suc, ◌+◌, ◌≤◌, List, [], ◌∷◌, Bool, true, false, None, refl, sym, ap, ◌∙◌, subst, arith}
-use Rattle.std.specs.Prelude.{◌&&◌, map, slice_index_or, replicate}
+use Rattle.std.proofs.Common.{◌≡◌, ℕ, zero, suc, ◌+◌, ◌≤◌, List, [], ◌∷◌, true, false, None, refl, sym, ap, ◌∙◌, subst, arith}
+use Rattle.std.specs.Prelude.{map, slice_index_or, replicate}
+use Rattle.abl_base.proofs.Bools.{and_left, and_right}
 use Rattle.database_meaning.specs.declared.operation.Answer.{Answer}
 use Rattle.bound_tree.specs.declared.procedure.Procedure.{Procedure as SourceProcedure}
 use Rattle.bound_tree.specs.declared.procedure.Bound.{Bound}
@@ -19,14 +20,6 @@ use Rattle.block_vm.specs.declared.mode.Mode.TheVariants.{Turns}
 use Rattle.block_vm.specs.Machine.{Config}
 use Rattle.block_vm.specs.Follows.{plain_header, Outer, IsUnopened, Follows, FollowsTurn}
 use Rattle.block_vm.proofs.Stands.{header_plain, main_stands}
-
-both_left : (a b : Bool) → a && b ≡ true → a ≡ true
-both_left true b h = refl
-both_left false b h = absurd (cc)
-
-both_right : (a b : Bool) → a && b ≡ true → b ≡ true
-both_right true b h = h
-both_right false b h = absurd (cc)
 
 -- the unnamed stream of a client that begins writes to the default section
 unopened : (n : ℕ) → IsUnopened (replicate n no_stream)
@@ -58,9 +51,9 @@ no_items (x ∷ xs) e = absurd (cc)
 -- the run is that of the external procedure, without buffers and with a plain header
 run_is : (p : Program) (bound : Bound) (main : SourceProcedure) (units : ℕ) (ans : List Answer) → p.source ≡ source_of bound → bound.procedures.items ≡ main ∷ [] → is_built_procedure main ≡ true → run p units ans ≡ run_from p units (let q : Procedure = record { undoable = main.undoable; kept = main.kept; buffers = []; parameters = main.parameters.items; header = plain_header main.header.number main.header.kind main.header.flags; body = body_of main.body.items } in q) ans
 run_is p bound main units ans source only built =
-    let e2 = both_left _ (is_built_body main.body.items) built in
-    let none : main.buffers.items ≡ [] = no_items main.buffers.items (both_left (is_nil main.buffers.items) (is_built_header main.header) e2) in
-    let plain : header_of main.header ≡ plain_header main.header.number main.header.kind main.header.flags = (header_plain main.header (both_right (is_nil main.buffers.items) (is_built_header main.header) e2)).is in
+    let e2 = and_left _ (is_built_body main.body.items) built in
+    let none : main.buffers.items ≡ [] = no_items main.buffers.items (and_left (is_nil main.buffers.items) (is_built_header main.header) e2) in
+    let plain : header_of main.header ≡ plain_header main.header.number main.header.kind main.header.flags = (header_plain main.header (and_right (is_nil main.buffers.items) (is_built_header main.header) e2)).is in
     let at : procedure_at p 0 ≡ procedure_of main =
     ap (λ (ps : List Procedure). slice_index_or ps 0 no_procedure) (ap (λ s. s.procedures) source ∙ ap (map procedure_of) only) in
     ap (λ q. run_from p units q ans) at
@@ -74,9 +67,9 @@ pub starts : (code : Code) (bound : Bound) (p : Program) (units : ℕ) → Stand
 starts code bound p units stands built source =
     let main = stands.main in
     let built_main = only_built bound.procedures.items main stands.only built in
-    let ms = main_stands code.instrs.items main.header main.body.items stands.instrs (both_right _ (is_built_body main.body.items) built_main) in
-    let e2 = both_left _ (is_built_body main.body.items) built_main in
-    let plain = header_plain main.header (both_right (is_nil main.buffers.items) (is_built_header main.header) e2) in
+    let ms = main_stands code.instrs.items main.header main.body.items stands.instrs (and_right _ (is_built_body main.body.items) built_main) in
+    let e2 = and_left _ (is_built_body main.body.items) built_main in
+    let plain = header_plain main.header (and_right (is_nil main.buffers.items) (is_built_header main.header) e2) in
     let w : Around = record { program = p; calls = calls_of p 32; retry = false } in
     let streams = replicate (p.source.streams + 1) no_stream in
     let o : Outer = record { number = main.header.number; kind = main.header.kind; flags = main.header.flags; body = body_of main.body.items; outer = false; fuel = units; copy = None; after = None } in

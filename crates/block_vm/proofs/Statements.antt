@@ -2,6 +2,7 @@
 use Rattle.std.proofs.Common.{◌≡◌, ℕ, List, [], ◌∷◌, ◌++◌, length, Bool, true, false, Option, Some, None, refl, ap, ◌∙◌}
 use Rattle.std.specs.Prelude.{◌&&◌, map, Result, Ok, Err, replicate}
 use Rattle.std.proofs.lemmas.Bool.{leb-true, le-ltb, leb-false, lt-ltb}
+use Rattle.abl_base.proofs.Bools.{and_left, and_right}
 use Rattle.abl_base.specs.declared.value.Value.{Value}
 use Rattle.abl_base.specs.declared.value.Value.TheVariants.{Text, Int, Int64, Dec, Logical, Date, Unknown}
 use Rattle.abl_base.specs.declared.value.TheConstants.{MAX_TEXT_BYTES}
@@ -30,14 +31,6 @@ use Rattle.block_meaning.specs.Values.{Text as TextResult, IsText, HasFault, val
 use Rattle.block_meaning.specs.Changes.{stored_value, stored_if, assigns_one, assigns_each, assigns, buffer_first, buffers_in, or_as_before, locks_all, settles_all}
 use Rattle.block_vm.specs.Machine.{Config, this_or, is_short, is_value, value_as, value_in, set_as, set_var, set_fitted, set_right, set_all, fits, all_fit, shown_text, items_text, shown_is_short, are_short}
 use Rattle.block_vm.specs.Follows.{state_of}
-
-both_left : (a b : Bool) → a && b ≡ true → a ≡ true
-both_left true b h = refl
-both_left false b h = absurd (cc)
-
-both_right : (a b : Bool) → a && b ≡ true → b ≡ true
-both_right true b h = h
-both_right false b h = absurd (cc)
 
 -- ---- values
 
@@ -133,8 +126,8 @@ module _ (streams : List Stream) (p : Program) where
   each_is : (xs : List Assignment) (c : Config) (retry : Bool) (ans : List Answer) → are_built_assignments xs ≡ true → assigns_each p (map assignment_of xs) retry (here c) ans ≡ Goes (way_if (all_fit xs)) (here (set_all xs c)) ans
   each_is [] c retry ans h = refl
   each_is (x ∷ xs) c retry ans h =
-      ap (λ r. and_then r (assigns_each p (map assignment_of xs) retry)) (one_is x.target x.right retry c ans (both_left (is_built_assignment x) (are_built_assignments xs) h))
-      ∙ more_is (fits x.target x.right) xs c (set_right x.target x.right c) retry ans (each_is xs (set_right x.target x.right c) retry ans (both_right (is_built_assignment x) (are_built_assignments xs) h))
+      ap (λ r. and_then r (assigns_each p (map assignment_of xs) retry)) (one_is x.target x.right retry c ans (and_left (is_built_assignment x) (are_built_assignments xs) h))
+      ∙ more_is (fits x.target x.right) xs c (set_right x.target x.right c) retry ans (each_is xs (set_right x.target x.right c) retry ans (and_right (is_built_assignment x) (are_built_assignments xs) h))
 
   -- no buffer is changed
   target_none : (t : Target) (r : Right) (bs : List ℕ) → is_built_pair t r ≡ true → buffer_first t bs ≡ bs
@@ -144,8 +137,8 @@ module _ (streams : List Stream) (p : Program) where
   buffers_none : (xs : List Assignment) → are_built_assignments xs ≡ true → buffers_in (map assignment_of xs) ≡ []
   buffers_none [] h = refl
   buffers_none (x ∷ xs) h =
-      target_none x.target x.right (buffers_in (map assignment_of xs)) (both_left (is_built_assignment x) (are_built_assignments xs) h)
-      ∙ buffers_none xs (both_right (is_built_assignment x) (are_built_assignments xs) h)
+      target_none x.target x.right (buffers_in (map assignment_of xs)) (and_left (is_built_assignment x) (are_built_assignments xs) h)
+      ∙ buffers_none xs (and_right (is_built_assignment x) (are_built_assignments xs) h)
 
   settled_by : (b : Bool) (s s1 : State) (ans : List Answer) → and_then (or_as_before s [] (and_then (Goes (way_if b) s1 ans) (locks_all []))) (settles_all p s []) ≡ Goes (way_if b) s1 ans
   settled_by true s s1 ans = refl
@@ -193,9 +186,9 @@ module _ (streams : List Stream) (p : Program) where
   pub put_is : (xs : List PutItem) (c : Config) (retry : Bool) → are_built_items xs ≡ true → put_text p (map item_of xs) retry (here c) ≡ text_if (are_short xs) (items_text xs c.undoable c.kept)
   put_is [] c retry h = refl
   put_is (put.Shows a mask ∷ xs) c retry h =
-      let one = both_left (is_built_item (put.Shows a mask)) (are_built_items xs) h in
-      masked_is a mask retry c (put_text p (map item_of xs) retry (here c)) (both_left (is_left_out mask) (is_built_shown a) one) (both_right (is_left_out mask) (is_built_shown a) one)
-      ∙ ap (λ more. this_or (shown_is_short a) (before_text (shown_text a c.undoable c.kept) more) (HasFault OutOfRange)) (put_is xs c retry (both_right (is_built_item (put.Shows a mask)) (are_built_items xs) h))
+      let one = and_left (is_built_item (put.Shows a mask)) (are_built_items xs) h in
+      masked_is a mask retry c (put_text p (map item_of xs) retry (here c)) (and_left (is_left_out mask) (is_built_shown a) one) (and_right (is_left_out mask) (is_built_shown a) one)
+      ∙ ap (λ more. this_or (shown_is_short a) (before_text (shown_text a c.undoable c.kept) more) (HasFault OutOfRange)) (put_is xs c retry (and_right (is_built_item (put.Shows a mask)) (are_built_items xs) h))
       ∙ before_is (shown_is_short a) (are_short xs) (shown_text a c.undoable c.kept) (items_text xs c.undoable c.kept)
   put_is (put.Skip n ∷ xs) c retry h = ap (before_text (replicate n 10)) (put_is xs c retry h) ∙ before_is true (are_short xs) (replicate n 10) (items_text xs c.undoable c.kept)
   put_is (put.Space n ∷ xs) c retry h = ap (before_text (replicate n 32)) (put_is xs c retry h) ∙ before_is true (are_short xs) (replicate n 32) (items_text xs c.undoable c.kept)
