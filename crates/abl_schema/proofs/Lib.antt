@@ -13,6 +13,7 @@ pub mod ToldTables
 pub mod ToldGiven
 pub mod ToldSound
 pub mod Told
+pub mod Alike
 pub mod Counting
 pub mod RulesInCensus
 pub mod FirstBroken

@@ -12,7 +12,7 @@ use Rattle.abl_values.specs.Order.{folded}
 use Rattle.abl_values.specs.Schema.{SchemaData, canonical_text, lines_in_order, sequence_line, table_lines, field_named, field_names, no_table, number_of_name, same_name, table_at, table_named, table_names}
 use Rattle.abl_schema.specs.Laws.{AnswerAlike, told_field, told_sequence}
 use Rattle.abl_values.specs.Sound.{IsSound, IsSoundSequence, IsSoundTable}
-use Rattle.abl_schema.proofs.ToldTables.{AreSoundEntries, Entry, entries-tell, entry_sequences, entry_tables, entry_text, one_more, told_table}
+use Rattle.abl_schema.proofs.ToldTables.{AreSoundEntries, Entry, entries-tell, entry_sequences, entry_tables, entry_text, is_table, one_more, told_table}
 
 -- ---- the schema by its tables and sequences
 
@@ -55,6 +55,15 @@ sequences_are (true ∷ order) (t ∷ ts) qs h = sequences_are order ts qs (omeg
 sequences_are (false ∷ order) ts [] h = absurd (omega (arith, one_more not false order))
 sequences_are (false ∷ order) ts (q ∷ qs) h = ap (λ (rs : List SequenceDef). q ∷ rs) (sequences_are order ts qs (omega (arith, one_more not false order)))
 
+order_is : (order : List Bool) (ts : List TableDef) (qs : List SequenceDef) → count_by (λ b. b) order ≡ length ts → count_by not order ≡ length qs → map is_table (in_order order ts qs) ≡ order
+order_is [] ts qs h k = refl
+order_is (true ∷ order) [] qs h k = absurd (omega (arith, one_more (λ b. b) true order))
+order_is (true ∷ order) (t ∷ ts) qs h k =
+    ap (λ (os : List Bool). true ∷ os) (order_is order ts qs (omega (arith, one_more (λ b. b) true order)) (omega (arith, one_more not true order)))
+order_is (false ∷ order) ts [] h k = absurd (omega (arith, one_more not false order))
+order_is (false ∷ order) ts (q ∷ qs) h k =
+    ap (λ (os : List Bool). false ∷ os) (order_is order ts qs (omega (arith, one_more (λ b. b) false order)) (omega (arith, one_more not false order)))
+
 -- ---- what a reader finds
 
 -- names that are the same but for case are found at the same numbers
@@ -78,7 +87,7 @@ field_names-told : (fs : List FieldDef) → map (λ f. f.name) (map told_field f
 field_names-told [] = refl
 field_names-told (f ∷ fs) = ap (λ (ns : List (List ℕ)). folded f.name ∷ ns) (field_names-told fs)
 
-module _ (a b : SchemaData) (tables : map told_table a.tables ≡ map told_table b.tables) (sequences : map told_sequence a.sequences ≡ map told_sequence b.sequences) where
+module _ (a b : SchemaData) (tables : map told_table a.tables ≡ map told_table b.tables) (sequences : map told_sequence a.sequences ≡ map told_sequence b.sequences) (order : a.order ≡ b.order) where
   as_many : length a.tables ≡ length b.tables
   as_many = sym (length-map a.tables told_table) ∙ ap length tables ∙ length-map b.tables told_table
 
@@ -110,6 +119,7 @@ module _ (a b : SchemaData) (tables : map told_table a.tables ≡ map told_table
     indexes = λ t h. ap (λ u. u.indexes) (told_at t h);
     primary = λ t h. ap (λ u. u.primary) (told_at t h);
     sequences = sequences;
+    order = order;
   }
 
 -- ---- the law
@@ -129,3 +139,4 @@ canonical_text-tells_all a b ha hb same =
     answer_alike a b
     (ap (map told_table) (sym (tables_are a.order a.tables a.sequences ha.table_places)) ∙ told.tables ∙ ap (map told_table) (tables_are b.order b.tables b.sequences hb.table_places))
     (ap (map told_sequence) (sym (sequences_are a.order a.tables a.sequences ha.sequence_places)) ∙ told.sequences ∙ ap (map told_sequence) (sequences_are b.order b.tables b.sequences hb.sequence_places))
+    (sym (order_is a.order a.tables a.sequences ha.table_places ha.sequence_places) ∙ told.order ∙ order_is b.order b.tables b.sequences hb.table_places hb.sequence_places)

@@ -114,7 +114,7 @@ primary-told (Some k) (Some j) m n same hp hq flags =
 abbrev pub told_table : TableDef → TableDef
 told_table t = record { name = folded t.name; fields = map told_field t.fields; indexes = map told_index t.indexes; primary = t.primary }
 
-abbrev table_as : List ℕ → List FieldDef → List IndexDef → Option ℕ → TableDef
+abbrev pub table_as : List ℕ → List FieldDef → List IndexDef → Option ℕ → TableDef
 table_as name fields indexes primary = record { name = name; fields = fields; indexes = indexes; primary = primary }
 
 nest_table : (p n f i r : List ℕ) → p ++ n ++ 10 ∷ f ++ i ++ r ≡ p ++ (n ++ 10 ∷ (f ++ (i ++ r)))
@@ -212,6 +212,11 @@ abbrev pub entry_sequences : Entry → List SequenceDef
 entry_sequences (inl t) = []
 entry_sequences (inr q) = q ∷ []
 
+-- true for a table and false for a sequence
+abbrev pub is_table : Entry → Bool
+is_table (inl t) = true
+is_table (inr q) = false
+
 abbrev pub IsSoundEntry : Entry → Type 0
 IsSoundEntry (inl t) = IsSoundTable t
 IsSoundEntry (inr q) = IsSoundSequence q
@@ -227,9 +232,10 @@ is_past (inr q ∷ es) = record { fields = λ e. omega (arith, e); indexes = λ 
 pub record EntriesTold (es fs : List Entry) : Type 0 where
   pub tables : map told_table (flat_map entry_tables es) ≡ map told_table (flat_map entry_tables fs)
   pub sequences : map told_sequence (flat_map entry_sequences es) ≡ map told_sequence (flat_map entry_sequences fs)
+  pub order : map is_table es ≡ map is_table fs
 
 pub entries-tell : (es fs : List Entry) → AreSoundEntries es → AreSoundEntries fs → flat_map entry_text es ≡ flat_map entry_text fs → EntriesTold es fs
-entries-tell [] [] he hf e = record { tables = refl; sequences = refl }
+entries-tell [] [] he hf e = record { tables = refl; sequences = refl; order = refl }
 entries-tell [] (inl t ∷ fs) he hf e = absurd (omega (arith, ap first e))
 entries-tell [] (inr q ∷ fs) he hf e = absurd (omega (arith, ap first e))
 entries-tell (inl t ∷ es) [] he hf e = absurd (omega (arith, ap first e))
@@ -242,6 +248,7 @@ entries-tell (inl t ∷ es) (inl u ∷ fs) he hf e =
     record {
       tables = ap (λ (x : TableDef). x ∷ map told_table (flat_map entry_tables es)) one.table ∙ ap (λ (xs : List TableDef). told_table u ∷ xs) more.tables;
       sequences = more.sequences;
+      order = ap (λ (xs : List Bool). true ∷ xs) more.order;
     }
 entries-tell (inr p ∷ es) (inr q ∷ fs) he hf e =
     let one = sequence-tells p q he.0 hf.0 (flat_map entry_text es) (flat_map entry_text fs) e in
@@ -249,6 +256,7 @@ entries-tell (inr p ∷ es) (inr q ∷ fs) he hf e =
     record {
       tables = more.tables;
       sequences = ap (λ (x : SequenceDef). x ∷ map told_sequence (flat_map entry_sequences es)) one.told ∙ ap (λ (xs : List SequenceDef). told_sequence q ∷ xs) more.sequences;
+      order = ap (λ (xs : List Bool). false ∷ xs) more.order;
     }
 
 -- ---- how many there are

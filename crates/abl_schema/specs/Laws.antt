@@ -1,5 +1,5 @@
--- What two schemas with one canonical text have in common: all that a reader tells, but the case of names and
--- the masks, which the canonical text leaves out.
+-- What two schemas have in common exactly where they have one canonical text: all that a reader tells, but the case
+-- of names and the masks, which the canonical text leaves out, and the order in which tables and sequences stand.
 use Rattle.std.specs.Prelude.{◌≡◌, ◌<◌, ℕ, List, [], length, map, None}
 use Rattle.abl_values.specs.declared.schema.FieldDef.{FieldDef}
 use Rattle.abl_values.specs.declared.schema.IndexDef.{IndexDef}
@@ -21,8 +21,8 @@ told_index i = record i { name = folded i.name }
 abbrev pub told_sequence : SequenceDef → SequenceDef
 told_sequence s = record s { name = folded s.name }
 
--- every reader answers the same at both, names taken without case. Masks are left out, since the canonical
--- text has none
+-- every reader answers the same at both, names taken without case, and tables and sequences stand in one order, one
+-- after the other. Masks are left out, since the canonical text has none
 pub record AnswerAlike (a b : SchemaData) : Type 0 where
   pub tables : length a.tables ≡ length b.tables
   pub table : (name : List ℕ) → table_named a name ≡ table_named b name
@@ -32,6 +32,7 @@ pub record AnswerAlike (a b : SchemaData) : Type 0 where
   pub indexes : (t : ℕ) → t < length a.tables → map told_index (indexes_of a t) ≡ map told_index (indexes_of b t)
   pub primary : (t : ℕ) → t < length a.tables → primary_of a t ≡ primary_of b t
   pub sequences : map told_sequence a.sequences ≡ map told_sequence b.sequences
+  pub order : a.order ≡ b.order
 
 -- a file without violation means a sound schema
 abbrev pub SchemasOfFilesAreSound : Type 0

@@ -6,8 +6,8 @@ ghost use Rattle.abl_schema.specs.Laws.{AnswerAlike, SchemasOfFilesAreSound};
 
 use abl_values::Schema;
 
-/// Two schemas with one canonical text answer every reader alike, names taken without case. Masks
-/// are left out, since the canonical text has none.
+/// Two schemas with one canonical text answer every reader alike, names taken without case, and have
+/// tables and sequences in one order. Masks are left out, since the canonical text has none.
 pub fn canonical_text_tells_all(a: &Schema, b: &Schema)
     requires { canonical_text a.now ≡ canonical_text b.now }
     ensures { AnswerAlike a.now b.now }
@@ -15,6 +15,13 @@ pub fn canonical_text_tells_all(a: &Schema, b: &Schema)
     a.soundness();
     b.soundness();
 }
+
+/// The converse: two schemas that answer every reader alike, names taken without case, and have
+/// tables and sequences in one order, have one canonical text, whatever their masks are.
+pub fn canonical_text_tells_no_more(a: &Schema, b: &Schema)
+    requires { AnswerAlike a.now b.now }
+    ensures { canonical_text a.now ≡ canonical_text b.now }
+{}
 
 /// What a file without violation means is a sound schema, as each `Schema` is.
 pub fn schemas_of_files_are_sound()

@@ -2,8 +2,8 @@
 //! that it breaks and the line. It stands on `schema_lines`, which tells the items of a file, and on
 //! `abl_values`, whose `Schema` it makes. `Rules` in specs/ says which rules a file breaks and which
 //! comes first, and `Meaning` which schema a file without violation means; the layer above may rely
-//! on both, exactly. `laws` has that such a file means a sound schema, and what the canonical text of
-//! a schema tells.
+//! on both, exactly. `laws` has that such a file means a sound schema, and exactly what the canonical
+//! text of a schema tells.
 #![tactic(auto)]
 
 mod census;
