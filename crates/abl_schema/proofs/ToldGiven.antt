@@ -22,7 +22,8 @@ use Rattle.schema_lines.specs.declared.item.Attribute.TheVariants.{Initial, Form
 use Rattle.schema_lines.specs.declared.item.Attributed.{Attributed}
 use Rattle.schema_lines.specs.Attributes.{increment_after, increment_of, initial_after, initial_of, sequence_number, start_after, start_of}
 use Rattle.schema_lines.specs.Forms.{text_given}
-use Rattle.schema_lines.specs.Initials.{default_initial, initial_given, integer_value, is_unknown, logical_spelt, long_value, second_word, value_spelt, whole_spelt}
+use Rattle.abl_values.specs.Fit.{default_initial}
+use Rattle.schema_lines.specs.Initials.{initial_given, integer_value, is_unknown, logical_spelt, long_value, second_word, value_spelt, whole_spelt}
 use Rattle.schema_lines.specs.Lines.{run}
 use Rattle.schema_lines.specs.Numbers.{is_number, long_number}
 use Rattle.abl_schema.proofs.ToldDays.{date_has_day}

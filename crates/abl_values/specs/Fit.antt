@@ -1,5 +1,5 @@
 -- Which values a kind has, and a value made to fit one.
-use Rattle.std.specs.Prelude.{◌≡◌, ◌≤◌, length, Option, Some, None, Result, Ok, ℤ, IsTrue}
+use Rattle.std.specs.Prelude.{◌≡◌, ◌≤◌, length, [], false, pos, Option, Some, None, Result, Ok, ℤ, IsTrue}
 use Rattle.abl_base.specs.declared.value.Value.{Value}
 use Rattle.abl_base.specs.declared.value.Value.TheVariants.{Text, Int, Int64, Dec, Logical, Date, Unknown}
 use Rattle.abl_base.specs.declared.value.Kind.{Kind}
@@ -46,3 +46,12 @@ fitted (Dec n) Decimal = decimal_in_range n
 fitted (Logical b) Truth = Ok (Logical b)
 fitted (Date d) Day = date_in_range d
 fitted v kind = Ok Unknown
+
+-- the initial value of a field or variable without INITIAL: empty, 0, no, and `?` for a DATE
+abbrev pub default_initial : Kind → Value
+default_initial Character = Text []
+default_initial Integer = Int (pos 0)
+default_initial Whole64 = Int64 (pos 0)
+default_initial Decimal = Dec (pos 0)
+default_initial Truth = Logical false
+default_initial Day = Unknown

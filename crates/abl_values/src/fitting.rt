@@ -2,7 +2,7 @@
 
 ghost use Rattle.std.specs.Prelude.{◌≡◌};
 ghost use Rattle.abl_values.specs.Arithmetic.{IsUnlessNoMemory, text_in_range};
-ghost use Rattle.abl_values.specs.Fit.{fitted, small_in_range};
+ghost use Rattle.abl_values.specs.Fit.{default_initial, fitted, small_in_range};
 
 use crate::arithmetic::{ArithFault, date_in_range, scaled, whole_in_range};
 use crate::rounding::rounded_whole;
@@ -37,6 +37,20 @@ pub fn fit(alloc: Global, v: &Value, kind: Kind) -> Result<Value, ArithFault>
             }
         },
         Value::Unknown => Ok(Value::Unknown),
+    }
+}
+
+/// The initial value of a field or variable without INITIAL: empty, 0, no, and `?` for a DATE.
+pub fn default_initial(alloc: Global, kind: Kind) -> Value
+    ensures { result ≡ default_initial kind }
+{
+    match kind {
+        Kind::Character => Value::Text(Items::empty(alloc)),
+        Kind::Integer => Value::Int(0),
+        Kind::Int64 => Value::Int64(0),
+        Kind::Decimal => Value::Dec(0),
+        Kind::Logical => Value::Logical(false),
+        Kind::Date => Value::Unknown,
     }
 }
 

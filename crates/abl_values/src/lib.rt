@@ -23,7 +23,7 @@ pub mod texts;
 
 pub use arithmetic::{ArithFault, add, divide, modulo, multiply, subtract};
 pub use dates::{date_of, date_parts};
-pub use fitting::fit;
+pub use fitting::{default_initial, fit};
 pub use keys::key_bytes;
 pub use masks::{is_digit_sign, mask_fits, same_bytes, without_minus};
 pub use named::{HasName, NameFault, Named};

@@ -11,7 +11,8 @@ use Rattle.schema_lines.specs.declared.item.Attribute.TheVariants.{Initial, Form
 use Rattle.schema_lines.specs.declared.item.Attributed.{Attributed}
 use Rattle.schema_lines.specs.Forms.{text_given}
 use Rattle.schema_lines.specs.Numbers.{long_number}
-use Rattle.schema_lines.specs.Initials.{default_initial, initial_given, mask_of}
+use Rattle.abl_values.specs.Fit.{default_initial}
+use Rattle.schema_lines.specs.Initials.{initial_given, mask_of}
 
 abbrev pub is_mandatory : Attribute → Bool
 is_mandatory Mandatory = true

@@ -31,15 +31,6 @@ mask_of (Some kind) format = if mask_is_for format kind then format else default
 
 -- ---- initial values
 
--- the initial value of a field without INITIAL: empty, 0, no, and `?` for a DATE
-abbrev pub default_initial : Kind → Value
-default_initial Character = Text []
-default_initial Integer = Int (pos 0)
-default_initial Whole64 = Int64 (pos 0)
-default_initial Decimal = Dec (pos 0)
-default_initial Truth = Logical false
-default_initial Day = Unknown
-
 -- the second word of a mask `a/b`
 abbrev pub second_word : List ℕ → List ℕ
 second_word [] = []

@@ -3,11 +3,11 @@
 ghost use Rattle.std.specs.Prelude.{◌≡◌, IfOk};
 ghost use Rattle.schema_lines.specs.Attributes.{extent_after, extent_of, field_def, format_of, has, increment_after, increment_of, initial_of, is_mandatory, is_primary, is_unique, is_word, kind_of, order_after, order_of, sequence_number, start_after, start_of};
 
-use crate::initials::{default_initial, initial_given, mask_of};
+use crate::initials::{initial_given, mask_of};
 use crate::item::{Attribute, Attributed, Given};
 use crate::numbers::long_number;
 use abl_base::{Bytes, Items, Kind, Value};
-use abl_values::FieldDef;
+use abl_values::{FieldDef, default_initial};
 use std::alloc::{AllocError, Global};
 
 /// The number of a field without ORDER, above all that an ORDER has.

@@ -3,7 +3,7 @@
 ghost use Rattle.std.specs.Prelude.{◌≡◌, ◌≤◌, length, IfOk};
 ghost use Rattle.abl_values.specs.Masks.{after_run, is_mask_word_byte};
 ghost use Rattle.schema_lines.specs.Lines.{run};
-ghost use Rattle.schema_lines.specs.Initials.{day_spelt, default_initial, default_mask, initial_given, integer_value, is_character, is_unknown, logical_spelt, long_value, mask_of, second_word, text_value, value_spelt, whole_spelt, whole_units};
+ghost use Rattle.schema_lines.specs.Initials.{day_spelt, default_mask, initial_given, integer_value, is_character, is_unknown, logical_spelt, long_value, mask_of, second_word, text_value, value_spelt, whole_spelt, whole_units};
 ghost use Rattle.text_values.specs.TextValues.{number_in};
 
 use crate::item::Given;
@@ -43,20 +43,6 @@ pub fn mask_of(kind: Option<Kind>, format: &[u8]) -> &[u8]
                 default_mask(kind)
             }
         }
-    }
-}
-
-/// The initial value of a field without INITIAL.
-pub fn default_initial(alloc: Global, kind: Kind) -> Value
-    ensures { result ≡ default_initial kind }
-{
-    match kind {
-        Kind::Character => Value::Text(Items::empty(alloc)),
-        Kind::Integer => Value::Int(0),
-        Kind::Int64 => Value::Int64(0),
-        Kind::Decimal => Value::Dec(0),
-        Kind::Logical => Value::Logical(false),
-        Kind::Date => Value::Unknown,
     }
 }
 
