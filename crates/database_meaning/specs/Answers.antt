@@ -1,5 +1,5 @@
 -- Which answers an operation may have: the table of answers, of which the first row that applies counts.
-use Rattle.std.specs.Prelude.{◌≡◌, ◌≢◌, ◌⊎◌, ◌^◌, ◌+◌, ◌-◌, ◌<◌, ◌≤◌, ℕ, IsTrue, List, length, Option, Some, None, ℤ, pos, negsuc, ◌+ℤ◌, FitsSigned, slice_index_or}
+use Rattle.std.specs.Prelude.{◌≡◌, ◌≢◌, ◌⊎◌, ◌+◌, ◌<◌, ◌≤◌, ℕ, IsTrue, List, length, Option, Some, None, ℤ, pos, ◌+ℤ◌, FitsSigned, slice_index_or}
 use Rattle.std.specs.Int.{w64}
 use Rattle.std.specs.List.{All}
 use Rattle.std.specs.FinMap.{get}

@@ -16,6 +16,7 @@ use Rattle.database_meaning.specs.Search.{place_cmp, MatchesPrefix}
 use Rattle.database_meaning.specs.Counts.{event_size, is_counted}
 use Rattle.database_meaning.specs.Fits.{Fits}
 use Rattle.database_meaning.specs.Steps.{keeping, or_exclusive}
+use Rattle.database_meaning.specs.declared.limits.TheConstants.{MAX_CLIENTS, MAX_ROW_BYTES, MAX_KEY_BYTES, FRAGMENT_BYTES, FIRST_ROW, ROW_LIMIT, MAX_FRAGMENTS, MAX_TRANSACTION_WRITES, MAX_TRACE_BYTES, EVENT_BYTES, NUMBER_BYTES}
 
 -- the table `customer` with the fields `num` and `name`, and the unique index `num`
 customer : TableDef
@@ -113,3 +114,7 @@ waiting_lock_is_not_busy h = cc
 
 end_wants_no_memory : Fits bank.schema End NoMemory → ⊥
 end_wants_no_memory h = h
+
+-- the limits of a database
+pub limits_are : (MAX_CLIENTS ≡ 16) × (MAX_ROW_BYTES ≡ 30000) × (MAX_KEY_BYTES ≡ 200) × (FRAGMENT_BYTES ≡ 240) × (FIRST_ROW ≡ 8192) × (ROW_LIMIT ≡ 1048576) × (MAX_FRAGMENTS ≡ 1040384) × (MAX_TRANSACTION_WRITES ≡ 7989) × (MAX_TRACE_BYTES ≡ 268435456) × (EVENT_BYTES ≡ 64) × (NUMBER_BYTES ≡ 4)
+limits_are = (refl, refl, refl, refl, refl, refl, refl, refl, refl, refl, refl)

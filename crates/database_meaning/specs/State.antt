@@ -6,7 +6,6 @@ use Rattle.database_meaning.specs.declared.state.StoredRow.{StoredRow}
 use Rattle.database_meaning.specs.declared.state.Key.{Key}
 use Rattle.database_meaning.specs.declared.state.Want.{Want}
 use Rattle.database_meaning.specs.Frame.{Frame}
-use Rattle.database_meaning.specs.declared.operation.Op.{Op}
 
 -- rows by their identities
 abbrev pub Rows : Type 0
