@@ -5,6 +5,7 @@ pub mod Endings
 pub mod Forms
 pub mod Judged
 pub mod Numbers
+pub mod Prevented
 pub mod Rooms
 pub mod Splits
 pub mod TraceLines

@@ -1,7 +1,9 @@
 -- What a command did: it was refused by the first cause that stood against it, or it ran.
-use Rattle.std.specs.Prelude.{◌≡◌, ◌<◌, ◌≤◌, ℕ, length, Bool, true, false, IsTrue, List, [], ◌∷◌, Option, Some, None}
+use Rattle.std.specs.Prelude.{◌≡◌, ◌⊎◌, ◌<◌, ◌≤◌, ℕ, length, Bool, true, false, IsTrue, List, [], ◌∷◌, Option, Some, None}
 use Rattle.fault_count.specs.Faults.{Rose}
-use Rattle.abl_base.specs.declared.rule.Rule.TheVariants.{N1}
+use Rattle.abl_base.specs.declared.rule.Rule.{Rule}
+use Rattle.abl_base.specs.declared.place.Place.{Place}
+use Rattle.abl_schema.specs.Rules.{violation_of}
 use Rattle.abl_outside.specs.declared.out.Stream.TheVariants.{Output as Standard, Diagnostics}
 use Rattle.abl_outside.specs.Files.{IsLonger}
 use Rattle.database_meaning.specs.Frame.{Frame}
@@ -10,7 +12,7 @@ use Rattle.database_meaning.specs.declared.contents.Contents.{Contents}
 use Rattle.block_meaning.specs.declared.ends.ClientEnd.{ClientEnd}
 use Rattle.block_meaning.specs.declared.ends.ClientEnd.TheVariants as end
 use Rattle.bound_tree.specs.Tree.{Source as Tree}
-use Rattle.built_source.specs.Form.{IsSourceOf}
+use Rattle.built_source.specs.Sources.{BreaksFirst, IsSourceOf}
 use Rattle.bound_tree.specs.Bound.{source_of}
 use Rattle.bound_tree.specs.declared.procedure.Bound.{Bound}
 use Rattle.block_code.specs.declared.code.Code.{Code}
@@ -19,9 +21,9 @@ use Rattle.block_meaning.specs.Program.{Program}
 use Rattle.block_meaning.specs.Meaning.{run}
 use Rattle.block_vm.specs.declared.output.Section.{Section}
 use Rattle.abl_cli.specs.declared.refusal.Refusal.{Refusal}
-use Rattle.abl_cli.specs.declared.refusal.Refusal.TheVariants.{Usage, File, TooLong, Source, Client, Output, NoMemory}
+use Rattle.abl_cli.specs.declared.refusal.Refusal.TheVariants.{Usage, File, TooLong, Schema, Source, Client, Output, NoMemory}
 use Rattle.abl_cli.specs.declared.run.Report.{Report}
-use Rattle.abl_cli.specs.declared.prepare.TheConstants.{MAX_SOURCE_BYTES}
+use Rattle.abl_cli.specs.declared.prepare.TheConstants.{MAX_FILE_BYTES}
 use Rattle.abl_cli.specs.Words.{Run, IsRun, words_of, IsWrong, number_of}
 use Rattle.abl_cli.specs.declared.words.Mode.{Mode}
 use Rattle.abl_values.specs.Schema.{SchemaData}
@@ -36,21 +38,42 @@ pub record Shelf : Type 0 where
   pub file : List ℕ → Option (List ℕ)
   pub faults : ℕ
 
--- the words are those of a run of which this holds
-abbrev pub NameRun : List (List ℕ) → (Run → Type 0) → Type 0
-NameRun words holds_of = (run : Run) × IsRun run × (words ≡ words_of run) × holds_of run
-
 -- the files have this text under the name, where they are told, and it is not too long
-pub record HasText (shelf : Shelf) (name : List ℕ) (text : List ℕ) : Type 0 where
+pub record HasText (shelf : Shelf) (name text : List ℕ) : Type 0 where
   pub told : IsTrue shelf.told → shelf.file name ≡ Some text
-  pub short : length text ≤ MAX_SOURCE_BYTES
+  pub short : length text ≤ MAX_FILE_BYTES
 
--- what may stand against this text of a source: it stands for no tree, or memory is wanting
-abbrev pub IsOfSource : List ℕ → Refusal → Type 0
-IsOfSource text (Source client rule place) =
-    (client ≡ 0) × (rule ≡ N1) × (place ≡ record { line = 1; column = 1 }) × ((tree : Tree) → ¬ IsSourceOf text tree)
-IsOfSource text NoMemory = Unit {0}
-IsOfSource text refusal = ⊥
+-- why the file of this name was not read; the files' count of faults is now `faults`
+pub data IsNotRead (shelf : Shelf) (faults : ℕ) (name : List ℕ) : Refusal → Type 0 where
+  is_missing : Rose shelf.faults faults → (IsTrue shelf.sound → shelf.file name ≡ None) → IsNotRead shelf faults name (File name)
+  is_too_long : (IsTrue shelf.told → IsLonger (shelf.file name) MAX_FILE_BYTES) → IsNotRead shelf faults name (TooLong name MAX_FILE_BYTES)
+  reading_wants : IsNotRead shelf faults name NoMemory
+
+-- what stands against the text of a schema file: the first rule that it breaks, or that memory is wanting
+pub data BreaksSchema (text : List ℕ) : Refusal → Type 0 where
+  breaks_f : {rule : Rule} {line : ℕ} → violation_of text ≡ Some (record { rule = rule; line = line }) → BreaksSchema text (Schema rule line)
+  schema_wants : BreaksSchema text NoMemory
+
+-- what stands against the text of the first client's source, likewise
+pub data BreaksSource (text : List ℕ) : Refusal → Type 0 where
+  breaks_rule : {rule : Rule} {place : Place} → BreaksFirst text rule place → BreaksSource text (Source 0 rule place)
+  source_wants : BreaksSource text NoMemory
+
+-- the texts that were read for a run
+pub record Texts (shelf : Shelf) (schema program : List ℕ) : Type 0 where
+  pub df : List ℕ
+  pub source : List ℕ
+  pub has_schema : HasText shelf schema df
+  pub has_source : HasText shelf program source
+
+-- The first thing that prevents the run of these files, in the order in which they are looked for: the schema file, the source, the
+-- rules of the schema, those of the source. Want of memory may come at any time
+pub data Prevents (shelf : Shelf) (faults : ℕ) (schema program : List ℕ) : Refusal → Type 0 where
+  no_schema : {refusal : Refusal} → IsNotRead shelf faults schema refusal → Prevents shelf faults schema program refusal
+  no_source : {refusal : Refusal} {df : List ℕ} → HasText shelf schema df → IsNotRead shelf faults program refusal → Prevents shelf faults schema program refusal
+  schema_breaks : {refusal : Refusal} (texts : Texts shelf schema program) → BreaksSchema texts.df refusal → Prevents shelf faults schema program refusal
+  source_breaks : {refusal : Refusal} (texts : Texts shelf schema program) → violation_of texts.df ≡ None → BreaksSource texts.source refusal → Prevents shelf faults schema program refusal
+  run_wants : Prevents shelf faults schema program NoMemory
 
 -- the code is that of the text
 pub record IsCodeOf (text : List ℕ) (code : Code) : Type 0 where
@@ -59,23 +82,16 @@ pub record IsCodeOf (text : List ℕ) (code : Code) : Type 0 where
   pub stands : StandsFor code bound
   pub no_outputs : bound.outputs.items ≡ []
 
--- what prevents the run of the source of this name; the files' count of faults is now `faults`. Want of memory may come at any time
-abbrev pub Prevents : Shelf → ℕ → List ℕ → Refusal → Type 0
-Prevents shelf faults program (Usage word) = ⊥
-Prevents shelf faults program (File file) =
-    (file ≡ program) × Rose shelf.faults faults × (IsTrue shelf.sound → shelf.file program ≡ None)
-Prevents shelf faults program (TooLong file most) =
-    (file ≡ program) × (most ≡ MAX_SOURCE_BYTES) × (IsTrue shelf.told → IsLonger (shelf.file program) MAX_SOURCE_BYTES)
-Prevents shelf faults program (Source client rule place) =
-    (text : List ℕ) × HasText shelf program text × IsOfSource text (Source client rule place)
-Prevents shelf faults program (Client first) = ⊥
-Prevents shelf faults program Output = ⊥
-Prevents shelf faults program NoMemory = Unit {0}
+-- both files are read, the schema breaks no rule, and the code is that of the source
+pub record IsReady (shelf : Shelf) (schema program : List ℕ) (code : Code) : Type 0 where
+  pub texts : Texts shelf schema program
+  pub clean : violation_of texts.df ≡ None
+  pub is_code : IsCodeOf texts.source code
 
 -- why a command was refused before a run began: the words have no form, or they name a run that is prevented
-abbrev pub Cause : List (List ℕ) → Shelf → ℕ → List ℕ → Refusal → Type 0
-Cause words shelf faults name (Usage word) = IsWrong words word
-Cause words shelf faults name refusal = NameRun words (λ run. (name ≡ run.name) × Prevents shelf faults run.program refusal)
+pub data Cause (words : List (List ℕ)) (shelf : Shelf) (faults : ℕ) : List ℕ → Refusal → Type 0 where
+  wrong_word : {name : List ℕ} {word : ℕ} → IsWrong words word → Cause words shelf faults name (Usage word)
+  prevented : {refusal : Refusal} (run : Run) → IsRun run → words ≡ words_of run → Prevents shelf faults run.schema run.program refusal → Cause words shelf faults run.name refusal
 
 -- the lines about what stands against a command are on standard error, or a prefix of them where a write failed;
 -- standard output is as it was
@@ -137,34 +153,30 @@ pub data Did (words : List (List ℕ)) (shelf : Shelf) (faults : ℕ) (old new :
   -- it was refused before a run began
   Refused : (name : List ℕ) (refusal : Refusal) → Cause words shelf faults name refusal → IsRefused name refusal old new report →
       Did words shelf faults old new report
-  -- it ran the source that the words name
+  -- it ran the source that the words name, over a schema that breaks no rule
   Ran : (named : Run) → IsRun named → words ≡ words_of named →
-      (text : List ℕ) → HasText shelf named.program text → (tree : Tree) → IsSourceOf text tree →
+      (texts : Texts shelf named.schema named.program) → violation_of texts.df ≡ None → (tree : Tree) → IsSourceOf texts.source tree →
       HasRun named.mode named.name (number_of named.steps) tree old new report → Did words shelf faults old new report
 
 -- ---- for laws
 
--- the refusal tells that the file cannot be read, or that it is too long
-abbrev pub IsFile : Option Refusal → Type 0
-IsFile (Some (File file)) = Unit {0}
-IsFile refusal = ⊥
-
--- likewise
-abbrev pub IsTooLong : Option Refusal → Type 0
-IsTooLong (Some (TooLong file most)) = Unit {0}
-IsTooLong refusal = ⊥
-
--- the refusal tells that the source breaks a rule
-abbrev pub IsSource : Option Refusal → Type 0
-IsSource (Some (Source client rule place)) = Unit {0}
-IsSource refusal = ⊥
-
--- the refusal tells that memory is wanting
-abbrev pub IsNoMemory : Option Refusal → Type 0
-IsNoMemory (Some NoMemory) = Unit {0}
-IsNoMemory refusal = ⊥
+-- the refusal is this one, or memory is wanting
+abbrev pub IsRefusal : Option Refusal → Refusal → Type 0
+IsRefusal told refusal = (told ≡ Some refusal) ⊎ (told ≡ Some NoMemory)
 
 -- the wrong word is told
 abbrev pub IsUsage : Option Refusal → Type 0
 IsUsage (Some (Usage word)) = Unit {0}
 IsUsage refusal = ⊥
+
+-- the words name the run, and the files tell what they hold and fail for a missing file alone
+pub record NamesRun (words : List (List ℕ)) (shelf : Shelf) (run : Run) : Type 0 where
+  pub is_run : IsRun run
+  pub words_are : words ≡ words_of run
+  pub told : IsTrue shelf.told
+  pub sound : IsTrue shelf.sound
+
+-- such files have this text under the name, and it is not too long
+pub record IsThere (shelf : Shelf) (name text : List ℕ) : Type 0 where
+  pub there : shelf.file name ≡ Some text
+  pub short : length text ≤ MAX_FILE_BYTES

@@ -7,6 +7,10 @@ use Rattle.database_meaning.specs.declared.operation.Op.TheVariants.{Enter, Leav
 use Rattle.database_meaning.specs.declared.operation.Answer.{Answer}
 use Rattle.database_meaning.specs.declared.operation.Answer.TheVariants.{Done, Committed, Blocked}
 use Rattle.database_meaning.specs.declared.operation.Event.{Event}
+use Rattle.abl_base.specs.declared.rule.Rule.TheVariants.{F1}
+use Rattle.abl_cli.specs.declared.prepare.TheConstants.{MAX_FILE_BYTES}
+use Rattle.abl_cli.specs.declared.refusal.Refusal.TheVariants.{Schema}
+use Rattle.abl_cli.specs.Report.{status_lines}
 use Rattle.abl_cli.specs.Trace.{trace_line, trace_part}
 
 abbrev pub event_by : ℕ → Op → Answer → Event
@@ -28,3 +32,12 @@ a_wait :
     ≡ codes "12 b Lock 8192 X W Blocked a\n"
 unfolding digits
 a_wait = refl
+
+-- the line about a schema file that breaks a rule
+a_broken_schema : status_lines (codes "a") [] (Schema F1 1) ≡ codes "abl: schema F1 at line 1\n"
+unfolding digits
+a_broken_schema = refl
+
+-- a file may have 1 MiB
+limit_is : MAX_FILE_BYTES ≡ 1048576
+limit_is = refl

@@ -12,7 +12,7 @@ use Rattle.abl_cli.specs.declared.words.Mode.{Mode}
 use Rattle.abl_cli.specs.declared.words.Mode.TheVariants.{Trace, Quiet}
 use Rattle.abl_cli.specs.Trace.{trace_part}
 use Rattle.abl_cli.specs.declared.refusal.Refusal.{Refusal}
-use Rattle.abl_cli.specs.declared.refusal.Refusal.TheVariants.{Usage, File, TooLong, Source, Client, Output, NoMemory}
+use Rattle.abl_cli.specs.declared.refusal.Refusal.TheVariants.{Usage, File, TooLong, Schema, Source, Client, Output, NoMemory}
 
 -- a line feed, but where the byte is one
 abbrev pub line_end_after : ℕ → List ℕ
@@ -53,6 +53,8 @@ status_lines name ends (Usage word) = codes "abl: usage at word " ++ decimal wor
 status_lines name ends (File file) = codes "abl: cannot read " ++ file ++ 10 ∷ []
 status_lines name ends (TooLong file most) =
     codes "abl: " ++ file ++ codes " is longer than " ++ decimal most ++ codes " bytes" ++ 10 ∷ []
+status_lines name ends (Schema rule line) =
+    codes "abl: schema " ++ rule_name rule ++ codes " at line " ++ decimal line ++ 10 ∷ []
 status_lines name ends (Source client rule place) =
     codes "abl: " ++ name ++ codes ": " ++ rule_name rule ++ codes " at " ++ decimal place.line ++ 58 ∷ decimal place.column ++ 10 ∷ []
 status_lines name ends (Client first) = flat_map (end_line name) ends
@@ -64,6 +66,7 @@ abbrev pub status_of : Refusal → ℕ
 status_of (Usage word) = 1
 status_of (File file) = 2
 status_of (TooLong file most) = 10
+status_of (Schema rule line) = 3
 status_of (Source client rule place) = 4
 status_of (Client first) = 8
 status_of Output = 6

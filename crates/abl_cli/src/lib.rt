@@ -12,7 +12,7 @@ pub mod run;
 mod trace;
 pub mod words;
 
-pub use prepare::MAX_SOURCE_BYTES;
+pub use prepare::MAX_FILE_BYTES;
 pub use refusal::Refusal;
 pub use run::{Ends, Report, run_abl};
 pub use words::{Mode, Word};

@@ -1,55 +1,89 @@
 //! From the words of a run to the code of its source.
 
-ghost use Rattle.std.specs.Prelude.{◌≡◌, ℕ, List, IfOk, IfErr};
-ghost use Rattle.abl_cli.specs.Command.{HasText, Prevents, IsOfSource, IsCodeOf};
+ghost use Rattle.std.specs.Prelude.{◌≡◌, ◌≤◌, None, IsTrue, IfErr, IfOk, OnOk, length};
+ghost use Rattle.schema_lines.specs.Files.{items_of};
+ghost use Rattle.abl_schema.specs.Rules.{violation_of};
+ghost use Rattle.abl_cli.specs.Command.{BreaksSchema, BreaksSource, HasText, IsCodeOf, IsNotRead, IsReady, Prevents};
+ghost use Rattle.abl_cli.specs.declared.refusal.Refusal.{Refusal as TheRefusal};
 
 use crate::refusal::Refusal;
 use crate::words::RunWords;
-use abl_base::{Bytes, Place, Rule};
+use abl_base::Bytes;
 use abl_outside::{FileFault, Files};
+use abl_schema::{SchemaRefusal, read_df};
 use block_code::{Code, CompileFault, compile};
 use built_source::{SourceFault, read_source};
 use std::alloc::Global;
 
-/// The most bytes that a source may have.
-pub const MAX_SOURCE_BYTES: u64 = 1_048_576;
+/// The most bytes that a schema file or a source may have.
+pub const MAX_FILE_BYTES: u64 = 1_048_576;
 
-/// Reads the client's source and compiles it.
+/// Reads the schema file and the client's source, and compiles the source where the schema breaks
+/// no rule.
 pub fn prepare<F: Files>(alloc: Global, files: &mut F, run: &RunWords<'_>) -> Result<Code, Refusal>
-    ensures code { IfOk result (λ code. (text : List ℕ) × IsCodeOf text code × HasText (record { told = F.told files.old; sound = F.sound files.old; file = F.file files.old; faults = F.failures files.old }) run.now.program.now text) }
-    ensures prevented { IfErr result (Prevents (record { told = F.told files.old; sound = F.sound files.old; file = F.file files.old; faults = F.failures files.old }) (F.failures files.new) run.now.program.now) }
+    ensures code { IfOk result (IsReady (record { told = F.told files.old; sound = F.sound files.old; file = F.file files.old; faults = F.failures files.old }) run.now.schema.now run.now.program.now) }
+    ensures prevented { IfErr result (Prevents (record { told = F.told files.old; sound = F.sound files.old; file = F.file files.old; faults = F.failures files.old }) (F.failures files.new) run.now.schema.now run.now.program.now) }
 {
-    let name = Bytes::of(alloc, run.program).map_err(|_| Refusal::NoMemory)?;
-    match files.read(&name, MAX_SOURCE_BYTES) {
-        Ok(text) => code_of(alloc, text.as_slice()),
+    let schema = read(alloc, files, run.schema)?;
+    let source = read(alloc, files, run.program)?;
+    check_schema(alloc, schema.as_slice())?;
+    code_of(alloc, source.as_slice())
+}
+
+/// The text of the file of this name.
+fn read<F: Files>(alloc: Global, files: &mut F, name: &[u8]) -> Result<Bytes, Refusal>
+    ensures text { IfOk result (HasText (record { told = F.told files.old; sound = F.sound files.old; file = F.file files.old; faults = F.failures files.old }) name.now) }
+    ensures refused { IfErr result (IsNotRead (record { told = F.told files.old; sound = F.sound files.old; file = F.file files.old; faults = F.failures files.old }) (F.failures files.new) name.now) }
+    ensures quiet { OnOk result (F.failures files.new ≡ F.failures files.old) }
+    ensures tells { F.told files.new ≡ F.told files.old }
+    ensures stays_sound { F.sound files.new ≡ F.sound files.old }
+    ensures files { IsTrue (F.told files.old) → F.file files.new ≡ F.file files.old }
+{
+    let Ok(name) = Bytes::of(alloc, name) else {
+        return Err(Refusal::NoMemory);
+    };
+    match files.read(&name, MAX_FILE_BYTES) {
+        Ok(text) => Ok(text),
         Err(FileFault::Failed) => Err(Refusal::File { name }),
         Err(FileFault::TooLong) => Err(Refusal::TooLong {
             name,
-            most: MAX_SOURCE_BYTES,
+            most: MAX_FILE_BYTES,
         }),
         Err(FileFault::NoMemory) => Err(Refusal::NoMemory),
     }
 }
 
+/// Nothing, where the schema file breaks no rule. No statement that is built names a part of the
+/// schema yet.
+fn check_schema(alloc: Global, text: &[u8]) -> Result<(), Refusal>
+    ensures clean { OnOk result (violation_of text.now ≡ None) }
+    ensures refused { IfErr result (BreaksSchema text.now) }
+{
+    match read_df(alloc, text) {
+        Ok(_schema) => Ok(()),
+        Err(SchemaRefusal::Broken { rule, line }) => Err(Refusal::Schema { rule, line }),
+        Err(SchemaRefusal::NoMemory) => Err(Refusal::NoMemory),
+    }
+}
+
 /// The code of the first client's source.
 fn code_of(alloc: Global, text: &[u8]) -> Result<Code, Refusal>
+    requires { length text.now ≤ MAX_FILE_BYTES }
     ensures code { IfOk result (IsCodeOf text.now) }
-    ensures refused { IfErr result (IsOfSource text.now) }
+    ensures refused { IfErr result (BreaksSource text.now) }
 {
     match read_source(alloc, text) {
         Ok(bound) => match compile(alloc, bound) {
             Ok(code) => Ok(code),
-            Err(CompileFault::NotBuilt) => Err(NOT_BUILT),
+            // Each source that is read has forms that are built alone.
+            Err(CompileFault::NotBuilt) => unreachable!(),
             Err(CompileFault::NoMemory) => Err(Refusal::NoMemory),
         },
-        Err(SourceFault::NotBuilt) => Err(NOT_BUILT),
+        Err(SourceFault::Broken { rule, place }) => Err(Refusal::Source {
+            client: 0,
+            rule,
+            place,
+        }),
         Err(SourceFault::NoMemory) => Err(Refusal::NoMemory),
     }
 }
-
-/// A source that has not the form breaks rule N1 at its first byte.
-const NOT_BUILT: Refusal = Refusal::Source {
-    client: 0,
-    rule: Rule::N1,
-    place: Place { line: 1, column: 1 },
-};

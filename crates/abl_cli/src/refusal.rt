@@ -19,6 +19,11 @@ pub enum Refusal {
         name: Bytes,
         most: u64,
     },
+    /// The schema file breaks the rule, F1 to F12, first at this line, from 1.
+    Schema {
+        rule: Rule,
+        line: u32,
+    },
     /// The client's source breaks the rule, first at this place.
     Source {
         client: u16,
@@ -46,6 +51,7 @@ impl Refusal {
         match self {
             Refusal::Usage { .. } => 1,
             Refusal::File { .. } => 2,
+            Refusal::Schema { .. } => 3,
             Refusal::Source { .. } => 4,
             Refusal::Output => 6,
             Refusal::NoMemory => 7,

@@ -154,6 +154,10 @@ pub fn write_status<O: Out>(
             let most = buffer.format(*most).as_bytes();
             write_too_long(out, file.as_slice(), most)
         }
+        Refusal::Schema { rule, line } => {
+            let line = buffer.format(*line).as_bytes();
+            write_schema(out, rule.name(), line)
+        }
         Refusal::Source { rule, place, .. } => write_source(out, name, rule.name(), *place),
         Refusal::Client { .. } => write_ends(out, name, ends),
         Refusal::Output => write_line(out, b"abl: output", b"", b""),
@@ -179,6 +183,14 @@ fn write_too_long<'a, O: Out>(out: &mut O, name: &'a [u8], most: &'a [u8]) -> Re
     ensures { Writes (is_ok result) Stream.Diagnostics (codes "abl: " ++ name.now ++ codes " is longer than " ++ most.now ++ codes " bytes" ++ 10 ∷ []) (record { told = O.told out.old; texts = O.written out.old; faults = O.failures out.old }) (record { told = O.told out.new; texts = O.written out.new; faults = O.failures out.new }) }
 {
     let pieces = [b"abl: ", name, b" is longer than ", most, b" bytes\n"];
+    write_all(out, Stream::Diagnostics, &pieces)
+}
+
+/// Writes the line about a schema file that breaks a rule.
+fn write_schema<'a, O: Out>(out: &mut O, rule: &'a [u8], line: &'a [u8]) -> Result<(), OutFailed>
+    ensures { Writes (is_ok result) Stream.Diagnostics (codes "abl: schema " ++ rule.now ++ codes " at line " ++ line.now ++ 10 ∷ []) (record { told = O.told out.old; texts = O.written out.old; faults = O.failures out.old }) (record { told = O.told out.new; texts = O.written out.new; faults = O.failures out.new }) }
+{
+    let pieces = [b"abl: schema ", rule, b" at line ", line, b"\n"];
     write_all(out, Stream::Diagnostics, &pieces)
 }
 

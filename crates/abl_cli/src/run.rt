@@ -29,7 +29,8 @@ pub struct Report {
     pub refusal: Option<Refusal>,
 }
 
-/// Does what the words say: reads the source, compiles it, runs the client, writes the report to
+/// Does what the words say: reads the schema file and the source, compiles the source, runs the
+/// client, writes the report to
 /// standard output and the lines of the status to standard error.
 pub fn run_abl<F: Files, O: Out>(
     alloc: Global,

@@ -24,12 +24,16 @@ fn words_of(alloc: Global, line: &[u8]) -> Result<Vec<Word>, AllocError> {
     Ok(words)
 }
 
-/// Files of which only `p` is there, with this text.
-fn only_p(alloc: Global, text: &[u8], fails: &[u64]) -> Result<MemFiles, AllocError> {
+/// The schema `s.df`, which is empty, and the source `p` with this text.
+fn files_with(alloc: Global, source: &[u8], fails: &[u64]) -> Result<MemFiles, AllocError> {
     let mut files = Vec::new(alloc);
     files.push(NamedFile {
+        name: Bytes::of(alloc, b"s.df")?,
+        bytes: Bytes::empty(alloc),
+    })?;
+    files.push(NamedFile {
         name: Bytes::of(alloc, b"p")?,
-        bytes: Bytes::of(alloc, text)?,
+        bytes: Bytes::of(alloc, source)?,
     })?;
     MemFiles::new(alloc, &Items::from_vec(files), fails)
 }
@@ -42,7 +46,7 @@ fn expect(
     source: &[u8],
     want: (u8, &[u8], &[u8]),
 ) -> Result<Report, AllocError> {
-    let mut files = only_p(alloc, source, &[])?;
+    let mut files = files_with(alloc, source, &[])?;
     let mut out = MemOut::new(alloc, 1000, &[])?;
     let report = run_abl(alloc, &words_of(alloc, line)?, &mut files, &mut out);
     let (status, output, diagnostics) = want;
@@ -95,7 +99,7 @@ fn a_trace_follows_the_output(rt: HostRuntime) -> Result<(), Fail> {
     // The output takes the heading of the trace and its first line.
     let mut out = MemOut::new(alloc, 39, &[])?;
     let words = words_of(alloc, line)?;
-    let report = run_abl(alloc, &words, &mut only_p(alloc, UNDO, &[])?, &mut out);
+    let report = run_abl(alloc, &words, &mut files_with(alloc, UNDO, &[])?, &mut out);
     assert_eq!(rt; report.status, 6);
     assert!(rt; matches!(report.refusal, Some(Refusal::Output)));
     assert_eq!(rt; report.trace.as_slice().len(), 4);
@@ -130,27 +134,35 @@ fn a_long_source_and_faults_are_refused(rt: HostRuntime) -> Result<(), Fail> {
     let line = words_of(alloc, b"run s.df 10 quiet a=p")?;
     let long = vec![in alloc; b' '; 1_048_577]?;
     let mut out = MemOut::new(alloc, 1000, &[])?;
-    let report = run_abl(alloc, &line, &mut only_p(alloc, &long, &[])?, &mut out);
+    let report = run_abl(alloc, &line, &mut files_with(alloc, &long, &[])?, &mut out);
     assert_eq!(rt; report.status, 10);
     let want = b"abl: p is longer than 1048576 bytes\n".as_slice();
     assert_eq!(rt; out.text(Stream::Diagnostics), want);
 
     let most = vec![in alloc; b' '; 1_048_576]?;
     let mut out = MemOut::new(alloc, 1000, &[])?;
-    let report = run_abl(alloc, &line, &mut only_p(alloc, &most, &[])?, &mut out);
+    let report = run_abl(alloc, &line, &mut files_with(alloc, &most, &[])?, &mut out);
     assert_eq!(rt; report.status, 0);
 
-    let mut out = MemOut::new(alloc, 1000, &[])?;
-    let report = run_abl(alloc, &line, &mut only_p(alloc, UNDO, &[1])?, &mut out);
-    assert_eq!(rt; report.status, 2);
-    assert_eq!(rt;
-        out.text(Stream::Diagnostics),
-        b"abl: cannot read p\n".as_slice()
-    );
+    let faults = [
+        (1, b"abl: cannot read s.df\n".as_slice()),
+        (2, b"abl: cannot read p\n".as_slice()),
+    ];
+    for (call, want) in &faults {
+        let mut out = MemOut::new(alloc, 1000, &[])?;
+        let report = run_abl(
+            alloc,
+            &line,
+            &mut files_with(alloc, UNDO, &[*call])?,
+            &mut out,
+        );
+        assert_eq!(rt; report.status, 2);
+        assert_eq!(rt; out.text(Stream::Diagnostics), *want);
+    }
 
     // The report has twelve bytes.
     let mut out = MemOut::new(alloc, 11, &[])?;
-    let report = run_abl(alloc, &line, &mut only_p(alloc, UNDO, &[])?, &mut out);
+    let report = run_abl(alloc, &line, &mut files_with(alloc, UNDO, &[])?, &mut out);
     assert_eq!(rt; report.status, 6);
     assert_eq!(rt; out.text(Stream::Output), b"== a ==\n".as_slice());
     Ok(())

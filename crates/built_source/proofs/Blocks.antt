@@ -10,7 +10,7 @@ use Rattle.bound_tree.specs.declared.statement.Stmt.TheViews.{the_lemmas}
 use Rattle.bound_tree.specs.Tree.{Body, Nothing, Then, Inner}
 use Rattle.bound_tree.specs.Bound.{body_of, header_of, row_of, stmt_of}
 
-pub row_is : (n : Count) (k : Row_of-Stmt n) → row_of k ≡ body_of (items-the_row-Stmt n k)
+row_is : (n : Count) (k : Row_of-Stmt n) → row_of k ≡ body_of (items-the_row-Stmt n k)
 row_is none_left end_of-Stmt = refl
 row_is (one_more n) (more_of-Stmt t rest) = ap (λ b. Then (stmt_of t) b) (row_is n rest)
 

@@ -1,86 +1,73 @@
--- The definitions of a source, one after the other.
-use Rattle.std.proofs.Common.{ℕ, ◌<◌, ◌≡◌, Bool, List, length, refl, sym, ap, subst, arith}
+-- The options of a definition and the definitions of a source, one after the other.
+use Rattle.std.proofs.Common.{ℕ, ◌≡◌, true, List, ◌∷◌, None, sym, ap, subst}
+use Rattle.abl_base.specs.declared.value.Kind.{Kind}
+use Rattle.abl_tree.specs.declared.token.TokenKind.{TokenKind}
+use Rattle.abl_tree.specs.declared.token.TokenKind.TheVariants as t
 use Rattle.bound_tree.specs.Tree.{Body, Source}
-use Rattle.built_source.specs.declared.token.Token.{Token}
-use Rattle.built_source.specs.Form.{Defined, nothing, IsFree, define, source_with, AreStatements, statements_more, IsDefinition, with_undo, no_undo, StandsFor, states, defines, IsSourceOf}
-use Rattle.built_source.specs.Text.{AreTokens}
-use Rattle.built_source.proofs.Gaps.{tokens_unique}
-use Rattle.built_source.proofs.Parts.{no_statement_define, statements_unique}
+use Rattle.built_source.specs.declared.defined.NamedVariable.{NamedVariable}
+use Rattle.built_source.specs.declared.definition.Definition.{Definition}
+use Rattle.built_source.specs.declared.definition.Said.{Said}
+use Rattle.built_source.specs.Signs.{Sign, Word}
+use Rattle.built_source.specs.Defined.{Defined, nothing, IsFree, define}
+use Rattle.built_source.specs.Form.{IsOption, no_undo, initial, AreOptions, options_end, options_more, nothing_said, head, IsDefinition, defines_it, AreStatements, statements_more, StandsFor, states, defines, source_with}
+use Rattle.built_source.proofs.Parts.{option_unique, no_option_period, definition_unique, no_statement_define, statements_unique}
 
--- two ways to read a definition are the same
-pub record SameDefinition (l k : ℕ) (u v : Bool) (r q : List Token) : Type 0 where
-  pub letter : l ≡ k
-  pub undoable : u ≡ v
-  pub rest : r ≡ q
+-- OPTIONS
+pub record OptionsSofar (k : Kind) (start rest : List Sign) (said : Said) : Type 0 where
+  pub sound : (all : Said) (end : List Sign) → AreOptions k said rest all end → AreOptions k nothing_said start all end
+  pub complete : (all : Said) (end : List Sign) → AreOptions k nothing_said start all end → AreOptions k said rest all end
 
-definition_unique : {tokens r q : List Token} {l k : ℕ} {u v : Bool} → IsDefinition tokens l u r → IsDefinition tokens k v q → SameDefinition l k u v r q
-definition_unique with_undo with_undo = record { letter = refl; undoable = refl; rest = refl }
-definition_unique no_undo no_undo = record { letter = refl; undoable = refl; rest = refl }
+cut_options : {k : Kind} {said next all : Said} {signs behind end : List Sign} → IsOption k said signs next behind → AreOptions k said signs all end → AreOptions k next behind all end
+cut_options i options_end = absurd (no_option_period i)
+cut_options {k} {next} {all} {end} i (options_more {next = other} {behind} j a) =
+    let s = option_unique j i in
+    subst (λ q. AreOptions k next q all end) s.rest (subst (λ x. AreOptions k x behind all end) s.part a)
 
-no_statements_define : {names : _} {number : ℕ} {tokens rest : List Token} {l : ℕ} {u : Bool} {body : Body} → IsDefinition tokens l u rest → AreStatements names number tokens body → ⊥
-no_statements_define with_undo (statements_more i a) = no_statement_define i
-no_statements_define no_undo (statements_more i a) = no_statement_define i
+module _ (k : Kind) (start rest : List Sign) (said : Said) (s : OptionsSofar k start rest said) where
+  pub options_go_on : (behind : List Sign) (next : Said) → IsOption k said rest next behind → OptionsSofar k start behind next
+  options_go_on behind next i = record { sound = λ all end a. s.sound all end (options_more i a); complete = λ all end a. cut_options i (s.complete all end a) }
 
-pub definition_shorter : {tokens rest : List Token} {l : ℕ} {u : Bool} → IsDefinition tokens l u rest → length rest < length tokens
-definition_shorter with_undo = omega arith
-definition_shorter no_undo = omega arith
+  pub options_found : (behind : List Sign) → rest ≡ Word t.Period ∷ behind → AreOptions k nothing_said start said behind
+  options_found behind e = s.sound said behind (subst (λ r. AreOptions k said r said behind) (sym e) options_end)
+
+-- no option begins with another word, or is said twice
+pub no_option : {k : Kind} {said next : Said} {signs rest : List Sign} (word : TokenKind) (r : List Sign) → signs ≡ Word word ∷ r → (word ≡ t.NoUndo → said.undoable ≡ true → ⊥) → (word ≡ t.Initial → said.initial ≡ None → ⊥) → IsOption k said signs next rest → ⊥
+no_option word r e n m (no_undo u) = let q : word ≡ t.NoUndo = cc in n q u
+no_option word r e n m (initial u i) = let q : word ≡ t.Initial = cc in m q u
+
+-- DEFINITIONS
+no_statements_define : {names : List NamedVariable} {number : ℕ} {signs rest : List Sign} {new : Definition} {body : Body} → IsDefinition signs new rest → AreStatements names number signs body → ⊥
+no_statements_define (defines_it (head e) o) (statements_more i a) = no_statement_define i
 
 -- what stands for a tree and begins with a definition
-pub record Cut (d : Defined) (letter : ℕ) (undoable : Bool) (rest : List Token) (tree : Source) : Type 0 where
-  pub free : IsFree d letter
-  pub stands : StandsFor (define d letter undoable) rest tree
+record Cut (d : Defined) (new : Definition) (rest : List Sign) (tree : Source) : Type 0 where
+  free : IsFree d new.name
+  stands : StandsFor (define d new) rest tree
 
-cut : {d : Defined} {tokens rest : List Token} {l : ℕ} {u : Bool} {tree : Source} → IsDefinition tokens l u rest → StandsFor d tokens tree → Cut d l u rest tree
+cut : {d : Defined} {signs rest : List Sign} {new : Definition} {tree : Source} → IsDefinition signs new rest → StandsFor d signs tree → Cut d new rest tree
 cut p (states a) = absurd (no_statements_define p a)
-cut {d} {l} {u} {tree} p (defines {rest} {letter} {undoable} q f s) =
+cut {d} {new} {tree} p (defines {rest} {new = other} q f s) =
     let e = definition_unique q p in
     record {
-      free = subst (IsFree d) e.letter f;
-      stands = subst (λ r. StandsFor (define d l u) r tree) e.rest (subst (λ v. StandsFor (define d l v) rest tree) e.undoable (subst (λ k. StandsFor (define d k undoable) rest tree) e.letter s));
+      free = subst (λ x. IsFree d x.name) e.part f;
+      stands = subst (λ r. StandsFor (define d new) r tree) e.rest (subst (λ x. StandsFor (define d x) rest tree) e.part s);
     }
 
-pub record DefinitionsSofar (start rest : List Token) (d : Defined) : Type 0 where
+pub record DefinitionsSofar (start rest : List Sign) (d : Defined) : Type 0 where
   pub sound : (tree : Source) → StandsFor d rest tree → StandsFor nothing start tree
   pub complete : (tree : Source) → StandsFor nothing start tree → StandsFor d rest tree
 
-pub definitions_begin : (start : List Token) (d : Defined) → d ≡ nothing → DefinitionsSofar start start d
-definitions_begin start d e = subst (DefinitionsSofar start start) (sym e) (record { sound = λ tree s. s; complete = λ tree s. s })
+module _ (start rest after : List Sign) (d : Defined) (new : Definition) (s : DefinitionsSofar start rest d) (p : IsDefinition rest new after) where
+  pub definitions_go_on : (e : Defined) → IsFree d new.name → e ≡ define d new → DefinitionsSofar start after e
+  definitions_go_on e f q = subst (DefinitionsSofar start after) (sym q) (record {
+    sound = λ tree a. s.sound tree (defines p f a);
+    complete = λ tree a. (cut p (s.complete tree a)).stands;
+  })
 
-pub definitions_go_on : (start rest after : List Token) (d e : Defined) (letter : ℕ) (undoable : Bool) → DefinitionsSofar start rest d → IsDefinition rest letter undoable after → IsFree d letter → e ≡ define d letter undoable → DefinitionsSofar start after e
-definitions_go_on start rest after d e letter undoable s p f q = subst (DefinitionsSofar start after) (sym q) (record {
-  sound = λ tree a. s.sound tree (defines p f a);
-  complete = λ tree a. (cut p (s.complete tree a)).stands;
-})
+  pub no_definitions : (IsFree d new.name → ⊥) → (tree : Source) → StandsFor nothing start tree → ⊥
+  no_definitions f tree a = f (cut p (s.complete tree a)).free
 
-pub no_definitions : (start rest after : List Token) (d : Defined) (letter : ℕ) (undoable : Bool) → DefinitionsSofar start rest d → IsDefinition rest letter undoable after → (IsFree d letter → ⊥) → (tree : Source) → StandsFor nothing start tree → ⊥
-no_definitions start rest after d letter undoable s p f tree a = f (cut p (s.complete tree a)).free
-
--- behind the last definition only statements stand for a tree
-pub only_statements : {d : Defined} {tokens : List Token} {tree : Source} → ((letter : ℕ) (undoable : Bool) (rest : List Token) → IsDefinition tokens letter undoable rest → ⊥) → ((body : Body) → AreStatements d.names 1 tokens body → ⊥) → StandsFor d tokens tree → ⊥
-only_statements n m (states {body} a) = m body a
-only_statements n m (defines {rest} {letter} {undoable} p f s) = n letter undoable rest p
-
-stands_unique : {d : Defined} {tokens : List Token} {a b : Source} → StandsFor d tokens a → StandsFor d tokens b → a ≡ b
+pub stands_unique : {d : Defined} {signs : List Sign} {a b : Source} → StandsFor d signs a → StandsFor d signs b → a ≡ b
 stands_unique {d} (states a) (states b) = ap (source_with d) (statements_unique a b)
 stands_unique (states a) (defines p f s) = absurd (no_statements_define p a)
 stands_unique (defines p f s) t = stands_unique s (cut p t).stands
-
--- a text has at most one tree
-pub one_tree : (text : List ℕ) (a b : Source) → IsSourceOf text a → IsSourceOf text b → a ≡ b
-one_tree text a b p q = stands_unique p.stands_for (subst (λ ts. StandsFor nothing ts b) (tokens_unique q.are_tokens p.are_tokens) q.stands_for)
-
--- what stands for no tree is no source
-pub no_source : (text : List ℕ) (tokens : List Token) → AreTokens text tokens → ((tree : Source) → StandsFor nothing tokens tree → ⊥) → (tree : Source) → IsSourceOf text tree → ⊥
-no_source text tokens a n tree p = n tree (subst (λ ts. StandsFor nothing ts tree) (tokens_unique p.are_tokens a) p.stands_for)
-
-pub no_tokens_no_source : (text : List ℕ) → ((tokens : List Token) → AreTokens text tokens → ⊥) → (tree : Source) → IsSourceOf text tree → ⊥
-no_tokens_no_source text n tree p = n p.tokens p.are_tokens
-
--- no statements, no tree
-pub no_tree : (tokens rest : List Token) (d : Defined) → ((tree : Source) → StandsFor nothing tokens tree → StandsFor d rest tree) → ((letter : ℕ) (undoable : Bool) (r : List Token) → IsDefinition rest letter undoable r → ⊥) → ((body : Body) → AreStatements d.names 1 rest body → ⊥) →
-    (tree : Source) → StandsFor nothing tokens tree → ⊥
-no_tree tokens rest d c n m tree s = only_statements n m (c tree s)
-
--- the tree that was made is the text's
-pub is_source : (text : List ℕ) (tokens rest : List Token) (d : Defined) (body : Body) (tree : Source) → AreTokens text tokens → ((tree : Source) → StandsFor d rest tree → StandsFor nothing tokens tree) → AreStatements d.names 1 rest body → tree ≡ source_with d body → IsSourceOf text tree
-is_source text tokens rest d body tree a s b e = subst (IsSourceOf text) (sym e) (record { tokens = tokens; are_tokens = a; stands_for = s (source_with d body) (states b) })

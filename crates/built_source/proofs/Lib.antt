@@ -1,8 +1,10 @@
-pub mod Bytes
-pub mod Words
-pub mod Ahead
-pub mod Gaps
+pub mod Signs
 pub mod Blocks
 pub mod Parts
+pub mod Shorter
+pub mod Rows
 pub mod Sofar
 pub mod Definitions
+pub mod Names
+pub mod Sources
+pub mod Violations

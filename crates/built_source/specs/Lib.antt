@@ -1,5 +1,5 @@
-pub mod Text
-pub mod Ahead
+pub mod Signs
+pub mod Defined
 pub mod Form
-pub mod Scope
+pub mod Sources
 pub mod Examples

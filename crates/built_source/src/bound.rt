@@ -1,45 +1,46 @@
 //! The parts of the bound tree.
 
-ghost use Rattle.std.specs.Prelude.{◌≡◌, IfOk, None, true, false};
-ghost use Rattle.bound_tree.specs.Tree.{Inner, Shows, ThenLeave, UndoBlock};
-ghost use Rattle.bound_tree.specs.Bound.{body_of, expr_of, header_of, item_of, stmt_of};
+ghost use Rattle.std.specs.Prelude.{◌≡◌, None, false, map, true};
+ghost use Rattle.bound_tree.specs.Tree.{Assign, Inner, Shows, ThenLeave, UndoBlock};
+ghost use Rattle.bound_tree.specs.Bound.{assignment_of, body_of, expr_of, header_of, item_of, stmt_of};
 ghost use Rattle.bound_tree.specs.declared.block.BlockKind.TheVariants.{Do};
-ghost use Rattle.built_source.specs.Form.{assign, header};
+ghost use Rattle.built_source.specs.Form.{gives, header};
 
 use abl_base::Value;
 use bound_tree::{
     Action, Assignment, BlockKind, Expr, Flags, Header, PutItem, Right, Stmt, Target, Variable,
 };
-use std::alloc::{AllocFailed, Global};
+use std::alloc::Global;
 
-/// The assignment of a number to a variable.
-pub fn assignment(
-    alloc: Global,
-    variable: Variable,
-    number: i32,
-) -> Result<Stmt, AllocFailed<Assignment>>
-    ensures { IfOk result (λ stmt. stmt_of stmt ≡ assign variable number) }
+/// The assignment of a literal to a variable.
+pub(crate) fn assigned(variable: Variable, literal: Value) -> Assignment
+    ensures { assignment_of result ≡ gives variable literal }
 {
-    let mut pairs = Vec::new(alloc);
-    pairs.push(Assignment {
+    Assignment {
         target: Target::Variable(variable),
-        right: Right::Value(Expr::Literal(Value::Int(number))),
-    })?;
-    Ok(Stmt::Assign {
+        right: Right::Value(Expr::Literal(literal)),
+    }
+}
+
+/// The statement that does these assignments.
+pub(crate) fn assign(pairs: Vec<Assignment>) -> Stmt
+    ensures { stmt_of result ≡ Assign (map assignment_of pairs.items) false }
+{
+    Stmt::Assign {
         pairs,
         no_error: false,
-    })
+    }
 }
 
 /// The plain text of a value, as an item of PUT.
-pub fn shown(value: Expr) -> PutItem
+pub(crate) fn shown(value: Expr) -> PutItem
     ensures { item_of result ≡ Shows (expr_of value) None }
 {
     PutItem::Shows { value, mask: None }
 }
 
 /// UNDO, LEAVE of the block.
-pub fn undo_of(block: u32) -> Stmt
+pub(crate) fn undo_of(block: u32) -> Stmt
     ensures { stmt_of result ≡ UndoBlock block (ThenLeave block) }
 {
     Stmt::Undo {
@@ -49,7 +50,7 @@ pub fn undo_of(block: u32) -> Stmt
 }
 
 /// The block DO TRANSACTION with this number, line and body.
-pub fn block_of(alloc: Global, number: u32, line: u32, body: Vec<Stmt>) -> Stmt
+pub(crate) fn block_of(alloc: Global, number: u32, line: u32, body: Vec<Stmt>) -> Stmt
     ensures { stmt_of result ≡ Inner (header number Do true) (body_of body.items) }
 {
     Stmt::Block {
@@ -59,7 +60,7 @@ pub fn block_of(alloc: Global, number: u32, line: u32, body: Vec<Stmt>) -> Stmt
 }
 
 /// The header of the external procedure's block, or of DO TRANSACTION.
-pub fn header_with(
+pub(crate) fn header_with(
     alloc: Global,
     number: u32,
     kind: BlockKind,

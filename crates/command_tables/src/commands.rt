@@ -10,11 +10,12 @@ const MOST_WRITTEN: u64 = 100_000;
 
 /// The status of a row's command, and what then stands on the two streams.
 pub fn answer(alloc: Global, row: &str) -> Result<String, AllocError> {
-    let Some((words, source)) = row.split_once('\t') else {
+    let Some((words, texts)) = row.split_once('\t') else {
         return String::from_str(alloc, "no row");
     };
+    let (source, schema) = texts.split_once('\t').unwrap_or((texts, ""));
     let words = words_of(alloc, words)?;
-    let mut files = only_p(alloc, source)?;
+    let mut files = files_with(alloc, source, schema)?;
     let mut out = MemOut::new(alloc, MOST_WRITTEN, &[])?;
     let report = run_abl(alloc, &words, &mut files, &mut out);
     let output = shown(alloc, out.text(Stream::Output))?;
@@ -33,21 +34,30 @@ fn words_of(alloc: Global, line: &str) -> Result<Vec<Word>, AllocError> {
     Ok(words)
 }
 
-/// Files of which only `p` is there, with this source.
-fn only_p(alloc: Global, source: &str) -> Result<MemFiles, AllocError> {
-    let mut bytes = Vec::new(alloc);
-    for byte in source.as_bytes() {
-        add_byte(&mut bytes, *byte)?;
-    }
+/// The files `p`, with this source, and `s.df`, with this schema.
+fn files_with(alloc: Global, source: &str, schema: &str) -> Result<MemFiles, AllocError> {
     let mut files = Vec::new(alloc);
     files.push(NamedFile {
         name: Bytes::of(alloc, b"p")?,
-        bytes: Items::from_vec(bytes),
+        bytes: text_of(alloc, source)?,
+    })?;
+    files.push(NamedFile {
+        name: Bytes::of(alloc, b"s.df")?,
+        bytes: text_of(alloc, schema)?,
     })?;
     MemFiles::new(alloc, &Items::from_vec(files), &[])
 }
 
-/// Adds what a byte of a row's source stands for.
+/// The text that a row writes so.
+fn text_of(alloc: Global, written: &str) -> Result<Bytes, AllocError> {
+    let mut bytes = Vec::new(alloc);
+    for byte in written.as_bytes() {
+        add_byte(&mut bytes, *byte)?;
+    }
+    Ok(Items::from_vec(bytes))
+}
+
+/// Adds what a byte of a row's text stands for.
 fn add_byte(bytes: &mut Vec<u8>, byte: u8) -> Result<(), AllocError> {
     match byte {
         b'|' => bytes.push(b'\n')?,

@@ -1,7 +1,7 @@
-use Rattle.abl_cli.proofs.Judged.{fine}
+use Rattle.abl_cli.proofs.Prevented.{fine}
 use Rattle.abl_cli.proofs.laws.a_run_without_faults_is_done.Goals as goal
 
 pub returns : goal.returns
 returns c =
-    λ words shelf faults old new report did run is_run are told sound text there short tree form quiet.
-    fine words shelf faults old new report run is_run are told sound text there short tree form did quiet
+    λ words shelf faults old new report run did names df text schema_is source_is clean tree form quiet.
+    fine words shelf faults old new report run names df text schema_is source_is did clean form quiet

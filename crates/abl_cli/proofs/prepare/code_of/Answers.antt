@@ -1,12 +1,20 @@
--- A text that is refused stands for no tree, since what stands for one is built.
-use Rattle.std.proofs.Common.{refl, ap, Err}
+-- What stands for a tree is built.
+use Rattle.std.proofs.Common.{ap, Err}
+use Rattle.abl_cli.specs.Command.{breaks_rule, source_wants}
 use Rattle.abl_cli.proofs.BuiltForms.{bound_is_built}
 use Rattle.abl_cli.proofs.prepare.code_of.Goals as goal
 
-pub returns-in-Err-NotBuilt-compile-clause-refused : goal.returns-in-Err-NotBuilt-compile-clause-refused
-returns-in-Err-NotBuilt-compile-clause-refused c =
-    absurd (c.in-Err-NotBuilt-compile.ensures.not_built (ap Err c.in-Err-NotBuilt-compile.field-0-is) (bound_is_built c.args.text.now c.in-Ok.bound c.in-Ok.ensures.tree))
+pub returns-in-Err-NoMemory-compile-clause-refused : goal.returns-in-Err-NoMemory-compile-clause-refused
+returns-in-Err-NoMemory-compile-clause-refused c = source_wants
 
-pub returns-in-Err-NotBuilt-clause-refused : goal.returns-in-Err-NotBuilt-clause-refused
-returns-in-Err-NotBuilt-clause-refused c =
-    (refl, refl, refl, c.in-Err-NotBuilt.ensures.none (ap Err c.in-Err-NotBuilt.field-0-is))
+pub returns-in-Err-Broken-clause-refused : goal.returns-in-Err-Broken-clause-refused
+returns-in-Err-Broken-clause-refused c =
+    let first = c.in-Err-Broken.ensures.broken _ _ (ap Err c.in-Err-Broken.field-0-is) in
+    breaks_rule (rw (← c.in-Err-Broken.rule-is, ← c.in-Err-Broken.place-is) at first)
+
+pub returns-in-Err-NoMemory-clause-refused : goal.returns-in-Err-NoMemory-clause-refused
+returns-in-Err-NoMemory-clause-refused c = source_wants
+
+pub unreachable-requires : goal.unreachable-requires
+unreachable-requires c =
+    c.in-Err-NotBuilt.ensures.not_built (ap Err c.in-Err-NotBuilt.field-0-is) (bound_is_built c.args.text.now c.in-Ok.bound c.in-Ok.ensures.tree)

@@ -1,10 +1,9 @@
 use Rattle.std.proofs.Common.{◌≡◌, ◌++◌, List, map, drop}
-use Rattle.built_source.specs.declared.token.Token.{Token}
-use Rattle.built_source.specs.declared.token.Token.TheVariants as t
+use Rattle.built_source.specs.Signs.{Sign, Word, signs_of}
 use Rattle.built_source.proofs.front.behind.Given as goal
 
-abbrev pub invariant-loop-mark : goal.invariant-loop-mark
-invariant-loop-mark l = record {
-  sound : (r : List Token) → l.rest ≡ map t.Mark (drop l.mark-index l.marks) ++ r → l.tokens ≡ map t.Mark l.marks ++ r;
-  complete : (r : List Token) → l.tokens ≡ map t.Mark l.marks ++ r → l.rest ≡ map t.Mark (drop l.mark-index l.marks) ++ r;
+abbrev pub invariant-loop-kind : goal.invariant-loop-kind
+invariant-loop-kind l = record {
+  sound : (r : List Sign) → signs_of l.rest ≡ map Word (drop l.kind-index l.kinds) ++ r → signs_of l.tokens ≡ map Word l.kinds ++ r;
+  complete : (r : List Sign) → signs_of l.tokens ≡ map Word l.kinds ++ r → signs_of l.rest ≡ map Word (drop l.kind-index l.kinds) ++ r;
 }
