@@ -25,8 +25,8 @@ shown_built shown_literal = refl
 
 item_built : {names : List NamedVariable} {signs rest : List Sign} {item : Item} → IsItem names signs item rest → item_is_built item ≡ true
 item_built (item_shown shown) = shown_built shown
-item_built (item_skip count) = refl
-item_built (item_space count) = refl
+item_built (item_skip times) = refl
+item_built (item_space times) = refl
 
 items_built : {names : List NamedVariable} {signs rest : List Sign} {items : List Item} → AreItems names signs items rest → items_are_built items ≡ true
 items_built items_end = refl

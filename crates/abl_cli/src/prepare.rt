@@ -1,7 +1,6 @@
 //! From the words of a run to the code of its source.
 
 ghost use Rattle.std.specs.Prelude.{◌≡◌, ◌≤◌, None, IsTrue, IfErr, IfOk, OnOk, length};
-ghost use Rattle.schema_lines.specs.Files.{items_of};
 ghost use Rattle.abl_schema.specs.Rules.{violation_of};
 ghost use Rattle.abl_cli.specs.Command.{BreaksSchema, BreaksSource, HasText, IsCodeOf, IsNotRead, IsReady, Prevents};
 ghost use Rattle.abl_cli.specs.declared.refusal.Refusal.{Refusal as TheRefusal};

@@ -16,18 +16,19 @@ use std::{env, io};
 const HELP: &str = "\
 abl DATABASE run SCHEMA STEPS MODE NAME=PROG
 
-Compiles the ABL source PROG and runs it as client NAME, which may spend STEPS
-units (1 to 999999999). The client's output goes to standard output, and in
-MODE trace the lines of what it asked of the database and was answered too; in
-MODE quiet nothing else. How the command ended goes to standard error, with the
-status:
+Reads the schema file SCHEMA, compiles the ABL source PROG and runs it as client
+NAME, which may spend STEPS units (1 to 999999999). The client's output goes to
+standard output, and in MODE trace the lines of what it asked of the database
+and was answered too; in MODE quiet nothing else. How the command ended goes to
+standard error, with the status:
 
   0  the client ended          6  standard output was not taken
   1  wrong words               7  memory was wanting
   2  a file cannot be read     8  the client ended in an error or a stop
-  4  the source breaks a rule  10 a file is too long
+  3  the schema breaks a rule  10 a file is too long
+  4  the source breaks a rule
 
-DATABASE and SCHEMA are not read yet.
+DATABASE is not read yet.
 
 abl --help     this text
 abl --version  the version
