@@ -14,28 +14,6 @@ pub enum SourceFault {
     NoMemory,
 }
 
-impl From<AllocError> for SourceFault {
-    ghost use Rattle.std.specs.Prelude.{◌≡◌};
-    ghost use Rattle.built_source.specs.declared.fault.SourceFault.TheVariants.{NoMemory};
-
-    ghost from_gives = { λ _ fault. fault ≡ NoMemory };
-
-    fn from(_: AllocError) -> SourceFault {
-        SourceFault::NoMemory
-    }
-}
-
-impl<T: Drop> From<AllocFailed<T>> for SourceFault {
-    ghost use Rattle.std.specs.Prelude.{◌≡◌};
-    ghost use Rattle.built_source.specs.declared.fault.SourceFault.TheVariants.{NoMemory};
-
-    ghost from_gives = { λ _ fault. fault ≡ NoMemory };
-
-    fn from(_: AllocFailed<T>) -> SourceFault {
-        SourceFault::NoMemory
-    }
-}
-
 /// Why a part of a source was not read.
 #[derive(Debug, Drop)]
 pub(crate) enum PartFault {
