@@ -1,0 +1,27 @@
+-- What a call answers, beside what is to be given.
+use Rattle.std.specs.Prelude.{◌≡◌, Bool, true, false, Result, Ok, Err}
+use Rattle.abl_base.specs.declared.value.Value.{Value}
+use Rattle.abl_base.specs.declared.value.Value.TheVariants.{Logical}
+use Rattle.abl_values.specs.declared.arithmetic.ArithFault.{ArithFault}
+use Rattle.abl_values.specs.declared.arithmetic.ArithFault.TheVariants as arith
+use Rattle.abl_expr.specs.declared.fault.RunFault.TheVariants.{Range}
+use Rattle.abl_expr.specs.Operators.{Given}
+use Rattle.abl_eval.specs.declared.fault.EvalFault.{EvalFault}
+use Rattle.abl_eval.specs.declared.fault.EvalFault.TheVariants.{Fault, NoMemory}
+
+-- the call answers what is given, or memory is wanting
+abbrev pub Gives : Result Value EvalFault → Given → Type 0
+Gives (Ok v) given = given ≡ Ok v
+Gives (Err (Fault fault)) given = given ≡ Err fault
+Gives (Err NoMemory) given = Unit {0}
+
+-- what an operator on values answers, where an overflow is a fault of range
+abbrev pub ranged : Result Value ArithFault → Result Value EvalFault
+ranged (Ok v) = Ok v
+ranged (Err arith.Overflow) = Err (Fault Range)
+ranged (Err arith.NoMemory) = Err NoMemory
+
+-- the value is no
+abbrev pub is_no : Value → Bool
+is_no (Logical false) = true
+is_no v = false

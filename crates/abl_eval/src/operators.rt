@@ -1,0 +1,137 @@
+//! Comparisons, signs, NOT, and what the operators make of two values (OpenEdge ABL Reference, each
+//! operator by its name).
+
+ghost use Rattle.std.specs.Prelude.{◌≡◌, Ok, false};
+ghost use Rattle.abl_expr.specs.Operators.{and_then, at_least, at_most, compared_as, equals, greater, holds, is_unknown, less, negative, opposite, or_else, positive};
+ghost use Rattle.abl_eval.specs.Gives.{Gives, is_no};
+
+use crate::arguments::is_unknown;
+use crate::fault::{EvalFault, ranged};
+use abl_base::Value;
+use abl_values::{add, compare, subtract};
+use std::alloc::Global;
+use std::cmp::Ordering;
+
+/// `=`: `?` equals `?` and nothing else.
+pub(crate) fn equals(a: &Value, b: &Value) -> bool
+    ensures { result ≡ equals a.now b.now }
+{
+    matches!(compare(a, b), Ordering::Equal)
+}
+
+/// `<`.
+pub(crate) fn less(a: &Value, b: &Value) -> Value
+    ensures { result ≡ less a.now b.now }
+{
+    compared(a, b, false, matches!(compare(a, b), Ordering::Less))
+}
+
+/// `>`.
+pub(crate) fn greater(a: &Value, b: &Value) -> Value
+    ensures { result ≡ greater a.now b.now }
+{
+    compared(a, b, false, matches!(compare(a, b), Ordering::Greater))
+}
+
+/// `<=`. Between `?` and `?` it is yes.
+pub(crate) fn at_most(a: &Value, b: &Value) -> Value
+    ensures { result ≡ at_most a.now b.now }
+{
+    compared(
+        a,
+        b,
+        true,
+        matches!(compare(a, b), Ordering::Less | Ordering::Equal),
+    )
+}
+
+/// `>=`. Between `?` and `?` it is yes.
+pub(crate) fn at_least(a: &Value, b: &Value) -> Value
+    ensures { result ≡ at_least a.now b.now }
+{
+    compared(
+        a,
+        b,
+        true,
+        matches!(compare(a, b), Ordering::Greater | Ordering::Equal),
+    )
+}
+
+/// A comparison by order that is `both` where both sides are `?`, and `?` where one is.
+fn compared(a: &Value, b: &Value, both: bool, holds: bool) -> Value
+    ensures { result ≡ compared_as (is_unknown a.now) (is_unknown b.now) both holds }
+{
+    match (is_unknown(a), is_unknown(b)) {
+        (true, true) => Value::Logical(both),
+        (false, false) => Value::Logical(holds),
+        (true, false) | (false, true) => Value::Unknown,
+    }
+}
+
+/// The sign `+`.
+pub(crate) fn positive(alloc: Global, value: &Value) -> Result<Value, EvalFault>
+    ensures { Gives result (positive value.now) }
+{
+    ranged(add(alloc, &Value::Int64(0), value))
+}
+
+/// The sign `-`.
+pub(crate) fn negative(value: &Value) -> Result<Value, EvalFault>
+    ensures { Gives result (negative value.now) }
+{
+    ranged(subtract(&Value::Int64(0), value))
+}
+
+/// NOT.
+pub(crate) fn opposite(value: &Value) -> Value
+    ensures { result ≡ opposite value.now }
+{
+    match value {
+        Value::Logical(yes) => Value::Logical(!*yes),
+        _ => Value::Unknown,
+    }
+}
+
+/// Whether a condition holds; `?` counts as no.
+pub(crate) fn holds(value: &Value) -> bool
+    ensures { result ≡ holds value.now }
+{
+    match value {
+        Value::Logical(yes) => *yes,
+        _ => false,
+    }
+}
+
+/// Whether the value is no.
+pub(crate) fn is_no(value: &Value) -> bool
+    ensures { result ≡ is_no value.now }
+{
+    matches!(value, Value::Logical(false))
+}
+
+/// Whether the value is yes.
+pub(crate) fn is_yes(value: &Value) -> bool
+    ensures { result ≡ holds value.now }
+{
+    matches!(value, Value::Logical(true))
+}
+
+/// AND of two values of which the first is not no.
+pub(crate) fn conjunction(a: &Value, b: Value) -> Value
+    ensures { is_no a.now ≡ false → and_then a.now (Ok b) ≡ Ok result }
+{
+    match a {
+        Value::Logical(_) => b,
+        _ => Value::Unknown,
+    }
+}
+
+/// OR of two values of which the first is not yes.
+pub(crate) fn disjunction(a: &Value, b: Value) -> Value
+    ensures { holds a.now ≡ false → or_else a.now (Ok b) ≡ Ok result }
+{
+    match a {
+        Value::Logical(_) => b,
+        _ => Value::Unknown,
+    }
+}
