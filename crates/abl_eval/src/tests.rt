@@ -11,6 +11,7 @@ use crate::{EvalFault, Surroundings, evaluate};
 use abl_base::{Items, Kind, Value};
 use abl_expr::RunFault;
 use abl_masks::mask_fits;
+use bound_tree::Ternary::{DateOf, Entry, Substring};
 use bound_tree::{Binary, Expr, Ternary, Unary, Variable};
 use std::alloc::{AllocError, Global};
 use std::process::Abort;
@@ -277,22 +278,14 @@ fn functions_of_one_value(rt: HostRuntime) -> Result<(), Fail> {
 
 #[test]
 fn functions_of_two_values(rt: HostRuntime) -> Result<(), Fail> {
+    let outside = Err(RunFault::Argument);
+    let no_record = Err(RunFault::EmptyBuffer(1));
     let rows = [
         (Binary::Add, Leaf::Variable(0), Int(1), Ok(Int64(8))),
         (Binary::Add, Text(b"a"), Text(b"b"), Ok(Text(b"ab"))),
         (Binary::Add, Int64(i64::MAX), Int(1), Err(RunFault::Range)),
-        (
-            Binary::Add,
-            Field(2),
-            Field(1),
-            Err(RunFault::EmptyBuffer(2)),
-        ),
-        (
-            Binary::Subtract,
-            Unknown,
-            Field(1),
-            Err(RunFault::EmptyBuffer(1)),
-        ),
+        (Binary::Add, Field(1), Field(2), no_record),
+        (Binary::Subtract, Unknown, Field(1), no_record),
         (Binary::Multiply, Int(-3), Int(4), Ok(Int64(-12))),
         (Binary::Divide, Int(1), Int(0), Ok(Unknown)),
         (Binary::Modulo, Int(-7), Int(3), Ok(Int64(-1))),
@@ -304,21 +297,11 @@ fn functions_of_two_values(rt: HostRuntime) -> Result<(), Fail> {
         (Binary::Less, Unknown, Unknown, Ok(Truth(false))),
         (Binary::AtMost, Unknown, Unknown, Ok(Truth(true))),
         (Binary::AtLeast, Int(1), Int(2), Ok(Truth(false))),
-        (
-            Binary::Begins,
-            Text(b"Hello"),
-            Text(b"hE "),
-            Ok(Truth(true)),
-        ),
+        (Binary::Begins, Text(b"Hell"), Text(b"hE "), Ok(Truth(true))),
         (Binary::NumEntries, Text(b"a,b,,"), Text(b","), Ok(Int64(4))),
         (Binary::NumEntries, Text(b"aaa"), Text(b"aa"), Ok(Int64(2))),
         (Binary::NumEntries, Text(b""), Text(b","), Ok(Int64(0))),
-        (
-            Binary::NumEntries,
-            Text(b"a"),
-            Text(b""),
-            Err(RunFault::Argument),
-        ),
+        (Binary::NumEntries, Text(b"a"), Text(b""), outside),
     ];
     for (operator, a, b, want) in rows {
         expect_of_two(&rt, rt.alloc(), operator, a, b, want)?;
@@ -330,56 +313,20 @@ fn functions_of_two_values(rt: HostRuntime) -> Result<(), Fail> {
 fn functions_of_three_values(rt: HostRuntime) -> Result<(), Fail> {
     let outside = Err(RunFault::Argument);
     let rows = [
-        (
-            Ternary::Substring,
-            Text(b"hello"),
-            Int(2),
-            Int(3),
-            Ok(Text(b"ell")),
-        ),
-        (
-            Ternary::Substring,
-            Text(b"hello"),
-            Int(4),
-            Int(-1),
-            Ok(Text(b"lo")),
-        ),
-        (
-            Ternary::Substring,
-            Text(b"hello"),
-            Int(9),
-            Int(2),
-            Ok(Text(b"")),
-        ),
-        (Ternary::Substring, Text(b"hello"), Int(0), Int(1), outside),
-        (Ternary::Substring, Text(b"hello"), Int(1), Int(-2), outside),
-        (Ternary::Substring, Unknown, Int(0), Int(1), Ok(Unknown)),
-        (
-            Ternary::Entry,
-            Int(2),
-            Text(b"a,bc,d"),
-            Text(b","),
-            Ok(Text(b"bc")),
-        ),
-        (
-            Ternary::Entry,
-            Int(1),
-            Text(b"x--y"),
-            Text(b"--"),
-            Ok(Text(b"x")),
-        ),
-        (
-            Ternary::Entry,
-            Int(3),
-            Text(b"a,b,"),
-            Text(b","),
-            Ok(Text(b"")),
-        ),
-        (Ternary::Entry, Int(4), Text(b"a,bc,d"), Text(b","), outside),
-        (Ternary::Entry, Int(1), Text(b""), Text(b","), outside),
-        (Ternary::DateOf, Int(2), Int(3), Int(2024), Ok(Day(19_756))),
-        (Ternary::DateOf, Int(2), Int(30), Int(2024), outside),
-        (Ternary::DateOf, Int(2), Unknown, Int(2024), Ok(Unknown)),
+        (Substring, Text(b"hello"), Int(2), Int(3), Ok(Text(b"ell"))),
+        (Substring, Text(b"hello"), Int(4), Int(-1), Ok(Text(b"lo"))),
+        (Substring, Text(b"hello"), Int(9), Int(2), Ok(Text(b""))),
+        (Substring, Text(b"hello"), Int(0), Int(1), outside),
+        (Substring, Text(b"hello"), Int(1), Int(-2), outside),
+        (Substring, Unknown, Int(0), Int(1), Ok(Unknown)),
+        (Entry, Int(2), Text(b"a,bc,d"), Text(b","), Ok(Text(b"bc"))),
+        (Entry, Int(1), Text(b"x--y"), Text(b"--"), Ok(Text(b"x"))),
+        (Entry, Int(3), Text(b"a,b,"), Text(b","), Ok(Text(b""))),
+        (Entry, Int(4), Text(b"a,bc,d"), Text(b","), outside),
+        (Entry, Int(1), Text(b""), Text(b","), outside),
+        (DateOf, Int(2), Int(3), Int(2024), Ok(Day(19_756))),
+        (DateOf, Int(2), Int(30), Int(2024), outside),
+        (DateOf, Int(2), Unknown, Int(2024), Ok(Unknown)),
     ];
     for (operator, a, b, c, want) in rows {
         expect_of_three(&rt, rt.alloc(), operator, (a, b, c), want)?;
@@ -389,27 +336,13 @@ fn functions_of_three_values(rt: HostRuntime) -> Result<(), Fail> {
 
 #[test]
 fn what_is_not_needed_is_not_looked_at(rt: HostRuntime) -> Result<(), Fail> {
+    let no_record = Err(RunFault::EmptyBuffer(1));
     let rows = [
-        (
-            Truth(false),
-            Field(1),
-            Ok(Truth(false)),
-            Err(RunFault::EmptyBuffer(1)),
-        ),
-        (
-            Truth(true),
-            Field(1),
-            Err(RunFault::EmptyBuffer(1)),
-            Ok(Truth(true)),
-        ),
+        (Truth(false), Field(1), Ok(Truth(false)), no_record),
+        (Truth(true), Field(1), no_record, Ok(Truth(true))),
         (Unknown, Truth(false), Ok(Unknown), Ok(Unknown)),
         (Truth(true), Unknown, Ok(Unknown), Ok(Truth(true))),
-        (
-            Field(1),
-            Field(2),
-            Err(RunFault::EmptyBuffer(1)),
-            Err(RunFault::EmptyBuffer(1)),
-        ),
+        (Field(1), Field(2), no_record, no_record),
     ];
     for (a, b, both, either) in rows {
         expect_of_and(&rt, rt.alloc(), a, b, both)?;
