@@ -86,7 +86,7 @@ cpstream=UTF-8
 """
 WORKED_TEXT = ["T item", "F itemnum INTEGER M 0", "F sizes - O ?", "I itemnum U P itemnum A"]
 good("worked", WORKED, WORKED_TEXT)
-good("worked spelt", WORKED, WORKED_TEXT + ["t Item ItemNum [zzzzzzzzz9] Sizes [] i ItemNum"])
+good("worked spelt", WORKED, WORKED_TEXT + ["t Item=0 ItemNum=0 [zzzzzzzzz9] Sizes=1 [] i ItemNum"])
 good("worked with carriage returns", WORKED.replace("\n", "\r\n"), WORKED_TEXT)
 good("worked with tabs", WORKED.replace("  ", "\t"), WORKED_TEXT)
 
@@ -253,7 +253,7 @@ good("a sequence that falls", sequence("s", "INCREMENT -3", "INITIAL -7"), ["S s
 good("bounds of a sequence", sequence("s", 'INITIAL "-9223372036854775808"', "INCREMENT 9223372036854775807"), ["S s -9223372036854775808 9223372036854775807"])
 good("last INCREMENT counts", sequence("s", "INCREMENT 2", "INCREMENT 3", "INITIAL 1", "INITIAL 4"), ["S s 4 3"])
 good("a sequence named as a table", T + sequence("t"), ["T t", "S t 0 1"])
-good("tables and sequences as they stand", sequence("a") + 'ADD TABLE "b"\n' + sequence("c") + 'ADD TABLE "a"\n', ["S a 0 1", "T b", "S c 0 1", "T a"])
+good("tables and sequences in the order of the file", sequence("a") + 'ADD TABLE "b"\n' + sequence("c") + 'ADD TABLE "a"\n', ["S a 0 1", "T b", "S c 0 1", "T a"])
 
 # ---- initial values
 
@@ -331,11 +331,11 @@ MASKS = [("character", "x(20)", "x(20)"), ("character", "X(20)", "X(20)"), ("cha
 KINDS = {"character": '""', "integer": "0", "int64": "0", "decimal": "0", "logical": "no", "date": "?", "datetime": "?"}
 good("masks spelt", T + "".join(field(f"f{i}", kind, f'FORMAT "{mask}"') for i, (kind, mask, _) in enumerate(MASKS)),
      ["T t"] + [f"F f{i} {'-' if kind == 'datetime' else kind.upper()} O {KINDS[kind]}" for i, (kind, _, _) in enumerate(MASKS)]
-     + ["t t" + "".join(f" f{i} [{kept}]" for i, (_, _, kept) in enumerate(MASKS))])
+     + ["t t=0" + "".join(f" f{i}={i} [{kept}]" for i, (_, _, kept) in enumerate(MASKS))])
 good("default masks spelt", T + "".join(field(kind, kind) for kind in KINDS),
      ["T t"] + [f"F {kind} {'-' if kind == 'datetime' else kind.upper()} O {KINDS[kind]}" for kind in KINDS]
-     + ["t t character [x(8)] integer [->,>>>,>>9] int64 [->,>>>,>>9] decimal [->>,>>9.99] logical [yes/no] date [99/99/99] datetime []"])
-good("last FORMAT counts spelt", one("integer", 'FORMAT ">>9"', 'FORMAT "?"'), ["T t", "F f INTEGER O 0", "t t f [->,>>>,>>9]"])
+     + ["t t=0 character=0 [x(8)] integer=1 [->,>>>,>>9] int64=2 [->,>>>,>>9] decimal=3 [->>,>>9.99] logical=4 [yes/no] date=5 [99/99/99] datetime=6 []"])
+good("last FORMAT counts spelt", one("integer", 'FORMAT ">>9"', 'FORMAT "?"'), ["T t", "F f INTEGER O 0", "t t=0 f=0 [->,>>>,>>9]"])
 
 # ---- limits
 
@@ -401,9 +401,17 @@ def dump():
 
 good("a dump", *dump())
 
+# ---- files at size, whose lines the program numbers: 100 tables of 250 fields, and with one more rule at the end
+
+SIZED = "".join(f'ADD TABLE "t{t}"\n%*250 ADD FIELD "f#" OF "t{t}" AS date\n' for t in range(100))
+SIZED_BYTES = sum(len(f"T t{t}\n") + sum(len(f"F f{f} DATE O ?\n") for f in range(250)) for t in range(100))
+SIZES = [("25,000 fields size", SIZED, f"{SIZED_BYTES} bytes, last F f249 DATE O ?"),
+         ("a rule broken after 25,000 fields", SIZED + 'ADD FIELD "f" OF "u" AS date\n', f"F4 at line {100 * 251 + 1}"),
+         ("20,000 skipped lines size", '%*20000 LABEL "#"\n' + T, "4 bytes, last T t")]
+
 
 def encoded(text):
-    """The lines of a file as they stand in the input."""
+    """The lines of a file as rows of the input."""
     lines = text.split("\n")
     last = lines.pop()
     rows = ["".join(c if 32 < ord(c) < 127 and c != "%" or c == " " else f"%{ord(c):02x}" for c in line) for line in lines]
@@ -415,5 +423,6 @@ def encoded(text):
 
 
 folder = Path("crates/schema_tables")
-(folder / "stdin").write_text("".join(f"== {name}\n{encoded(text)}" for name, text, _ in ROWS))
-(folder / "stdout").write_text("".join(f"== {name}\n{answer}\n" for name, _, answer in ROWS))
+(folder / "stdin").write_text("".join(f"== {name}\n{encoded(text)}" for name, text, _ in ROWS)
+                              + "".join(f"== {name}\n{text}" for name, text, _ in SIZES))
+(folder / "stdout").write_text("".join(f"== {name}\n{answer}\n" for name, _, answer in ROWS + SIZES))

@@ -312,10 +312,77 @@ def written():
         row(f"mask {kind} {shown(mask.encode())}", "fits" if fits else "does not fit")
 
 
+# ---- texts that denote values, worked by hand from the rules of docs/formats.md ('Texts')
+
+VALUES = [
+    ("integer", "-2147483648", "int:-2147483648"), ("integer", "2147483648", None), ("integer", "-", None),
+    ("integer", "", None), ("integer", "007", "int:7"), ("integer", "+1", None), ("integer", "1.0", None),
+    ("int64", "-2147483649", "int64:-2147483649"), ("int64", "9223372036854775807", "int64:9223372036854775807"),
+    ("int64", "9223372036854775808", None), ("int64", "-9223372036854775808", "int64:-9223372036854775808"),
+    ("decimal", "12.5", "dec:125000000000"), ("decimal", "-5.", "dec:-50000000000"), ("decimal", ".5", None),
+    ("decimal", "1.0000000001", "dec:10000000001"), ("decimal", "1.00000000000", None), ("decimal", "-0", "dec:0"),
+    ("decimal", "17014118346046923173168730371.5884105727", f"dec:{I128 - 1}"),
+    ("decimal", "17014118346046923173168730371.5884105728", None),
+    ("decimal", "-17014118346046923173168730371.5884105728", f"dec:{-I128}"),
+    ("decimal", "9" * 60, None),
+    ("logical", "YES", "yes"), ("logical", "True", "yes"), ("logical", "y", "yes"), ("logical", "T", "yes"),
+    ("logical", "no", "no"), ("logical", "fAlse", "no"), ("logical", "N", "no"), ("logical", "f", "no"),
+    ("logical", "ye", None), ("logical", "", None), ("logical", "1", None),
+    ("date", "1/01/70", "date:0"), ("date", "2/3/24", "date:19756"), ("date", "02/03/2024", "date:19756"),
+    ("date", "1/1/50", "date:-7305"), ("date", "12/31/49", f"date:{date(2049, 12, 31).toordinal() - EPOCH}"),
+    ("date", "1/1/0001", f"date:{FIRST}"), ("date", "12/31/9999", f"date:{LAST}"), ("date", "2/29/23", None),
+    ("date", "1/1/024", None), ("date", "001/1/24", None), ("date", "1/1/0000", None), ("date", "1/1/24/", None),
+    ("date", "13/1/24", None), ("date", "1-1-24", None), ("date", "1/1/", None), ("date", "/1/24", None),
+    ("character", "-1", "text:-1"), ("character", "", "text:"), ("character", "a b%", "text:a%20b%25"),
+]
+
+# ---- rows, keys and names, worked by hand from the rules of docs/formats.md ('Rows and keys')
+
+READ = [
+    ("integer,-", b"\x01\xff\xff\xff\xfe\x00", "int:-2 ?"), ("integer,-", b"\x01\xff\xff\xff\xfe\x01", None),
+    ("integer,-", b"\x01\xff\xff\xff", None), ("integer,-", b"\x00\x00\x00", None), ("integer,-", b"\x00\x00", "? ?"),
+    ("integer", b"\x02\x00\x00\x00\x01", None), ("integer", b"\x01\x80\x00\x00\x00", "int:-2147483648"),
+    ("int64", b"\x01\x00\x00\x00\x00\x00\x00\x01\x00", "int64:256"), ("int64", b"\x01\x00\x00\x00\x00\x00\x00\x01", None),
+    ("decimal", b"\x01" + b"\xff" * 16, "dec:-1"), ("decimal", b"\x01" + b"\xff" * 15, None),
+    ("character,logical", b"\x01\x00\x02ab\x01\x01", "text:ab yes"), ("character", b"\x01\x00\x03ab", None),
+    ("character", b"\x01\x00\x00", "text:"),
+    ("logical", b"\x01\x00", "no"), ("logical", b"\x01\x02", None), ("logical", b"\x01", None),
+    ("date", b"\x01\x00\x00\x4d\x2c", "date:19756"), ("date", b"\x01\x00\x2c\xc0\xa0", "date:2932896"),
+    ("date", b"\x01\x00\x2c\xc0\xa1", None), ("-", b"\x00", "?"), ("-", b"\x01", None), ("-", b"", None),
+]
+
+KEYS = [
+    ("0,2d,3,1d", "text:A%00%20 dec:-1 yes int:-2147483648",
+     b"\x01a\x00\xff\x00\x00\xfe\xfe\x01\x7f\xff\xff\xff\x80\x00\x00\x00\xfe\x80" + b"\x00" * 15),
+    ("0", "?", b"\x02"), ("0d", "?", b"\xfd"), ("1", "yes", b"\x02"), ("0", "no", b"\x01\x00"), ("0", "text:", b"\x01\x00\x00"),
+    ("0", "int:1", b"\x01\x80\x00\x00\x00\x00\x00\x00\x01"), ("0", "int64:-1", b"\x01\x7f" + b"\xff" * 7),
+    ("0", "date:0", b"\x01\x80\x00\x00\x00"), ("0", "dec:0", b"\x01\x80" + b"\x00" * 15),
+    ("0,0d", "text:Z", b"\x01z\x00\x00\xfe\x85\xff\xff"),
+]
+
+LONG = "abcdefghijklmnopqrstuvwxyzabcdef"
+NAMES = [("ItemNum ITEMNUM", "0 taken"), (f"ItemNum {LONG}g {LONG} {LONG.upper()}", "0 too-long 1 taken"), ("a b c B d", "0 1 2 taken 3")]
+
+
+def stored():
+    for kind, text, value in VALUES:
+        row(f"value {kind} {shown(text.encode())}", value or "no value")
+    row("run 30000", "text of 30000 bytes")
+    row("run 30001", "no value")
+    for kinds, data, values in READ:
+        row(f"read {kinds} {shown(data)}", f"{values} end" if values else "no row of them")
+    row("bytes of none", "")
+    for parts, values, data in KEYS:
+        row(f"key {parts} {values}", shown(data))
+    for names, answer in NAMES:
+        row(f"names {names}", f"{answer} end")
+
+
 operators()
 targets()
 calendar()
 written()
+stored()
 for left in ("", "add", "add int:1", "add int:1 what:2", "what int:1 int:2", "fit what int:1", "add int:2147483648 int:1"):
     row(left, "no row")
 folder = Path("crates/value_tables")

@@ -5,6 +5,7 @@ use Rattle.std.specs.Fmt.{decimal}
 use Rattle.abl_base.specs.declared.value.Value.{Value}
 use Rattle.abl_base.specs.declared.value.Value.TheVariants.{Text, Int, Int64, Dec, Logical, Date, Unknown}
 use Rattle.abl_base.specs.declared.value.Kind.TheVariants.{Character, Integer, Int64 as Whole64, Decimal, Logical as Truth, Date as Day}
+use Rattle.abl_base.specs.declared.limits.TheConstants.{DECIMAL_SCALE}
 use Rattle.abl_values.specs.Arithmetic.{rounded}
 use Rattle.abl_values.specs.Dates.{CivilDate, date_of_day}
 use Rattle.abl_values.specs.Masks.{is_digit_sign, is_mask_word_byte, is_nine, is_number_mask, is_text_mask, is_word_mask, mask_is_for, without_minus}
@@ -44,7 +45,7 @@ text_width (x ∷ b ∷ bs) = if b == 40 then number_of (take_while is_within bs
 
 -- ---- LOGICAL
 
--- the word for yes stands before the `/`, the word for no after it
+-- the word for yes is before the `/`, the word for no after it
 abbrev pub first_word : List ℕ → List ℕ
 first_word mask = take_while is_mask_word_byte mask
 
@@ -68,35 +69,35 @@ date_under mask d =
 
 -- ---- numbers
 
--- what stands before the point, without the `-`
+-- the part before the point, without the `-`
 abbrev pub is_before_point : ℕ → Bool
 is_before_point b = not (b == 46)
 
 abbrev pub whole_part : List ℕ → List ℕ
 whole_part mask = take_while is_before_point (without_minus mask)
 
--- how many decimals the mask has
+-- the number of decimals
 abbrev pub decimals_of : List ℕ → ℕ
 decimals_of mask = length (from_first_not is_before_point mask) - 1
 
--- how many digits a part of a mask has room for
+-- the number of digits that a part of a mask has room for
 abbrev pub room_of : List ℕ → ℕ
 room_of part = count_by is_digit_sign part
 
--- how many digits stand under a part of a mask at least
+-- the least number of digits under a part of a mask
 abbrev pub least_digits : List ℕ → ℕ
 least_digits part = count_by is_nine part
 
--- a magnitude as a decimal is stored, rounded to so many decimals, half away from zero, in units of the last one
+-- a magnitude as a decimal is stored, rounded to this number of decimals, a half away from zero, in units of the last one
 abbrev pub units_of : ℕ → ℕ → ℕ
-units_of decimals n = rounded (n * 10 ^ decimals) 10000000000
+units_of decimals n = rounded (n * 10 ^ decimals) DECIMAL_SCALE
 
 -- how many digits a number has, none where it is 0
 abbrev pub digit_count : ℕ → ℕ
 digit_count n = if n == 0 then 0 else length (decimal n)
 
 -- the signs of a mask and the digits of a number, both from the right: a sign takes the next digit,
--- and a comma stands where a digit stands left of it
+-- and a comma is written where a digit is left of it
 abbrev pub laid : List ℕ → List ℕ → List ℕ
 laid mask [] = []
 laid [] (d ∷ ds) = []
@@ -117,7 +118,7 @@ abbrev pub has_room : List ℕ → ℤ → ℕ → Bool
 has_room mask n units =
     nat_le (digit_count (units / 10 ^ decimals_of mask)) (room_of (whole_part mask)) && (has_minus mask || not (is_negative n && nat_lt 0 units))
 
--- a number under a mask, in units of the mask's last decimal. `-` stands directly before it
+-- a number under a mask, in units of the mask's last decimal. `-` is directly before its first digit
 abbrev pub units_under : List ℕ → ℤ → ℕ → List ℕ
 units_under mask n units =
     if has_room mask n units

@@ -9,7 +9,7 @@ use abl_values::export_value;
 use std::alloc::{AllocError, Global};
 
 /// The plain text of a value, as MESSAGE, PUT UNFORMATTED and STRING write it: a text as it is, and
-/// any other value as EXPORT writes it. Want of memory is the only refusal. (OpenEdge ABL Reference,
+/// any other value as EXPORT writes it. Out of memory is the only error. (OpenEdge ABL Reference,
 /// STRING; the form of dates is this project's choice.)
 #[tactic(auto, unfolding(abl_values::specs::Texts::plain_text, abl_values::specs::Texts::export_text))]
 pub fn plain(alloc: Global, value: &Value) -> Result<Bytes, AllocError>
@@ -27,7 +27,7 @@ pub fn plain(alloc: Global, value: &Value) -> Result<Bytes, AllocError>
 }
 
 /// The line that EXPORT writes of a row: its values in order with one blank between, texts in `"`
-/// with inner ones doubled, and a line feed. Want of memory is the only refusal. (OpenEdge ABL
+/// with inner ones doubled, and a line feed. Out of memory is the only error. (OpenEdge ABL
 /// Reference, EXPORT.)
 pub fn export_line(alloc: Global, row: &Row) -> Result<Bytes, AllocError>
     ensures { IfOk result (λ bytes. bytes ≡ export row.now) }

@@ -66,7 +66,7 @@ fn push_magnitude(text: &mut Vec<u8>, mask: &[u8], magnitude: Magnitude) -> Resu
     push_fraction(text, decimals_of(mask), magnitude)
 }
 
-/// Writes the point and the digits behind it, and nothing where the mask has no decimals.
+/// Writes the point and the digits after it, and nothing where the mask has no decimals.
 fn push_fraction(
     text: &mut Vec<u8>,
     decimals: usize,
@@ -92,9 +92,20 @@ fn push_whole(text: &mut Vec<u8>, part: &[u8], n: u128) -> Result<(), AllocError
     push_laid(text, part, least_digits(part).max(digit_count(n)), n)
 }
 
-/// Writes the last digits of a number under the part of a mask before the point, from the right: a
-/// sign takes a digit, and a comma stands where a digit stands left of it.
+/// Writes the last digits of a number under the part of a mask before the point.
 fn push_laid(text: &mut Vec<u8>, part: &[u8], digits: usize, n: u128) -> Result<(), AllocError>
+    ensures { OnOk result (text.new.items ≡ text.old.items
+        ++ reverse (laid (reverse part.now) (reverse (last_digits digits n)))) }
+{
+    match u64::try_from(n) {
+        Ok(small) => push_small_laid(text, part, digits, small),
+        Err(_) => push_wide_laid(text, part, digits, n),
+    }
+}
+
+/// Writes the last digits of a number of 64 bits under the part of a mask before the point, from the right: a
+/// sign takes a digit, and a comma is written where a digit is left of it.
+fn push_small_laid(text: &mut Vec<u8>, part: &[u8], digits: usize, n: u64) -> Result<(), AllocError>
     ensures { OnOk result (text.new.items ≡ text.old.items
         ++ reverse (laid (reverse part.now) (reverse (last_digits digits n)))) }
 {
@@ -105,10 +116,10 @@ fn push_laid(text: &mut Vec<u8>, part: &[u8], digits: usize, n: u128) -> Result<
         [] => Ok(()),
         [front @ .., sign] => {
             if *sign == b',' {
-                push_laid(text, front, digits, n)?;
+                push_small_laid(text, front, digits, n)?;
                 text.push(b',')?;
             } else {
-                push_laid(text, front, digits - 1, n / 10)?;
+                push_small_laid(text, front, digits - 1, n / 10)?;
                 text.push(48 + (n % 10) as u8)?;
             }
             Ok(())
@@ -116,8 +127,54 @@ fn push_laid(text: &mut Vec<u8>, part: &[u8], digits: usize, n: u128) -> Result<
     }
 }
 
-/// How many digits a number has, none where it is 0.
+/// Does the same for a number of 128 bits.
+fn push_wide_laid(text: &mut Vec<u8>, part: &[u8], digits: usize, n: u128) -> Result<(), AllocError>
+    ensures { OnOk result (text.new.items ≡ text.old.items
+        ++ reverse (laid (reverse part.now) (reverse (last_digits digits n)))) }
+{
+    if digits == 0 {
+        return Ok(());
+    }
+    match part {
+        [] => Ok(()),
+        [front @ .., sign] => {
+            if *sign == b',' {
+                push_wide_laid(text, front, digits, n)?;
+                text.push(b',')?;
+            } else {
+                push_wide_laid(text, front, digits - 1, n / 10)?;
+                text.push(48 + (n % 10) as u8)?;
+            }
+            Ok(())
+        }
+    }
+}
+
+/// The number of digits of a number, none where it is 0.
 fn digit_count(n: u128) -> usize
+    ensures { result ≡ digit_count n }
+{
+    match u64::try_from(n) {
+        Ok(small) => small_digit_count(small),
+        Err(_) => wide_digit_count(n),
+    }
+}
+
+/// The number of digits of a number of 64 bits.
+fn small_digit_count(n: u64) -> usize
+    ensures { result ≡ digit_count n }
+{
+    let mut count = 0;
+    let mut rest = n;
+    while rest > 0 {
+        rest /= 10;
+        count += 1;
+    }
+    count
+}
+
+/// The number of digits of a number of 128 bits.
+fn wide_digit_count(n: u128) -> usize
     ensures { result ≡ digit_count n }
 {
     let mut count = 0;
@@ -139,7 +196,7 @@ fn has_minus(mask: &[u8]) -> bool
     }
 }
 
-/// How many bytes stand before a point.
+/// The number of bytes before a point.
 fn len_before_point(bytes: &[u8]) -> usize
     ensures value { result ≡ prefix_len is_before_point bytes.now }
     ensures within { result ≤ length bytes.now }
@@ -147,7 +204,7 @@ fn len_before_point(bytes: &[u8]) -> usize
     bytes.iter().take_while(|byte| **byte != b'.').count()
 }
 
-/// What stands before the point, without the `-`.
+/// The part of a mask before the point, without the `-`.
 fn whole_part(mask: &[u8]) -> &[u8]
     ensures { result.now ≡ whole_part mask.now }
 {
@@ -155,21 +212,21 @@ fn whole_part(mask: &[u8]) -> &[u8]
     &unsigned[..len_before_point(unsigned)]
 }
 
-/// How many decimals the mask has.
+/// The number of decimals of a mask.
 fn decimals_of(mask: &[u8]) -> usize
     ensures { result ≡ decimals_of mask.now }
 {
     (mask.len() - len_before_point(mask)).saturating_sub(1)
 }
 
-/// How many digits a part of a mask has room for.
+/// The number of digits that a part of a mask has room for.
 fn room_of(part: &[u8]) -> usize
     ensures { result ≡ room_of part.now }
 {
     part.iter().filter(|byte| is_digit_sign(**byte)).count()
 }
 
-/// How many digits stand under a part of a mask at least.
+/// The least number of digits under a part of a mask.
 fn least_digits(part: &[u8]) -> usize
     ensures { result ≡ least_digits part.now }
 {

@@ -10,21 +10,19 @@ ghost use Rattle.abl_masks.specs.Put.{date_under, first_word, is_mask_for, is_wi
 
 use crate::filled::{on_the_left, on_the_right, push_last_digits};
 use crate::number::number_under;
+use abl_base::limits::DECIMAL_SCALE;
 use abl_base::{Bytes, Items, Kind, Value};
 use abl_values::{date_parts, mask_fits};
 use std::alloc::{AllocError, Global};
 
-/// How many units of a stored decimal make 1.
-const DECIMAL_UNITS: i128 = 10_000_000_000;
-
-/// What is written of a value under a mask that is one for its kind; `?` goes under a mask for any
-/// kind. A text is cut or filled with blanks on the right; yes and no are the mask's two words,
-/// filled to the longer; month and day have two digits and the year its last two or all four. A
-/// number is rounded to the mask's decimals, a half away from zero, and filled with blanks on the
-/// left; where it has more whole digits than the mask has signs for them, or is negative without
-/// `-`, the whole length is `?`. An unknown is one `?`, on the right under a mask for numbers, else
-/// on the left. Want of memory is the only refusal. (OpenEdge ABL Reference, Formats; what stands
-/// for a number that does not fit, and the place of `?`, are this project's choice.)
+/// The text of a value under a mask for its kind; `?` takes a mask for any kind. A text is cut or
+/// filled with blanks on the right; yes and no are the mask's two words, filled to the longer; month
+/// and day have two digits and the year its last two or all four. A number is rounded to the mask's
+/// decimals, a half away from zero, and filled with blanks on the left; where it has more whole
+/// digits than the mask has signs for them, or is negative and the mask has no `-`, all bytes are
+/// `?`. An unknown is one `?`, on the right under a mask for numbers, else on the left. Out of memory
+/// is the only error. (OpenEdge ABL Reference, Formats; the text of a number that does not fit, and
+/// the place of `?`, are this project's choice.)
 #[tactic(auto, unfolding(crate::specs::Put::put, abl_values::specs::Masks::mask_is_for))]
 pub fn put_item(alloc: Global, value: &Value, mask: &[u8]) -> Result<Bytes, AllocError>
     requires { IsTrue (is_mask_for mask.now value.now) }
@@ -45,7 +43,7 @@ pub fn put_item(alloc: Global, value: &Value, mask: &[u8]) -> Result<Bytes, Allo
 fn whole_units(n: i64) -> i128
     ensures { result ≡ scaled n }
 {
-    i128::from(n) * DECIMAL_UNITS
+    i128::from(n) * DECIMAL_SCALE as i128
 }
 
 /// The width of a text's mask: n of `x(n)`, or the length of a run of `x`.
@@ -79,7 +77,7 @@ fn digit(byte: u8) -> usize
     usize::from(byte.saturating_sub(b'0'))
 }
 
-/// How many bytes stand before the first `/` of a mask.
+/// The number of bytes before the first `/` of a mask.
 fn first_word_len(mask: &[u8]) -> usize
     ensures value { result ≡ prefix_len is_mask_word_byte mask.now }
     ensures within { result ≤ length mask.now }
@@ -87,14 +85,14 @@ fn first_word_len(mask: &[u8]) -> usize
     mask.iter().take_while(|byte| **byte != b'/').count()
 }
 
-/// The word of a mask that stands for yes.
+/// The word of a mask that denotes yes.
 fn first_word(mask: &[u8]) -> &[u8]
     ensures { result.now ≡ first_word mask.now }
 {
     &mask[..first_word_len(mask)]
 }
 
-/// The word of a mask that stands for no.
+/// The word of a mask that denotes no.
 fn second_word(mask: &[u8]) -> &[u8]
     ensures { result.now ≡ second_word mask.now }
 {
@@ -104,7 +102,7 @@ fn second_word(mask: &[u8]) -> &[u8]
     }
 }
 
-/// The word of a mask that stands for yes or no.
+/// The word of a mask that denotes yes or no.
 fn word_for(mask: &[u8], yes: bool) -> &[u8]
     ensures { result.now ≡ word_for mask.now yes }
 {
@@ -149,7 +147,7 @@ fn unknown_under(alloc: Global, mask: &[u8]) -> Result<Bytes, AllocError>
     }
 }
 
-/// How many bytes every value under the mask takes.
+/// The number of bytes that every value under the mask takes.
 #[tactic(auto, unfolding(abl_values::specs::Masks::mask_is_for))]
 fn width(mask: &[u8]) -> usize
     ensures { result ≡ width_of mask.now }

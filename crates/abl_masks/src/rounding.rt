@@ -5,34 +5,32 @@ ghost use Rattle.abl_values.specs.Arithmetic.{rounded};
 ghost use Rattle.abl_values.specs.Texts.{last_digits};
 ghost use Rattle.abl_masks.specs.Put.{units_of};
 
+use abl_base::limits::DECIMAL_PLACES;
 use abl_values::rounded;
-
-/// How many decimals of a number are stored.
-const STORED_DECIMALS: usize = 10;
 
 /// A magnitude rounded to the decimals of a mask.
 #[derive(Clone, Copy)]
 pub(crate) struct Magnitude {
-    /// What stands before the point.
+    /// The digits before the point.
     pub(crate) whole: u128,
     /// The magnitude in units of its last digit.
     pub(crate) units: u128,
-    /// How many of the mask's decimals it has, at most ten: the others are zeros.
+    /// The number of the mask's decimals that it has, at most `DECIMAL_PLACES`: the others are zeros.
     pub(crate) digits: usize,
 }
 
 impl Magnitude {
-    /// The magnitude of a decimal, as it is stored, with so many digits behind the point, a half
-    /// away from zero.
+    /// The magnitude of a decimal, as it is stored, rounded to this number of decimals, a half away
+    /// from zero.
     pub(crate) fn of(stored: u128, decimals: usize) -> Magnitude
         ensures whole { result.whole ≡ units_of decimals stored / 10 ^ decimals }
-        ensures behind { last_digits result.digits result.units ++ replicate (decimals - result.digits) 48
+        ensures after { last_digits result.digits result.units ++ replicate (decimals - result.digits) 48
             ≡ last_digits decimals (units_of decimals stored) }
         ensures zero { nat_lt 0 result.units ≡ nat_lt 0 (units_of decimals stored) }
         ensures digits { result.digits ≤ decimals }
     {
-        let digits = decimals.min(STORED_DECIMALS);
-        let units = rounded(stored, ten_to(STORED_DECIMALS - digits));
+        let digits = decimals.min(DECIMAL_PLACES);
+        let units = rounded(stored, ten_to(DECIMAL_PLACES - digits));
         Magnitude {
             whole: units / ten_to(digits),
             units,

@@ -12,7 +12,7 @@ use Rattle.std.proofs.lemmas.Iterator.Adapters.{position_from-zero}
 use Rattle.abl_values.specs.declared.schema.FieldDef.{FieldDef}
 use Rattle.abl_values.specs.declared.schema.IndexDef.{IndexDef}
 use Rattle.abl_values.specs.declared.schema.TableDef.{TableDef}
-use Rattle.abl_values.specs.declared.named.TheConstants.{MAX_NAME_BYTES}
+use Rattle.abl_base.specs.declared.limits.TheConstants.{MAX_NAME_BYTES}
 use Rattle.abl_values.specs.Schema.{IsWithinLimits, field_names, number_of_name, same_name}
 use Rattle.schema_lines.specs.declared.item.Head.{Head}
 use Rattle.schema_lines.specs.declared.item.Head.TheVariants.{Malformed, Table, Field, Index, Sequence}
@@ -20,7 +20,7 @@ use Rattle.schema_lines.specs.declared.item.Attributed.{Attributed}
 use Rattle.schema_lines.specs.declared.item.Item.{Item}
 use Rattle.schema_lines.specs.Attributes.{has, is_primary}
 use Rattle.abl_values.specs.Names.{is_letter, is_name, is_name_byte}
-use Rattle.abl_schema.specs.declared.limits.TheConstants.{MAX_TABLES, MAX_FIELDS, MAX_INDEXES, MAX_PARTS}
+use Rattle.abl_base.specs.declared.limits.TheConstants.{MAX_TABLES, MAX_FIELDS, MAX_INDEXES, MAX_PARTS}
 use Rattle.abl_schema.specs.InOrder.{AreApart, AreShort}
 use Rattle.abl_schema.specs.Meaning.{Listed, by_order, fields_in_text, fields_of, index_said, indexes_of, is_usable, listed_index, sequence_said, table_def, table_said}
 use Rattle.abl_schema.specs.Rules.{components_of, fields_in, field_name, first_after, first_in_item, index_name, indexes_in, is_misnamed, is_past_limit, is_past_text, repeats_index, repeats_sequence, repeats_table, sequence_name, sequences_in, table_name, tables_in}

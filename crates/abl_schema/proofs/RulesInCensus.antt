@@ -17,12 +17,12 @@ use Rattle.schema_lines.specs.declared.item.Item.{Item}
 use Rattle.abl_values.specs.Names.{is_name}
 use Rattle.schema_lines.specs.Attributes.{format_of, kind_of}
 use Rattle.schema_lines.specs.Initials.{mask_of}
-use Rattle.abl_schema.specs.declared.limits.TheConstants.{MAX_TABLES, MAX_FIELDS, MAX_INDEXES, MAX_PARTS, MAX_SEQUENCES}
+use Rattle.abl_base.specs.declared.limits.TheConstants.{MAX_TABLES, MAX_FIELDS, MAX_INDEXES, MAX_PARTS, MAX_SEQUENCES}
 use Rattle.abl_schema.specs.declared.census.Counted.{Counted}
 use Rattle.abl_schema.specs.declared.census.Census.{Census}
-use Rattle.abl_schema.specs.Rules.{Condition, component_line, component_name, components_of, fields_in, first_broken, first_in_lines, indexes_in, initial_fits, is_ill_made, is_malformed, is_misnamed, is_past_limit, is_primary_of, lacks_table, line_conditions, number_fits, or_else, repeats_field, repeats_index, repeats_sequence, repeats_table, stands_still, start_fits, tables_in, sequences_in}
+use Rattle.abl_schema.specs.Rules.{Condition, component_line, component_name, components_of, fields_in, first_broken, first_in_lines, indexes_in, initial_fits, is_ill_made, is_malformed, is_misnamed, is_past_limit, is_primary_of, lacks_table, line_conditions, number_fits, or_else, repeats_field, repeats_index, repeats_sequence, repeats_table, is_zero_increment, start_fits, tables_in, sequences_in}
 use Rattle.abl_values.specs.Sound.{has_twice, is_among}
-use Rattle.abl_schema.specs.Census.{Counts, at_line, component_count, field_rule, has_name, head_rule_in, index_line_rule, index_line_rule_in, index_rule, is_component, is_field_named, is_named_again, is_standstill, line_rule_in, line_violation_in, name_rule, names_of, names_twice, table_counted}
+use Rattle.abl_schema.specs.Census.{Counts, at_line, component_count, field_rule, has_name, head_rule_in, index_line_rule, index_line_rule_in, index_rule, is_component, is_field_named, is_named_again, is_zero_step, line_rule_in, line_violation_in, name_rule, names_of, names_twice, table_counted}
 use Rattle.abl_schema.proofs.Counting.{has_name-field, has_name-index, is_some-number_of_name, length-fields_counted, length-indexes_counted, table_found-is}
 
 -- ---- the first line of an item
@@ -179,7 +179,7 @@ module _ (before : List Item) (census : Census) (c : Counts before census) (line
   index_line-told number attributes name table Word = refl
   index_line-told number attributes name table (Increment g) = refl
 
-  standstill : (name : List ℕ) (a : Attribute) → is_standstill a ≡ stands_still (Sequence name) a
+  standstill : (name : List ℕ) (a : Attribute) → is_zero_step a ≡ is_zero_increment (Sequence name) a
   standstill name (IndexField k) = refl
   standstill name (Initial g) = refl
   standstill name (Format g) = refl
@@ -202,7 +202,7 @@ module _ (before : List Item) (census : Census) (c : Counts before census) (line
       (table_found-is before census table c ∙ ap (λ b. cond b (Some (table_counted before table)) None) (not-false (is_among table (tables_in before)) h))
       ∙ index_line-told number attributes name table a
   line_rule-told number attributes (Sequence name) a h =
-      two_rules (not (start_fits a)) (is_standstill a) F10 F11
+      two_rules (not (start_fits a)) (is_zero_step a) F10 F11
       ∙ ap (λ b. cond (not (start_fits a)) (Some (record { rule = F10; line = line })) (cond b (Some (record { rule = F11; line = line })) None)) (standstill name a)
 
 -- the first violation in attribute lines

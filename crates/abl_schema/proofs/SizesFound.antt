@@ -7,7 +7,7 @@ use Rattle.std.proofs.lemmas.List.Folds.{list_all-append}
 use Rattle.std.proofs.lemmas.List.Concat.{flat_map-append}
 use Rattle.std.specs.List.{flat_map, list_all}
 use Rattle.abl_values.specs.declared.schema.FieldDef.{FieldDef}
-use Rattle.abl_values.specs.declared.schema.Part.{Part}
+use Rattle.abl_values.specs.declared.schema.KeyPart.{KeyPart}
 use Rattle.schema_lines.specs.declared.item.Component.{Component}
 use Rattle.schema_lines.specs.declared.item.Attribute.{Attribute}
 use Rattle.schema_lines.specs.declared.item.Attribute.TheVariants.{Initial, Format, Mandatory, Order, Extent, Unique, Primary, Word, IndexField, Increment}
@@ -142,7 +142,7 @@ components_are fields (a ∷ as_) =
 pub components_are_supported : (fields : List FieldDef) (attributes : List Attributed) → are_supported fields (parts_of fields attributes) ≡ are_components_supported fields attributes
 components_are_supported fields [] = refl
 components_are_supported fields (a ∷ as_) =
-    list_all-append (λ (p : Part). is_some (slice_index_or fields p.field no_field).kind) (part_said fields a.attribute) (parts_of fields as_)
+    list_all-append (λ (p : KeyPart). is_some (slice_index_or fields p.field no_field).kind) (part_said fields a.attribute) (parts_of fields as_)
     ∙ ap (λ b. b && are_supported fields (parts_of fields as_)) (attribute_is_supported fields a.attribute)
     ∙ ap (λ b. is_attribute_supported fields a.attribute && b) (components_are_supported fields as_)
 

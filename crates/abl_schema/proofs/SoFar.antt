@@ -7,7 +7,7 @@ use Rattle.abl_base.specs.declared.rule.Rule.TheVariants.{F12}
 use Rattle.abl_values.specs.Schema.{canonical_text, lines_in_order}
 use Rattle.schema_lines.specs.declared.item.Item.{Item}
 use Rattle.abl_schema.specs.declared.violation.Violation.{Violation}
-use Rattle.abl_schema.specs.declared.limits.TheConstants.{MAX_CANONICAL_BYTES}
+use Rattle.abl_base.specs.declared.limits.TheConstants.{MAX_CANONICAL_BYTES}
 use Rattle.abl_schema.specs.declared.census.Census.{Census}
 use Rattle.abl_schema.specs.Meaning.{schema_of}
 use Rattle.abl_schema.specs.Rules.{Condition, first_after, first_broken, first_in_item, first_in_lines, head_conditions, is_past_text, or_else}

@@ -1,4 +1,4 @@
--- What the code keeps of the items before a line, and the rules that it tells from that alone.
+-- The summary of the items before a line that the code keeps, and the rules decided from it alone.
 use Rattle.std.specs.Prelude.{◌≡◌, ℕ, ◌+◌, Bool, true, false, not, ◌&&◌, ◌||◌, ◌==◌, nat_lt, nat_le, if◌then◌else◌, List, [], ◌∷◌, ◌++◌, length, map, sum_by, count_by, slice_get, slice_set, slice_index_or, Option, Some, None, is_some}
 use Rattle.std.specs.List.{flat_map, list_any}
 use Rattle.abl_base.specs.declared.value.Kind.{Kind}
@@ -16,7 +16,7 @@ use Rattle.abl_values.specs.Names.{is_name}
 use Rattle.schema_lines.specs.Attributes.{field_def, format_of, has, increment_of, is_primary, is_word, kind_of, start_of}
 use Rattle.schema_lines.specs.Initials.{mask_of}
 use Rattle.abl_schema.specs.declared.violation.Violation.{Violation}
-use Rattle.abl_schema.specs.declared.limits.TheConstants.{MAX_TABLES, MAX_FIELDS, MAX_INDEXES, MAX_PARTS, MAX_SEQUENCES}
+use Rattle.abl_base.specs.declared.limits.TheConstants.{MAX_TABLES, MAX_FIELDS, MAX_INDEXES, MAX_PARTS, MAX_SEQUENCES}
 use Rattle.abl_schema.specs.declared.census.Counted.{Counted}
 use Rattle.abl_schema.specs.declared.census.TableCensus.{TableCensus}
 use Rattle.abl_schema.specs.declared.census.Census.{Census}
@@ -188,13 +188,13 @@ field_line_rule kind attributes attribute =
     if initial_fits kept (mask_of kept (format_of attributes)) attribute && number_fits attribute then None else Some F10)
 
 -- INCREMENT of 0 or without a number
-abbrev pub is_standstill : Attribute → Bool
-is_standstill (Increment n) = is_no_step n
-is_standstill attribute = false
+abbrev pub is_zero_step : Attribute → Bool
+is_zero_step (Increment n) = is_no_step n
+is_zero_step attribute = false
 
 abbrev pub sequence_line_rule : Attribute → Option Rule
 sequence_line_rule attribute =
-    if not (start_fits attribute) then Some F10 else if is_standstill attribute then Some F11 else None
+    if not (start_fits attribute) then Some F10 else if is_zero_step attribute then Some F11 else None
 
 abbrev pub line_rule_in : Census → List Attributed → Head → Attribute → Option Rule
 line_rule_in census attributes (Field name table kind) attribute = field_line_rule kind attributes attribute

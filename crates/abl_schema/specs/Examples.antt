@@ -16,7 +16,6 @@ use Rattle.schema_lines.specs.Files.{items_of}
 use Rattle.schema_lines.specs.Initials.{initial_given}
 use Rattle.abl_schema.specs.Meaning.{schema_of}
 use Rattle.abl_schema.specs.Rules.{violation_of}
-use Rattle.abl_schema.specs.declared.limits.TheConstants.{MAX_TABLES, MAX_FIELDS, MAX_INDEXES, MAX_PARTS, MAX_SEQUENCES, MAX_CANONICAL_BYTES}
 
 -- a table of two fields, the second of an unsupported kind, with a unique primary index; these lines stand under
 -- its number
@@ -96,7 +95,3 @@ the_table_first = refl
 the_sequence_first : canonical_text (table_and_sequence (false ∷ true ∷ [])) ≡ codes "S nextitem 0 1\nT item\n"
 unfolding canonical_text lines_in_order digits
 the_sequence_first = refl
-
--- the limits of a schema
-pub limits_are : (MAX_TABLES ≡ 256) × (MAX_FIELDS ≡ 256) × (MAX_INDEXES ≡ 32) × (MAX_PARTS ≡ 16) × (MAX_SEQUENCES ≡ 256) × (MAX_CANONICAL_BYTES ≡ 1048576)
-limits_are = (refl, refl, refl, refl, refl, refl)

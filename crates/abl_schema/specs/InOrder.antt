@@ -2,7 +2,7 @@
 use Rattle.std.specs.Prelude.{◌≡◌, ◌≤◌, ℕ, suc, false, nat_le, if◌then◌else◌, List, [], ◌∷◌, length}
 use Rattle.std.specs.List.{All}
 use Rattle.abl_values.specs.declared.schema.FieldDef.{FieldDef}
-use Rattle.abl_values.specs.declared.named.TheConstants.{MAX_NAME_BYTES}
+use Rattle.abl_base.specs.declared.limits.TheConstants.{MAX_NAME_BYTES}
 use Rattle.abl_schema.specs.declared.meaning.OrderedField.{OrderedField}
 use Rattle.abl_schema.specs.Meaning.{Ordered}
 use Rattle.abl_values.specs.Sound.{has_twice}

@@ -1,5 +1,5 @@
--- What two schemas have in common exactly where they have one canonical text: all that a reader tells, but the case
--- of names and the masks, which the canonical text leaves out, and the order in which tables and sequences stand.
+-- What two schemas have in common exactly where they have one canonical text: all that a reader returns, except the
+-- case of names and the masks, which the canonical text leaves out, and the order of tables and sequences.
 use Rattle.std.specs.Prelude.{◌≡◌, ◌<◌, ℕ, List, [], length, map, None}
 use Rattle.abl_values.specs.declared.schema.FieldDef.{FieldDef}
 use Rattle.abl_values.specs.declared.schema.IndexDef.{IndexDef}
@@ -12,26 +12,25 @@ use Rattle.abl_schema.specs.Meaning.{schema_of}
 use Rattle.abl_schema.specs.Rules.{violation_of}
 
 -- a field with its name in small letters and without its mask
-abbrev pub told_field : FieldDef → FieldDef
-told_field f = record f { name = folded f.name; mask = [] }
+abbrev pub observable_field : FieldDef → FieldDef
+observable_field f = record f { name = folded f.name; mask = [] }
 
-abbrev pub told_index : IndexDef → IndexDef
-told_index i = record i { name = folded i.name }
+abbrev pub observable_index : IndexDef → IndexDef
+observable_index i = record i { name = folded i.name }
 
-abbrev pub told_sequence : SequenceDef → SequenceDef
-told_sequence s = record s { name = folded s.name }
+abbrev pub observable_sequence : SequenceDef → SequenceDef
+observable_sequence s = record s { name = folded s.name }
 
--- every reader answers the same at both, names taken without case, and tables and sequences stand in one order, one
--- after the other. Masks are left out, since the canonical text has none
+-- every reader returns the same for both, up to the case of names, and tables and sequences are in one order. Masks are left out, since the canonical text has none
 pub record AnswerAlike (a b : SchemaData) : Type 0 where
   pub tables : length a.tables ≡ length b.tables
   pub table : (name : List ℕ) → table_named a name ≡ table_named b name
   pub field : (t : ℕ) (name : List ℕ) → t < length a.tables → field_named a t name ≡ field_named b t name
   pub table_name : (t : ℕ) → t < length a.tables → folded (name_of a t) ≡ folded (name_of b t)
-  pub fields : (t : ℕ) → t < length a.tables → map told_field (fields_of a t) ≡ map told_field (fields_of b t)
-  pub indexes : (t : ℕ) → t < length a.tables → map told_index (indexes_of a t) ≡ map told_index (indexes_of b t)
+  pub fields : (t : ℕ) → t < length a.tables → map observable_field (fields_of a t) ≡ map observable_field (fields_of b t)
+  pub indexes : (t : ℕ) → t < length a.tables → map observable_index (indexes_of a t) ≡ map observable_index (indexes_of b t)
   pub primary : (t : ℕ) → t < length a.tables → primary_of a t ≡ primary_of b t
-  pub sequences : map told_sequence a.sequences ≡ map told_sequence b.sequences
+  pub sequences : map observable_sequence a.sequences ≡ map observable_sequence b.sequences
   pub order : a.order ≡ b.order
 
 -- a file without violation means a sound schema

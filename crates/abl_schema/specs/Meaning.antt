@@ -3,7 +3,7 @@ use Rattle.std.specs.Prelude.{ℕ, Bool, true, false, not, ◌&&◌, nat_le, if�
 use Rattle.std.specs.List.{flat_map, list_all}
 use Rattle.abl_base.specs.declared.value.Kind.{Kind}
 use Rattle.abl_values.specs.declared.schema.FieldDef.{FieldDef}
-use Rattle.abl_values.specs.declared.schema.Part.{Part}
+use Rattle.abl_values.specs.declared.schema.KeyPart.{KeyPart}
 use Rattle.abl_values.specs.declared.schema.IndexDef.{IndexDef}
 use Rattle.abl_values.specs.declared.schema.TableDef.{TableDef}
 use Rattle.abl_values.specs.declared.schema.SequenceDef.{SequenceDef}
@@ -34,7 +34,7 @@ field_said t attributes (Field name table kind) =
     if same_name table t then ordered_field name kind attributes ∷ [] else []
 field_said t attributes head = []
 
--- the fields of a table as they stand in the file
+-- the fields of a table in the order of the file
 abbrev pub fields_in_text : List Item → List ℕ → List Ordered
 fields_in_text items t = flat_map (λ i. field_said t i.attributes i.head) items
 
@@ -43,7 +43,7 @@ abbrev pub placed : Ordered → List Ordered → List Ordered
 placed f [] = f ∷ []
 placed f (g ∷ gs) = if nat_le f.order g.order then f ∷ g ∷ gs else g ∷ placed f gs
 
--- by ORDER, and where that is the same as they stand
+-- by ORDER, and fields of the same ORDER in the order of the file
 abbrev pub by_order : List Ordered → List Ordered
 by_order [] = []
 by_order (f ∷ fs) = placed f (by_order fs)
@@ -54,24 +54,24 @@ fields_of items t = map (λ f. f.field) (by_order (fields_in_text items t))
 
 -- ---- indexes
 
-abbrev pub part_named : Option ℕ → Bool → List Part
+abbrev pub part_named : Option ℕ → Bool → List KeyPart
 part_named None descending = []
 part_named (Some n) descending = record { field = n; descending = descending } ∷ []
 
-abbrev pub part_of : List FieldDef → Option Component → List Part
+abbrev pub part_of : List FieldDef → Option Component → List KeyPart
 part_of fields None = []
 part_of fields (Some c) = part_named (number_of_name 0 (field_names fields) c.field) c.descending
 
-abbrev pub part_said : List FieldDef → Attribute → List Part
+abbrev pub part_said : List FieldDef → Attribute → List KeyPart
 part_said fields (IndexField c) = part_of fields c
 part_said fields attribute = []
 
 -- the components of an index, by the numbers of their fields
-abbrev pub parts_of : List FieldDef → List Attributed → List Part
+abbrev pub parts_of : List FieldDef → List Attributed → List KeyPart
 parts_of fields attributes = flat_map (λ a. part_said fields a.attribute) attributes
 
 -- every component is of a supported kind
-abbrev pub are_supported : List FieldDef → List Part → Bool
+abbrev pub are_supported : List FieldDef → List KeyPart → Bool
 are_supported fields parts = list_all (λ p. is_some (slice_index_or fields p.field no_field).kind) parts
 
 -- an index that is no WORD index and has no component of an unsupported kind

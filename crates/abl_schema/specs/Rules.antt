@@ -13,7 +13,7 @@ use Rattle.schema_lines.specs.declared.item.Attribute.TheVariants.{Initial, Orde
 use Rattle.schema_lines.specs.declared.item.Attributed.{Attributed}
 use Rattle.schema_lines.specs.declared.item.Item.{Item}
 use Rattle.abl_schema.specs.declared.violation.Violation.{Violation}
-use Rattle.abl_schema.specs.declared.limits.TheConstants.{MAX_TABLES, MAX_FIELDS, MAX_INDEXES, MAX_PARTS, MAX_SEQUENCES, MAX_CANONICAL_BYTES}
+use Rattle.abl_base.specs.declared.limits.TheConstants.{MAX_TABLES, MAX_FIELDS, MAX_INDEXES, MAX_PARTS, MAX_SEQUENCES, MAX_CANONICAL_BYTES}
 use Rattle.abl_values.specs.Names.{is_name}
 use Rattle.abl_values.specs.Sound.{has_twice, is_among}
 use Rattle.schema_lines.specs.Files.{items_of}
@@ -145,7 +145,7 @@ abbrev pub names_badly : Head → Attribute → Bool
 names_badly (Index name table) (IndexField (Some c)) = not (is_name c.field)
 names_badly head attribute = false
 
--- INDEX-FIELD of a field that does not stand before the index, or that the line does not name
+-- INDEX-FIELD of a field that is not before the index, or that the line does not name
 abbrev pub lacks_component : List Item → List ℕ → Option Component → Bool
 lacks_component before table None = true
 lacks_component before table (Some c) = not (is_among c.field (fields_in before table))
@@ -195,9 +195,9 @@ abbrev pub is_no_step : Option ℤ → Bool
 is_no_step None = true
 is_no_step (Some n) = unsigned_abs n == 0
 
-abbrev pub stands_still : Head → Attribute → Bool
-stands_still (Sequence name) (Increment n) = is_no_step n
-stands_still head attribute = false
+abbrev pub is_zero_increment : Head → Attribute → Bool
+is_zero_increment (Sequence name) (Increment n) = is_no_step n
+is_zero_increment head attribute = false
 
 -- the rules that an attribute line may break, by number
 abbrev pub line_conditions : List Item → Item → Attribute → List Condition
@@ -206,7 +206,7 @@ line_conditions before item attribute =
     ∷ record { rule = F7; broken = lacks_field before item.head attribute }
     ∷ record { rule = F9; broken = repeats_primary before item.head attribute }
     ∷ record { rule = F10; broken = does_not_fit item.attributes item.head attribute }
-    ∷ record { rule = F11; broken = stands_still item.head attribute }
+    ∷ record { rule = F11; broken = is_zero_increment item.head attribute }
     ∷ []
 
 -- ---- the first violation
@@ -231,7 +231,7 @@ abbrev pub first_in_item : List Item → Item → Option Violation
 first_in_item before item =
     or_else (first_broken item.line (head_conditions before item)) (first_in_lines before item item.attributes)
 
--- the first violation in the items that stand after the items `before`
+-- the first violation in the items after the items `before`
 abbrev pub first_after : List Item → List Item → Option Violation
 first_after before [] = None
 first_after before (item ∷ items) = or_else (first_in_item before item) (first_after (before ++ item ∷ []) items)

@@ -3,7 +3,7 @@
 ghost use Rattle.std.specs.Prelude.{◌≡◌, ◌≤◌, [], ◌∷◌, ◌++◌, length, None, OnOk};
 ghost use Rattle.schema_lines.specs.Attributes.{has, is_primary, kind_of};
 ghost use Rattle.abl_values.specs.Schema.{number_of_name};
-ghost use Rattle.abl_values.specs.declared.named.TheConstants.{MAX_NAME_BYTES};
+ghost use Rattle.abl_base.specs.declared.limits.TheConstants.{MAX_NAME_BYTES};
 ghost use Rattle.abl_schema.specs.Census.{changed_at, counted_name, field_rule, head_rule_in, index_rule, names_after, no_census, names_of, sequences_after, table_found, tables_after, with_field, with_index};
 
 use abl_base::Bytes;

@@ -10,11 +10,11 @@ ghost use Rattle.abl_schema.specs.Census.{component_count, component_rule, field
 ghost use Rattle.abl_schema.specs.Rules.{first_after, initial_fits};
 
 use crate::census::{Census, Counted, TableCensus};
-use crate::limits::{
-    MAX_CANONICAL_BYTES, MAX_FIELDS, MAX_INDEXES, MAX_PARTS, MAX_SEQUENCES, MAX_TABLES,
-};
 use crate::sizes::canonical_bytes;
 use crate::violation::Violation;
+use abl_base::limits::{
+    MAX_CANONICAL_BYTES, MAX_FIELDS, MAX_INDEXES, MAX_PARTS, MAX_SEQUENCES, MAX_TABLES,
+};
 use abl_base::{Bytes, Kind, Rule};
 use abl_values::{Named, is_name, same_name};
 use schema_lines::attributes::{format_of, kind_of, sequence_number};

@@ -4,7 +4,7 @@ ghost use Rattle.std.specs.Prelude.{◌≡◌, ◌≤◌, [], ◌∷◌, ◌++�
 ghost use Rattle.std.specs.List.{flat_map};
 ghost use Rattle.abl_values.specs.Schema.{no_field, number_of_name};
 ghost use Rattle.abl_values.specs.Sound.{IsSound};
-ghost use Rattle.abl_values.specs.declared.named.TheConstants.{MAX_NAME_BYTES};
+ghost use Rattle.abl_base.specs.declared.limits.TheConstants.{MAX_FIELDS, MAX_NAME_BYTES};
 ghost use Rattle.schema_lines.specs.Attributes.{increment_of, start_of};
 ghost use Rattle.abl_schema.specs.Meaning.{are_supported, by_order, field_said, fields_in_text, fields_of, index_said, indexes_of, order_said, part_said, parts_of, placed, primary_of, schema_of, sequence_said, table_def, table_said};
 ghost use Rattle.abl_schema.specs.InOrder.{as_ordered, AreApart, AreShort, field_of, place_of};
@@ -12,8 +12,8 @@ ghost use Rattle.abl_schema.specs.Rules.{first_after};
 
 use abl_base::{Bytes, Items};
 use abl_values::{
-    FieldDef, HasName, IndexDef, NameFault, Named, Part, Parts, Schema, SequenceDef, TableDef,
-    same_name,
+    FieldDef, HasName, IndexDef, KeyPart, KeyParts, NameFault, Named, Schema, SequenceDef,
+    TableDef, same_name,
 };
 use schema_lines::attributes::{
     field_def, increment_of, is_primary, is_unique, is_word, kind_of, order_of, start_of,
@@ -60,7 +60,7 @@ pub fn schema_of(alloc: Global, items: &[Item]) -> Result<Schema, AllocError>
     Ok(Schema::of(tables, sequences, order))
 }
 
-/// The tables as they stand in the file.
+/// The tables in the order of the file.
 fn tables_of(alloc: Global, items: &[Item]) -> Result<Named<TableDef>, AllocError>
     requires { first_after [] items.now ≡ None }
     ensures { IfOk result (λ tables. tables ≡ flat_map (λ i. table_said items.now i.head) items.now) }
@@ -74,7 +74,7 @@ fn tables_of(alloc: Global, items: &[Item]) -> Result<Named<TableDef>, AllocErro
     Ok(tables)
 }
 
-/// The sequences as they stand in the file.
+/// The sequences in the order of the file.
 fn sequences_of(alloc: Global, items: &[Item]) -> Result<Named<SequenceDef>, AllocError>
     requires { first_after [] items.now ≡ None }
     ensures { IfOk result (λ sequences. sequences ≡ flat_map (λ i. sequence_said i.attributes i.head) items.now) }
@@ -89,7 +89,7 @@ fn sequences_of(alloc: Global, items: &[Item]) -> Result<Named<SequenceDef>, All
     Ok(sequences)
 }
 
-/// How tables, true, and sequences, false, follow one another in the file.
+/// The order of tables, true, and sequences, false, in the file.
 fn order_in(alloc: Global, items: &[Item]) -> Result<Items<bool>, AllocError>
     ensures { IfOk result (λ order. order ≡ flat_map (λ i. order_said i.head) items.now) }
 {
@@ -129,7 +129,7 @@ fn table_def(alloc: Global, items: &[Item], name: &Bytes) -> Result<TableDef, Al
     })
 }
 
-/// The fields of a table: by ORDER, and where that is the same as they stand.
+/// The fields of a table: by ORDER, and fields of the same ORDER in the order of the file.
 fn fields_of(alloc: Global, items: &[Item], table: &[u8]) -> Result<Named<FieldDef>, AllocError>
     requires { first_after [] items.now ≡ None }
     ensures { IfOk result (λ fields. fields ≡ fields_of items.now table.now) }
@@ -138,7 +138,7 @@ fn fields_of(alloc: Global, items: &[Item], table: &[u8]) -> Result<Named<FieldD
     named(alloc, ordered(alloc, text)?)
 }
 
-/// The fields of a table as they stand in the file.
+/// The fields of a table in the order of the file.
 fn fields_in_text(
     alloc: Global,
     items: &[Item],
@@ -155,7 +155,7 @@ fn fields_in_text(
     Ok(fields)
 }
 
-/// The fields by ORDER, and where that is the same as they stand.
+/// The fields by ORDER, and fields of the same ORDER in the order of the file.
 fn ordered(alloc: Global, text: Vec<OrderedField>) -> Result<Vec<OrderedField>, AllocError>
     ensures { IfOk result (λ fields. map as_ordered fields.items ≡ by_order (map as_ordered text.items)) }
 {
@@ -232,9 +232,9 @@ fn indexes_of(
     t: &[u8],
 ) -> Result<TableIndexes, AllocError>
     requires clean { first_after [] items.now ≡ None }
-    requires few { length fields.now ≤ 256 }
-    ensures indexes { IfOk result (λ told. told.indexes ≡ map (λ i. i.index) (indexes_of items.now fields.now t.now)) }
-    ensures primary { IfOk result (λ told. told.primary ≡ primary_of (indexes_of items.now fields.now t.now)) }
+    requires few { length fields.now ≤ MAX_FIELDS }
+    ensures indexes { IfOk result (λ found. found.indexes ≡ map (λ i. i.index) (indexes_of items.now fields.now t.now)) }
+    ensures primary { IfOk result (λ found. found.primary ≡ primary_of (indexes_of items.now fields.now t.now)) }
 {
     let mut indexes = Named::empty(alloc);
     let mut with_primary = None;
@@ -273,7 +273,7 @@ fn index_said(
     t: &[u8],
     item: &Item,
 ) -> Result<Option<IndexDef>, AllocError>
-    requires { length fields.now ≤ 256 }
+    requires { length fields.now ≤ MAX_FIELDS }
     ensures { IfOk result (λ index. option_to_list index ≡ map (λ i. i.index) (index_said fields.now t.now item.now.attributes item.now.head)) }
 {
     let Head::Index { name, table } = &item.head else {
@@ -299,8 +299,8 @@ fn parts_of(
     alloc: Global,
     fields: &Named<FieldDef>,
     attributes: &[Attributed],
-) -> Result<Parts, AllocError>
-    requires { length fields.now ≤ 256 }
+) -> Result<KeyParts, AllocError>
+    requires { length fields.now ≤ MAX_FIELDS }
     ensures { IfOk result (λ parts. parts ≡ parts_of fields.now attributes.now) }
 {
     let mut parts = Items::empty(alloc);
@@ -313,14 +313,14 @@ fn parts_of(
 }
 
 /// The component that a line names, where it is a field.
-fn part_said(fields: &Named<FieldDef>, attribute: &Attribute) -> Option<Part>
-    requires { length fields.now ≤ 256 }
+fn part_said(fields: &Named<FieldDef>, attribute: &Attribute) -> Option<KeyPart>
+    requires { length fields.now ≤ MAX_FIELDS }
     ensures { option_to_list result ≡ part_said fields.now attribute.now }
 {
     match attribute {
         Attribute::IndexField(Some(component)) => {
             let number = fields.find(component.field.as_slice())?;
-            Some(Part {
+            Some(KeyPart {
                 field: number as u16,
                 descending: component.descending,
             })
@@ -330,7 +330,7 @@ fn part_said(fields: &Named<FieldDef>, attribute: &Attribute) -> Option<Part>
 }
 
 /// Says whether every component is of a supported kind.
-fn are_supported(fields: &[FieldDef], parts: &[Part]) -> bool
+fn are_supported(fields: &[FieldDef], parts: &[KeyPart]) -> bool
     ensures { result ≡ are_supported fields.now parts.now }
 {
     parts.iter().all(|part| is_supported(fields, part.field))

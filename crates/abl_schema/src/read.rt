@@ -35,8 +35,8 @@ impl From<AllocError> for SchemaRefusal {
 
 /// The schema that the file means, or the first violation: the first line that breaks a rule F1 to
 /// F12, and the least rule that it breaks. The schema comes exactly where the file breaks no rule.
-/// Want of memory may be answered in place of either, and a file of 2^32 lines or more is want of
-/// memory. (OpenEdge, data definition files; what of them is read, skipped and refused is this
+/// NoMemory may come in place of either, and comes for a file of 2^32 lines or more, whose line
+/// numbers do not fit. (OpenEdge, data definition files; what of them is read, skipped and refused is this
 /// project's choice.)
 #[tactic(auto, unfolding(crate::specs::Rules::violation_of))]
 pub fn read_df(alloc: Global, text: &[u8]) -> Result<Schema, SchemaRefusal>

@@ -1,7 +1,7 @@
 -- The day number of a date leads back to the date.
 use Rattle.std.proofs.Common.{◌≡◌, inl, inr, ℕ, zero, suc, ◌+◌, ◌-◌, ◌/◌, ◌%◌, ◌<◌, ◌≤◌, true, nat_le, ◌&&◌, pos, ◌-ℤ◌, ap, ◌∙◌, arith}
 use Rattle.std.proofs.lemmas.Int.{ints}
-use Rattle.abl_base.proofs.Bools.{and_parts}
+use Rattle.std.proofs.lemmas.Bool.{and_parts}
 use Rattle.abl_values.specs.Dates.{CivilDate, is_civil, days_of_years, days_of_first, length_at, months_of, days_before, day_number, nearest_day, date_after, date_in_years, date_of_day}
 use Rattle.abl_values.proofs.Days.{MayEnd, test_le, before_is, year_bound, february_ends, abs_of_day, date_after-days_before}
 

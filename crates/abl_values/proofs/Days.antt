@@ -6,7 +6,7 @@ use Rattle.jiff_core.specs.Calendar.{IsDate, IsCivilDate, days_from_civil, day_c
 use Rattle.jiff_core.proofs.CalendarLemmas.{day_count-lt_year, days_in_month_bounds, days_from_civil-day_count, day_count-day_of_year, day_count-next_year}
 use Rattle.jiff_core.proofs.MarchLemmas.{day_count-early}
 use Rattle.jiff_core.proofs.SignedLemmas.{signed_arith}
-use Rattle.abl_base.proofs.Bools.{and_parts}
+use Rattle.std.proofs.lemmas.Bool.{and_parts}
 use Rattle.abl_values.specs.Dates.{CivilDate, is_leap, months_of, days_of_years, days_of_first, length_at, days_before, day_number, is_civil, date_from, month_and_day, date_after, date_in_years}
 
 -- 1 January of the year 1, from 1 January of the year -10000

@@ -11,7 +11,7 @@ use Rattle.std.specs.Prelude.{nat_eq}
 use Rattle.std.proofs.lemmas.Iterator.Adapters.{position_from-zero}
 use Rattle.std.proofs.lemmas.Bool.{cases_lt}
 use Rattle.std.proofs.lemmas.Bool.Decides.{nat_tests}
-use Rattle.abl_values.specs.declared.named.TheConstants.{MAX_NAME_BYTES}
+use Rattle.abl_base.specs.declared.limits.TheConstants.{MAX_NAME_BYTES}
 use Rattle.arrayvec.specs.ArrayVec.{ArrayVec}
 use Rattle.abl_values.specs.Order.{folded}
 use Rattle.abl_values.specs.Masks.{same_bytes}

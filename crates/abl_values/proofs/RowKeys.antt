@@ -9,7 +9,7 @@ use Rattle.std.specs.declared.cmp.Ordering.TheVariants.{Equal}
 use Rattle.abl_base.specs.declared.value.Value.{Value}
 use Rattle.abl_base.specs.declared.value.Value.TheVariants.{Text, Int, Int64, Dec, Logical, Date, Unknown}
 use Rattle.abl_base.specs.declared.value.Kind.{Kind}
-use Rattle.abl_values.specs.declared.schema.Part.{Part}
+use Rattle.abl_values.specs.declared.schema.KeyPart.{KeyPart}
 use Rattle.abl_values.specs.Order.{value_order, compared_text, folded, folded_byte, kept_before, without_trailing}
 use Rattle.abl_values.specs.Fit.{IsOfField}
 use Rattle.abl_values.specs.Rows.{FitsFields}
@@ -91,7 +91,7 @@ order_turned true a b = sym (value_order_total.antisymm b a)
 -- ---- the law
 
 -- key bytes compare as the keys do
-pub key_bytes-cmp : (kinds : List (Option Kind)) (parts : List Part) (a b : List Value) → FitsFields kinds a → FitsFields kinds b → HaveBytes a → HaveBytes b → slice_cmp nat_cmp (key_bytes parts a) (key_bytes parts b) ≡ key_order parts a b
+pub key_bytes-cmp : (kinds : List (Option Kind)) (parts : List KeyPart) (a b : List Value) → FitsFields kinds a → FitsFields kinds b → HaveBytes a → HaveBytes b → slice_cmp nat_cmp (key_bytes parts a) (key_bytes parts b) ≡ key_order parts a b
 unfolding key_bytes key_order
 key_bytes-cmp kinds [] a b fa fb ha hb = refl
 key_bytes-cmp kinds (part ∷ parts) a b fa fb ha hb =
@@ -105,7 +105,7 @@ key_bytes-cmp kinds (part ∷ parts) a b fa fb ha hb =
     ∙ ap (λ o. ordering_then o (key_order parts a b)) (order_turned part.descending va vb)
 
 -- and are the same exactly where the keys are level
-pub key_bytes-same : (kinds : List (Option Kind)) (parts : List Part) (a b : List Value) → FitsFields kinds a → FitsFields kinds b → HaveBytes a → HaveBytes b → (key_bytes parts a ≡ key_bytes parts b) ↔ (key_order parts a b ≡ Equal)
+pub key_bytes-same : (kinds : List (Option Kind)) (parts : List KeyPart) (a b : List Value) → FitsFields kinds a → FitsFields kinds b → HaveBytes a → HaveBytes b → (key_bytes parts a ≡ key_bytes parts b) ↔ (key_order parts a b ≡ Equal)
 key_bytes-same kinds parts a b fa fb ha hb =
     let compared = key_bytes-cmp kinds parts a b fa fb ha hb in (
       λ e. sym compared ∙ ap (λ (xs : List ℕ). slice_cmp nat_cmp xs (key_bytes parts b)) e ∙ tied_itself nat_list_cmp_total (key_bytes parts b),

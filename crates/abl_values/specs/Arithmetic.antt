@@ -3,7 +3,7 @@ use Rattle.std.specs.Prelude.{◌≡◌, IsOk, ℕ, zero, suc, ◌+◌, ◌*◌,
 use Rattle.std.specs.Int.{is_negative}
 use Rattle.abl_base.specs.declared.value.Value.{Value}
 use Rattle.abl_base.specs.declared.value.Value.TheVariants.{Text, Int, Int64, Dec, Logical, Date, Unknown}
-use Rattle.abl_base.specs.declared.value.TheConstants.{MAX_TEXT_BYTES}
+use Rattle.abl_base.specs.declared.limits.TheConstants.{MAX_TEXT_BYTES, DECIMAL_SCALE}
 use Rattle.abl_values.specs.declared.arithmetic.ArithFault.{ArithFault}
 use Rattle.abl_values.specs.declared.arithmetic.ArithFault.TheVariants.{Overflow, NoMemory}
 use Rattle.abl_values.specs.Order.{scaled}
@@ -52,7 +52,7 @@ rounded_quotient n d =
 
 -- a decimal as it is stored, rounded to a whole number
 abbrev pub rounded_whole : ℤ → ℤ
-rounded_whole n = rounded_quotient n (pos 10000000000)
+rounded_whole n = rounded_quotient n (pos DECIMAL_SCALE)
 
 -- ---- the operators. An operand `?` gives `?`, and so do operands whose kinds do not fit, which no program asks for
 
@@ -147,11 +147,11 @@ quotient_of a b = quotient (operand a) (operand b)
 unfoldable pub remainder_of : Value → Value → Result Value ArithFault
 remainder_of a b = remainder (operand a) (operand b)
 
--- the answer of a call that may want memory: it is the one that is wanted, or memory was wanting where there is a value
+-- the answer of a call that allocates: the expected one, or out of memory where a value is expected
 abbrev pub IsUnlessNoMemory : Result Value ArithFault → Result Value ArithFault → Type 0
-IsUnlessNoMemory (Ok v) wanted = Ok v ≡ wanted
-IsUnlessNoMemory (Err Overflow) wanted = Err Overflow ≡ wanted
-IsUnlessNoMemory (Err NoMemory) wanted = IsOk wanted
+IsUnlessNoMemory (Ok v) expected = Ok v ≡ expected
+IsUnlessNoMemory (Err Overflow) expected = Err Overflow ≡ expected
+IsUnlessNoMemory (Err NoMemory) expected = IsOk expected
 
 -- the value is a number
 abbrev pub IsNumber : Value → Type 0

@@ -1,5 +1,6 @@
 -- Dates of the years 1 to 9999 of the Gregorian calendar, and their day numbers: 0 is 1 January 1970.
-use Rattle.std.specs.Prelude.{ℕ, zero, suc, ◌+◌, ◌-◌, ◌*◌, ◌/◌, ◌%◌, min, Bool, not, ◌&&◌, ◌||◌, ◌==◌, nat_le, nat_lt, if◌then◌else◌, List, [], ◌∷◌, Option, Some, None, ℤ, pos, negsuc, ◌+ℤ◌, ◌-ℤ◌, int_le, int_lt, unsigned_abs, IsTrue, ◌≡◌}
+use Rattle.std.specs.Prelude.{ℕ, zero, suc, ◌+◌, ◌-◌, ◌*◌, ◌/◌, ◌%◌, min, Bool, not, ◌&&◌, ◌||◌, ◌==◌, nat_le, nat_lt, if◌then◌else◌, List, [], ◌∷◌, Option, Some, None, ℤ, pos, negsuc, neg_ℤ, ◌+ℤ◌, ◌-ℤ◌, int_le, int_lt, unsigned_abs, IsTrue, ◌≡◌}
+use Rattle.abl_base.specs.declared.limits.TheConstants.{FIRST_YEAR, LAST_YEAR, DAYS_BEFORE_1970, LAST_DAY}
 
 -- every fourth year is a leap year, but of the full hundreds only every fourth
 abbrev pub is_leap : ℕ → Bool
@@ -35,7 +36,7 @@ pub record CivilDate : Type 0 where
 -- the year is one of 1 to 9999, the month one of its twelve, the day one of the month's
 abbrev pub is_civil : CivilDate → Bool
 is_civil d =
-    (nat_le 1 d.year && nat_le d.year 9999) && (nat_le 1 d.month && nat_le d.month 12)
+    (nat_le FIRST_YEAR d.year && nat_le d.year LAST_YEAR) && (nat_le 1 d.month && nat_le d.month 12)
     && (nat_le 1 d.day && nat_le d.day (length_at (months_of d.year) (d.month - 1)))
 
 -- how many days lie from 1 January of the year 1 to the date
@@ -45,14 +46,14 @@ days_before d =
 
 -- the day number of a date
 unfoldable pub day_number : CivilDate → ℤ
-day_number d = pos (days_before d) -ℤ pos 719162
+day_number d = pos (days_before d) -ℤ pos DAYS_BEFORE_1970
 
 -- the day numbers of 1 January of the year 1 and of 31 December 9999
 abbrev pub first_day : ℤ
-first_day = negsuc 719161
+first_day = neg_ℤ (pos DAYS_BEFORE_1970)
 
 abbrev pub last_day : ℤ
-last_day = pos 2932896
+last_day = pos LAST_DAY
 
 -- a day of the years 1 to 9999
 abbrev pub is_day : ℤ → Bool
@@ -92,7 +93,7 @@ date_after n =
 
 -- the date of a day of the years 1 to 9999
 unfoldable pub date_in_years : ℤ → CivilDate
-date_in_years day = date_after (unsigned_abs (day +ℤ pos 719162))
+date_in_years day = date_after (unsigned_abs (day +ℤ pos DAYS_BEFORE_1970))
 
 -- the date of a day number, or of the nearest day of the years 1 to 9999
 unfoldable pub date_of_day : ℤ → CivilDate

@@ -1,7 +1,8 @@
 -- Texts of digits, which masks, texts of values and schema files have in common.
-use Rattle.std.specs.Prelude.{ℕ, ◌+◌, ◌-◌, ◌*◌, Bool, false, ◌&&◌, ◌==◌, List, [], ◌∷◌, drop, fold}
+use Rattle.std.specs.Prelude.{ℕ, Bool, false, ◌&&◌, ◌==◌, List, [], ◌∷◌, drop}
 use Rattle.std.specs.List.{list_all, prefix_len}
 use Rattle.abl_values.specs.Masks.{is_digit}
+pub use Rattle.abl_base.specs.Digits.{number_of}
 
 -- the bytes from the first that does not pass
 abbrev pub from_first_not : (ℕ → Bool) → List ℕ → List ℕ
@@ -16,7 +17,3 @@ has_minus (b ∷ bs) = b == 45
 abbrev pub are_digits : List ℕ → Bool
 are_digits [] = false
 are_digits (b ∷ bs) = is_digit b && list_all is_digit bs
-
--- the number that digits spell
-abbrev pub number_of : List ℕ → ℕ
-number_of digits = fold (λ n b. n * 10 + (b - 48)) 0 digits

@@ -15,8 +15,6 @@ use Rattle.abl_values.specs.Texts.{plain_text, export_text}
 use Rattle.abl_values.specs.Masks.{is_digit, mask_is_for}
 use Rattle.abl_values.specs.Digits.{from_first_not, number_of}
 use Rattle.abl_values.specs.Schema.{SchemaData, canonical_text, lines_in_order, field_named}
-use Rattle.abl_base.specs.declared.value.TheConstants.{MAX_TEXT_BYTES}
-use Rattle.abl_values.specs.declared.named.TheConstants.{MAX_NAME_BYTES}
 
 -- ---- order: letters in any case, trailing blanks, numbers of different kinds, no and yes, `?` above all
 case_and_blanks : value_order (Text (codes "Ab  ")) (Text (codes "aB")) ≡ Equal
@@ -177,7 +175,3 @@ digits_spell = refl
 -- from the first byte that is no digit
 no_digit_in_front : from_first_not is_digit (codes "12x3") ≡ codes "x3"
 no_digit_in_front = refl
-
--- the limits of texts and names
-pub limits_are : (MAX_TEXT_BYTES ≡ 30000) × (MAX_NAME_BYTES ≡ 32)
-limits_are = (refl, refl)

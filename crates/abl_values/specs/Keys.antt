@@ -6,7 +6,7 @@ use Rattle.std.specs.declared.cmp.Ordering.{Ordering}
 use Rattle.std.specs.declared.cmp.Ordering.TheVariants.{Equal}
 use Rattle.abl_base.specs.declared.value.Value.{Value}
 use Rattle.abl_base.specs.declared.value.Value.TheVariants.{Text, Int, Int64, Dec, Logical, Date, Unknown}
-use Rattle.abl_values.specs.declared.schema.Part.{Part}
+use Rattle.abl_values.specs.declared.schema.KeyPart.{KeyPart}
 use Rattle.abl_values.specs.Order.{compared_text, value_order}
 use Rattle.abl_values.specs.Rows.{number_bytes}
 
@@ -33,7 +33,7 @@ ascending_bytes (Dec n) = 1 ∷ number_bytes 16 (turned_over 128 n)
 ascending_bytes (Logical b) = 1 ∷ (if b then 1 else 0) ∷ []
 ascending_bytes (Date d) = 1 ∷ number_bytes 4 (turned_over 32 d)
 
--- a byte of a component: in a descending one each byte b stands as 255 - b
+-- a byte of a component: in a descending one each byte b becomes 255 - b
 abbrev pub turned_byte : Bool → ℕ → ℕ
 turned_byte descending b = if descending then 255 - b else b
 
@@ -42,11 +42,11 @@ abbrev pub component_bytes : Bool → Value → List ℕ
 component_bytes descending v = map (turned_byte descending) (ascending_bytes v)
 
 -- the value of a component in a row
-abbrev pub component : Part → List Value → Value
+abbrev pub component : KeyPart → List Value → Value
 component part values = slice_index_or values part.field Unknown
 
 -- the key bytes of a row in an index with these components: their bytes one after the other
-unfoldable pub key_bytes : List Part → List Value → List ℕ
+unfoldable pub key_bytes : List KeyPart → List Value → List ℕ
 key_bytes parts values =
     flat_map (λ part. component_bytes part.descending (component part values)) parts
 
@@ -58,7 +58,7 @@ component_order false a b = value_order a b
 component_order true a b = value_order b a
 
 -- the order of two rows in an index, component by component
-unfoldable pub key_order : List Part → List Value → List Value → Ordering
+unfoldable pub key_order : List KeyPart → List Value → List Value → Ordering
 key_order [] a b = Equal
 key_order (part ∷ parts) a b =
     ordering_then (component_order part.descending (component part a) (component part b)) (key_order parts a b)
@@ -91,11 +91,11 @@ is_unknown (Date d) = false
 is_unknown Unknown = true
 
 -- some component of the row is `?`
-abbrev pub has_unknown : List Part → List Value → Bool
+abbrev pub has_unknown : List KeyPart → List Value → Bool
 has_unknown [] values = false
 has_unknown (part ∷ parts) values = is_unknown (component part values) || has_unknown parts values
 
 -- the unique key of a row in an index: its key bytes, where the index is unique and no component is `?`
-unfoldable pub unique_key : Bool → List Part → List Value → Option (List ℕ)
+unfoldable pub unique_key : Bool → List KeyPart → List Value → Option (List ℕ)
 unique_key unique parts values =
     if unique && not (has_unknown parts values) then Some (key_bytes parts values) else None

@@ -1,5 +1,6 @@
 -- Which masks fit a kind.
 use Rattle.std.specs.Prelude.{ℕ, Bool, true, false, not, ◌&&◌, ◌||◌, ◌==◌, nat_le, if◌then◌else◌, List, [], ◌∷◌, length, codes}
+use Rattle.abl_base.specs.declared.limits.TheConstants.{MAX_NUMBER_MASK_BYTES}
 use Rattle.std.specs.List.{list_all, list_any}
 use Rattle.abl_base.specs.declared.value.Kind.{Kind}
 use Rattle.abl_base.specs.declared.value.Kind.TheVariants.{Character, Integer, Int64, Decimal, Logical, Date}
@@ -83,7 +84,7 @@ is_fraction decimals (b ∷ c ∷ cs) = decimals && ((b == 46) && list_all is_ni
 
 abbrev pub is_number_mask : Bool → List ℕ → Bool
 is_number_mask decimals mask =
-    nat_le (length mask) 40 && (list_any is_digit_sign mask
+    nat_le (length mask) MAX_NUMBER_MASK_BYTES && (list_any is_digit_sign mask
     && is_fraction decimals (after_run is_fixed (after_run is_floating (without_minus mask))))
 
 -- ---- DATE

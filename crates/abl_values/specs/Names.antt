@@ -1,7 +1,7 @@
 -- Names, and what the items of a schema are found by.
 use Rattle.std.specs.Prelude.{◌≡◌, ◌≤◌, ℕ, Bool, false, ◌&&◌, ◌||◌, ◌==◌, nat_le, List, [], ◌∷◌, length, map}
 use Rattle.std.specs.List.{All, list_all}
-use Rattle.abl_values.specs.declared.named.TheConstants.{MAX_NAME_BYTES}
+use Rattle.abl_base.specs.declared.limits.TheConstants.{MAX_NAME_BYTES}
 use Rattle.arrayvec.specs.ArrayVec.{ArrayVec}
 use Rattle.abl_values.specs.Order.{folded}
 use Rattle.abl_values.specs.Masks.{is_digit}

@@ -1,5 +1,6 @@
 -- The order of values in an index, and when two of them are level.
 use Rattle.std.specs.Prelude.{◌≡◌, ℕ, ◌+◌, true, false, ◌&&◌, ◌==◌, nat_le, if◌then◌else◌, List, [], ◌∷◌, map, ℤ, pos, ◌*ℤ◌}
+use Rattle.abl_base.specs.declared.limits.TheConstants.{DECIMAL_SCALE}
 use Rattle.std.specs.Cmp.Lexicographic.{slice_cmp}
 use Rattle.std.specs.Ordering.{nat_cmp, int_cmp, ordering_then}
 use Rattle.std.specs.declared.cmp.Ordering.{Ordering}
@@ -33,11 +34,11 @@ compared_text text = folded (without_trailing 32 text)
 
 -- ---- values
 
--- a number times 10^10
+-- a whole number as a decimal is stored
 abbrev pub scaled : ℤ → ℤ
-scaled n = n *ℤ pos 10000000000
+scaled n = n *ℤ pos DECIMAL_SCALE
 
--- the class of a value: numbers of all kinds are one, and `?` stands above all others
+-- the class of a value: numbers of all kinds are one, and `?` is above all others
 abbrev pub class_of : Value → ℕ
 class_of (Text t) = 0
 class_of (Int n) = 1
@@ -47,7 +48,7 @@ class_of (Logical b) = 2
 class_of (Date d) = 3
 class_of Unknown = 4
 
--- the number that a value counts by within its class: numbers as decimals are stored, no below yes, dates by day
+-- the number by which a value compares within its class: a number as a stored decimal, no below yes, dates by day
 abbrev pub rank_of : Value → ℤ
 rank_of (Text t) = pos 0
 rank_of (Int n) = scaled n
@@ -58,7 +59,7 @@ rank_of (Logical true) = pos 1
 rank_of (Date d) = d
 rank_of Unknown = pos 0
 
--- the bytes that a value counts by within its class
+-- the bytes by which a value compares within its class
 abbrev pub letters_of : Value → List ℕ
 letters_of (Text t) = compared_text t
 letters_of (Int n) = []
@@ -74,6 +75,6 @@ value_order a b =
     ordering_then (nat_cmp (class_of a) (class_of b))
     (ordering_then (int_cmp (rank_of a) (rank_of b)) (slice_cmp nat_cmp (letters_of a) (letters_of b)))
 
--- neither value stands above the other
+-- neither value is above the other
 abbrev pub IsLevel : Value → Value → Type 0
 IsLevel a b = value_order a b ≡ Equal

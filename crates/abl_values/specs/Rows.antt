@@ -1,5 +1,5 @@
 -- The bytes of a row, and how they are read.
-use Rattle.std.specs.Prelude.{ℕ, ◌+◌, ◌/◌, ◌≤◌, max, true, false, nat_le, ◌==◌, if◌then◌else◌, List, [], ◌∷◌, ◌++◌, length, take, drop, Option, Some, None}
+use Rattle.std.specs.Prelude.{ℕ, ◌+◌, ◌-◌, ◌/◌, ◌≤◌, max, true, false, nat_le, ◌==◌, if◌then◌else◌, List, [], ◌∷◌, ◌++◌, length, take, drop, Option, Some, None}
 use Rattle.std.specs.Int.{w32, w64, w128, cast_signed, cast_unsigned}
 use Rattle.std.specs.List.{flat_map}
 use Rattle.byteorder.specs.Endian.{big_bytes, big_number}
@@ -7,7 +7,7 @@ use Rattle.abl_base.specs.declared.value.Value.{Value}
 use Rattle.abl_base.specs.declared.value.Value.TheVariants.{Text, Int, Int64, Dec, Logical, Date, Unknown}
 use Rattle.abl_base.specs.declared.value.Kind.{Kind}
 use Rattle.abl_base.specs.declared.value.Kind.TheVariants.{Character, Integer, Int64 as Whole64, Decimal, Logical as Truth, Date as Day}
-use Rattle.abl_base.specs.declared.value.TheConstants.{MAX_TEXT_BYTES}
+use Rattle.abl_base.specs.declared.limits.TheConstants.{MAX_TEXT_BYTES, FRAGMENT_BYTES}
 use Rattle.abl_values.specs.Dates.{is_day}
 use Rattle.abl_values.specs.Fit.{IsOfField}
 
@@ -105,6 +105,6 @@ row_in (kind ∷ kinds) bytes =
 
 -- ---- fragments
 
--- the least number of fragments of 240 bytes that holds so many bytes, and at least one
+-- the least number of fragments that holds this many bytes, and at least one
 abbrev pub fragments_of : ℕ → ℕ
-fragments_of bytes = max 1 ((bytes + 239) / 240)
+fragments_of bytes = max 1 ((bytes + (FRAGMENT_BYTES - 1)) / FRAGMENT_BYTES)

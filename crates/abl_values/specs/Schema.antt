@@ -1,12 +1,13 @@
 -- A schema as data, what its readers find, and its canonical text.
-use Rattle.std.specs.Prelude.{◌≤◌, ℕ, ◌+◌, Bool, true, false, ◌==◌, if◌then◌else◌, List, [], ◌∷◌, ◌++◌, length, map, codes, slice_index_or, Option, Some, None}
+use Rattle.std.specs.Prelude.{◌≤◌, ℕ, ◌+◌, Bool, true, false, ◌==◌, if◌then◌else◌, List, [], ◌∷◌, ◌++◌, length, map, codes, slice_index_or, Option, Some, None, pos}
+use Rattle.abl_base.specs.declared.limits.TheConstants.{MAX_TABLES, MAX_FIELDS}
 use Rattle.std.specs.List.{All, flat_map}
 use Rattle.std.specs.Fmt.{signed_decimal}
 use Rattle.abl_base.specs.declared.value.Value.TheVariants.{Unknown}
 use Rattle.abl_base.specs.declared.value.Kind.{Kind}
 use Rattle.abl_base.specs.declared.value.Kind.TheVariants.{Character, Integer, Int64, Decimal, Logical, Date}
 use Rattle.abl_values.specs.declared.schema.FieldDef.{FieldDef}
-use Rattle.abl_values.specs.declared.schema.Part.{Part}
+use Rattle.abl_values.specs.declared.schema.KeyPart.{KeyPart}
 use Rattle.abl_values.specs.declared.schema.IndexDef.{IndexDef}
 use Rattle.abl_values.specs.declared.schema.TableDef.{TableDef}
 use Rattle.abl_values.specs.declared.schema.SequenceDef.{SequenceDef}
@@ -15,7 +16,7 @@ use Rattle.abl_values.specs.Masks.{same_bytes}
 use Rattle.abl_values.specs.Texts.{export_text}
 
 -- tables and sequences, each numbered from 0 in the order of the file, and `order`, which has true for a table
--- and false for a sequence, as they stand there one after the other
+-- and false for a sequence, in the same order
 pub record SchemaData : Type 0 where
   pub tables : List TableDef
   pub sequences : List SequenceDef
@@ -42,8 +43,19 @@ abbrev pub field_kinds : List FieldDef → List (Option Kind)
 field_kinds [] = []
 field_kinds (f ∷ fs) = f.kind ∷ field_kinds fs
 
+-- ---- what a reader finds where there is no item with the number
+
 abbrev pub no_table : TableDef
 no_table = record { name = []; fields = []; indexes = []; primary = None }
+
+abbrev pub no_field : FieldDef
+no_field = record { name = []; kind = None; initial = Unknown; mandatory = false; mask = [] }
+
+abbrev pub no_index : IndexDef
+no_index = record { name = []; unique = false; parts = [] }
+
+abbrev pub no_sequence : SequenceDef
+no_sequence = record { name = []; initial = pos 0; increment = pos 0 }
 
 -- the table with this number; where there is none, a table without name, fields and indexes
 abbrev pub table_at : SchemaData → ℕ → TableDef
@@ -57,9 +69,9 @@ table_named s name = number_of_name 0 (table_names s.tables) name
 unfoldable pub field_named : SchemaData → ℕ → List ℕ → Option ℕ
 field_named s t name = number_of_name 0 (field_names (table_at s t).fields) name
 
--- at most 256 tables, each with at most 256 fields
+-- at most MAX_TABLES tables, each with at most MAX_FIELDS fields
 abbrev pub IsWithinLimits : List TableDef → Type 0
-IsWithinLimits tables = (length tables ≤ 256) × All (λ t. length t.fields ≤ 256) tables
+IsWithinLimits tables = (length tables ≤ MAX_TABLES) × All (λ t. length t.fields ≤ MAX_FIELDS) tables
 
 abbrev pub name_of : SchemaData → ℕ → List ℕ
 name_of s t = (table_at s t).name
@@ -93,11 +105,8 @@ abbrev pub field_line : FieldDef → List ℕ
 field_line f =
     codes "F " ++ folded f.name ++ 32 ∷ kind_text f.kind ++ 32 ∷ letter f.mandatory 77 79 ++ 32 ∷ export_text f.initial ++ 10 ∷ []
 
-abbrev pub no_field : FieldDef
-no_field = record { name = []; kind = None; initial = Unknown; mandatory = false; mask = [] }
-
 -- ` field A|D`
-abbrev pub part_text : List FieldDef → Part → List ℕ
+abbrev pub part_text : List FieldDef → KeyPart → List ℕ
 part_text fields p = 32 ∷ folded (slice_index_or fields p.field no_field).name ++ 32 ∷ letter p.descending 68 65
 
 abbrev pub is_number : Option ℕ → ℕ → Bool
@@ -126,7 +135,7 @@ abbrev pub sequence_line : SequenceDef → List ℕ
 sequence_line s =
     codes "S " ++ folded s.name ++ 32 ∷ signed_decimal s.initial ++ 32 ∷ signed_decimal s.increment ++ 10 ∷ []
 
--- tables and sequences as they stand in the file
+-- tables and sequences in the order of the file
 unfoldable pub lines_in_order : List Bool → List TableDef → List SequenceDef → List ℕ
 lines_in_order [] tables sequences = []
 lines_in_order (true ∷ order) [] sequences = lines_in_order order [] sequences

@@ -1,4 +1,4 @@
--- Which schemas are sound: they keep to the limits, their names are names, their numbers and values are within
+-- Which schemas are sound: they are within the limits, their names are names, their numbers and values are within
 -- their ranges, and what refers to another part finds it.
 use Rattle.std.specs.Prelude.{◌≡◌, ◌<◌, ℕ, Bool, false, not, ◌||◌, List, [], ◌∷◌, length, count_by, All, IsTrue, IfSome}
 use Rattle.std.specs.List.{list_any}
@@ -15,7 +15,7 @@ use Rattle.abl_values.specs.Schema.{SchemaData, IsWithinLimits, field_names, sam
 abbrev pub is_among : List ℕ → List (List ℕ) → Bool
 is_among name names = list_any (λ n. same_name n name) names
 
--- a name stands twice, in any case
+-- a name occurs twice, in any case
 abbrev pub has_twice : List (List ℕ) → Bool
 has_twice [] = false
 has_twice (name ∷ names) = is_among name names || has_twice names

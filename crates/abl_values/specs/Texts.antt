@@ -1,5 +1,6 @@
 -- The plain text of a value, and the text that EXPORT writes of it.
 use Rattle.std.specs.Prelude.{ℕ, zero, suc, ◌+◌, ◌/◌, ◌%◌, true, false, ◌&&◌, ◌==◌, nat_le, if◌then◌else◌, List, [], ◌∷◌, ◌++◌, codes, ℤ, unsigned_abs}
+use Rattle.abl_base.specs.declared.limits.TheConstants.{DECIMAL_PLACES, DECIMAL_SCALE, FIRST_SHORT_YEAR, LAST_SHORT_YEAR}
 use Rattle.std.specs.Int.{is_negative}
 use Rattle.std.specs.List.{flat_map}
 use Rattle.std.specs.Fmt.{decimal, signed_decimal}
@@ -25,7 +26,7 @@ after_point (d ∷ ds) = 46 ∷ d ∷ ds
 -- a decimal's magnitude: at least one digit before the point, up to ten after it without trailing zeros
 abbrev pub magnitude_text : ℕ → List ℕ
 magnitude_text n =
-    decimal (n / 10000000000) ++ after_point (without_trailing 48 (last_digits 10 (n % 10000000000)))
+    decimal (n / DECIMAL_SCALE) ++ after_point (without_trailing 48 (last_digits DECIMAL_PLACES (n % DECIMAL_SCALE)))
 
 abbrev pub decimal_text : ℤ → List ℕ
 decimal_text n = minus_sign n ++ magnitude_text (unsigned_abs n)
@@ -33,7 +34,7 @@ decimal_text n = minus_sign n ++ magnitude_text (unsigned_abs n)
 -- the year with two digits from 1950 to 2049, else with four
 abbrev pub year_text : ℕ → List ℕ
 year_text year =
-    if nat_le 1950 year && nat_le year 2049 then last_digits 2 year else last_digits 4 year
+    if nat_le FIRST_SHORT_YEAR year && nat_le year LAST_SHORT_YEAR then last_digits 2 year else last_digits 4 year
 
 -- month, day and year
 abbrev pub date_text : CivilDate → List ℕ

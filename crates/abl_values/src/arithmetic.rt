@@ -6,8 +6,8 @@ ghost use Rattle.abl_values.specs.Arithmetic.{day, decimal, whole};
 ghost use Rattle.abl_values.specs.Order.{scaled};
 
 use crate::dates::is_day;
-use crate::order::DECIMAL_UNITS;
 use crate::rounding::{rounded_quotient_in_range, rounded_whole};
+use abl_base::limits::DECIMAL_SCALE;
 use abl_base::{Items, MAX_TEXT_BYTES, Value};
 use std::alloc::Global;
 
@@ -256,7 +256,7 @@ fn remainder_of_whole(x: i64, b: &Value) -> Result<Value, ArithFault>
 pub(crate) fn scaled(n: i64) -> i128
     ensures { result ≡ scaled n }
 {
-    i128::from(n) * DECIMAL_UNITS
+    i128::from(n) * DECIMAL_SCALE as i128
 }
 
 /// A whole number that must stay in its range.
@@ -333,7 +333,7 @@ fn decimal_quotient(x: i128, y: i128) -> Result<Value, ArithFault>
     if y == 0 {
         return Ok(Value::Unknown);
     }
-    match x.checked_mul(DECIMAL_UNITS) {
+    match x.checked_mul(DECIMAL_SCALE as i128) {
         Some(n) => rounded_quotient_in_range(n, y),
         None => Err(ArithFault::Overflow),
     }

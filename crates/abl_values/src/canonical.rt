@@ -7,12 +7,12 @@ ghost use Rattle.abl_values.specs.Order.{folded};
 ghost use Rattle.abl_values.specs.Schema.{field_line, index_line, index_lines, is_number, kind_text, letter, lines_in_order, part_text, sequence_line, table_lines};
 
 use crate::order::folded_byte;
-use crate::schema::{FieldDef, IndexDef, Part, SequenceDef, TableDef};
+use crate::schema::{FieldDef, IndexDef, KeyPart, SequenceDef, TableDef};
 use crate::texts::{push_export, push_number};
 use abl_base::Kind;
 use std::alloc::{AllocError, Global};
 
-/// The lines of tables and sequences as they stand in the file.
+/// The lines of tables and sequences in the order of the file.
 #[tactic(auto, unfolding(crate::specs::Schema::lines_in_order))]
 pub(crate) fn lines_in_order(
     alloc: Global,
@@ -135,7 +135,7 @@ fn push_index(
 }
 
 /// Writes the components of an index.
-fn push_parts(text: &mut Vec<u8>, fields: &[FieldDef], parts: &[Part]) -> Result<(), AllocError>
+fn push_parts(text: &mut Vec<u8>, fields: &[FieldDef], parts: &[KeyPart]) -> Result<(), AllocError>
     ensures { OnOk result (text.new.items ≡ text.old.items ++ flat_map (part_text fields.now) parts.now) }
 {
     for part in parts {
@@ -145,7 +145,7 @@ fn push_parts(text: &mut Vec<u8>, fields: &[FieldDef], parts: &[Part]) -> Result
 }
 
 /// Writes a component of an index.
-fn push_part(text: &mut Vec<u8>, fields: &[FieldDef], part: Part) -> Result<(), AllocError>
+fn push_part(text: &mut Vec<u8>, fields: &[FieldDef], part: KeyPart) -> Result<(), AllocError>
     ensures { OnOk result (text.new.items ≡ text.old.items ++ part_text fields.now part) }
 {
     text.push(b' ')?;

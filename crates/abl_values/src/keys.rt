@@ -6,16 +6,16 @@ ghost use Rattle.abl_values.specs.Keys.{ascending_bytes, component, component_by
 ghost use Rattle.abl_values.specs.Rows.{number_bytes};
 
 use crate::order::{folded_byte, trimmed};
-use crate::schema::Part;
+use crate::schema::KeyPart;
 use abl_base::{Bytes, Items, Row, Value};
 use byteorder::{BigEndian, ByteOrder};
 use std::alloc::{AllocError, Global};
 
 /// The key bytes of a row in an index with these components: the bytes of the components one after
 /// the other, in an order of bytes that is the order of the keys. A component whose field the row
-/// lacks is `?`. Want of memory is the only refusal. (This project's choice.)
+/// lacks is `?`. Out of memory is the only error. (This project's choice.)
 #[tactic(auto, unfolding(crate::specs::Keys::key_bytes))]
-pub fn key_bytes(alloc: Global, parts: &[Part], row: &Row) -> Result<Bytes, AllocError>
+pub fn key_bytes(alloc: Global, parts: &[KeyPart], row: &Row) -> Result<Bytes, AllocError>
     ensures { IfOk result (λ bytes. bytes ≡ key_bytes parts.now row.now) }
 {
     let values = row.as_slice();
@@ -27,7 +27,7 @@ pub fn key_bytes(alloc: Global, parts: &[Part], row: &Row) -> Result<Bytes, Allo
 }
 
 /// How much room the bytes of these components take at most, where no text has a zero byte.
-fn room_of(parts: &[Part], values: &[Value]) -> usize {
+fn room_of(parts: &[KeyPart], values: &[Value]) -> usize {
     let mut room = 0usize;
     for part in parts {
         let more = match values.get(usize::from(part.field)) {
@@ -40,7 +40,7 @@ fn room_of(parts: &[Part], values: &[Value]) -> usize {
 }
 
 /// Writes the bytes of a component of the row.
-fn push_part(bytes: &mut Vec<u8>, part: Part, values: &[Value]) -> Result<(), AllocError>
+fn push_part(bytes: &mut Vec<u8>, part: KeyPart, values: &[Value]) -> Result<(), AllocError>
     ensures { OnOk result (bytes.new.items
         ≡ bytes.old.items ++ component_bytes part.descending (component part values.now)) }
 {
@@ -117,7 +117,7 @@ fn push_bytes(bytes: &mut Vec<u8>, descending: bool, value: &[u8]) -> Result<(),
     Ok(())
 }
 
-/// A byte as it stands in a component.
+/// A byte of a component, turned over where it is descending.
 fn turned_byte(descending: bool, byte: u8) -> u8
     ensures { result ≡ turned_byte descending byte }
 {

@@ -5,7 +5,7 @@ ghost use Rattle.std.specs.Cmp.{IsTotalOrder};
 ghost use Rattle.std.specs.Cmp.Lexicographic.{slice_cmp};
 ghost use Rattle.std.specs.Ordering.{nat_cmp};
 ghost use Rattle.std.specs.declared.cmp.Ordering.TheVariants.{Equal};
-ghost use Rattle.abl_values.specs.declared.schema.Part.{Part};
+ghost use Rattle.abl_values.specs.declared.schema.KeyPart.{KeyPart};
 ghost use Rattle.abl_base.specs.declared.value.Kind.{Kind};
 ghost use Rattle.abl_base.specs.declared.value.Value.{Value};
 ghost use Rattle.abl_values.specs.Arithmetic.{difference_of, IsNumber, IsWhole, product_of, quotient_of, rounded, rounded_quotient, rounded_whole, sum_of};
@@ -27,13 +27,13 @@ pub fn rows_are_read_back()
         → row_in kinds bytes ≡ Some row → (bytes_of_row row ≡ bytes) × FitsFields kinds row }
 {}
 
-/// The key bytes of two rows are the same exactly where their keys are level, and stand in the
-/// order of bytes as the keys do, in descending components too.
-pub fn key_bytes_stand_as_keys()
-    ensures same { (kinds : List (Option Kind)) (parts : List Part) (a b : List Value)
+/// The key bytes of two rows are the same exactly where their keys are level, and their order as
+/// bytes is the order of the keys, in descending components too.
+pub fn key_bytes_order_as_keys()
+    ensures same { (kinds : List (Option Kind)) (parts : List KeyPart) (a b : List Value)
         → FitsFields kinds a → FitsFields kinds b → HaveBytes a → HaveBytes b
         → (key_bytes parts a ≡ key_bytes parts b) ↔ (key_order parts a b ≡ Equal) }
-    ensures order { (kinds : List (Option Kind)) (parts : List Part) (a b : List Value)
+    ensures order { (kinds : List (Option Kind)) (parts : List KeyPart) (a b : List Value)
         → FitsFields kinds a → FitsFields kinds b → HaveBytes a → HaveBytes b
         → slice_cmp nat_cmp (key_bytes parts a) (key_bytes parts b) ≡ key_order parts a b }
 {}

@@ -1,8 +1,8 @@
-//! What is computed of values: their order in an index, arithmetic, how they fit a kind, dates, and
-//! the texts and masks of one value; the bytes of rows and keys; and schemas, with their readers
-//! and their canonical text. It stands on `abl_base`. Each call computes the definition of its name
-//! in `specs/`; `laws` has what holds of the order, of row bytes and key bytes, of arithmetic beside
-//! the integers, and of dates.
+//! Operations on values: their order in an index, arithmetic, conversion to a kind, dates, the text
+//! of a value and the masks of a kind; the bytes of rows and keys; and schemas, with their readers
+//! and their canonical text. It depends on `abl_base`. Each call computes the definition of its name
+//! in `specs/`; `laws` has the theorems about the order, row bytes and key bytes, arithmetic
+//! compared with the integers, and dates.
 #![tactic(auto)]
 
 pub mod arithmetic;
@@ -30,7 +30,7 @@ pub use named::{HasName, NameFault, Named};
 pub use names::{is_digit, is_name, same_name};
 pub use order::compare;
 pub use rounding::rounded;
-pub use schema::{FieldDef, IndexDef, Part, Parts, Schema, SequenceDef, TableDef};
+pub use schema::{FieldDef, IndexDef, KeyPart, KeyParts, Schema, SequenceDef, TableDef};
 pub use stored::row_bytes;
 pub use stored_read::row_of;
 pub use texts::export_value;

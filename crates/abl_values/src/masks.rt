@@ -7,6 +7,7 @@ ghost use Rattle.abl_values.specs.Masks.{after_run, is_date_mask, is_digit, is_d
 
 use crate::names::is_digit;
 use abl_base::Kind;
+use abl_base::limits::MAX_NUMBER_MASK_BYTES;
 
 /// Says whether the mask is one for values of the kind: `x(n)` with n from 1 to 999 or a run of `x`
 /// for CHARACTER; two words with one `/` between them for LOGICAL; `99/99/99` or `99/99/9999` for
@@ -127,7 +128,7 @@ fn after_word(bytes: &[u8]) -> &[u8]
 fn is_number_mask(mask: &[u8], decimals: bool) -> bool
     ensures { result ≡ is_number_mask decimals mask.now }
 {
-    if mask.len() > 40 {
+    if mask.len() > MAX_NUMBER_MASK_BYTES {
         return false;
     }
     if !has_digit_sign(mask) {
@@ -142,7 +143,7 @@ fn has_digit_sign(mask: &[u8]) -> bool
     mask.iter().any(|byte| is_digit_sign(*byte))
 }
 
-/// A sign of a number mask that stands for a digit.
+/// A sign of a number mask that denotes a digit.
 pub fn is_digit_sign(byte: u8) -> bool
     ensures { result ≡ is_digit_sign byte }
 {

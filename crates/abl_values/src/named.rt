@@ -4,17 +4,15 @@ ghost use Rattle.std.specs.Prelude.{◌≡◌, ◌<◌, ◌≤◌, ◌↔◌, []
 ghost use Rattle.abl_values.specs.Names.{key_of};
 ghost use Rattle.abl_values.specs.Order.{folded};
 ghost use Rattle.abl_values.specs.Schema.{number_of_name};
-ghost use Rattle.abl_values.specs.declared.named.TheConstants.{MAX_NAME_BYTES};
+ghost use Rattle.abl_base.specs.declared.limits.TheConstants.{MAX_NAME_BYTES};
 ghost use Rattle.abl_values.specs.declared.named.NameFault.TheVariants.{TooLong, Taken};
 
 use crate::order::folded_byte;
+use abl_base::MAX_NAME_BYTES;
 use arrayvec::ArrayVec;
 use indexmap::IndexMap;
 use std::alloc::Global;
 use std::marker::Model;
-
-/// The most bytes that the name of an item has.
-pub const MAX_NAME_BYTES: usize = 32;
 
 /// A name with its ASCII letters small: what it is found by.
 type NameKey = ArrayVec<u8, MAX_NAME_BYTES>;

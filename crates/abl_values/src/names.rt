@@ -6,8 +6,8 @@ ghost use Rattle.abl_values.specs.Masks.{is_digit};
 ghost use Rattle.abl_values.specs.Names.{is_letter, is_name, is_name_byte};
 ghost use Rattle.abl_values.specs.Schema.{same_name};
 
-use crate::named::MAX_NAME_BYTES;
 use crate::order::folded_byte;
+use abl_base::MAX_NAME_BYTES;
 
 /// Says whether two names are the same but for the case of ASCII letters. (OpenEdge ABL Reference,
 /// Names.)

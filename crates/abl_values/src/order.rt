@@ -6,25 +6,32 @@ ghost use Rattle.std.specs.Ordering.{nat_cmp, int_cmp, ordering_then};
 ghost use Rattle.abl_values.specs.Order.{class_of, compared_text, folded, folded_byte, rank_of, scaled, value_order, without_trailing};
 
 use abl_base::Value;
+use abl_base::limits::DECIMAL_SCALE;
 use std::cmp::Ordering;
 
-/// How many units of a stored decimal make 1.
-pub(crate) const DECIMAL_UNITS: i128 = 10_000_000_000;
-
 /// The order of two values in an index: `?` is above all other values and level with itself, no is
-/// below yes, numbers of all kinds stand by their value and dates by their day, and texts by their
-/// bytes, with ASCII letters folded to lower case and without trailing blanks. Two values of which
-/// neither is `?` and which are not both texts, numbers, LOGICALs or DATEs are never compared by a
-/// program; here they stand by kind. (OpenEdge ABL Reference, Indexes; the place of `?` is this
-/// project's choice.)
+/// below yes, numbers of all kinds compare by value, dates by day, and texts by their bytes, with
+/// ASCII letters folded to lower case and without trailing blanks. Two values of which neither is
+/// `?` and which are not both texts, numbers, LOGICALs or DATEs are never compared by a program;
+/// here they compare by kind. (OpenEdge ABL Reference, Indexes; the place of `?` is this project's
+/// choice.)
 #[tactic(auto, unfolding(crate::specs::Order::value_order))]
 pub fn compare(a: &Value, b: &Value) -> Ordering
     ensures { result ≡ value_order a.now b.now }
 {
     match (a, b) {
         (Value::Text(s), Value::Text(t)) => compare_texts(s.as_slice(), t.as_slice()),
+        (Value::Int(x), Value::Int(y)) => compare_whole(i64::from(*x), i64::from(*y)),
+        (Value::Int64(x), Value::Int64(y)) => compare_whole(*x, *y),
         _ => compare_ranks(a, b),
     }
+}
+
+/// The order of two whole numbers, which is that of their ranks.
+fn compare_whole(x: i64, y: i64) -> Ordering
+    ensures { result ≡ int_cmp (scaled x) (scaled y) }
+{
+    x.cmp(&y)
 }
 
 /// The order of two values by class and then by rank.
@@ -55,8 +62,8 @@ fn rank(value: &Value) -> i128
     ensures { result ≡ rank_of value.now }
 {
     match value {
-        Value::Int(n) => i128::from(*n) * DECIMAL_UNITS,
-        Value::Int64(n) => i128::from(*n) * DECIMAL_UNITS,
+        Value::Int(n) => i128::from(*n) * DECIMAL_SCALE as i128,
+        Value::Int64(n) => i128::from(*n) * DECIMAL_SCALE as i128,
         Value::Dec(n) => *n,
         Value::Logical(true) => 1,
         Value::Date(day) => i128::from(*day),

@@ -5,6 +5,7 @@ ghost use Rattle.abl_values.specs.Arithmetic.{decimal_in_range, rounded, rounded
 
 use crate::arithmetic::ArithFault;
 use abl_base::Value;
+use abl_base::limits::DECIMAL_SCALE;
 
 /// The quotient of two natural numbers, rounded to the nearest one, a half up. (This project's
 /// choice.)
@@ -25,7 +26,7 @@ pub fn rounded(n: u128, d: u128) -> u128
 pub(crate) fn rounded_whole(n: i128) -> i128
     ensures { result ≡ rounded_whole n }
 {
-    let magnitude = rounded(n.unsigned_abs(), 10_000_000_000) as i128;
+    let magnitude = rounded(n.unsigned_abs(), DECIMAL_SCALE as u128) as i128;
     if n < 0 { -magnitude } else { magnitude }
 }
 

@@ -18,22 +18,22 @@ pub struct FieldDef {
     pub mask: Bytes,
 }
 
-/// A component of an index: a field by its number in the table.
+/// A component of an index: a field, by its number in the table, and its direction.
 #[derive(Clone, Copy, Debug, PartialEq, Eq)]
-pub struct Part {
+pub struct KeyPart {
     pub field: u16,
     pub descending: bool,
 }
 
 /// The components of an index, the leading one first.
-pub type Parts = Items<Part>;
+pub type KeyParts = Items<KeyPart>;
 
 /// An index of a table.
 #[derive(Drop)]
 pub struct IndexDef {
     pub name: Bytes,
     pub unique: bool,
-    pub parts: Parts,
+    pub parts: KeyParts,
 }
 
 /// A table: its fields in order, its usable indexes, and which of them is the primary one.
@@ -85,8 +85,8 @@ impl HasName for SequenceDef {
     }
 }
 
-/// The tables and sequences of a database, as they stand in its schema file. Names are spelt as
-/// there, and found in any case.
+/// The tables and sequences of a database, in the order of its schema file. Names are spelt as there,
+/// and found in any case.
 #[derive(Drop)]
 pub struct Schema {
     tables: Named<TableDef>,
@@ -110,9 +110,9 @@ impl Schema {
     ghost use Rattle.abl_values.specs.Sound.{IsSound};
 
     /// The schema with these tables and sequences, each in the order of the file. `order` has true
-    /// for a table and false for a sequence, as they stand there one after the other. It must be
-    /// sound: within the limits, each name a name, each value within its range, each number of a
-    /// field or an index one that there is. So every schema is.
+    /// for a table and false for a sequence, in the order of the file. It must be sound, as every
+    /// schema is: within the limits, each name a name, each value within its range, each number of
+    /// a field or an index that of an existing one.
     pub fn of(tables: Named<TableDef>, sequences: Named<SequenceDef>, order: Items<bool>) -> Schema
         requires { IsSound (record { tables = tables; sequences = sequences; order = order }) }
         ensures { result ≡ record { tables = tables; sequences = sequences; order = order } }
@@ -132,7 +132,7 @@ impl Schema {
         let _ = &self.tables;
     }
 
-    /// How many tables there are.
+    /// The number of tables.
     pub fn tables(&self) -> u16
         ensures { result ≡ length self.now.tables }
     {
@@ -198,7 +198,7 @@ impl Schema {
     /// initial` for each field, with `-` for an unsupported kind, M for a mandatory field and the
     /// initial value as EXPORT writes it, then `I name U|N P|N` for each index, with U for a unique
     /// and P for the primary one and each of its fields with A or D; `S name initial increment` for
-    /// a sequence. Want of memory is the only refusal. (This project's choice.)
+    /// a sequence. Out of memory is the only error. (This project's choice.)
     #[tactic(auto, unfolding(crate::specs::Schema::canonical_text))]
     pub fn canonical(&self) -> Result<Bytes, AllocError>
         ensures { IfOk result (λ text. text ≡ canonical_text self.now) }

@@ -11,8 +11,8 @@ use byteorder::{BigEndian, ByteOrder};
 use std::alloc::{AllocError, Global};
 
 /// The bytes of a row: its fields in order, each a byte 0 for `?` or 1 and the value. Numbers
-/// stand with the highest byte first, and a text after its length in two bytes. Want of memory is
-/// the only refusal. (This project's choice.)
+/// have the highest byte first, and a text follows its length in two bytes. Out of memory is the
+/// only error. (This project's choice.)
 #[tactic(auto, unfolding(crate::specs::Rows::bytes_of_row))]
 pub fn row_bytes(alloc: Global, fields: &[FieldDef], row: &Row) -> Result<Bytes, AllocError>
     requires { FitsFields (field_kinds fields.now) row.now }

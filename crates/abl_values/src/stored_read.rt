@@ -20,7 +20,7 @@ struct FieldRead {
 }
 
 /// The row of these fields that has these bytes: `None` exactly where the bytes are those of no
-/// row. Want of memory is the only refusal. (This project's choice.)
+/// row. Out of memory is the only error. (This project's choice.)
 pub fn row_of(alloc: Global, fields: &[FieldDef], bytes: &[u8]) -> Result<Option<Row>, AllocError>
     ensures { IfOk result (λ row. row ≡ row_in (field_kinds fields.now) bytes.now) }
 {

@@ -8,12 +8,13 @@ ghost use Rattle.abl_values.specs.Texts.{after_point, date_text, decimal_text, d
 
 use crate::dates::date_parts;
 use crate::order::trimmed;
+use abl_base::limits::{DECIMAL_SCALE, FIRST_SHORT_YEAR, LAST_SHORT_YEAR};
 use abl_base::{Bytes, Items, Value};
 use std::alloc::{AllocError, Global};
 
 /// The text that EXPORT writes of a value: a text in `"` with inner ones doubled, `yes` or `no`, a
 /// date as `mm/dd/yy` in the years 1950 to 2049 and else as `mm/dd/yyyy`, `?`, and a number in
-/// digits, a decimal without trailing zeros. Want of memory is the only refusal. (OpenEdge ABL
+/// digits, a decimal without trailing zeros. Out of memory is the only error. (OpenEdge ABL
 /// Reference, EXPORT; the form of dates is this project's choice.)
 pub fn export_value(alloc: Global, value: &Value) -> Result<Bytes, AllocError>
     ensures { IfOk result (λ bytes. bytes ≡ export_text value.now) }
@@ -89,10 +90,10 @@ fn push_decimal(alloc: Global, bytes: &mut Vec<u8>, n: i128) -> Result<(), Alloc
 fn push_magnitude(alloc: Global, bytes: &mut Vec<u8>, n: u128) -> Result<(), AllocError>
     ensures { OnOk result (bytes.new.items ≡ bytes.old.items ++ magnitude_text n) }
 {
-    let whole = n / 10_000_000_000;
+    let whole = n / DECIMAL_SCALE as u128;
     let text = format!(in alloc; "{whole}")?;
     bytes.extend_from_slice(text.as_bytes())?;
-    push_fraction(alloc, bytes, (n % 10_000_000_000) as u64)
+    push_fraction(alloc, bytes, (n % DECIMAL_SCALE as u128) as u64)
 }
 
 /// Writes a point and ten decimals without trailing zeros, and no bare point.
@@ -146,6 +147,10 @@ fn push_date(bytes: &mut Vec<u8>, day: i32) -> Result<(), AllocError>
 fn push_year(bytes: &mut Vec<u8>, year: u64) -> Result<(), AllocError>
     ensures { OnOk result (bytes.new.items ≡ bytes.old.items ++ year_text year) }
 {
-    let digits = if 1950 <= year && year <= 2049 { 2 } else { 4 };
+    let digits = if FIRST_SHORT_YEAR as u64 <= year && year <= LAST_SHORT_YEAR as u64 {
+        2
+    } else {
+        4
+    };
     push_last_digits(bytes, digits, year)
 }

@@ -1,13 +1,13 @@
-//! What a word stands for: a value, a kind or bytes.
+//! The value, the kind or the bytes that a word denotes.
 
 ghost use Rattle.std.specs.Prelude.{◌<◌};
 
 use abl_base::{Items, Kind, Value};
 use std::alloc::{AllocError, Global};
 
-/// The value that a word stands for: `?`, `yes`, `no`, or a kind and a number or a text, as `int:5`,
+/// The value that a word denotes: `?`, `yes`, `no`, or a kind and a number or a text, as `int:5`,
 /// `dec:5` for five units of 10^-10, `date:5` for the day of that number, `text:a%20`, or `run:5`
-/// for five letters `a`.
+/// for five letters `a`. `None` where it denotes none. Out of memory is the only error.
 pub fn value_of(alloc: Global, word: &str) -> Result<Option<Value>, AllocError> {
     match word.split_once(':') {
         Some((kind, rest)) => value_of_kind(alloc, kind, rest),
@@ -34,7 +34,7 @@ fn value_of_kind(alloc: Global, kind: &str, rest: &str) -> Result<Option<Value>,
     }
 }
 
-/// A text of so many letters `a`.
+/// A text of this number of letters `a`.
 fn run(alloc: Global, length: &str) -> Result<Option<Value>, AllocError> {
     match length.parse::<u16>() {
         Ok(length) => Ok(Some(Value::Text(Items::from_vec(vec![in alloc; b'a'; usize::from(
@@ -68,7 +68,7 @@ pub fn kind_of(name: &str) -> Option<Kind> {
     }
 }
 
-/// The bytes of a text, of which `%` and two digits stand for the byte of that number in base 16.
+/// The bytes of a text, in which `%` and two digits denote the byte of that number in base 16.
 pub fn bytes_of(alloc: Global, text: &[u8]) -> Result<Vec<u8>, AllocError> {
     let mut bytes = Vec::new(alloc);
     let mut rest = text;

@@ -5,7 +5,8 @@ ghost use Rattle.std.specs.Prelude.{◌<◌};
 use abl_base::Value;
 use std::alloc::{AllocError, Global};
 
-/// What is written of a value: the word that stands for it, and of a text that is long its length.
+/// The word of a value; of a text of more than 99 bytes its length. Out of memory is the only
+/// error.
 pub fn word_of(alloc: Global, value: &Value) -> Result<String, AllocError> {
     match value {
         Value::Text(text) => text_word(alloc, text.as_slice()),
@@ -19,7 +20,7 @@ pub fn word_of(alloc: Global, value: &Value) -> Result<String, AllocError> {
     }
 }
 
-/// What is written of a text.
+/// The word of a text.
 fn text_word(alloc: Global, text: &[u8]) -> Result<String, AllocError> {
     if text.len() > 99 {
         return format!(in alloc; "text of {} bytes", text.len());
@@ -29,18 +30,35 @@ fn text_word(alloc: Global, text: &[u8]) -> Result<String, AllocError> {
     Ok(word)
 }
 
-/// Writes the bytes of a text, `%` and two digits in base 16 for one that is no graphic character.
-pub fn push_bytes(word: &mut String, text: &[u8]) -> Result<(), AllocError> {
-    for byte in text {
-        if byte.is_ascii_graphic() && *byte != b'%' {
-            word.push(char::from(*byte))?;
+/// Writes bytes as a word: `%` and two digits in base 16 for each that is no graphic character.
+pub fn push_bytes(word: &mut String, bytes: &[u8]) -> Result<(), AllocError> {
+    for byte in bytes {
+        push_byte(word, *byte)?;
+    }
+    Ok(())
+}
+
+/// Writes bytes as lines: as `push_bytes`, but with each blank and line feed as it is.
+pub fn push_lines(lines: &mut String, bytes: &[u8]) -> Result<(), AllocError> {
+    for byte in bytes {
+        if *byte == b' ' || *byte == b'\n' {
+            lines.push(char::from(*byte))?;
         } else {
-            word.push('%')?;
-            word.push(digit(*byte / 16))?;
-            word.push(digit(*byte % 16))?;
+            push_byte(lines, *byte)?;
         }
     }
     Ok(())
+}
+
+/// Writes a byte of a word.
+fn push_byte(word: &mut String, byte: u8) -> Result<(), AllocError> {
+    if byte.is_ascii_graphic() && byte != b'%' {
+        word.push(char::from(byte))
+    } else {
+        word.push('%')?;
+        word.push(digit(byte / 16))?;
+        word.push(digit(byte % 16))
+    }
 }
 
 /// The digit of a number below 16.

@@ -72,7 +72,7 @@ index_head rest =
 abbrev pub sequence_head : List ℕ → Head
 sequence_head rest = name_then (quote_of rest) (λ name end. ending end (Sequence name))
 
--- what stands after ADD
+-- the item of the words after ADD
 abbrev pub added : List ℕ → Head
 added rest =
     if begins (codes "TABLE") rest then table_head (after_word rest)
@@ -90,7 +90,7 @@ quoted_given (Some q) = Some (record { quoted = true; text = q.text })
 abbrev pub word_given : List ℕ → Option Given
 word_given word = if length word == 0 then None else Some (record { quoted = false; text = word })
 
--- a text in quotation marks or a word; none where neither stands here
+-- a text in quotation marks or a word; none where the line begins with neither
 abbrev pub given : List ℕ → Option Given
 given [] = None
 given (b ∷ bs) = if b == 34 then quoted_given (quote_of (b ∷ bs)) else word_given (word_of (b ∷ bs))

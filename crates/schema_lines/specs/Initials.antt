@@ -1,7 +1,7 @@
 -- The masks and initial values of fields.
 use Rattle.std.specs.Prelude.{ℕ, ◌^◌, ◌/◌, ◌%◌, Bool, true, false, not, ◌&&◌, ◌==◌, nat_le, if◌then◌else◌, List, [], ◌∷◌, length, codes, Option, Some, None, option_map, ℤ, pos, unsigned_abs}
 use Rattle.std.specs.Int.{is_negative}
-use Rattle.abl_base.specs.declared.value.TheConstants.{MAX_TEXT_BYTES}
+use Rattle.abl_base.specs.declared.limits.TheConstants.{MAX_TEXT_BYTES, DECIMAL_SCALE}
 use Rattle.abl_base.specs.declared.value.Value.{Value}
 use Rattle.abl_base.specs.declared.value.Value.TheVariants.{Text, Int, Int64, Dec, Logical, Date, Unknown}
 use Rattle.abl_base.specs.declared.value.Kind.{Kind}
@@ -36,7 +36,7 @@ abbrev pub second_word : List ℕ → List ℕ
 second_word [] = []
 second_word (b ∷ bs) = bs
 
--- a word of the mask, in any case, before the words that stand for yes and no without one
+-- a word of the mask, in any case, before the words that denote yes and no without one
 abbrev pub logical_spelt : List ℕ → List ℕ → Option Value
 logical_spelt mask text =
     if same_name text (run is_mask_word_byte mask) then Some (Logical true)
@@ -46,7 +46,7 @@ logical_spelt mask text =
 -- a decimal whose decimals are zeros, as a whole number
 abbrev pub whole_units : ℤ → Option ℤ
 whole_units units =
-    if (unsigned_abs units % (10 ^ 10)) == 0 then Some (with_sign (is_negative units) (unsigned_abs units / (10 ^ 10))) else None
+    if (unsigned_abs units % DECIMAL_SCALE) == 0 then Some (with_sign (is_negative units) (unsigned_abs units / DECIMAL_SCALE)) else None
 
 abbrev pub whole_spelt : Option ℤ → Option ℤ
 whole_spelt None = None

@@ -1,4 +1,4 @@
--- The lines of a schema file, and the words and quoted texts that stand in a line.
+-- The lines of a schema file, and the words and quoted texts of a line.
 use Rattle.std.specs.Prelude.{ℕ, Bool, true, false, not, ◌&&◌, ◌||◌, ◌==◌, if◌then◌else◌, List, [], ◌∷◌, map, Option, Some, None}
 use Rattle.abl_values.specs.Masks.{after_run, same_bytes}
 
@@ -55,7 +55,7 @@ lines_of text = before_period (map trimmed (pieces text))
 
 -- ---- words
 
--- what may stand in a word: all but blanks, tabs and quotation marks
+-- the bytes of a word: all but blanks, tabs and quotation marks
 abbrev pub is_word_byte : ℕ → Bool
 is_word_byte b = not (is_blank b || (b == 34))
 
@@ -68,21 +68,21 @@ run passes (b ∷ bs) = if passes b then b ∷ run passes bs else []
 abbrev pub word_of : List ℕ → List ℕ
 word_of line = run is_word_byte line
 
--- what stands after that word and the blanks after it
+-- the rest after that word and the blanks after it
 abbrev pub after_word : List ℕ → List ℕ
 after_word line = after_run is_blank (after_run is_word_byte line)
 
--- this word stands at the head of the line
+-- the line begins with this word
 abbrev pub begins : List ℕ → List ℕ → Bool
 begins word line = same_bytes (word_of line) word
 
--- what stands after this word, where it stands at the head
+-- the rest after this word, where the line begins with it
 abbrev pub past_word : List ℕ → List ℕ → Option (List ℕ)
 past_word word line = if begins word line then Some (after_word line) else None
 
 -- ---- quoted texts
 
--- a text in quotation marks, and what stands after it and the blanks after it
+-- a text in quotation marks, and the rest after it and the blanks after it
 pub record Quote : Type 0 where
   pub text : List ℕ
   pub rest : List ℕ
@@ -99,7 +99,7 @@ text_byte true b bs next =
     if b == 34 then with_byte 34 next else Some (record { text = []; rest = after_run is_blank (b ∷ bs) })
 text_byte false b bs next = if b == 34 then next else with_byte b next
 
--- the quoted text whose opening mark stands before these bytes; none where it is not closed
+-- the quoted text whose opening mark is directly before these bytes; none where it is not closed
 abbrev pub inside : Bool → List ℕ → Option Quote
 inside false [] = None
 inside true [] = Some (record { text = []; rest = [] })

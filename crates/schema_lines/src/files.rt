@@ -12,8 +12,8 @@ use abl_values::same_bytes;
 use std::alloc::{AllocError, Global};
 
 /// The items of the file in order: its lines up to one that is a single period. Attributes before
-/// the first item are skipped. Want of memory is answered too where 2^32 lines or more stand there,
-/// as the number of a line has 32 bits.
+/// the first item are skipped. Out of memory is the only error; it also comes where the file has
+/// 2^32 lines or more, since the number of a line has 32 bits.
 #[tactic(auto, unfolding(crate::specs::Files::items_of))]
 pub fn items_of(alloc: Global, text: &[u8]) -> Result<Vec<Item>, AllocError>
     ensures { IfOk result (λ items. items.items ≡ items_of text.now) }

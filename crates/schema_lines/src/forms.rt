@@ -25,7 +25,7 @@ pub fn said(alloc: Global, line: &[u8]) -> Result<Line, AllocError>
     }
 }
 
-/// What stands after ADD.
+/// The item of the words after ADD.
 fn added(alloc: Global, rest: &[u8]) -> Result<Head, AllocError>
     ensures { IfOk result (λ head. head ≡ added rest.now) }
 {
@@ -136,7 +136,7 @@ fn kind_named(name: &[u8]) -> Option<Kind>
     }
 }
 
-/// A text in quotation marks or a word, where either stands at the head.
+/// A text in quotation marks or a word, where the line begins with either.
 fn given(alloc: Global, rest: &[u8]) -> Result<Option<Given>, AllocError>
     ensures { IfOk result (λ text. text ≡ given rest.now) }
 {

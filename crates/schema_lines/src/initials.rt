@@ -8,13 +8,11 @@ ghost use Rattle.text_values.specs.TextValues.{number_in};
 
 use crate::item::Given;
 use crate::lines::front_of;
+use abl_base::limits::DECIMAL_SCALE;
 use abl_base::{Bytes, Items, Kind, MAX_TEXT_BYTES, Value};
 use abl_values::{mask_fits, same_bytes, same_name};
 use std::alloc::{AllocError, Global};
 use text_values::{date_in, number_in, truth_in};
-
-/// How many units of a stored decimal make 1.
-const DECIMAL_UNITS: i128 = 10_000_000_000;
 
 /// The mask of a field without a usable FORMAT.
 fn default_mask(kind: Kind) -> &'static [u8]
@@ -85,7 +83,7 @@ fn second_word(mask: &[u8]) -> &[u8]
     }
 }
 
-/// The value of a word of the mask, in any case, else of one that stands for yes or no.
+/// The value of a word of the mask, in any case, else of one that denotes yes or no.
 fn logical_spelt(mask: &[u8], text: &[u8]) -> Option<Value>
     ensures { result ≡ logical_spelt mask.now text.now }
 {
@@ -109,8 +107,8 @@ fn whole_spelt(text: &[u8]) -> Option<i128>
 fn whole_units(units: i128) -> Option<i128>
     ensures { result ≡ whole_units units }
 {
-    if units % DECIMAL_UNITS == 0 {
-        Some(units / DECIMAL_UNITS)
+    if units % DECIMAL_SCALE as i128 == 0 {
+        Some(units / DECIMAL_SCALE as i128)
     } else {
         None
     }
@@ -145,7 +143,7 @@ fn day_spelt(text: &[u8]) -> Option<Value>
     }
 }
 
-/// The text as a value, where it has at most 30,000 bytes.
+/// The text as a value, where it has at most `MAX_TEXT_BYTES` bytes.
 fn text_value(text: &Bytes) -> Result<Option<Value>, AllocError>
     ensures { IfOk result (λ value. value ≡ text_value text.now) }
 {
@@ -187,7 +185,8 @@ fn is_character(kind: Kind) -> bool
     }
 }
 
-/// The value that INITIAL gives a field of this kind and mask; none where it does not fit.
+/// The value that INITIAL gives a field of this kind and mask; none where it does not fit. Out of
+/// memory is the only error.
 #[tactic(auto, unfolding(crate::specs::Initials::initial_given))]
 pub fn initial_given(
     kind: Kind,

@@ -3,21 +3,21 @@
 use abl_base::{Bytes, Items, Kind};
 
 /// A text that a line gives: one in quotation marks, or a word.
-#[derive(Debug, Drop)]
+#[derive(Drop)]
 pub struct Given {
     pub quoted: bool,
     pub text: Bytes,
 }
 
 /// A component of an index, as its line names it.
-#[derive(Debug, Drop)]
+#[derive(Drop)]
 pub struct Component {
     pub field: Bytes,
     pub descending: bool,
 }
 
 /// What an item is, by its first line. A field of an unsupported type has no kind.
-#[derive(Debug, Drop)]
+#[derive(Drop)]
 pub enum Head {
     /// The line has no form of an item.
     Malformed,
@@ -39,7 +39,7 @@ pub enum Head {
 }
 
 /// What an attribute line says. What a line gives that is not of the attribute's form is none.
-#[derive(Debug, Drop)]
+#[derive(Drop)]
 pub enum Attribute {
     Initial(Option<Given>),
     Format(Bytes),
@@ -54,7 +54,7 @@ pub enum Attribute {
 }
 
 /// What a line says.
-#[derive(Debug, Drop)]
+#[derive(Drop)]
 pub enum Line {
     Skipped,
     Begins(Head),
@@ -62,14 +62,14 @@ pub enum Line {
 }
 
 /// An attribute and the number of its line.
-#[derive(Debug, Drop)]
+#[derive(Drop)]
 pub struct Attributed {
     pub line: u32,
     pub attribute: Attribute,
 }
 
 /// An item: the number of its first line, what it is, and the attributes under it in order.
-#[derive(Debug, Drop)]
+#[derive(Drop)]
 pub struct Item {
     pub line: u32,
     pub head: Head,

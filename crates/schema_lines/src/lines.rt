@@ -1,4 +1,4 @@
-//! Lines, and the words and quoted texts that stand in a line.
+//! Lines, and the words and quoted texts of a line.
 
 ghost use Rattle.std.specs.Prelude.{◌≡◌, ◌∷◌, ◌-◌, ◌<◌, ◌≤◌, [], false, length, take, IfOk, IfSome, MatchOption, Some, None};
 ghost use Rattle.abl_values.specs.Masks.{after_run};
@@ -53,7 +53,7 @@ fn without_end(line: &[u8]) -> &[u8]
     &line[..end]
 }
 
-/// A text up to its first line feed, and what stands after that.
+/// A text up to its first line feed, and the rest after that.
 #[derive(Clone, Copy)]
 pub struct Piece<'a> {
     pub line: &'a [u8],
@@ -120,7 +120,7 @@ pub fn front_of<'a>(text: &'a [u8], end: &[u8]) -> &'a [u8]
     &text[..text.len() - end.len()]
 }
 
-/// What stands after the word at the head of the line and the blanks after it.
+/// The rest of the line after its first word and the blanks after that.
 pub fn after_word(line: &[u8]) -> &[u8]
     ensures { result.now ≡ after_word line.now }
 {
@@ -155,14 +155,14 @@ fn after_blanks(line: &[u8]) -> &[u8]
     rest
 }
 
-/// Says whether this word stands at the head of the line.
+/// Says whether the line begins with this word.
 pub fn begins(word: &[u8], line: &[u8]) -> bool
     ensures { result ≡ begins word.now line.now }
 {
     same_bytes(word_of(line), word)
 }
 
-/// What stands after this word, where it stands at the head of the line.
+/// The rest of the line after this word, where the line begins with it.
 pub fn past_word<'a>(word: &[u8], line: &'a [u8]) -> Option<&'a [u8]>
     ensures { MatchOption result (past_word word.now line.now ≡ None) (λ rest. past_word word.now line.now ≡ Some rest.now) }
 {
@@ -173,8 +173,8 @@ pub fn past_word<'a>(word: &[u8], line: &'a [u8]) -> Option<&'a [u8]>
     }
 }
 
-/// What stands after the quoted text at the head of the line and the blanks after it, where a
-/// quoted text stands there and is closed.
+/// The rest of the line after the quoted text that it begins with and the blanks after that, where
+/// the line begins with a quoted text that is closed.
 pub fn after_quote(line: &[u8]) -> Option<&[u8]>
     ensures { MatchOption result (quote_of line.now ≡ None) (λ rest. quote_of line.now ≡ Some (record { text = quoted_bytes line.now; rest = rest.now })) }
 {
@@ -184,7 +184,7 @@ pub fn after_quote(line: &[u8]) -> Option<&[u8]>
     }
 }
 
-/// What stands after the quoted text whose opening mark stands before these bytes.
+/// The bytes after the quoted text whose opening mark is directly before these bytes.
 fn after_inside(bytes: &[u8]) -> Option<&[u8]>
     ensures { MatchOption result (inside false bytes.now ≡ None) (λ rest. inside false bytes.now ≡ Some (record { text = text_of (inside false bytes.now); rest = rest.now })) }
 {
@@ -212,7 +212,7 @@ pub fn quoted_bytes(alloc: Global, line: &[u8]) -> Result<Bytes, AllocError>
     }
 }
 
-/// The quoted text whose opening mark stands before these bytes.
+/// The quoted text whose opening mark is directly before these bytes.
 fn bytes_inside(alloc: Global, bytes: &[u8]) -> Result<Bytes, AllocError>
     ensures { IfOk result (λ text. text ≡ text_of (inside false bytes.now)) }
 {

@@ -1,77 +1,109 @@
-//! What is written of a schema file.
+//! The answer to a schema file.
 
 use abl_schema::{SchemaRefusal, read_df};
-use abl_values::{FieldDef, Schema};
+use abl_values::Schema;
+use row_words::push_lines;
 use std::alloc::{AllocError, Global};
 
 /// The canonical text of the file, or the rule that it breaks.
 pub fn answer(alloc: Global, name: &str, text: &[u8]) -> Result<String, AllocError> {
     match read_df(alloc, text) {
-        Ok(schema) => {
-            let mut answer = String::new(alloc);
-            push_bytes(&mut answer, schema.canonical()?.as_slice())?;
-            if name.ends_with("spelt") {
-                push_spelt(&mut answer, &schema)?;
-            }
-            answer.push_str("end")?;
-            Ok(answer)
-        }
+        Ok(schema) => meaning(alloc, name, &schema),
         Err(SchemaRefusal::NoMemory) => Err(AllocError),
         Err(SchemaRefusal::Broken { rule, line }) => format!(in alloc; "{rule:?} at line {line}"),
     }
 }
 
-/// Writes the names and masks of a schema as they are spelt, a line a table and a sequence.
-fn push_spelt(answer: &mut String, schema: &Schema) -> Result<(), AllocError> {
+/// The answer to a file that breaks no rule.
+fn meaning(alloc: Global, name: &str, schema: &Schema) -> Result<String, AllocError> {
+    let canonical = schema.canonical()?;
+    if name.ends_with("size") {
+        return size(alloc, canonical.as_slice());
+    }
+    let mut answer = String::new(alloc);
+    push_lines(&mut answer, canonical.as_slice())?;
+    if name.ends_with("spelt") {
+        push_spelt(&mut answer, alloc, schema)?;
+    }
+    answer.push_str("end")?;
+    Ok(answer)
+}
+
+/// The length of a text and its last line.
+fn size(alloc: Global, text: &[u8]) -> Result<String, AllocError> {
+    let length = text.len();
+    let mut answer = format!(in alloc; "{length} bytes, last ")?;
+    if let Some(last) = text.split(|byte| *byte == b'\n').rev().nth(1) {
+        push_lines(&mut answer, last)?;
+    }
+    Ok(answer)
+}
+
+/// Writes the names of a schema as they are spelt, with the numbers that they are found by, and the
+/// masks: a line a table and a sequence.
+fn push_spelt(answer: &mut String, alloc: Global, schema: &Schema) -> Result<(), AllocError> {
     for table in 0..schema.tables() {
-        answer.push_str("t ")?;
-        push_bytes(answer, schema.table_name(table))?;
-        for field in schema.fields(table) {
-            push_field(answer, field)?;
-        }
-        for index in schema.indexes(table) {
-            answer.push_str(" i ")?;
-            push_bytes(answer, index.name.as_slice())?;
-        }
-        answer.push('\n')?;
+        push_table(answer, alloc, schema, table)?;
     }
     for sequence in schema.sequences() {
         answer.push_str("s ")?;
-        push_bytes(answer, sequence.name.as_slice())?;
+        push_lines(answer, sequence.name.as_slice())?;
         answer.push('\n')?;
     }
     Ok(())
 }
 
-/// Writes the name and the mask of a field.
-fn push_field(answer: &mut String, field: &FieldDef) -> Result<(), AllocError> {
-    answer.push(' ')?;
-    push_bytes(answer, field.name.as_slice())?;
-    answer.push_str(" [")?;
-    push_bytes(answer, field.mask.as_slice())?;
-    answer.push(']')
+/// Writes the line of a table, and nothing where the schema has none of this number.
+fn push_table(
+    answer: &mut String,
+    alloc: Global,
+    schema: &Schema,
+    table: u16,
+) -> Result<(), AllocError> {
+    if table >= schema.tables() {
+        return Ok(());
+    }
+    answer.push_str("t ")?;
+    let name = schema.table_name(table);
+    push_lines(answer, name)?;
+    push_found(
+        answer,
+        alloc,
+        schema.table(capitals(alloc, name)?.as_slice()),
+    )?;
+    for field in schema.fields(table) {
+        let name = field.name.as_slice();
+        answer.push(' ')?;
+        push_lines(answer, name)?;
+        push_found(
+            answer,
+            alloc,
+            schema.field(table, capitals(alloc, name)?.as_slice()),
+        )?;
+        answer.push_str(" [")?;
+        push_lines(answer, field.mask.as_slice())?;
+        answer.push(']')?;
+    }
+    for index in schema.indexes(table) {
+        answer.push_str(" i ")?;
+        push_lines(answer, index.name.as_slice())?;
+    }
+    answer.push('\n')
 }
 
-/// Writes bytes, `%` and two digits in base 16 for one that is no graphic character, blank or line
-/// feed.
-fn push_bytes(answer: &mut String, bytes: &[u8]) -> Result<(), AllocError> {
-    for byte in bytes {
-        if (byte.is_ascii_graphic() && *byte != b'%') || *byte == b' ' || *byte == b'\n' {
-            answer.push(char::from(*byte))?;
-        } else {
-            answer.push('%')?;
-            answer.push(digit(*byte / 16))?;
-            answer.push(digit(*byte % 16))?;
-        }
+/// Writes the number that a name was found by.
+fn push_found(answer: &mut String, alloc: Global, number: Option<u16>) -> Result<(), AllocError> {
+    match number {
+        Some(number) => answer.push_str(format!(in alloc; "={number}")?.as_str()),
+        None => answer.push_str("=none"),
     }
-    Ok(())
 }
 
-/// A digit in base 16.
-fn digit(n: u8) -> char {
-    if n < 10 {
-        char::from(b'0'.wrapping_add(n))
-    } else {
-        char::from(b'a'.wrapping_add(n.wrapping_sub(10)))
+/// A name in capitals.
+fn capitals(alloc: Global, name: &[u8]) -> Result<Vec<u8>, AllocError> {
+    let mut capitals = Vec::new(alloc);
+    for byte in name {
+        capitals.push(byte.to_ascii_uppercase())?;
     }
+    Ok(capitals)
 }

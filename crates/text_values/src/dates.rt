@@ -1,15 +1,17 @@
-//! Texts that stand for dates.
+//! Texts that denote dates.
 
 ghost use Rattle.std.specs.Prelude.{◌≡◌, ◌≤◌, MatchOption, length, take_while};
 ghost use Rattle.abl_values.specs.Masks.{is_digit};
 ghost use Rattle.abl_values.specs.Digits.{from_first_not};
-ghost use Rattle.text_values.specs.TextValues.{behind_slash, date_in, is_one_or_two, year_of};
+ghost use Rattle.text_values.specs.TextValues.{after_slash, date_in, is_one_or_two, year_of};
 
 use crate::digits::{all_digits, digits_len, small_number_of};
+use abl_base::limits::FIRST_SHORT_YEAR;
 use abl_values::date_of;
 
-/// The day number of the date that a text stands for: month, day and year with `/` between, of one
-/// or two, one or two, and two or four digits. A year of two digits is one of 1950 to 2049.
+/// The day number of the date that a text denotes: month, day and year with `/` between, of one or
+/// two, one or two, and two or four digits. A year of two digits is from `FIRST_SHORT_YEAR` to
+/// `LAST_SHORT_YEAR`. `None` where the text denotes no date.
 pub fn date_in(text: &[u8]) -> Option<i32>
     ensures { result ≡ date_in text.now }
 {
@@ -25,14 +27,14 @@ pub fn date_in(text: &[u8]) -> Option<i32>
     )
 }
 
-/// The digits in front of a `/`, and what is behind it.
+/// The digits before a `/`, and the bytes after it.
 fn part_before_slash(text: &[u8]) -> Option<(&[u8], &[u8])>
-    ensures { MatchOption result (behind_slash (from_first_not is_digit text.now) ≡ None) (λ parts.
-        (parts.0.now ≡ take_while is_digit text.now) × (behind_slash (from_first_not is_digit text.now) ≡ Some parts.1.now)) }
+    ensures { MatchOption result (after_slash (from_first_not is_digit text.now) ≡ None) (λ parts.
+        (parts.0.now ≡ take_while is_digit text.now) × (after_slash (from_first_not is_digit text.now) ≡ Some parts.1.now)) }
 {
     let (digits, rest) = text.split_at(digits_len(text));
     match rest {
-        [b'/', behind @ ..] => Some((digits, behind)),
+        [b'/', after @ ..] => Some((digits, after)),
         _ => None,
     }
 }
@@ -50,7 +52,11 @@ fn year_of(digits: &[u8]) -> Option<u32>
     match digits.len() {
         2 => {
             let n = small_number_of(digits);
-            Some(if n < 50 { 2000 + n } else { 1900 + n })
+            Some(if 1900 + n < FIRST_SHORT_YEAR as u32 {
+                2000 + n
+            } else {
+                1900 + n
+            })
         }
         4 => Some(small_number_of(digits)),
         _ => None,

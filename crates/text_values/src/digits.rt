@@ -7,21 +7,21 @@ ghost use Rattle.abl_values.specs.Digits.{are_digits, number_of};
 
 use abl_values::is_digit;
 
-/// Whether each byte is a digit.
+/// Says whether each byte is a digit.
 pub fn all_digits(bytes: &[u8]) -> bool
     ensures { result ≡ list_all is_digit bytes.now }
 {
     bytes.iter().all(|byte| is_digit(*byte))
 }
 
-/// One digit or more.
+/// Says whether the text is one digit or more.
 pub fn are_digits(bytes: &[u8]) -> bool
     ensures { result ≡ are_digits bytes.now }
 {
     !bytes.is_empty() && all_digits(bytes)
 }
 
-/// How many digits a text begins with.
+/// The number of digits at the beginning of a text.
 pub fn digits_len(text: &[u8]) -> usize
     ensures value { result ≡ prefix_len is_digit text.now }
     ensures within { result ≤ length text.now }

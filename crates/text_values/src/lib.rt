@@ -1,13 +1,12 @@
-//! Which texts stand for a value of a kind, and for which one: what IMPORT, INITIAL in a schema file
-//! and the conversions of texts have in common. It stands on `abl_values`. The layer above may rely
-//! on `specs/TextValues.antt`, whose definitions the calls compute.
+//! Which texts denote a value of a kind, and which one: the forms that IMPORT, INITIAL in a schema
+//! file and the conversions of texts have in common. It depends on `abl_values`. The layer above may
+//! rely on `specs/TextValues.antt`, whose definitions the calls compute. The rows `value` of
+//! `value_tables` run it.
 #![tactic(auto)]
 
 mod dates;
 mod digits;
 mod numbers;
-#[cfg(test)]
-mod tests;
 mod truths;
 mod values;
 

@@ -1,11 +1,11 @@
-//! Texts that stand for truth values.
+//! Texts that denote truth values.
 
 ghost use Rattle.std.specs.Prelude.{◌≡◌};
 ghost use Rattle.text_values.specs.TextValues.{truth_in};
 
 use abl_values::same_name;
 
-/// The LOGICAL that a text stands for: yes, no, true, false or a first letter of these, in any case.
+/// The LOGICAL that a text denotes: yes, no, true, false or a first letter of these, in any case.
 pub fn truth_in(text: &[u8]) -> Option<bool>
     ensures { result ≡ truth_in text.now }
 {

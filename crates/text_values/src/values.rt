@@ -1,4 +1,4 @@
-//! Texts that stand for a value of a kind.
+//! Texts that denote a value of a kind.
 
 ghost use Rattle.std.specs.Prelude.{◌≡◌, IfOk};
 ghost use Rattle.text_values.specs.TextValues.{value_in};
@@ -9,7 +9,8 @@ use crate::truths::truth_in;
 use abl_base::{Items, Kind, MAX_TEXT_BYTES, Value};
 use std::alloc::{AllocError, Global};
 
-/// The value of the kind that a text stands for, and `None` where it is no text of the kind.
+/// The value of the kind that a text denotes, and `None` where the text denotes none. Out of
+/// memory is the only error.
 #[tactic(auto, unfolding(crate::specs::TextValues::value_in))]
 pub fn value_in(alloc: Global, kind: Kind, text: &[u8]) -> Result<Option<Value>, AllocError>
     ensures { IfOk result (λ value. value ≡ value_in kind text.now) }

@@ -5,8 +5,7 @@
 
 mod rows;
 mod shown;
-#[cfg(test)]
-mod tests;
+mod stored;
 
 use std::io;
 

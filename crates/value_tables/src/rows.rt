@@ -1,12 +1,12 @@
 //! The answers of rows.
 
-use crate::shown;
+use crate::{shown, stored};
 use abl_base::Value;
 use abl_values::{
     add, compare, date_of, date_parts, divide, export_value, fit, mask_fits, modulo, multiply,
     subtract,
 };
-use row_words::{bytes_of, kind_of, push_bytes, value_of};
+use row_words::{bytes_of, kind_of, value_of};
 use std::alloc::{AllocError, Global};
 
 /// The answer of a row: the name of a call and its arguments, with a blank between.
@@ -27,6 +27,12 @@ fn answer_of(alloc: Global, call: &str, arguments: &str) -> Result<Option<String
         "mask" => mask(alloc, arguments),
         "fit" => fitted(alloc, arguments),
         "export" => exported(alloc, arguments),
+        "value" => stored::value(alloc, arguments),
+        "run" => stored::run(alloc, arguments),
+        "read" => stored::read(alloc, arguments),
+        "bytes" => stored::empty_row(alloc),
+        "key" => stored::key(alloc, arguments),
+        "names" => stored::names(alloc, arguments),
         _ => computed(alloc, call, arguments),
     }
 }
@@ -82,9 +88,7 @@ fn exported(alloc: Global, word: &str) -> Result<Option<String>, AllocError> {
     let Some(value) = value_of(alloc, word)? else {
         return Ok(None);
     };
-    let mut text = String::new(alloc);
-    push_bytes(&mut text, export_value(alloc, &value)?.as_slice())?;
-    Ok(Some(text))
+    Ok(Some(shown::text(alloc, export_value(alloc, &value)?.as_slice())?))
 }
 
 /// Whether a mask is one for values of a kind.

@@ -2,11 +2,11 @@
 
 use abl_base::Value;
 use abl_values::ArithFault;
-use row_words::word_of;
+use row_words::{push_bytes, word_of};
 use std::alloc::{AllocError, Global};
 use std::cmp::Ordering;
 
-/// What is written of an operator's answer.
+/// The word of an operator's answer.
 pub fn answer(alloc: Global, answer: Result<Value, ArithFault>) -> Result<String, AllocError> {
     match answer {
         Ok(result) => word_of(alloc, &result),
@@ -15,11 +15,18 @@ pub fn answer(alloc: Global, answer: Result<Value, ArithFault>) -> Result<String
     }
 }
 
-/// Where the first of two values stands.
+/// The place of the first of two values, seen from the second.
 pub fn order(order: Ordering) -> &'static str {
     match order {
         Ordering::Less => "below",
         Ordering::Equal => "level",
         Ordering::Greater => "above",
     }
+}
+
+/// Bytes as a word.
+pub fn text(alloc: Global, bytes: &[u8]) -> Result<String, AllocError> {
+    let mut word = String::new(alloc);
+    push_bytes(&mut word, bytes)?;
+    Ok(word)
 }

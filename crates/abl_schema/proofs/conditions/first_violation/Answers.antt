@@ -1,5 +1,5 @@
 use Rattle.std.proofs.Common.{◌≡◌, ◌+◌, ◌-◌, ◌^◌, ◌≤◌, ◌<◌, min, Some, None, sym, ap, ◌∙◌, subst, rules, arith}
-use Rattle.abl_schema.specs.declared.limits.TheConstants.{MAX_CANONICAL_BYTES}
+use Rattle.abl_base.specs.declared.limits.TheConstants.{MAX_CANONICAL_BYTES}
 use Rattle.abl_schema.specs.Census.{head_rule_in, item_bytes, line_violation_in}
 use Rattle.abl_schema.proofs.SoFar.{AreClean, head_broken, line_broken, more_bytes, no_items, one_more_clean, text_broken}
 use Rattle.abl_schema.proofs.conditions.first_violation.Goals as goal

@@ -4,7 +4,7 @@ use Rattle.schema_lines.specs.declared.item.Attributed.{Attributed}
 use Rattle.schema_lines.specs.Attributes.{has, is_primary}
 use Rattle.abl_values.specs.declared.schema.IndexDef.{IndexDef}
 use Rattle.abl_values.specs.Schema.{number_of_name}
-use Rattle.abl_schema.specs.declared.limits.TheConstants.{MAX_INDEXES}
+use Rattle.abl_base.specs.declared.limits.TheConstants.{MAX_INDEXES}
 use Rattle.abl_schema.specs.Meaning.{index_said, indexes_of}
 use Rattle.abl_schema.proofs.KeptItems.{AreListed, index_next, indexes_few, none_listed, one_listed}
 use Rattle.abl_schema.proofs.meaning.indexes_of.Goals as goal

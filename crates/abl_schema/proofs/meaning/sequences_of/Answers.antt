@@ -1,6 +1,6 @@
 use Rattle.std.proofs.Common.{◌≤◌, List, ℕ, length, map, sym, ap, subst, ◌∙◌, arith}
 use Rattle.abl_values.specs.declared.schema.SequenceDef.{SequenceDef}
-use Rattle.abl_values.specs.declared.named.TheConstants.{MAX_NAME_BYTES}
+use Rattle.abl_base.specs.declared.limits.TheConstants.{MAX_NAME_BYTES}
 use Rattle.abl_values.specs.Schema.{number_of_name}
 use Rattle.abl_schema.proofs.KeptItems.{sequence_next}
 use Rattle.abl_schema.proofs.meaning.sequences_of.Goals as goal

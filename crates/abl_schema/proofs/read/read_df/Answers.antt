@@ -3,7 +3,7 @@ use Rattle.abl_values.specs.Sound.{IsSound}
 use Rattle.schema_lines.specs.declared.item.Item.{Item}
 use Rattle.abl_schema.specs.Meaning.{schema_of}
 use Rattle.abl_schema.specs.Rules.{violation_of}
-use Rattle.abl_schema.proofs.ToldSound.{files-sound}
+use Rattle.abl_schema.proofs.ObservableSound.{files-sound}
 use Rattle.abl_schema.proofs.read.read_df.Goals as goal
 
 pub schema_of-requires-clause-sound : goal.schema_of-requires-clause-sound

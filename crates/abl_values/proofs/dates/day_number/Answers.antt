@@ -14,7 +14,7 @@ returns-in-Ok c =
     let found = simp to_z-of_z at c.in-Ok.ensures.value in
     let date = c.in-Ok.date in
     ap (λ z. Some z) (to_z-of_z w32 c.to_unix_epoch_day.result fr ∙ c.to_unix_epoch_day.ensures.value)
-    ∙ sym (date_found date.year date.month date.day c.args.month c.args.day c.args.year c.requires.year c.requires.last found.0 found.1 found.2 date.month_in.0 date.month_in.1 date.day_in.0 date.day_in.1)
+    ∙ sym (date_found date.year date.month date.day c.args.month c.args.day c.args.year c.requires.first c.requires.last found.0 found.1 found.2 date.month_in.0 date.month_in.1 date.day_in.0 date.day_in.1)
 
 pub returns-in-Err : goal.returns-in-Err
 returns-in-Err c =

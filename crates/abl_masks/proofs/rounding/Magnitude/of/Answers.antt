@@ -7,8 +7,8 @@ returns-clause-whole c =
     let kept = rounded_as_kept c.args.decimals c.args.stored _ _ _ c.min-digits.ensures c.ten_to.ensures.value c.rounded-units.ensures in
     ap (λ (t : ℕ). c.rounded-units.result / t) c.ten_to-2.ensures.value ∙ kept.whole
 
-pub returns-clause-behind : goal.returns-clause-behind
-returns-clause-behind c =
+pub returns-clause-after : goal.returns-clause-after
+returns-clause-after c =
     (rounded_as_kept c.args.decimals c.args.stored _ _ _ c.min-digits.ensures c.ten_to.ensures.value c.rounded-units.ensures).behind
 
 pub returns-clause-zero : goal.returns-clause-zero
