@@ -8,7 +8,8 @@ use Rattle.abl_lex.specs.declared.form.Form.{Form}
 use Rattle.abl_lex.specs.declared.form.Form.TheVariants.{Word, Qualified, Digits, Fractional, Dated, Quoted, Symbol}
 use Rattle.abl_lex.specs.Bytes.{tilde, is_quote, is_symbol_byte, starts, starts_quote}
 use Rattle.abl_lex.specs.Forms.{form, closing, closes, is_at, plus, Longest, NoForm}
-use Rattle.abl_base.proofs.Bools.{chosen_true, chosen_false, and_left, and_right, and_both, clash, not_so, so_not, tells, same, equal}
+use Rattle.std.proofs.lemmas.Bool.{cond-true, cond-false, and_from, both_ways, not-true, not_from_false, cases_Bool, eq-eqb, eqb-true}
+use Rattle.abl_base.proofs.Bools.{left_of_and, right_of_and}
 use Rattle.abl_lex.proofs.Comments.{plus_plus, plus_none}
 use Rattle.abl_lex.proofs.Prefixes.{length_take}
 use Rattle.abl_lex.proofs.Shapes.{letter_no_quote, digit_no_quote, quote_no_symbol, first_byte, no_empty}
@@ -25,26 +26,26 @@ step_passed q b bs = refl
 
 pub step_tilde : (q b : ℕ) (bs : List ℕ) → (b == tilde) ≡ true → closing q false (b ∷ bs) ≡ plus 1 (closing q true bs)
 unfolding closing
-step_tilde q b bs e = chosen_true (b == tilde) _ _ e
+step_tilde q b bs e = cond-true (b == tilde) _ _ e
 
 pub step_plain : (q b : ℕ) (bs : List ℕ) → (b == tilde) ≡ false → (b == q) ≡ false → closing q false (b ∷ bs) ≡ plus 1 (closing q false bs)
 unfolding closing
-step_plain q b bs e f = chosen_false (b == tilde) _ _ e ∙ chosen_false (b == q) _ _ f
+step_plain q b bs e f = cond-false (b == tilde) _ _ e ∙ cond-false (b == q) _ _ f
 
 pub step_doubled : (q b : ℕ) (bs : List ℕ) → (b == tilde) ≡ false → (b == q) ≡ true → starts q bs ≡ true → closing q false (b ∷ bs) ≡ plus 1 (closing q true bs)
 unfolding closing
-step_doubled q b bs e f s = chosen_false (b == tilde) _ _ e ∙ chosen_true (b == q) _ _ f ∙ chosen_true (starts q bs) _ _ s
+step_doubled q b bs e f s = cond-false (b == tilde) _ _ e ∙ cond-true (b == q) _ _ f ∙ cond-true (starts q bs) _ _ s
 
 pub step_last : (q b : ℕ) (bs : List ℕ) → (b == tilde) ≡ false → (b == q) ≡ true → starts q bs ≡ false → closing q false (b ∷ bs) ≡ Some 1
 unfolding closing
-step_last q b bs e f s = chosen_false (b == tilde) _ _ e ∙ chosen_true (b == q) _ _ f ∙ chosen_false (starts q bs) _ _ s
+step_last q b bs e f s = cond-false (b == tilde) _ _ e ∙ cond-true (b == q) _ _ f ∙ cond-false (starts q bs) _ _ s
 
 plus_some : (a : ℕ) (o : Option ℕ) (m : ℕ) → plus a o ≡ Some m → (k : ℕ) × (o ≡ Some k) × (m ≡ a + k)
 plus_some a None m e = cc
 plus_some a (Some k) m e = let q : a + k ≡ m = cc in (k, refl, sym q)
 
 -- THE WORD AND THE TEXT
--- the m bytes in front end as a text does, and the own quote does not follow
+-- the m bytes at the start end as a text does, and the own quote does not follow
 pub record Closes (q : ℕ) (p : Bool) (xs : List ℕ) (m : ℕ) : Type 0 where
   pub within : m ≤ length xs
   pub is : closing q p (take m xs) ≡ Some m
@@ -60,10 +61,10 @@ one_more q p r b bs m k step e c =
       apart = c.apart;
     }
 
-starts_front : (q k : ℕ) (bs : List ℕ) → 0 < k → starts q bs ≡ true → starts q (take k bs) ≡ true
-starts_front q zero bs h s = absurd (omega arith)
-starts_front q (suc k) [] h s = s
-starts_front q (suc k) (b ∷ bs) h s = s
+starts_leading : (q k : ℕ) (bs : List ℕ) → 0 < k → starts q bs ≡ true → starts q (take k bs) ≡ true
+starts_leading q zero bs h s = absurd (omega arith)
+starts_leading q (suc k) [] h s = s
+starts_leading q (suc k) (b ∷ bs) h s = s
 
 none_some : (k : ℕ) → None ≡ Some k → ⊥
 none_some k e = cc
@@ -78,7 +79,7 @@ doubled q b bs m k t u v e c =
     let w = c.within in
     subst (λ n. Closes q false (b ∷ bs) n) s record {
       within = omega arith;
-      is = step_doubled q b (take k bs) t u (starts_front q k bs (some_inside q true k bs c.is) v) ∙ ap (plus 1) c.is ∙ (let t : 1 + k ≡ suc k = omega arith in ap (λ n. Some n) t);
+      is = step_doubled q b (take k bs) t u (starts_leading q k bs (some_inside q true k bs c.is) v) ∙ ap (plus 1) c.is ∙ (let t : 1 + k ≡ suc k = omega arith in ap (λ n. Some n) t);
       apart = c.apart;
     }
 
@@ -87,15 +88,15 @@ closes_at q p [] m e = let z : None ≡ Some m = sym (closing_nil q p) ∙ e in 
 closes_at q true (b ∷ bs) m e =
     let s = plus_some 1 (closing q false bs) m (sym (step_passed q b bs) ∙ e) in
     one_more q true false b bs m s.0 (step_passed q b) s.2 (closes_at q false bs s.0 s.1)
-closes_at q false (b ∷ bs) m e = elim (tells (b == tilde)) [
+closes_at q false (b ∷ bs) m e = elim (cases_Bool (b == tilde)) [
   | inl t ↦ (
       let s = plus_some 1 (closing q true bs) m (sym (step_tilde q b bs t) ∙ e) in
       one_more q false true b bs m s.0 (λ ys. step_tilde q b ys t) s.2 (closes_at q true bs s.0 s.1))
-  | inr t ↦ elim (tells (b == q)) [
+  | inr t ↦ elim (cases_Bool (b == q)) [
     | inr u ↦ (
         let s = plus_some 1 (closing q false bs) m (sym (step_plain q b bs t u) ∙ e) in
         one_more q false false b bs m s.0 (λ ys. step_plain q b ys t u) s.2 (closes_at q false bs s.0 s.1))
-    | inl u ↦ elim (tells (starts q bs)) [
+    | inl u ↦ elim (cases_Bool (starts q bs)) [
       | inl v ↦ (
           let s = plus_some 1 (closing q true bs) m (sym (step_doubled q b bs t u v) ∙ e) in
           doubled q b bs m s.0 t u v s.2 (closes_at q true bs s.0 s.1))
@@ -122,7 +123,7 @@ take_starts q zero bs s = let z : false ≡ true = s in cc
 take_starts q (suc m) [] s = s
 take_starts q (suc m) (b ∷ bs) s = s
 
--- where the quote does not start the front, it starts the text only if the front is empty
+-- where the quote does not start the leading bytes, it starts the text only if these are empty
 not_starts : (q m : ℕ) (bs : List ℕ) → starts q (take m bs) ≡ false → starts q (drop m bs) ≡ false → Some 1 ≡ Some (suc m) → starts q bs ≡ false
 not_starts q zero bs s a e = a
 not_starts q (suc m) bs s a e = let z : 1 ≡ suc (suc m) = cc in absurd (omega arith)
@@ -137,15 +138,15 @@ closes_only q true (b ∷ bs) (suc m) c =
     on q true false b bs m (step_passed q b bs) (closes_only q false bs m record { within = omega arith; is = i; apart = c.apart })
 closes_only q false (b ∷ bs) (suc m) c =
     let w = c.within in
-    elim (tells (b == tilde)) [
+    elim (cases_Bool (b == tilde)) [
       | inl t ↦ (
           let i = back q false true b bs m (λ ys. step_tilde q b ys t) c.is in
           on q false true b bs m (step_tilde q b bs t) (closes_only q true bs m record { within = omega arith; is = i; apart = c.apart }))
-      | inr t ↦ elim (tells (b == q)) [
+      | inr t ↦ elim (cases_Bool (b == q)) [
         | inr u ↦ (
             let i = back q false false b bs m (λ ys. step_plain q b ys t u) c.is in
             on q false false b bs m (step_plain q b bs t u) (closes_only q false bs m record { within = omega arith; is = i; apart = c.apart }))
-        | inl u ↦ elim (tells (starts q (take m bs))) [
+        | inl u ↦ elim (cases_Bool (starts q (take m bs))) [
           | inl v ↦ (
               let s = plus_some 1 (closing q true (take m bs)) (suc m) (sym (step_doubled q b (take m bs) t u v) ∙ c.is) in
               let i : s.0 ≡ m = (let z = s.2 in omega arith) in
@@ -161,37 +162,37 @@ closes_only q false (b ∷ bs) (suc m) c =
 -- THE FORM
 at_is : (o : Option ℕ) (n : ℕ) → is_at o n ≡ true → o ≡ Some n
 at_is None n e = let z : false ≡ true = e in cc
-at_is (Some m) n e = ap (λ k. Some k) (equal m n e)
+at_is (Some m) n e = ap (λ k. Some k) (eqb-true m n e)
 
 is_at_made : (o : Option ℕ) (n : ℕ) → o ≡ Some n → is_at o n ≡ true
-is_at_made o n e = ap (λ v. is_at v n) e ∙ same n n refl
+is_at_made o n e = ap (λ v. is_at v n) e ∙ eq-eqb n n refl
 
 quoted_form : (b : ℕ) (bs : List ℕ) (m : ℕ) → m ≤ length bs → form Quoted (b ∷ take m bs) (drop m bs) ≡ true → Closes b false bs m
 unfolding form
 quoted_form b bs m h e =
-    let r = and_right (is_quote b) _ e in
-    let c = at_is (closing b false (take m bs)) (length (take m bs)) (and_left (closes b (take m bs)) _ r) in
+    let r = right_of_and (is_quote b) _ e in
+    let c = at_is (closing b false (take m bs)) (length (take m bs)) (left_of_and (closes b (take m bs)) _ r) in
     record {
       within = h;
       is = c ∙ ap (λ n. Some n) (length_take m bs h);
-      apart = not_so _ (and_right (closes b (take m bs)) _ r);
+      apart = not-true _ (right_of_and (closes b (take m bs)) _ r);
     }
 
 quoted_made : (b : ℕ) (bs : List ℕ) (m : ℕ) → is_quote b ≡ true → Closes b false bs m → form Quoted (b ∷ take m bs) (drop m bs) ≡ true
 unfolding form
 quoted_made b bs m q c =
-    and_both (is_quote b) _ q (and_both (closes b (take m bs)) _ (is_at_made (closing b false (take m bs)) (length (take m bs)) (c.is ∙ ap (λ n. Some n) (sym (length_take m bs c.within)))) (so_not _ c.apart))
+    and_from (is_quote b) _ q (and_from (closes b (take m bs)) _ (is_at_made (closing b false (take m bs)) (length (take m bs)) (c.is ∙ ap (λ n. Some n) (sym (length_take m bs c.within)))) (not_from_false _ c.apart))
 
 -- every form at a quote is the one text
 quoted_here : (g : Form) (m b : ℕ) (bs : List ℕ) → is_quote b ≡ true → m ≤ length (b ∷ bs) → form g (take m (b ∷ bs)) (drop m (b ∷ bs)) ≡ true → (k : ℕ) × (m ≡ suc k) × (closing b false bs ≡ Some k)
 quoted_here g zero b bs q h e = absurd (no_empty g (b ∷ bs) e)
-quoted_here Word (suc m) b bs q h e = absurd (clash (is_quote b) (letter_no_quote b (first_byte Word (suc m) b bs e)) q)
-quoted_here Qualified (suc m) b bs q h e = absurd (clash (is_quote b) (letter_no_quote b (first_byte Qualified (suc m) b bs e)) q)
-quoted_here Digits (suc m) b bs q h e = absurd (clash (is_quote b) (digit_no_quote b (first_byte Digits (suc m) b bs e)) q)
-quoted_here Fractional (suc m) b bs q h e = absurd (clash (is_quote b) (digit_no_quote b (first_byte Fractional (suc m) b bs e)) q)
-quoted_here Dated (suc m) b bs q h e = absurd (clash (is_quote b) (digit_no_quote b (first_byte Dated (suc m) b bs e)) q)
+quoted_here Word (suc m) b bs q h e = absurd (both_ways (is_quote b) (letter_no_quote b (first_byte Word (suc m) b bs e)) q)
+quoted_here Qualified (suc m) b bs q h e = absurd (both_ways (is_quote b) (letter_no_quote b (first_byte Qualified (suc m) b bs e)) q)
+quoted_here Digits (suc m) b bs q h e = absurd (both_ways (is_quote b) (digit_no_quote b (first_byte Digits (suc m) b bs e)) q)
+quoted_here Fractional (suc m) b bs q h e = absurd (both_ways (is_quote b) (digit_no_quote b (first_byte Fractional (suc m) b bs e)) q)
+quoted_here Dated (suc m) b bs q h e = absurd (both_ways (is_quote b) (digit_no_quote b (first_byte Dated (suc m) b bs e)) q)
 quoted_here Quoted (suc m) b bs q h e = (m, refl, closes_only b false bs m (quoted_form b bs m (omega arith) e))
-quoted_here Symbol (suc m) b bs q h e = absurd (clash (is_symbol_byte b) (quote_no_symbol b q) (first_byte Symbol (suc m) b bs e))
+quoted_here Symbol (suc m) b bs q h e = absurd (both_ways (is_symbol_byte b) (quote_no_symbol b q) (first_byte Symbol (suc m) b bs e))
 
 quoted_at : (b : ℕ) (bs : List ℕ) (k : ℕ) → is_quote b ≡ true → closing b false bs ≡ Some k → Longest Quoted (suc k) (b ∷ bs)
 quoted_at b bs k q e =
@@ -247,7 +248,7 @@ two_on q i xs =
 
 pub at_tilde : (q : ℕ) (xs : List ℕ) (i : ℕ) → ClosingSofar q xs i → i < length xs → get_or xs i 0 ≡ tilde → ClosingSofar q xs (i + 2)
 at_tilde q xs i s h e = record {
-  is = s.is ∙ ap (λ ys. plus i (closing q false ys)) (parts xs i h) ∙ ap (plus i) (step_tilde q (get_or xs i 0) (drop (i + 1) xs) (same _ _ e) ∙ two_on q i xs) ∙ plus_plus i 2 _;
+  is = s.is ∙ ap (λ ys. plus i (closing q false ys)) (parts xs i h) ∙ ap (plus i) (step_tilde q (get_or xs i 0) (drop (i + 1) xs) (eq-eqb _ _ e) ∙ two_on q i xs) ∙ plus_plus i 2 _;
 }
 
 pub at_plain : (q : ℕ) (xs : List ℕ) (i : ℕ) → ClosingSofar q xs i → i < length xs → (get_or xs i 0 == tilde) ≡ false → (get_or xs i 0 == q) ≡ false → ClosingSofar q xs (i + 1)

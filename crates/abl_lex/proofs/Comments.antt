@@ -4,7 +4,7 @@ use Rattle.std.specs.Prelude.{◌==◌, slice_index}
 use Rattle.abl_lex.specs.Bytes.{pair_at, slash, star}
 use Rattle.abl_lex.specs.Forms.{plus}
 use Rattle.abl_lex.specs.Gaps.{comment}
-use Rattle.abl_base.proofs.Bools.{chosen_true, chosen_false}
+use Rattle.std.proofs.lemmas.Bool.{cond-true, cond-false}
 
 record Two (text : List ℕ) (i : ℕ) : Type 0 where
   b : ℕ
@@ -26,15 +26,15 @@ two (b ∷ c ∷ rest) (suc i) h =
 
 opens_at : (d b c : ℕ) (bs : List ℕ) → (b == slash && c == star) ≡ true → comment (suc d) (b ∷ c ∷ bs) ≡ plus 2 (comment (suc (suc d)) bs)
 unfolding comment
-opens_at d b c bs e = chosen_true _ _ _ e
+opens_at d b c bs e = cond-true _ _ _ e
 
 closes_at : (d b c : ℕ) (bs : List ℕ) → (b == slash && c == star) ≡ false → (b == star && c == slash) ≡ true → comment (suc d) (b ∷ c ∷ bs) ≡ plus 2 (comment d bs)
 unfolding comment
-closes_at d b c bs e f = chosen_false _ _ _ e ∙ chosen_true _ _ _ f
+closes_at d b c bs e f = cond-false _ _ _ e ∙ cond-true _ _ _ f
 
 goes_at : (d b c : ℕ) (bs : List ℕ) → (b == slash && c == star) ≡ false → (b == star && c == slash) ≡ false → comment (suc d) (b ∷ c ∷ bs) ≡ plus 1 (comment (suc d) (c ∷ bs))
 unfolding comment
-goes_at d b c bs e f = chosen_false _ _ _ e ∙ chosen_false _ _ _ f
+goes_at d b c bs e f = cond-false _ _ _ e ∙ cond-false _ _ _ f
 
 pair_is : (text : List ℕ) (i x y : ℕ) (v : Bool) → (t : Two text i) → pair_at text i x y ≡ v → (t.b == x && t.c == y) ≡ v
 pair_is text i x y v t e =

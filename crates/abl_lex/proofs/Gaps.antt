@@ -5,14 +5,15 @@ use Rattle.std.proofs.lemmas.Bool.{eqb-true, eq-eqb, ltb-true}
 use Rattle.std.proofs.lemmas.Bool.Decides.{nat_tests}
 use Rattle.abl_lex.specs.Bytes.{star, slash, is_white, starts, comment_at, starts_gap}
 use Rattle.abl_lex.specs.Forms.{plus}
-use Rattle.abl_base.proofs.Bools.{or_left, or_right, and_both, and_left, and_right, clash, either, both_no}
+use Rattle.std.proofs.lemmas.Bool.{or_left, or_right, and_from, both_ways, or_from}
+use Rattle.abl_base.proofs.Bools.{left_of_and, right_of_and, both_no}
 use Rattle.abl_lex.specs.Gaps.{comment, Gap, nothing, white, commented, OpenGap, opens, white_open, commented_open}
 
 white_starts : (b : ℕ) (bs : List ℕ) → is_white b ≡ true → starts_gap (b ∷ bs) ≡ true
 white_starts b bs e = or_left (is_white b) _ e
 
 comment_starts : (b c : ℕ) (bs : List ℕ) → b ≡ slash → c ≡ star → starts_gap (b ∷ c ∷ bs) ≡ true
-comment_starts b c bs e f = or_right (is_white b) _ (and_both (b == slash) (c == star) (eq-eqb b slash e) (eq-eqb c star f))
+comment_starts b c bs e f = or_right (is_white b) _ (and_from (b == slash) (c == star) (eq-eqb b slash e) (eq-eqb c star f))
 
 slash_not_white : (b : ℕ) → is_white b ≡ true → b ≡ slash → ⊥
 slash_not_white b e f = grind (arith, nat_tests)
@@ -25,12 +26,12 @@ some_none a o e f = let q : Some a ≡ None = sym e ∙ f in cc
 
 pub gap_unique : {text : List ℕ} {n m : ℕ} → Gap text n → Gap text m → n ≡ m
 gap_unique (nothing e) (nothing f) = refl
-gap_unique (nothing e) (white {b} {text = bs} w g) = absurd (clash _ e (white_starts b bs w))
-gap_unique (nothing e) (commented {b} {c} {text = bs} m p q o g) = absurd (clash _ e (comment_starts b c bs p q))
-gap_unique (white {b} {text = bs} w g) (nothing f) = absurd (clash _ f (white_starts b bs w))
+gap_unique (nothing e) (white {b} {text = bs} w g) = absurd (both_ways _ e (white_starts b bs w))
+gap_unique (nothing e) (commented {b} {c} {text = bs} m p q o g) = absurd (both_ways _ e (comment_starts b c bs p q))
+gap_unique (white {b} {text = bs} w g) (nothing f) = absurd (both_ways _ f (white_starts b bs w))
 gap_unique (white w g) (white v h) = ap suc (gap_unique g h)
 gap_unique (white {b} w g) (commented m p q o h) = absurd (slash_not_white b w p)
-gap_unique (commented {b} {c} {text = bs} m p q o g) (nothing f) = absurd (clash _ f (comment_starts b c bs p q))
+gap_unique (commented {b} {c} {text = bs} m p q o g) (nothing f) = absurd (both_ways _ f (comment_starts b c bs p q))
 gap_unique (commented {b} m p q o g) (white v h) = absurd (slash_not_white b v p)
 gap_unique (commented {b} {c} {text = bs} {n} m p q o g) (commented {n = n'} m' p' q' o' h) =
     let e : m ≡ m' = some_same m m' _ o o' in
@@ -38,9 +39,9 @@ gap_unique (commented {b} {c} {text = bs} {n} m p q o g) (commented {n = n'} m' 
     omega arith
 
 pub gap_open : {text : List ℕ} {n m : ℕ} → Gap text n → OpenGap text m → ⊥
-gap_open (nothing e) (opens {b} {c} {text = bs} p q o) = clash _ e (comment_starts b c bs p q)
-gap_open (nothing e) (white_open {b} {text = bs} w g) = clash _ e (white_starts b bs w)
-gap_open (nothing e) (commented_open {b} {c} {text = bs} m p q o g) = clash _ e (comment_starts b c bs p q)
+gap_open (nothing e) (opens {b} {c} {text = bs} p q o) = both_ways _ e (comment_starts b c bs p q)
+gap_open (nothing e) (white_open {b} {text = bs} w g) = both_ways _ e (white_starts b bs w)
+gap_open (nothing e) (commented_open {b} {c} {text = bs} m p q o g) = both_ways _ e (comment_starts b c bs p q)
 gap_open (white {b} w g) (opens p q o) = slash_not_white b w p
 gap_open (white w g) (white_open v h) = gap_open g h
 gap_open (white {b} w g) (commented_open m p q o h) = slash_not_white b w p
@@ -125,8 +126,8 @@ record Opening (text : List ℕ) (i : ℕ) : Type 0 where
 
 opening : (text : List ℕ) (i : ℕ) → comment_at text i ≡ true → Opening text i
 opening text i e =
-    let h : i + 1 < length text = ltb-true (i + 1) (length text) (and_left (nat_lt (i + 1) (length text)) _ e) in
-    let p = and_right (nat_lt (i + 1) (length text)) _ e in
+    let h : i + 1 < length text = ltb-true (i + 1) (length text) (left_of_and (nat_lt (i + 1) (length text)) _ e) in
+    let p = right_of_and (nat_lt (i + 1) (length text)) _ e in
     let o = one text i (omega arith) in
     let t = one text (suc i) (omega arith) in
     let q : suc i ≡ i + 1 = omega arith in
@@ -136,8 +137,8 @@ opening text i e =
       rest = t.rest;
       at_i = o.at_i ∙ ap (λ x. o.b ∷ x) (sym o.next ∙ t.at_i);
       after = (let r : i + 2 ≡ suc (suc i) = omega arith in ap (λ n. drop n text) r ∙ t.next);
-      slash_is = sym o.first ∙ eqb-true _ _ (and_left (slice_index text i == slash) _ p);
-      star_is = sym t.first ∙ ap (slice_index text) q ∙ eqb-true _ _ (and_right (slice_index text i == slash) _ p);
+      slash_is = sym o.first ∙ eqb-true _ _ (left_of_and (slice_index text i == slash) _ p);
+      star_is = sym t.first ∙ ap (slice_index text) q ∙ eqb-true _ _ (right_of_and (slice_index text i == slash) _ p);
       fits = omega arith;
     }
 
@@ -189,19 +190,19 @@ there : (text : List ℕ) (i b : ℕ) (rest : List ℕ) → slice_index text i �
 there text i b [] f n p q = let z : false ≡ true = q in cc
 there text i b (c ∷ rest) f n p q =
     let t = star_there text i c rest n in
-    and_both (nat_lt (i + 1) (length text)) _ (lt_test _ _ t.0) (and_both (slice_index text i == slash) _ (eq-eqb _ _ (f ∙ p)) (eq-eqb _ _ (t.1 ∙ eqb-true c star q)))
+    and_from (nat_lt (i + 1) (length text)) _ (lt_test _ _ t.0) (and_from (slice_index text i == slash) _ (eq-eqb _ _ (f ∙ p)) (eq-eqb _ _ (t.1 ∙ eqb-true c star q)))
 
 comment_there : (text : List ℕ) (i : ℕ) → (o : One text i) → o.b ≡ slash → starts star o.rest ≡ true → comment_at text i ≡ true
 comment_there text i o p q = there text i o.b o.rest o.first o.next p q
 
 no_gap : (b : ℕ) (rest : List ℕ) → is_white b ≡ false → (b ≡ slash → starts star rest ≡ true → ⊥) → starts_gap (b ∷ rest) ≡ false
-no_gap b rest w n = either (is_white b) (b == slash && starts star rest) w (both_no (b == slash) (starts star rest) (λ e f. n (eqb-true b slash e) f))
+no_gap b rest w n = or_from (is_white b) (b == slash && starts star rest) w (both_no (b == slash) (starts star rest) (λ e f. n (eqb-true b slash e) f))
 
 pub stops : (text : List ℕ) (i : ℕ) → GapSofar text i → i < length text → is_white (slice_index text i) ≡ false → comment_at text i ≡ false → Gap text i
 stops text i s h w e =
     let o = one text i h in
     let v : is_white o.b ≡ false = subst (λ x. is_white x ≡ false) o.first w in
-    let x = s.gap 0 (subst (λ t. Gap t 0) (sym o.at_i) (nothing (no_gap o.b o.rest v (λ p q. clash _ e (comment_there text i o p q))))) in
+    let x = s.gap 0 (subst (λ t. Gap t 0) (sym o.at_i) (nothing (no_gap o.b o.rest v (λ p q. both_ways _ e (comment_there text i o p q))))) in
     (let q : i + 0 ≡ i = omega arith in subst (λ k. Gap text k) q x)
 
 pub ends : (text : List ℕ) (i : ℕ) → GapSofar text i → length text ≤ i → Gap text i

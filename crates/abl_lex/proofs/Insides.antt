@@ -1,4 +1,4 @@
--- What stands between quotes, step by step.
+-- What is between quotes, step by step.
 use Rattle.std.proofs.Common.{ℕ, zero, suc, ◌+◌, ◌<◌, ◌≤◌, ◌≡◌, true, false, List, [], ◌∷◌, ◌++◌, length, drop, get_or, refl, sym, ◌∙◌, ap, arith, add-one, append_assoc, append-nil}
 use Rattle.std.specs.Prelude.{◌==◌}
 use Rattle.std.proofs.Math.Seq.{drop-cons}
@@ -6,7 +6,7 @@ use Rattle.std.proofs.lemmas.List.{drop-drop}
 use Rattle.std.proofs.Math.ListN.{drop_of_length-le}
 use Rattle.abl_lex.specs.Bytes.{tilde, starts}
 use Rattle.abl_lex.specs.Meanings.{inside, escaped, escape_length}
-use Rattle.abl_base.proofs.Bools.{chosen_true, chosen_false}
+use Rattle.std.proofs.lemmas.Bool.{cond-true, cond-false}
 
 inside_nil : (q n : ℕ) → inside q n [] ≡ []
 unfolding inside
@@ -24,19 +24,19 @@ skip q (suc n) (b ∷ bs) = inside_suc q n b bs ∙ skip q n bs
 
 step_tilde : (q b : ℕ) (bs : List ℕ) → (b == tilde) ≡ true → inside q 0 (b ∷ bs) ≡ escaped bs ++ inside q (escape_length bs) bs
 unfolding inside
-step_tilde q b bs e = chosen_true (b == tilde) _ _ e
+step_tilde q b bs e = cond-true (b == tilde) _ _ e
 
 step_plain : (q b : ℕ) (bs : List ℕ) → (b == tilde) ≡ false → (b == q) ≡ false → inside q 0 (b ∷ bs) ≡ b ∷ inside q 0 bs
 unfolding inside
-step_plain q b bs e f = chosen_false (b == tilde) _ _ e ∙ chosen_false (b == q) _ _ f
+step_plain q b bs e f = cond-false (b == tilde) _ _ e ∙ cond-false (b == q) _ _ f
 
 step_doubled : (q b : ℕ) (bs : List ℕ) → (b == tilde) ≡ false → (b == q) ≡ true → starts q bs ≡ true → inside q 0 (b ∷ bs) ≡ q ∷ inside q 1 bs
 unfolding inside
-step_doubled q b bs e f s = chosen_false (b == tilde) _ _ e ∙ chosen_true (b == q) _ _ f ∙ chosen_true (starts q bs) _ _ s
+step_doubled q b bs e f s = cond-false (b == tilde) _ _ e ∙ cond-true (b == q) _ _ f ∙ cond-true (starts q bs) _ _ s
 
 step_last : (q b : ℕ) (bs : List ℕ) → (b == tilde) ≡ false → (b == q) ≡ true → starts q bs ≡ false → inside q 0 (b ∷ bs) ≡ []
 unfolding inside
-step_last q b bs e f s = chosen_false (b == tilde) _ _ e ∙ chosen_true (b == q) _ _ f ∙ chosen_false (starts q bs) _ _ s
+step_last q b bs e f s = cond-false (b == tilde) _ _ e ∙ cond-true (b == q) _ _ f ∙ cond-false (starts q bs) _ _ s
 
 pub record InsideSofar (q : ℕ) (xs : List ℕ) (i : ℕ) (done : List ℕ) : Type 0 where
   pub is : inside q 0 xs ≡ done ++ inside q 0 (drop i xs)

@@ -12,4 +12,4 @@ pub mod Places
 pub mod Misfits
 pub mod OneForm
 pub mod Runs
-pub mod Told
+pub mod FormMeanings

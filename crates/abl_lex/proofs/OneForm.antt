@@ -10,9 +10,10 @@ use Rattle.abl_tree.specs.declared.token.TokenKind.TheVariants.{Name, Colon, Com
 use Rattle.abl_lex.specs.declared.form.Form.{Form}
 use Rattle.abl_lex.specs.declared.form.Form.TheVariants.{Word, Qualified, Digits, Fractional, Dated, Quoted, Symbol}
 use Rattle.abl_lex.specs.Bytes.{point, slash, is_letter, is_digit, is_name_byte, is_quote, is_symbol_byte, starts}
-use Rattle.abl_lex.specs.Forms.{form, front, parted, is_name, is_digits, is_dated, one_or_two}
+use Rattle.abl_lex.specs.Forms.{form, leading, parted, is_name, is_digits, is_dated, one_or_two}
 use Rattle.abl_lex.specs.Meanings.{kind_of, symbol_kind, single_kind}
-use Rattle.abl_base.proofs.Bools.{chosen_true, chosen_false, and_left, and_right, and_both, clash, refuted, tells, not_so}
+use Rattle.std.proofs.lemmas.Bool.{cond-true, cond-false, and_from, both_ways, false_from_ne_true, cases_Bool, not-true}
+use Rattle.abl_base.proofs.Bools.{left_of_and, right_of_and}
 use Rattle.abl_lex.proofs.Prefixes.{all_take, prefix_within, starts_one}
 use Rattle.abl_lex.proofs.Shapes.{started, no_empty, letter_no_digit, letter_no_quote, letter_no_symbol, digit_no_quote, digit_no_symbol, quote_no_symbol, letter_byte}
 
@@ -35,55 +36,55 @@ all_alone p c w e =
     ap (λ n. starts c (drop n w)) q ∙ ap (starts c) (drop-length w)
 
 digit_no_letter : (b : ℕ) → is_digit b ≡ true → is_letter b ≡ false
-digit_no_letter b e = refuted (is_letter b) (λ t. clash (is_digit b) (letter_no_digit b t) e)
+digit_no_letter b e = false_from_ne_true (is_letter b) (λ t. both_ways (is_digit b) (letter_no_digit b t) e)
 
 quote_no_letter : (b : ℕ) → is_quote b ≡ true → is_letter b ≡ false
-quote_no_letter b e = refuted (is_letter b) (λ t. clash (is_quote b) (letter_no_quote b t) e)
+quote_no_letter b e = false_from_ne_true (is_letter b) (λ t. both_ways (is_quote b) (letter_no_quote b t) e)
 
 quote_no_digit : (b : ℕ) → is_quote b ≡ true → is_digit b ≡ false
-quote_no_digit b e = refuted (is_digit b) (λ t. clash (is_quote b) (digit_no_quote b t) e)
+quote_no_digit b e = false_from_ne_true (is_digit b) (λ t. both_ways (is_quote b) (digit_no_quote b t) e)
 
 symbol_no_letter : (b : ℕ) → is_symbol_byte b ≡ true → is_letter b ≡ false
-symbol_no_letter b e = refuted (is_letter b) (λ t. clash (is_symbol_byte b) (letter_no_symbol b t) e)
+symbol_no_letter b e = false_from_ne_true (is_letter b) (λ t. both_ways (is_symbol_byte b) (letter_no_symbol b t) e)
 
 symbol_no_digit : (b : ℕ) → is_symbol_byte b ≡ true → is_digit b ≡ false
-symbol_no_digit b e = refuted (is_digit b) (λ t. clash (is_symbol_byte b) (digit_no_symbol b t) e)
+symbol_no_digit b e = false_from_ne_true (is_digit b) (λ t. both_ways (is_symbol_byte b) (digit_no_symbol b t) e)
 
 symbol_no_quote : (b : ℕ) → is_symbol_byte b ≡ true → is_quote b ≡ false
-symbol_no_quote b e = refuted (is_quote b) (λ t. clash (is_symbol_byte b) (quote_no_symbol b t) e)
+symbol_no_quote b e = false_from_ne_true (is_quote b) (λ t. both_ways (is_symbol_byte b) (quote_no_symbol b t) e)
 
 no_point : (w : List ℕ) → parted is_digit slash w ≡ true → parted is_digit point w ≡ false
-no_point w e = refuted (parted is_digit point w) (λ t. (let q = starts_one slash point (drop (prefix_len is_digit w) w) e t in absurd (omega arith)))
+no_point w e = false_from_ne_true (parted is_digit point w) (λ t. (let q = starts_one slash point (drop (prefix_len is_digit w) w) e t in absurd (omega arith)))
 
 shape_is : (f : Form) (b : ℕ) (bs a : List ℕ) → form f (b ∷ bs) a ≡ true → shape b (b ∷ bs) ≡ f
 unfolding form
 shape_is Word b bs a e =
-    let l = and_left (is_letter b) _ e in
-    chosen_true (is_letter b) _ _ l ∙ chosen_false (parted is_name_byte point (b ∷ bs)) _ _ (all_alone is_name_byte point (b ∷ bs) (and_both (is_name_byte b) _ (letter_byte b l) (and_right (is_letter b) _ e)))
+    let l = left_of_and (is_letter b) _ e in
+    cond-true (is_letter b) _ _ l ∙ cond-false (parted is_name_byte point (b ∷ bs)) _ _ (all_alone is_name_byte point (b ∷ bs) (and_from (is_name_byte b) _ (letter_byte b l) (right_of_and (is_letter b) _ e)))
 shape_is Qualified b bs a e =
-    chosen_true (is_letter b) _ _ (started Qualified b bs a e)
-    ∙ chosen_true (parted is_name_byte point (b ∷ bs)) _ _ (and_left (parted is_name_byte point (b ∷ bs)) _ (and_left (parted is_name_byte point (b ∷ bs) && is_name (front is_name_byte (b ∷ bs))) _ e))
+    cond-true (is_letter b) _ _ (started Qualified b bs a e)
+    ∙ cond-true (parted is_name_byte point (b ∷ bs)) _ _ (left_of_and (parted is_name_byte point (b ∷ bs)) _ (left_of_and (parted is_name_byte point (b ∷ bs) && is_name (leading is_name_byte (b ∷ bs))) _ e))
 shape_is Digits b bs a e =
-    let d = and_left (is_digit b) _ e in
-    chosen_false (is_letter b) _ _ (digit_no_letter b d) ∙ chosen_true (is_digit b) _ _ d
-    ∙ chosen_false (parted is_digit point (b ∷ bs)) _ _ (all_alone is_digit point (b ∷ bs) e)
-    ∙ chosen_false (parted is_digit slash (b ∷ bs)) _ _ (all_alone is_digit slash (b ∷ bs) e)
+    let d = left_of_and (is_digit b) _ e in
+    cond-false (is_letter b) _ _ (digit_no_letter b d) ∙ cond-true (is_digit b) _ _ d
+    ∙ cond-false (parted is_digit point (b ∷ bs)) _ _ (all_alone is_digit point (b ∷ bs) e)
+    ∙ cond-false (parted is_digit slash (b ∷ bs)) _ _ (all_alone is_digit slash (b ∷ bs) e)
 shape_is Fractional b bs a e =
     let d = started Fractional b bs a e in
-    chosen_false (is_letter b) _ _ (digit_no_letter b d) ∙ chosen_true (is_digit b) _ _ d
-    ∙ chosen_true (parted is_digit point (b ∷ bs)) _ _ (and_left (parted is_digit point (b ∷ bs)) _ (and_left (parted is_digit point (b ∷ bs) && is_digits (front is_digit (b ∷ bs))) _ e))
+    cond-false (is_letter b) _ _ (digit_no_letter b d) ∙ cond-true (is_digit b) _ _ d
+    ∙ cond-true (parted is_digit point (b ∷ bs)) _ _ (left_of_and (parted is_digit point (b ∷ bs)) _ (left_of_and (parted is_digit point (b ∷ bs) && is_digits (leading is_digit (b ∷ bs))) _ e))
 shape_is Dated b bs a e =
     let d = started Dated b bs a e in
-    let s = and_left (parted is_digit slash (b ∷ bs)) _ (and_left (parted is_digit slash (b ∷ bs) && one_or_two (front is_digit (b ∷ bs))) _ (and_left (is_dated (b ∷ bs)) _ e)) in
-    chosen_false (is_letter b) _ _ (digit_no_letter b d) ∙ chosen_true (is_digit b) _ _ d
-    ∙ chosen_false (parted is_digit point (b ∷ bs)) _ _ (no_point (b ∷ bs) s)
-    ∙ chosen_true (parted is_digit slash (b ∷ bs)) _ _ s
+    let s = left_of_and (parted is_digit slash (b ∷ bs)) _ (left_of_and (parted is_digit slash (b ∷ bs) && one_or_two (leading is_digit (b ∷ bs))) _ (left_of_and (is_dated (b ∷ bs)) _ e)) in
+    cond-false (is_letter b) _ _ (digit_no_letter b d) ∙ cond-true (is_digit b) _ _ d
+    ∙ cond-false (parted is_digit point (b ∷ bs)) _ _ (no_point (b ∷ bs) s)
+    ∙ cond-true (parted is_digit slash (b ∷ bs)) _ _ s
 shape_is Quoted b bs a e =
     let q = started Quoted b bs a e in
-    chosen_false (is_letter b) _ _ (quote_no_letter b q) ∙ chosen_false (is_digit b) _ _ (quote_no_digit b q) ∙ chosen_true (is_quote b) _ _ q
+    cond-false (is_letter b) _ _ (quote_no_letter b q) ∙ cond-false (is_digit b) _ _ (quote_no_digit b q) ∙ cond-true (is_quote b) _ _ q
 shape_is Symbol b bs a e =
     let s = started Symbol b bs a e in
-    chosen_false (is_letter b) _ _ (symbol_no_letter b s) ∙ chosen_false (is_digit b) _ _ (symbol_no_digit b s) ∙ chosen_false (is_quote b) _ _ (symbol_no_quote b s)
+    cond-false (is_letter b) _ _ (symbol_no_letter b s) ∙ cond-false (is_digit b) _ _ (symbol_no_digit b s) ∙ cond-false (is_quote b) _ _ (symbol_no_quote b s)
 
 pub one_form : (f g : Form) (w a : List ℕ) → form f w a ≡ true → form g w a ≡ true → f ≡ g
 one_form f g [] a e h = absurd (no_empty f a e)
@@ -93,23 +94,23 @@ one_form f g (b ∷ bs) a e h = sym (shape_is f b bs a e) ∙ shape_is g b bs a 
 full_no_end : (ks : List TokenKind) (w : List ℕ) (k : TokenKind) → list_all (λ x. not (is_end x)) ks ≡ true → spelled_in_full ks w ≡ Some k → is_end k ≡ false
 unfolding spelled_in_full
 full_no_end [] w k e h = cc
-full_no_end (x ∷ ks) w k e h = elim (tells (spells (capitals x) w)) [
+full_no_end (x ∷ ks) w k e h = elim (cases_Bool (spells (capitals x) w)) [
   | inl t ↦ (
-      let q : Some x ≡ Some k = sym (chosen_true (spells (capitals x) w) (Some x) _ t) ∙ h in
+      let q : Some x ≡ Some k = sym (cond-true (spells (capitals x) w) (Some x) _ t) ∙ h in
       let i : x ≡ k = cc in
-      subst (λ y. is_end y ≡ false) i (not_so _ (and_left (not (is_end x)) _ e)))
-  | inr t ↦ full_no_end ks w k (and_right (not (is_end x)) _ e) (sym (chosen_false (spells (capitals x) w) (Some x) _ t) ∙ h)
+      subst (λ y. is_end y ≡ false) i (not-true _ (left_of_and (not (is_end x)) _ e)))
+  | inr t ↦ full_no_end ks w k (right_of_and (not (is_end x)) _ e) (sym (cond-false (spells (capitals x) w) (Some x) _ t) ∙ h)
 ]
 
 short_no_end : (ks : List TokenKind) (w : List ℕ) (k : TokenKind) → list_all (λ x. not (is_end x)) ks ≡ true → spelled_short ks w ≡ Some k → is_end k ≡ false
 unfolding spelled_short
 short_no_end [] w k e h = cc
-short_no_end (x ∷ ks) w k e h = elim (tells (spells (abbreviation x) w)) [
+short_no_end (x ∷ ks) w k e h = elim (cases_Bool (spells (abbreviation x) w)) [
   | inl t ↦ (
-      let q : Some x ≡ Some k = sym (chosen_true (spells (abbreviation x) w) (Some x) _ t) ∙ h in
+      let q : Some x ≡ Some k = sym (cond-true (spells (abbreviation x) w) (Some x) _ t) ∙ h in
       let i : x ≡ k = cc in
-      subst (λ y. is_end y ≡ false) i (not_so _ (and_left (not (is_end x)) _ e)))
-  | inr t ↦ short_no_end ks w k (and_right (not (is_end x)) _ e) (sym (chosen_false (spells (abbreviation x) w) (Some x) _ t) ∙ h)
+      subst (λ y. is_end y ≡ false) i (not-true _ (left_of_and (not (is_end x)) _ e)))
+  | inr t ↦ short_no_end ks w k (right_of_and (not (is_end x)) _ e) (sym (cond-false (spells (abbreviation x) w) (Some x) _ t) ∙ h)
 ]
 
 reserved_no_end : list_all (λ x. not (is_end x)) reserved ≡ true

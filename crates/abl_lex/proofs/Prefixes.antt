@@ -1,33 +1,34 @@
--- Runs of bytes that pass a test, and the bytes in front of a text.
+-- Runs of bytes that pass a test, and the bytes before a text.
 use Rattle.std.proofs.Common.{ℕ, zero, suc, ◌+◌, ◌-◌, ◌<◌, ◌≤◌, ◌≡◌, Bool, true, false, cond, List, [], ◌∷◌, length, take, drop, refl, sym, ◌∙◌, ap, subst, arith}
 use Rattle.std.specs.List.{list_all, prefix_len}
 use Rattle.std.proofs.lemmas.List.{drop-drop, length-drop}
 use Rattle.std.proofs.lemmas.List.Sums.{prefix_len-le-length}
 use Rattle.abl_lex.specs.Bytes.{starts}
-use Rattle.abl_lex.specs.Forms.{front, behind, parted}
-use Rattle.abl_base.proofs.Bools.{chosen_true, chosen_false, and_left, and_right, and_both, equal}
+use Rattle.abl_lex.specs.Forms.{leading, after_separator, parted}
+use Rattle.std.proofs.lemmas.Bool.{cond-true, cond-false, and_from, eqb-true}
+use Rattle.abl_base.proofs.Bools.{left_of_and, right_of_and}
 
 -- RUNS
-all_front : (p : ℕ → Bool) (x : ℕ) (xs : List ℕ) (v : Bool) → p x ≡ v → list_all p (take (prefix_len p xs) xs) ≡ true → list_all p (take (cond v (1 + prefix_len p xs) 0) (x ∷ xs)) ≡ true
-all_front p x xs true e h = let q : 1 + prefix_len p xs ≡ suc (prefix_len p xs) = omega arith in subst (λ n. list_all p (take n (x ∷ xs)) ≡ true) (sym q) (and_both (p x) _ e h)
-all_front p x xs false e h = refl
+all_leading : (p : ℕ → Bool) (x : ℕ) (xs : List ℕ) (v : Bool) → p x ≡ v → list_all p (take (prefix_len p xs) xs) ≡ true → list_all p (take (cond v (1 + prefix_len p xs) 0) (x ∷ xs)) ≡ true
+all_leading p x xs true e h = let q : 1 + prefix_len p xs ≡ suc (prefix_len p xs) = omega arith in subst (λ n. list_all p (take n (x ∷ xs)) ≡ true) (sym q) (and_from (p x) _ e h)
+all_leading p x xs false e h = refl
 
 pub all_prefix : (p : ℕ → Bool) (xs : List ℕ) → list_all p (take (prefix_len p xs) xs) ≡ true
 all_prefix p [] = refl
-all_prefix p (x ∷ xs) = all_front p x xs (p x) refl (all_prefix p xs)
+all_prefix p (x ∷ xs) = all_leading p x xs (p x) refl (all_prefix p xs)
 
 pub prefix_more : (p : ℕ → Bool) (x : ℕ) (xs : List ℕ) → p x ≡ true → prefix_len p (x ∷ xs) ≡ 1 + prefix_len p xs
-prefix_more p x xs e = chosen_true (p x) _ _ e
+prefix_more p x xs e = cond-true (p x) _ _ e
 
 pub prefix_stops : (p : ℕ → Bool) (x : ℕ) (xs : List ℕ) → p x ≡ false → prefix_len p (x ∷ xs) ≡ 0
-prefix_stops p x xs e = chosen_false (p x) (1 + prefix_len p xs) 0 e
+prefix_stops p x xs e = cond-false (p x) (1 + prefix_len p xs) 0 e
 
 pub all_take : (p : ℕ → Bool) (xs : List ℕ) (m : ℕ) → m ≤ length xs → list_all p (take m xs) ≡ true → m ≤ prefix_len p xs
 all_take p xs zero h e = omega arith
 all_take p [] (suc m) h e = omega arith
 all_take p (x ∷ xs) (suc m) h e =
-    let i = all_take p xs m (omega arith) (and_right (p x) _ e) in
-    let q = prefix_more p x xs (and_left (p x) _ e) in
+    let i = all_take p xs m (omega arith) (right_of_and (p x) _ e) in
+    let q = prefix_more p x xs (left_of_and (p x) _ e) in
     omega arith
 
 pub prefix_within : (p : ℕ → Bool) (xs : List ℕ) → prefix_len p xs ≤ length xs
@@ -86,25 +87,25 @@ starts_inside c (suc n) (x ∷ xs) e = let i = starts_inside c n xs e in omega a
 
 pub starts_one : (c d : ℕ) (xs : List ℕ) → starts c xs ≡ true → starts d xs ≡ true → c ≡ d
 starts_one c d [] e h = let z : false ≡ true = e in cc
-starts_one c d (x ∷ xs) e h = sym (equal x c e) ∙ equal x d h
+starts_one c d (x ∷ xs) e h = sym (eqb-true x c e) ∙ eqb-true x d h
 
--- how the parts of the m bytes in front are the parts of the text
+-- how the parts of the m bytes at the start are the parts of the text
 pub record Parts (p : ℕ → Bool) (c : ℕ) (xs : List ℕ) (m : ℕ) : Type 0 where
   pub short : prefix_len p xs < m
   pub len : prefix_len p (take m xs) ≡ prefix_len p xs
-  pub front_is : front p (take m xs) ≡ front p xs
+  pub leading_is : leading p (take m xs) ≡ leading p xs
   pub parted_is : parted p c (take m xs) ≡ parted p c xs
-  pub behind_is : (j : ℕ) → m ≡ suc (prefix_len p xs) + j → behind p (take m xs) ≡ take j (behind p xs)
+  pub after_separator_is : (j : ℕ) → m ≡ suc (prefix_len p xs) + j → after_separator p (take m xs) ≡ take j (after_separator p xs)
 
 core : (p : ℕ → Bool) (c : ℕ) (xs : List ℕ) (m : ℕ) → prefix_len p xs < m → prefix_len p (take m xs) ≡ prefix_len p xs → Parts p c xs m
 core p c xs m h e = record {
   short = h;
   len = e;
-  front_is = ap (λ n. take n (take m xs)) e ∙ take_take (prefix_len p xs) m xs (omega arith);
+  leading_is = ap (λ n. take n (take m xs)) e ∙ take_take (prefix_len p xs) m xs (omega arith);
   parted_is = ap (λ n. starts c (drop n (take m xs))) e
       ∙ ap (starts c) (drop_take (prefix_len p xs) (m - prefix_len p xs) m xs (omega arith))
       ∙ starts_take c (m - prefix_len p xs) (drop (prefix_len p xs) xs) (omega arith);
-  behind_is = λ j q. ap (λ n. drop (suc n) (take m xs)) e ∙ drop_take (suc (prefix_len p xs)) j m xs q;
+  after_separator_is = λ j q. ap (λ n. drop (suc n) (take m xs)) e ∙ drop_take (suc (prefix_len p xs)) j m xs q;
 }
 
 pub parts_made : (p : ℕ → Bool) (c : ℕ) (xs : List ℕ) (m : ℕ) → prefix_len p xs < m → Parts p c xs m
@@ -117,12 +118,12 @@ parts_of p c xs m w e =
     let q = prefix_whole p m xs (omega arith) in
     core p c xs m (omega arith) q
 
--- behind the parts the same follows
-pub follows : (p : ℕ → Bool) (xs : List ℕ) (m j : ℕ) → m ≡ suc (prefix_len p xs) + j → drop m xs ≡ drop j (behind p xs)
+-- after the parts the same follows
+pub follows : (p : ℕ → Bool) (xs : List ℕ) (m j : ℕ) → m ≡ suc (prefix_len p xs) + j → drop m xs ≡ drop j (after_separator p xs)
 follows p xs m j e = ap (λ n. drop n xs) e ∙ sym (drop-drop j (suc (prefix_len p xs)) xs)
 
-pub behind_length : (p : ℕ → Bool) (xs : List ℕ) → length (behind p xs) ≡ length xs - suc (prefix_len p xs)
-behind_length p xs = length-drop (suc (prefix_len p xs)) xs
+pub after_separator_length : (p : ℕ → Bool) (xs : List ℕ) → length (after_separator p xs) ≡ length xs - suc (prefix_len p xs)
+after_separator_length p xs = length-drop (suc (prefix_len p xs)) xs
 
-pub front_length : (p : ℕ → Bool) (xs : List ℕ) → length (front p xs) ≡ prefix_len p xs
-front_length p xs = length_take (prefix_len p xs) xs (prefix_within p xs)
+pub leading_length : (p : ℕ → Bool) (xs : List ℕ) → length (leading p xs) ≡ prefix_len p xs
+leading_length p xs = length_take (prefix_len p xs) xs (prefix_within p xs)

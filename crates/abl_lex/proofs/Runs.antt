@@ -13,8 +13,8 @@ use Rattle.abl_lex.specs.Bytes.{starts_quote, starts_gap}
 use Rattle.abl_lex.specs.Forms.{form, Longest, NoForm}
 use Rattle.abl_lex.specs.Gaps.{Gap, nothing, white, commented, OpenGap, opens, white_open, commented_open}
 use Rattle.abl_lex.specs.Meanings.{kind_of, meaning_of}
-use Rattle.abl_lex.specs.Texts.{IsRefused, place_of, bytes_of, Stands, token_of, end_token, TokensFrom, ended, token, HasTokens, Misfit, Broken, no_token, open_comment, open_text, misfit, BreaksFrom, here, later, Breaks, IsFirst, number, EndsAt, IsFit, IsFirstMisfit, IsBrokenFirst, BreaksFront}
-use Rattle.abl_base.proofs.Bools.{clash, and_both, so_not}
+use Rattle.abl_lex.specs.Texts.{IsRefused, place_of, bytes_of, IsNextWord, token_of, end_token, TokensFrom, ended, token, HasTokens, Misfit, Broken, no_token, open_comment, open_text, misfit, BreaksFrom, here, later, Breaks, IsFirst, number, EndsAt, IsFit, IsFirstMisfit, IsBrokenFirst, BreaksFront}
+use Rattle.std.proofs.lemmas.Bool.{both_ways, and_from, not_from_false}
 use Rattle.abl_lex.proofs.Gaps.{gap_unique, gap_open, open_unique}
 use Rattle.abl_lex.proofs.OneForm.{one_form, no_end}
 use Rattle.abl_lex.proofs.Misfits.{inside_word}
@@ -35,7 +35,7 @@ pub record Same (f g : Form) (s s' e e' : ℕ) : Type 0 where
   pub start : s ≡ s'
   pub end : e ≡ e'
 
-pub word_unique : (text : List ℕ) (at : ℕ) (f g : Form) (s e s' e' : ℕ) → Stands text at f s e → Stands text at g s' e' → Same f g s s' e e'
+pub word_unique : (text : List ℕ) (at : ℕ) (f g : Form) (s e s' e' : ℕ) → IsNextWord text at f s e → IsNextWord text at g s' e' → Same f g s s' e e'
 word_unique text at f g s e s' e' a b =
     let i : a.gap ≡ b.gap = gap_unique a.gap_is b.gap_is in
     let p = a.start_is in
@@ -57,8 +57,8 @@ gap_stops (nothing e) = e
 gap_stops (white w g) = gap_stops g
 gap_stops (commented {text = bs} {n} m p q o g) = sym (ap starts_gap (drop-drop n m bs)) ∙ gap_stops g
 
-pub stands : (text : List ℕ) (at gap : ℕ) (f : Form) (n : ℕ) (first rest : List ℕ) → first ≡ drop at text → Gap first gap → rest ≡ drop (at + gap) text → Longest f n rest → Stands text at f (at + gap) (at + gap + n)
-stands text at gap f n first rest e g r l = record {
+pub next_word : (text : List ℕ) (at gap : ℕ) (f : Form) (n : ℕ) (first rest : List ℕ) → first ≡ drop at text → Gap first gap → rest ≡ drop (at + gap) text → Longest f n rest → IsNextWord text at f (at + gap) (at + gap + n)
+next_word text at gap f n first rest e g r l = record {
   gap = gap;
   gap_is = subst (λ t. Gap t gap) e g;
   start_is = refl;
@@ -72,7 +72,7 @@ pub record Inside (text : List ℕ) (at s e : ℕ) : Type 0 where
   pub some : s < e
   pub within : e ≤ length text
 
-pub word_inside : (text : List ℕ) (at : ℕ) (f : Form) (s e : ℕ) → at ≤ length text → Stands text at f s e → Inside text at s e
+pub word_inside : (text : List ℕ) (at : ℕ) (f : Form) (s e : ℕ) → at ≤ length text → IsNextWord text at f s e → Inside text at s e
 word_inside text at f s e h w =
     let p = w.start_is in
     let q = w.end_is in
@@ -80,20 +80,20 @@ word_inside text at f s e h w =
     let b = w.longest.within in
     record { from = omega arith; some = omega arith; within = omega (arith, length-drop s text) }
 
-pub word_bytes : (text : List ℕ) (at : ℕ) (f : Form) (s e : ℕ) → Stands text at f s e → (after : List ℕ) × (form f (bytes_of text s e) after ≡ true)
+pub word_bytes : (text : List ℕ) (at : ℕ) (f : Form) (s e : ℕ) → IsNextWord text at f s e → (after : List ℕ) × (form f (bytes_of text s e) after ≡ true)
 word_bytes text at f s e w =
     let q = w.end_is in
     let n : w.n ≡ e - s = omega arith in
     (drop w.n (drop s text), subst (λ k. form f (take k (drop s text)) (drop w.n (drop s text)) ≡ true) n w.longest.matches)
 
-word_length : (text : List ℕ) (at : ℕ) (f : Form) (s e : ℕ) → Stands text at f s e → length (bytes_of text s e) ≡ e - s
+word_length : (text : List ℕ) (at : ℕ) (f : Form) (s e : ℕ) → IsNextWord text at f s e → length (bytes_of text s e) ≡ e - s
 word_length text at f s e w =
     let q = w.end_is in
     let b = w.longest.within in
     length_take (e - s) (drop s text) (omega arith)
 
 -- a word at a place where no form matches
-no_such : (text : List ℕ) (at : ℕ) (f : Form) (s e gap : ℕ) → Stands text at f s e → Gap (drop at text) gap → NoForm (drop (at + gap) text) → ⊥
+no_such : (text : List ℕ) (at : ℕ) (f : Form) (s e gap : ℕ) → IsNextWord text at f s e → Gap (drop at text) gap → NoForm (drop (at + gap) text) → ⊥
 no_such text at f s e gap w g n =
     let u : w.gap ≡ gap = gap_unique w.gap_is g in
     let v = w.start_is in
@@ -104,7 +104,7 @@ no_such text at f s e gap w g n =
 two_quotes : (text : List ℕ) (at gap gap' : ℕ) → Gap (drop at text) gap → Gap (drop at text) gap' → starts_quote (drop (at + gap) text) ≡ false → starts_quote (drop (at + gap') text) ≡ true → ⊥
 two_quotes text at gap gap' g h e f =
     let u : gap ≡ gap' = gap_unique g h in
-    clash (starts_quote (drop (at + gap) text)) e (subst (λ x. starts_quote (drop (at + x) text) ≡ true) (sym u) f)
+    both_ways (starts_quote (drop (at + gap) text)) e (subst (λ x. starts_quote (drop (at + x) text) ≡ true) (sym u) f)
 
 -- WHAT IS BROKEN FIRST AT A PLACE
 level : (a b : ℕ) → a ≡ b → a ≤ b
@@ -139,20 +139,20 @@ pub record FrontBroken (text : List ℕ) (at n : ℕ) (first rest : List ℕ) : 
   pub rest_is : rest ≡ drop (at + n) text
   pub inside : at + n < length text
 
-pub front_first : (text : List ℕ) (at n : ℕ) (first rest : List ℕ) (rule : Rule) → FrontBroken text at n first rest → BreaksFront rule rest → IsBrokenFirst text at rule (at + n)
-front_first text at n first rest L1 p b =
+pub leading_first : (text : List ℕ) (at n : ℕ) (first rest : List ℕ) (rule : Rule) → FrontBroken text at n first rest → BreaksFront rule rest → IsBrokenFirst text at rule (at + n)
+leading_first text at n first rest L1 p b =
     let g = subst (λ t. Gap t n) p.first_is p.gap_is in
     let s = sym (ap starts_quote p.rest_is) ∙ b.0 in
     let free = subst NoForm p.rest_is b.1 in
     record { breaks = no_token n g p.inside s free; first = λ other x c. token_least text at n g s free other x c }
-front_first text at n first rest L3 p b =
+leading_first text at n first rest L3 p b =
     let g = subst (λ t. Gap t n) p.first_is p.gap_is in
     let s = sym (ap starts_quote p.rest_is) ∙ b.0 in
     let free = subst NoForm p.rest_is b.1 in
     record { breaks = open_text n g s free; first = λ other x c. text_least text at n g s free other x c }
-front_first text at n first rest _ p b = absurd b
+leading_first text at n first rest _ p b = absurd b
 
-misfit_least : (text : List ℕ) (at : ℕ) (f : Form) (s e : ℕ) (rule : Rule) (offset : ℕ) → Stands text at f s e → IsFirstMisfit f (bytes_of text s e) rule offset → (other : Rule) (x : ℕ) → Broken text at other x → (s + offset ≤ x) × (number rule ≤ number other)
+misfit_least : (text : List ℕ) (at : ℕ) (f : Form) (s e : ℕ) (rule : Rule) (offset : ℕ) → IsNextWord text at f s e → IsFirstMisfit f (bytes_of text s e) rule offset → (other : Rule) (x : ℕ) → Broken text at other x → (s + offset ≤ x) × (number rule ≤ number other)
 misfit_least text at f s e rule offset w m other x (no_token gap g' h q n) = absurd (no_such text at f s e gap w g' n)
 misfit_least text at f s e rule offset w m other x (open_comment gap g') = absurd (gap_open w.gap_is g')
 misfit_least text at f s e rule offset w m other x (open_text gap g' q n) = absurd (no_such text at f s e gap w g' n)
@@ -165,7 +165,7 @@ misfit_least text at f s e rule offset w m other x (misfit {f = g} {start = s'} 
     let z = m.first other o c in
     (let y = z.0 in omega arith, z.1)
 
-pub misfit_first : (text : List ℕ) (at : ℕ) (f : Form) (s e : ℕ) (rule : Rule) (offset : ℕ) (word : List ℕ) → Stands text at f s e → word ≡ bytes_of text s e → IsFirstMisfit f word rule offset → IsBrokenFirst text at rule (s + offset)
+pub misfit_first : (text : List ℕ) (at : ℕ) (f : Form) (s e : ℕ) (rule : Rule) (offset : ℕ) (word : List ℕ) → IsNextWord text at f s e → word ≡ bytes_of text s e → IsFirstMisfit f word rule offset → IsBrokenFirst text at rule (s + offset)
 misfit_first text at f s e rule offset word w h m =
     let i = subst (λ v. IsFirstMisfit f v rule offset) h m in
     record { breaks = misfit w i.breaks; first = λ other x b. misfit_least text at f s e rule offset w i other x b }
@@ -181,7 +181,7 @@ pub begin : (text : List ℕ) → LexSofar text 0 []
 begin text = record { within = omega arith; tokens = λ list t. t; back = λ r p b. b; forth = λ r p b. b }
 
 -- a word that fits breaks nothing at its place
-fine_word : (text : List ℕ) (at : ℕ) (f : Form) (s e : ℕ) (rule : Rule) (spot : ℕ) → Stands text at f s e → IsFit f (bytes_of text s e) → Broken text at rule spot → ⊥
+fine_word : (text : List ℕ) (at : ℕ) (f : Form) (s e : ℕ) (rule : Rule) (spot : ℕ) → IsNextWord text at f s e → IsFit f (bytes_of text s e) → Broken text at rule spot → ⊥
 fine_word text at f s e rule spot w fit (no_token gap g h q n) = no_such text at f s e gap w g n
 fine_word text at f s e rule spot w fit (open_comment gap g) = gap_open w.gap_is g
 fine_word text at f s e rule spot w fit (open_text gap g q n) = no_such text at f s e gap w g n
@@ -192,14 +192,14 @@ fine_word text at f s e rule spot w fit (misfit {f = g} {start = s'} {end = e'} 
     let c : Misfit f (bytes_of text s e) rule o = subst (λ k. Misfit f (bytes_of text s k) rule o) u.end b in
     fit rule o c
 
-past : (text : List ℕ) (at : ℕ) (f : Form) (s e : ℕ) (rule : Rule) (spot : ℕ) → Stands text at f s e → IsFit f (bytes_of text s e) → BreaksFrom text at rule spot → BreaksFrom text e rule spot
+past : (text : List ℕ) (at : ℕ) (f : Form) (s e : ℕ) (rule : Rule) (spot : ℕ) → IsNextWord text at f s e → IsFit f (bytes_of text s e) → BreaksFrom text at rule spot → BreaksFrom text e rule spot
 past text at f s e rule spot w fit (here b) = absurd (fine_word text at f s e rule spot w fit b)
 past text at f s e rule spot w fit (later {start = s'} {end = e'} {f = g} v b) =
     let u = word_unique text at f g s e s' e' w v in
     subst (λ x. BreaksFrom text x rule spot) (sym u.end) b
 
 -- at the end there is no word, and nothing is broken
-no_word_here : (text : List ℕ) (at : ℕ) (f : Form) (s e : ℕ) → EndsAt text at → Stands text at f s e → ⊥
+no_word_here : (text : List ℕ) (at : ℕ) (f : Form) (s e : ℕ) → EndsAt text at → IsNextWord text at f s e → ⊥
 no_word_here text at f s e d w =
     let u : w.gap ≡ d.0 = gap_unique w.gap_is d.1 in
     let p = w.start_is in
@@ -229,7 +229,7 @@ no_break : (text : List ℕ) (at : ℕ) (rule : Rule) (spot : ℕ) → EndsAt te
 no_break text at rule spot d (here b) = no_broken text at rule spot d b
 no_break text at rule spot d (later {start = s} {end = e} {f} v b) = no_word_here text at f s e d v
 
-pub go_on : (text : List ℕ) (at : ℕ) (done more : List Token) (t : Token) (f : Form) (s e : ℕ) → LexSofar text at done → Stands text at f s e → IsFit f (bytes_of text s e) → t ≡ token_of text f s e → more ≡ done ++ (t ∷ []) → LexSofar text e more
+pub go_on : (text : List ℕ) (at : ℕ) (done more : List Token) (t : Token) (f : Form) (s e : ℕ) → LexSofar text at done → IsNextWord text at f s e → IsFit f (bytes_of text s e) → t ≡ token_of text f s e → more ≡ done ++ (t ∷ []) → LexSofar text e more
 go_on text at done more t f s e r w fit h m = record {
   within = (word_inside text at f s e r.within w).within;
   tokens = λ list x. subst (HasTokens text) (sym (append_assoc done (token_of text f s e ∷ []) list) ∙ ap (λ u. (done ++ (u ∷ [])) ++ list) (sym h) ∙ ap (λ d. d ++ list) (sym m)) (r.tokens (token_of text f s e ∷ list) (token w x));
@@ -260,8 +260,8 @@ later_on text at rule spot h (later {start = s} {end = e} {f} v b) =
     let q = w.some in
     omega arith
 
--- behind a word
-past_word : (text : List ℕ) (at : ℕ) (f : Form) (s e : ℕ) (rule : Rule) (spot : ℕ) → s < e → Stands text at f s e → Broken text at rule spot → spot < e
+-- after a word
+past_word : (text : List ℕ) (at : ℕ) (f : Form) (s e : ℕ) (rule : Rule) (spot : ℕ) → s < e → IsNextWord text at f s e → Broken text at rule spot → spot < e
 past_word text at f s e rule spot l w (no_token gap g h q n) = absurd (no_such text at f s e gap w g n)
 past_word text at f s e rule spot l w (open_comment gap g) = absurd (gap_open w.gap_is g)
 past_word text at f s e rule spot l w (open_text gap g q n) = absurd (no_such text at f s e gap w g n)
@@ -316,7 +316,7 @@ rule_inside text at rule spot h (misfit {f} {start} {end} w m) =
 -- ONE END TOKEN
 cons_ends : (t : Token) (list : List Token) → is_end t.kind ≡ false → ends_once list ≡ true → ends_once (t ∷ list) ≡ true
 cons_ends t [] e h = let z : false ≡ true = h in cc
-cons_ends t (u ∷ us) e h = and_both (not (is_end t.kind)) _ (so_not _ e) h
+cons_ends t (u ∷ us) e h = and_from (not (is_end t.kind)) _ (not_from_false _ e) h
 
 end_alone : (text : List ℕ) → ends_once (end_token text ∷ []) ≡ true
 unfolding end_token
@@ -350,7 +350,7 @@ pub tokens_one : (text : List ℕ) (l m : List Token) → HasTokens text l → H
 tokens_one text l m a b = one_list text 0 l m a b
 
 -- AS THE CODE FINDS THEM
-pub misfit_inside : (text : List ℕ) (at : ℕ) (f : Form) (s e : ℕ) (rule : Rule) (offset : ℕ) (word : List ℕ) → at ≤ length text → Stands text at f s e → word ≡ bytes_of text s e → IsFirstMisfit f word rule offset → s + offset < length text
+pub misfit_inside : (text : List ℕ) (at : ℕ) (f : Form) (s e : ℕ) (rule : Rule) (offset : ℕ) (word : List ℕ) → at ≤ length text → IsNextWord text at f s e → word ≡ bytes_of text s e → IsFirstMisfit f word rule offset → s + offset < length text
 misfit_inside text at f s e rule offset word h w q m =
     let i = word_inside text at f s e h w in
     let l = word_length text at f s e w in
@@ -359,17 +359,17 @@ misfit_inside text at f s e rule offset word h w q m =
     let k = inside_word f (bytes_of text s e) rule offset (omega arith) (subst (λ v. Misfit f v rule offset) q m.breaks) in
     omega arith
 
-pub front_broken : (text : List ℕ) (at n : ℕ) (first rest : List ℕ) → first ≡ drop at text → Gap first n → n ≤ length first → (at + n ≡ length text → ⊥) → at ≤ length text → rest ≡ drop (at + n) text → FrontBroken text at n first rest
-front_broken text at n first rest e g l no_end h r =
+pub leading_broken : (text : List ℕ) (at n : ℕ) (first rest : List ℕ) → first ≡ drop at text → Gap first n → n ≤ length first → (at + n ≡ length text → ⊥) → at ≤ length text → rest ≡ drop (at + n) text → FrontBroken text at n first rest
+leading_broken text at n first rest e g l no_end h r =
     let q : length first ≡ length (drop at text) = ap length e in
     record { first_is = e; gap_is = g; rest_is = r; inside = omega (arith, length-drop at text) }
 
 abbrev pub made : ℕ → ℕ → TokenKind → Meaning → Place → Token
 made s e k m p = record { kind = k; start = s; end = e; place = p; meaning = m }
 
-pub token_told : (text : List ℕ) (f : Form) (s e : ℕ) (k : TokenKind) (m : Meaning) (p : Place) (word : List ℕ) → word ≡ bytes_of text s e → k ≡ kind_of f word → m ≡ meaning_of f word → p ≡ place_of text s → made s e k m p ≡ token_of text f s e
+pub token_known : (text : List ℕ) (f : Form) (s e : ℕ) (k : TokenKind) (m : Meaning) (p : Place) (word : List ℕ) → word ≡ bytes_of text s e → k ≡ kind_of f word → m ≡ meaning_of f word → p ≡ place_of text s → made s e k m p ≡ token_of text f s e
 unfolding token_of
-token_told text f s e k m p word h a b c =
+token_known text f s e k m p word h a b c =
     ap (λ x. made s e x m p) (a ∙ ap (kind_of f) h) ∙ ap (λ x. made s e (kind_of f (bytes_of text s e)) x p) (b ∙ ap (meaning_of f) h)
     ∙ ap (λ x. made s e (kind_of f (bytes_of text s e)) (meaning_of f (bytes_of text s e)) x) c
 

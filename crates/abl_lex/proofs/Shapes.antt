@@ -1,12 +1,13 @@
--- Which byte each form begins with, and how names and digits stand in front of a text.
+-- Which byte each form begins with, and how names and digits begin a text.
 use Rattle.std.proofs.Common.{ℕ, zero, suc, ◌<◌, ◌≤◌, ◌≡◌, Bool, true, false, ◌&&◌, ◌||◌, List, [], ◌∷◌, length, take, drop, sym, subst, arith, inl, inr}
 use Rattle.std.specs.List.{prefix_len}
 use Rattle.std.proofs.lemmas.Bool.Decides.{nat_tests}
 use Rattle.abl_lex.specs.declared.form.Form.{Form}
 use Rattle.abl_lex.specs.declared.form.Form.TheVariants.{Word, Qualified, Digits, Fractional, Dated, Quoted, Symbol}
 use Rattle.abl_lex.specs.Bytes.{point, slash, is_letter, is_digit, is_name_byte, is_name_sign, is_quote, is_symbol_byte, starts_digit, starts_letter}
-use Rattle.abl_lex.specs.Forms.{form, front, parted, is_name, is_digits, is_dated, one_or_two, is_pair}
-use Rattle.abl_base.proofs.Bools.{and_left, and_right, and_both, or_left, tells}
+use Rattle.abl_lex.specs.Forms.{form, leading, parted, is_name, is_digits, is_dated, one_or_two, is_pair}
+use Rattle.std.proofs.lemmas.Bool.{and_from, or_left, cases_Bool}
+use Rattle.abl_base.proofs.Bools.{left_of_and, right_of_and}
 use Rattle.abl_lex.proofs.Prefixes.{all_prefix, all_take, prefix_more, prefix_stops}
 
 pub letter_no_digit : (b : ℕ) → is_letter b ≡ true → is_digit b ≡ false
@@ -42,14 +43,14 @@ can_start Symbol b = is_symbol_byte b
 
 name_first : (n b : ℕ) (bs : List ℕ) → is_name (take n (b ∷ bs)) ≡ true → is_letter b ≡ true
 name_first zero b bs e = let z : false ≡ true = e in cc
-name_first (suc n) b bs e = and_left (is_letter b) _ e
+name_first (suc n) b bs e = left_of_and (is_letter b) _ e
 
 digits_first : (n b : ℕ) (bs : List ℕ) → is_digits (take n (b ∷ bs)) ≡ true → is_digit b ≡ true
 digits_first zero b bs e = let z : false ≡ true = e in cc
-digits_first (suc n) b bs e = and_left (is_digit b) _ e
+digits_first (suc n) b bs e = left_of_and (is_digit b) _ e
 
-few_first : (b : ℕ) (bs : List ℕ) → one_or_two (front is_digit (b ∷ bs)) ≡ true → is_digit b ≡ true
-few_first b bs e = elim (tells (is_digit b)) [
+few_first : (b : ℕ) (bs : List ℕ) → one_or_two (leading is_digit (b ∷ bs)) ≡ true → is_digit b ≡ true
+few_first b bs e = elim (cases_Bool (is_digit b)) [
   | inl t ↦ t
   | inr t ↦ (
       let q = prefix_stops is_digit b bs t in
@@ -59,18 +60,18 @@ few_first b bs e = elim (tells (is_digit b)) [
 
 symbol_first : (b : ℕ) (bs a : List ℕ) → form Symbol (b ∷ bs) a ≡ true → is_symbol_byte b ≡ true
 unfolding form
-symbol_first b [] a e = and_left (is_symbol_byte b) _ e
+symbol_first b [] a e = left_of_and (is_symbol_byte b) _ e
 symbol_first b (c ∷ []) a e = pair_symbol b c e
 symbol_first b (c ∷ d ∷ bs) a e = let z : false ≡ true = e in cc
 
 pub started : (f : Form) (b : ℕ) (bs a : List ℕ) → form f (b ∷ bs) a ≡ true → can_start f b ≡ true
 unfolding form
-started Word b bs a e = and_left (is_letter b) _ e
-started Qualified b bs a e = name_first _ b bs (and_right (parted is_name_byte point (b ∷ bs)) _ (and_left (parted is_name_byte point (b ∷ bs) && is_name (front is_name_byte (b ∷ bs))) _ e))
-started Digits b bs a e = and_left (is_digit b) _ e
-started Fractional b bs a e = digits_first _ b bs (and_right (parted is_digit point (b ∷ bs)) _ (and_left (parted is_digit point (b ∷ bs) && is_digits (front is_digit (b ∷ bs))) _ e))
-started Dated b bs a e = few_first b bs (and_right (parted is_digit slash (b ∷ bs)) _ (and_left (parted is_digit slash (b ∷ bs) && one_or_two (front is_digit (b ∷ bs))) _ (and_left (is_dated (b ∷ bs)) _ e)))
-started Quoted b bs a e = and_left (is_quote b) _ e
+started Word b bs a e = left_of_and (is_letter b) _ e
+started Qualified b bs a e = name_first _ b bs (right_of_and (parted is_name_byte point (b ∷ bs)) _ (left_of_and (parted is_name_byte point (b ∷ bs) && is_name (leading is_name_byte (b ∷ bs))) _ e))
+started Digits b bs a e = left_of_and (is_digit b) _ e
+started Fractional b bs a e = digits_first _ b bs (right_of_and (parted is_digit point (b ∷ bs)) _ (left_of_and (parted is_digit point (b ∷ bs) && is_digits (leading is_digit (b ∷ bs))) _ e))
+started Dated b bs a e = few_first b bs (right_of_and (parted is_digit slash (b ∷ bs)) _ (left_of_and (parted is_digit slash (b ∷ bs) && one_or_two (leading is_digit (b ∷ bs))) _ (left_of_and (is_dated (b ∷ bs)) _ e)))
+started Quoted b bs a e = left_of_and (is_quote b) _ e
 started Symbol b bs a e = symbol_first b bs a e
 
 pub no_empty : (f : Form) (a : List ℕ) → form f [] a ≡ true → ⊥
@@ -96,12 +97,12 @@ pub record NameFront (ys : List ℕ) (j : ℕ) : Type 0 where
   pub most : j ≤ prefix_len is_name_byte ys
   pub letter : starts_letter ys ≡ true
 
-pub name_front : (ys : List ℕ) (j : ℕ) → j ≤ length ys → is_name (take j ys) ≡ true → NameFront ys j
-name_front ys zero h e = let z : false ≡ true = e in cc
-name_front [] (suc j) h e = absurd (omega arith)
-name_front (b ∷ bs) (suc j) h e =
-    let l = and_left (is_letter b) _ e in
-    let i = all_take is_name_byte bs j (omega arith) (and_right (is_letter b) _ e) in
+pub name_leading : (ys : List ℕ) (j : ℕ) → j ≤ length ys → is_name (take j ys) ≡ true → NameFront ys j
+name_leading ys zero h e = let z : false ≡ true = e in cc
+name_leading [] (suc j) h e = absurd (omega arith)
+name_leading (b ∷ bs) (suc j) h e =
+    let l = left_of_and (is_letter b) _ e in
+    let i = all_take is_name_byte bs j (omega arith) (right_of_and (is_letter b) _ e) in
     let q = prefix_more is_name_byte b bs (letter_byte b l) in
     record { some = omega arith; most = omega arith; letter = l }
 
@@ -110,24 +111,24 @@ name_whole [] e = let z : false ≡ true = e in cc
 name_whole (b ∷ bs) e =
     let q = prefix_more is_name_byte b bs (letter_byte b e) in
     let r : prefix_len is_name_byte (b ∷ bs) ≡ suc (prefix_len is_name_byte bs) = omega arith in
-    (subst (λ n. is_name (take n (b ∷ bs)) ≡ true) (sym r) (and_both (is_letter b) _ e (all_prefix is_name_byte bs)), omega arith)
+    (subst (λ n. is_name (take n (b ∷ bs)) ≡ true) (sym r) (and_from (is_letter b) _ e (all_prefix is_name_byte bs)), omega arith)
 
 pub record DigitsFront (ys : List ℕ) (j : ℕ) : Type 0 where
   pub some : 0 < j
   pub most : j ≤ prefix_len is_digit ys
 
-pub digits_front : (ys : List ℕ) (j : ℕ) → j ≤ length ys → is_digits (take j ys) ≡ true → DigitsFront ys j
-digits_front ys zero h e = let z : false ≡ true = e in cc
-digits_front [] (suc j) h e = absurd (omega arith)
-digits_front (b ∷ bs) (suc j) h e = record { some = omega arith; most = all_take is_digit (b ∷ bs) (suc j) h e }
+pub digits_leading : (ys : List ℕ) (j : ℕ) → j ≤ length ys → is_digits (take j ys) ≡ true → DigitsFront ys j
+digits_leading ys zero h e = let z : false ≡ true = e in cc
+digits_leading [] (suc j) h e = absurd (omega arith)
+digits_leading (b ∷ bs) (suc j) h e = record { some = omega arith; most = all_take is_digit (b ∷ bs) (suc j) h e }
 
 pub digits_whole : (ys : List ℕ) → 0 < prefix_len is_digit ys → is_digits (take (prefix_len is_digit ys) ys) ≡ true
 digits_whole [] h = absurd (omega arith)
-digits_whole (b ∷ bs) h = elim (tells (is_digit b)) [
+digits_whole (b ∷ bs) h = elim (cases_Bool (is_digit b)) [
   | inl t ↦ (
       let q = prefix_more is_digit b bs t in
       let r : prefix_len is_digit (b ∷ bs) ≡ suc (prefix_len is_digit bs) = omega arith in
-      subst (λ n. is_digits (take n (b ∷ bs)) ≡ true) (sym r) (and_both (is_digit b) _ t (all_prefix is_digit bs)))
+      subst (λ n. is_digits (take n (b ∷ bs)) ≡ true) (sym r) (and_from (is_digit b) _ t (all_prefix is_digit bs)))
   | inr t ↦ (let q = prefix_stops is_digit b bs t in absurd (omega arith))
 ]
 

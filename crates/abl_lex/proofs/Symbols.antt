@@ -5,17 +5,17 @@ use Rattle.abl_lex.specs.declared.form.Form.{Form}
 use Rattle.abl_lex.specs.declared.form.Form.TheVariants.{Word, Qualified, Digits, Fractional, Dated, Quoted, Symbol}
 use Rattle.abl_lex.specs.Bytes.{is_letter, is_digit, is_quote, starts_digit, starts_letter, starts_quote}
 use Rattle.abl_lex.specs.Forms.{form, is_pair, is_single, starts_pair, Longest, NoForm}
-use Rattle.abl_base.proofs.Bools.{clash}
+use Rattle.std.proofs.lemmas.Bool.{both_ways}
 use Rattle.abl_lex.proofs.Shapes.{first_byte, no_empty}
 
 -- no other form begins with such a byte
 pub other : (g : Form) (m b : ℕ) (bs : List ℕ) → is_letter b ≡ false → is_digit b ≡ false → is_quote b ≡ false → form g (take m (b ∷ bs)) (drop m (b ∷ bs)) ≡ true → (form Symbol (take m (b ∷ bs)) (drop m (b ∷ bs)) ≡ true → ⊥) → ⊥
-other Word m b bs l d q e n = clash (is_letter b) l (first_byte Word m b bs e)
-other Qualified m b bs l d q e n = clash (is_letter b) l (first_byte Qualified m b bs e)
-other Digits m b bs l d q e n = clash (is_digit b) d (first_byte Digits m b bs e)
-other Fractional m b bs l d q e n = clash (is_digit b) d (first_byte Fractional m b bs e)
-other Dated m b bs l d q e n = clash (is_digit b) d (first_byte Dated m b bs e)
-other Quoted m b bs l d q e n = clash (is_quote b) q (first_byte Quoted m b bs e)
+other Word m b bs l d q e n = both_ways (is_letter b) l (first_byte Word m b bs e)
+other Qualified m b bs l d q e n = both_ways (is_letter b) l (first_byte Qualified m b bs e)
+other Digits m b bs l d q e n = both_ways (is_digit b) d (first_byte Digits m b bs e)
+other Fractional m b bs l d q e n = both_ways (is_digit b) d (first_byte Fractional m b bs e)
+other Dated m b bs l d q e n = both_ways (is_digit b) d (first_byte Dated m b bs e)
+other Quoted m b bs l d q e n = both_ways (is_quote b) q (first_byte Quoted m b bs e)
 other Symbol m b bs l d q e n = n e
 
 three : (b c d : ℕ) (bs a : List ℕ) → form Symbol (b ∷ c ∷ d ∷ bs) a ≡ true → ⊥
@@ -38,7 +38,7 @@ one_made : (b : ℕ) (a : List ℕ) → is_single b a ≡ true → form Symbol (
 unfolding form
 one_made b a e = e
 
--- a symbol of more than two bytes, or of more than one where no pair stands
+-- a symbol of more than two bytes, or of more than one where no pair is
 long : (m b c : ℕ) (bs : List ℕ) → 2 < m → m ≤ length (b ∷ c ∷ bs) → form Symbol (take m (b ∷ c ∷ bs)) (drop m (b ∷ c ∷ bs)) ≡ true → ⊥
 long zero b c bs h l e = omega arith
 long (suc zero) b c bs h l e = omega arith
@@ -50,12 +50,12 @@ more : (m b : ℕ) (bs : List ℕ) → starts_pair (b ∷ bs) ≡ false → 1 < 
 more zero b bs p h l e = omega arith
 more (suc zero) b bs p h l e = omega arith
 more (suc (suc m)) b [] p h l e = omega arith
-more (suc (suc zero)) b (c ∷ bs) p h l e = clash (is_pair b c) p (two b c bs e)
+more (suc (suc zero)) b (c ∷ bs) p h l e = both_ways (is_pair b c) p (two b c bs e)
 more (suc (suc (suc m))) b (c ∷ bs) p h l e = long (suc (suc (suc m))) b c bs (omega arith) l e
 
 none : (m b : ℕ) (bs : List ℕ) → starts_pair (b ∷ bs) ≡ false → is_single b bs ≡ false → m ≤ length (b ∷ bs) → form Symbol (take m (b ∷ bs)) (drop m (b ∷ bs)) ≡ true → ⊥
 none zero b bs p s l e = no_empty Symbol (b ∷ bs) e
-none (suc zero) b bs p s l e = clash (is_single b bs) s (one b bs e)
+none (suc zero) b bs p s l e = both_ways (is_single b bs) s (one b bs e)
 none (suc (suc m)) b bs p s l e = more (suc (suc m)) b bs p (omega arith) l e
 
 pub pair_longest : (xs : List ℕ) → starts_letter xs ≡ false → starts_digit xs ≡ false → starts_quote xs ≡ false → starts_pair xs ≡ true → Longest Symbol 2 xs

@@ -9,10 +9,11 @@ use Rattle.std.proofs.lemmas.List.Folds.{list_all_at}
 use Rattle.std.proofs.lemmas.Bool.Decides.{nat_tests}
 use Rattle.abl_tree.specs.declared.token.CivilDate.{CivilDate}
 use Rattle.abl_lex.specs.Bytes.{is_digit, slash}
-use Rattle.abl_lex.specs.Forms.{front, behind, parted, is_dated, is_digits, one_or_two}
+use Rattle.abl_lex.specs.Forms.{leading, after_separator, parted, is_dated, is_digits, one_or_two}
 use Rattle.abl_lex.specs.Meanings.{number_of, date_of, year_of}
-use Rattle.abl_base.proofs.Bools.{tells, clash, and_left, and_right}
-use Rattle.abl_lex.proofs.Prefixes.{all_prefix, front_length, starts_inside}
+use Rattle.std.proofs.lemmas.Bool.{cases_Bool, both_ways}
+use Rattle.abl_base.proofs.Bools.{left_of_and, right_of_and}
+use Rattle.abl_lex.proofs.Prefixes.{all_prefix, leading_length, starts_inside}
 
 -- a digit is between 48 and 57
 pub record IsDigit (b : ℕ) : Type 0 where
@@ -29,9 +30,9 @@ digit_range : (b : ℕ) → is_digit b ≡ true → IsDigit b
 digit_range b e = record { low = low b e; high = high b e }
 
 pub digit_at : (xs : List ℕ) (i : ℕ) → list_all is_digit xs ≡ true → i < length xs → IsDigit (get_or xs i 0)
-digit_at xs i e h = elim (tells (is_digit (get_or xs i 0))) [
+digit_at xs i e h = elim (cases_Bool (is_digit (get_or xs i 0))) [
   | inl t ↦ digit_range (get_or xs i 0) t
-  | inr t ↦ absurd (clash (list_all is_digit xs) (list_all_at is_digit xs i 0 h t) e)
+  | inr t ↦ absurd (both_ways (list_all is_digit xs) (list_all_at is_digit xs i 0 h t) e)
 ]
 
 pub one_digit_more : (xs : List ℕ) (i : ℕ) → i < length xs → number_of (take (i + 1) xs) ≡ number_of (take i xs) * 10 + (get_or xs i 0 - 48)
@@ -79,14 +80,14 @@ pub number_bound : (xs : List ℕ) (i n : ℕ) → NumberSofar xs i n → i ≤ 
 number_bound xs i n s h = let m = ten_most i (length xs) h in let b = s.below in omega arith
 
 -- PARTS OF A WORD
-pub front_part : (w part : List ℕ) (n : ℕ) → n ≡ prefix_len is_digit w → part ≡ take (n - 0) w → part ≡ front is_digit w
-front_part w part n e h = h ∙ (let q : n - 0 ≡ prefix_len is_digit w = omega arith in ap (λ k. take k w) q)
+pub leading_part : (w part : List ℕ) (n : ℕ) → n ≡ prefix_len is_digit w → part ≡ take (n - 0) w → part ≡ leading is_digit w
+leading_part w part n e h = h ∙ (let q : n - 0 ≡ prefix_len is_digit w = omega arith in ap (λ k. take k w) q)
 
-pub front_all : (w part : List ℕ) (n : ℕ) → n ≡ prefix_len is_digit w → part ≡ take (n - 0) w → list_all is_digit part ≡ true
-front_all w part n e h = ap (list_all is_digit) (front_part w part n e h) ∙ all_prefix is_digit w
+pub leading_all : (w part : List ℕ) (n : ℕ) → n ≡ prefix_len is_digit w → part ≡ take (n - 0) w → list_all is_digit part ≡ true
+leading_all w part n e h = ap (list_all is_digit) (leading_part w part n e h) ∙ all_prefix is_digit w
 
-pub behind_part : (w part : List ℕ) (n : ℕ) → n ≡ prefix_len is_digit w → part ≡ drop (n + 1) w → part ≡ behind is_digit w
-behind_part w part n e h = h ∙ (let q : n + 1 ≡ suc (prefix_len is_digit w) = omega arith in ap (λ k. drop k w) q)
+pub after_separator_part : (w part : List ℕ) (n : ℕ) → n ≡ prefix_len is_digit w → part ≡ drop (n + 1) w → part ≡ after_separator is_digit w
+after_separator_part w part n e h = h ∙ (let q : n + 1 ≡ suc (prefix_len is_digit w) = omega arith in ap (λ k. drop k w) q)
 
 -- A DATE
 few_number : (n : ℕ) → (n == 1 || n == 2) ≡ true → n ≤ 2
@@ -106,30 +107,30 @@ digits_all (b ∷ bs) e = e
 pub record DateParts (w : List ℕ) : Type 0 where
   pub point : prefix_len is_digit w < length w
   pub month : prefix_len is_digit w ≤ 2
-  pub second : prefix_len is_digit (behind is_digit w) < length (behind is_digit w)
-  pub day : prefix_len is_digit (behind is_digit w) ≤ 2
-  pub year : length (behind is_digit (behind is_digit w)) ≤ 4
-  pub year_digits : list_all is_digit (behind is_digit (behind is_digit w)) ≡ true
+  pub second : prefix_len is_digit (after_separator is_digit w) < length (after_separator is_digit w)
+  pub day : prefix_len is_digit (after_separator is_digit w) ≤ 2
+  pub year : length (after_separator is_digit (after_separator is_digit w)) ≤ 4
+  pub year_digits : list_all is_digit (after_separator is_digit (after_separator is_digit w)) ≡ true
 
 pub date_parts : (w : List ℕ) → is_dated w ≡ true → DateParts w
 date_parts w e =
-    let l = and_left (parted is_digit slash w && one_or_two (front is_digit w)) _ e in
-    let r = and_right (parted is_digit slash w && one_or_two (front is_digit w)) _ e in
-    let v = behind is_digit w in
-    let m = and_left (parted is_digit slash v && one_or_two (front is_digit v)) _ r in
-    let y = and_right (parted is_digit slash v && one_or_two (front is_digit v)) _ r in
-    let a = few_most (front is_digit w) (and_right (parted is_digit slash w) _ l) in
-    let b = few_most (front is_digit v) (and_right (parted is_digit slash v) _ m) in
-    let c = years_number (length (behind is_digit v)) (and_right (is_digits (behind is_digit v)) _ y) in
-    let f = front_length is_digit w in
-    let g = front_length is_digit v in
+    let l = left_of_and (parted is_digit slash w && one_or_two (leading is_digit w)) _ e in
+    let r = right_of_and (parted is_digit slash w && one_or_two (leading is_digit w)) _ e in
+    let v = after_separator is_digit w in
+    let m = left_of_and (parted is_digit slash v && one_or_two (leading is_digit v)) _ r in
+    let y = right_of_and (parted is_digit slash v && one_or_two (leading is_digit v)) _ r in
+    let a = few_most (leading is_digit w) (right_of_and (parted is_digit slash w) _ l) in
+    let b = few_most (leading is_digit v) (right_of_and (parted is_digit slash v) _ m) in
+    let c = years_number (length (after_separator is_digit v)) (right_of_and (is_digits (after_separator is_digit v)) _ y) in
+    let f = leading_length is_digit w in
+    let g = leading_length is_digit v in
     record {
-      point = starts_inside slash (prefix_len is_digit w) w (and_left (parted is_digit slash w) _ l);
+      point = starts_inside slash (prefix_len is_digit w) w (left_of_and (parted is_digit slash w) _ l);
       month = omega arith;
-      second = starts_inside slash (prefix_len is_digit v) v (and_left (parted is_digit slash v) _ m);
+      second = starts_inside slash (prefix_len is_digit v) v (left_of_and (parted is_digit slash v) _ m);
       day = omega arith;
       year = c;
-      year_digits = digits_all (behind is_digit v) (and_left (is_digits (behind is_digit v)) _ y);
+      year_digits = digits_all (after_separator is_digit v) (left_of_and (is_digits (after_separator is_digit v)) _ y);
     }
 
 abbrev pub date : ℕ → ℕ → ℕ → CivilDate
@@ -138,9 +139,9 @@ date m d y = record { month = m; day = d; year = y }
 same_date : (m m' d d' y y' : ℕ) → m ≡ m' → d ≡ d' → y ≡ y' → date m d y ≡ date m' d' y'
 same_date m m' d d' y y' e f g = ap (λ a. date a d y) e ∙ ap (λ a. date m' a y) f ∙ ap (λ a. date m' d' a) g
 
-pub date_told : (w v month day years : List ℕ) (n k m d y : ℕ) → n ≡ prefix_len is_digit w → v ≡ drop (n + 1) w → k ≡ prefix_len is_digit v → month ≡ take (n - 0) w → day ≡ take (k - 0) v → years ≡ drop (k + 1) v → m ≡ number_of month → d ≡ number_of day → y ≡ year_of years → date m d y ≡ date_of w
-date_told w v month day years n k m d y en ev ek em ed ey vm vd vy =
-    let b = behind_part w v n en ev in
-    same_date m _ d _ y _ (vm ∙ ap number_of (front_part w month n en em))
-    (vd ∙ ap number_of (front_part v day k ek ed) ∙ ap (λ x. number_of (front is_digit x)) b)
-    (vy ∙ ap year_of (behind_part v years k ek ey) ∙ ap (λ x. year_of (behind is_digit x)) b)
+pub date_known : (w v month day years : List ℕ) (n k m d y : ℕ) → n ≡ prefix_len is_digit w → v ≡ drop (n + 1) w → k ≡ prefix_len is_digit v → month ≡ take (n - 0) w → day ≡ take (k - 0) v → years ≡ drop (k + 1) v → m ≡ number_of month → d ≡ number_of day → y ≡ year_of years → date m d y ≡ date_of w
+date_known w v month day years n k m d y en ev ek em ed ey vm vd vy =
+    let b = after_separator_part w v n en ev in
+    same_date m _ d _ y _ (vm ∙ ap number_of (leading_part w month n en em))
+    (vd ∙ ap number_of (leading_part v day k ek ed) ∙ ap (λ x. number_of (leading is_digit x)) b)
+    (vy ∙ ap year_of (after_separator_part v years k ek ey) ∙ ap (λ x. year_of (after_separator is_digit x)) b)

@@ -26,11 +26,11 @@ is_letter b = (nat_le 65 b && nat_le b 90) || (nat_le 97 b && nat_le b 122)
 abbrev pub is_digit : ℕ → Bool
 is_digit b = nat_le 48 b && nat_le b 57
 
--- # $ % & stand together, then - and _
+-- # $ % & are adjacent in the order of bytes, then - and _
 abbrev pub is_name_sign : ℕ → Bool
 is_name_sign b = (nat_le 35 b && nat_le b 38) || b == 45 || b == 95
 
--- what may stand behind the first letter of a name
+-- what may follow the first letter of a name
 abbrev pub is_name_byte : ℕ → Bool
 is_name_byte b = is_letter b || is_digit b || is_name_sign b
 
@@ -38,7 +38,7 @@ is_name_byte b = is_letter b || is_digit b || is_name_sign b
 abbrev pub is_quote : ℕ → Bool
 is_quote b = b == 34 || b == 39
 
--- ( ) * + , - . / stand together, and so do < = > ?; then : and ^
+-- ( ) * + , - . / are adjacent in the order of bytes, and so are < = > ?; then : and ^
 abbrev pub is_symbol_byte : ℕ → Bool
 is_symbol_byte b = (nat_le 40 b && nat_le b 47) || (nat_le 60 b && nat_le b 63) || b == 58 || b == 94
 
@@ -64,7 +64,7 @@ abbrev pub starts_gap : List ℕ → Bool
 starts_gap [] = false
 starts_gap (b ∷ bs) = is_white b || (b == slash && starts star bs)
 
--- these two bytes stand at this place
+-- these two bytes are at this place
 abbrev pub pair_at : List ℕ → ℕ → ℕ → ℕ → Bool
 pair_at text i c d = slice_index text i == c && slice_index text (i + 1) == d
 

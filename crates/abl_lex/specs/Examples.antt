@@ -9,7 +9,7 @@ use Rattle.abl_lex.specs.Gaps.{comment}
 use Rattle.abl_lex.specs.Meanings.{inside, is_date, date_of, kind_of, meaning_of, number_of, text_of}
 use Rattle.abl_lex.specs.Texts.{place_of}
 
--- behind /* a comment inside is closed first
+-- after /* a comment inside is closed first
 pub comments_nest : comment 1 (codes " a /* b */ c */ d") ≡ Some 15
 unfolding comment
 comments_nest = refl
@@ -27,7 +27,7 @@ pub date_before_point : form Dated (codes "1/2/34") (codes ".5") ≡ true
 unfolding form
 date_before_point = refl
 
--- a minus may stand in a name and at its end
+-- a minus may be in a name and at its end
 pub minus_in_name : form Word (codes "i-1-") [] ≡ true
 unfolding form
 minus_in_name = refl
@@ -45,7 +45,7 @@ pub escapes : inside 34 0 (codes "a~102~n" ++ (34 ∷ 34 ∷ 34 ∷ [])) ≡ 97 
 unfolding inside
 escapes = refl
 
--- 400 is no byte, so ~4 stands for 4
+-- 400 is no byte, so ~4 denotes 4
 pub octal_above_377 : inside 34 0 (codes "~400" ++ (34 ∷ [])) ≡ codes "400"
 unfolding inside
 octal_above_377 = refl
@@ -69,7 +69,7 @@ pub pair_of_bytes : kind_of Symbol (codes "<=") ≡ LessOrEqual
 unfolding kind_of
 pair_of_bytes = refl
 
--- behind a line feed and two bytes
+-- after a line feed and two bytes
 pub line_and_column : place_of (codes "a\nbcd") 4 ≡ record { line = 2; column = 3 }
 unfolding place_of
 line_and_column = refl

@@ -6,15 +6,15 @@ use Rattle.abl_lex.specs.declared.form.Form.{Form}
 use Rattle.abl_lex.specs.declared.form.Form.TheVariants.{Word, Qualified, Digits, Fractional, Dated, Quoted, Symbol}
 use Rattle.abl_lex.specs.Bytes.{tilde, star, slash, point, is_letter, is_digit, is_name_byte, is_quote, is_symbol_byte, starts, starts_digit, starts_gap}
 
--- the bytes in front that pass the test
-abbrev pub front : (ℕ → Bool) → List ℕ → List ℕ
-front test w = take (prefix_len test w) w
+-- the bytes at the start that pass the test
+abbrev pub leading : (ℕ → Bool) → List ℕ → List ℕ
+leading test w = take (prefix_len test w) w
 
--- what stands behind them and one byte more
-abbrev pub behind : (ℕ → Bool) → List ℕ → List ℕ
-behind test w = drop (suc (prefix_len test w)) w
+-- what follows them and one byte more
+abbrev pub after_separator : (ℕ → Bool) → List ℕ → List ℕ
+after_separator test w = drop (suc (prefix_len test w)) w
 
--- this byte stands directly behind the bytes that pass the test
+-- this byte is directly after the bytes that pass the test
 abbrev pub parted : (ℕ → Bool) → ℕ → List ℕ → Bool
 parted test c w = starts c (drop (prefix_len test w) w)
 
@@ -38,21 +38,21 @@ two_or_four w = length w == 2 || length w == 4
 
 -- day / year
 abbrev pub is_day_year : List ℕ → Bool
-is_day_year w = (parted is_digit slash w && one_or_two (front is_digit w))
-    && (is_digits (behind is_digit w) && two_or_four (behind is_digit w))
+is_day_year w = (parted is_digit slash w && one_or_two (leading is_digit w))
+    && (is_digits (after_separator is_digit w) && two_or_four (after_separator is_digit w))
 
 -- month / day / year, of one or two, one or two, and two or four digits
 abbrev pub is_dated : List ℕ → Bool
-is_dated w = (parted is_digit slash w && one_or_two (front is_digit w))
-    && (is_day_year (behind is_digit w))
+is_dated w = (parted is_digit slash w && one_or_two (leading is_digit w))
+    && (is_day_year (after_separator is_digit w))
 
 -- n more than the number, where there is one
 abbrev pub plus : ℕ → Option ℕ → Option ℕ
 plus n None = None
 plus n (Some m) = Some (n + m)
 
--- How many bytes there are up to the end of the text whose opening quote stands in front. A byte
--- behind ~ is passed over, and so is the own quote where it is doubled.
+-- How many bytes there are up to the end of the text whose opening quote is at the start. A byte
+-- after ~ is passed over, and so is the own quote where it is doubled.
 unfoldable pub closing : ℕ → Bool → List ℕ → Option ℕ
 closing quote passed [] = None
 closing quote true (b ∷ bs) = plus 1 (closing quote false bs)
@@ -83,20 +83,20 @@ starts_pair [] = false
 starts_pair (b ∷ []) = false
 starts_pair (b ∷ c ∷ bs) = is_pair b c
 
--- the byte is a symbol in front of what follows: / opens no comment, and behind the period stands
+-- the byte is a symbol before what follows: / opens no comment, and after the period is
 -- white space, a comment or nothing
 abbrev pub is_single : ℕ → List ℕ → Bool
 is_single b after =
     is_symbol_byte b && (if b == slash then not (starts star after) else if b == point then ends_here after else true)
 
--- The table: whether the bytes w, in front of what follows them, are of this form.
+-- The table: whether the bytes w, before what follows them, are of this form.
 unfoldable pub form : Form → List ℕ → List ℕ → Bool
 form Word w after = is_name w
 form Qualified w after =
-    (parted is_name_byte point w && is_name (front is_name_byte w))
-    && (not (is_keyword (front is_name_byte w)) && is_name (behind is_name_byte w))
+    (parted is_name_byte point w && is_name (leading is_name_byte w))
+    && (not (is_keyword (leading is_name_byte w)) && is_name (after_separator is_name_byte w))
 form Digits w after = is_digits w
-form Fractional w after = (parted is_digit point w && is_digits (front is_digit w)) && is_digits (behind is_digit w)
+form Fractional w after = (parted is_digit point w && is_digits (leading is_digit w)) && is_digits (after_separator is_digit w)
 form Dated w after = is_dated w && not (starts_digit after)
 form Quoted [] after = false
 form Quoted (b ∷ bs) after = is_quote b && (closes b bs && not (starts b after))
@@ -105,18 +105,18 @@ form Symbol (b ∷ []) after = is_single b after
 form Symbol (b ∷ c ∷ []) after = is_pair b c
 form Symbol (b ∷ c ∷ d ∷ bs) after = false
 
--- The n bytes in front of the text are of this form, and no more bytes are of any form.
+-- the first n bytes of the text are of this form, and no longer prefix is of any form
 pub record Longest (f : Form) (n : ℕ) (text : List ℕ) : Type 0 where
   pub some : 0 < n
   pub within : n ≤ length text
   pub matches : form f (take n text) (drop n text) ≡ true
   pub longest : (g : Form) (m : ℕ) → n < m → m ≤ length text → form g (take m text) (drop m text) ≡ true → ⊥
 
--- no bytes in front of the text are of any form
+-- no prefix of the text is of any form
 abbrev pub NoForm : List ℕ → Type 0
 NoForm text = (g : Form) (m : ℕ) → m ≤ length text → form g (take m text) (drop m text) ≡ true → ⊥
 
--- a date is the m bytes in front of the text, and no digit follows
+-- the first m bytes are a date, and no digit follows
 pub record DatedAt (text : List ℕ) (m : ℕ) : Type 0 where
   pub within : m ≤ length text
   pub matches : is_dated (take m text) ≡ true

@@ -13,7 +13,7 @@ comment (suc d) (b ∷ c ∷ bs) =
     else if b == star && c == slash then plus 2 (comment d bs)
     else plus 1 (comment (suc d) (c ∷ bs))
 
--- n bytes of white space and whole comments are in front of the text, and no more of these follow
+-- the first n bytes are white space and whole comments, and no more of these follow
 pub data Gap : List ℕ → ℕ → Type 0 where
   nothing : {text : List ℕ} → starts_gap text ≡ false → Gap text 0
   white : {b : ℕ} {text : List ℕ} {n : ℕ} → is_white b ≡ true → Gap text n → Gap (b ∷ text) (suc n)

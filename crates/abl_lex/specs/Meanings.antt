@@ -1,4 +1,4 @@
--- What a word of each form stands for.
+-- What a word of each form denotes.
 use Rattle.std.specs.Prelude.{ℕ, zero, suc, ◌+◌, ◌-◌, ◌*◌, ◌^◌, ◌%◌, Bool, false, not, ◌&&◌, ◌||◌, ◌==◌, nat_le, nat_lt, if◌then◌else◌, List, [], ◌∷◌, ◌++◌, length, fold, Option, Some, None, unwrap_or}
 use Rattle.abl_tree.specs.Keywords.{keyword_of}
 use Rattle.abl_tree.specs.declared.token.TokenKind.{TokenKind}
@@ -9,13 +9,10 @@ use Rattle.abl_tree.specs.declared.token.CivilDate.{CivilDate}
 use Rattle.abl_lex.specs.declared.form.Form.{Form}
 use Rattle.abl_lex.specs.declared.form.Form.TheVariants.{Word, Qualified, Digits, Fractional, Dated, Quoted, Symbol}
 use Rattle.abl_lex.specs.Bytes.{tilde, is_digit, is_name_byte, starts}
-use Rattle.abl_lex.specs.Forms.{front, behind}
+use Rattle.abl_lex.specs.Forms.{leading, after_separator}
+pub use Rattle.abl_base.specs.Digits.{number_of}
 
--- the number that digits spell
-abbrev pub number_of : List ℕ → ℕ
-number_of digits = fold (λ n b. n * 10 + (b - 48)) 0 digits
-
--- the digits before and behind the point, times 10^10
+-- the digits before and after the point, times 10^10
 abbrev pub scaled_of : List ℕ → List ℕ → ℕ
 scaled_of before after = number_of before * 10 ^ 10 + number_of after * 10 ^ (10 - length after)
 
@@ -27,9 +24,9 @@ year_of digits =
 
 abbrev pub date_of : List ℕ → CivilDate
 date_of w = record {
-  month = number_of (front is_digit w);
-  day = number_of (front is_digit (behind is_digit w));
-  year = year_of (behind is_digit (behind is_digit w));
+  month = number_of (leading is_digit w);
+  day = number_of (leading is_digit (after_separator is_digit w));
+  year = year_of (after_separator is_digit (after_separator is_digit w));
 }
 
 abbrev pub is_leap : ℕ → Bool
@@ -58,16 +55,16 @@ octal_of (a ∷ []) = 0
 octal_of (a ∷ b ∷ []) = 0
 octal_of (a ∷ b ∷ c ∷ bs) = (a - 48) * 64 + (b - 48) * 8 + (c - 48)
 
--- how many of the bytes behind ~ belong to it
+-- how many of the bytes after ~ belong to it
 abbrev pub escape_length : List ℕ → ℕ
 escape_length [] = 0
 escape_length (b ∷ bs) = if is_octal (b ∷ bs) then 3 else 1
 
--- n t r stand for line feed, tab and carriage return
+-- n t r denote line feed, tab and carriage return
 abbrev pub control_of : ℕ → ℕ
 control_of b = if b == 110 then 10 else if b == 116 then 9 else if b == 114 then 13 else b
 
--- what ~ and the bytes behind it stand for
+-- what ~ and the bytes after it denote
 abbrev pub escaped : List ℕ → List ℕ
 escaped [] = []
 escaped (b ∷ bs) =
@@ -75,7 +72,7 @@ escaped (b ∷ bs) =
     else if b == 10 then []
     else control_of b ∷ []
 
--- What the bytes behind an opening quote stand for, up to the closing one, when so many of them
+-- What the bytes after an opening quote denote, up to the closing one, when so many of them
 -- are passed over first.
 unfoldable pub inside : ℕ → ℕ → List ℕ → List ℕ
 inside quote passed [] = []
@@ -85,7 +82,7 @@ inside quote zero (b ∷ bs) =
     else if b == quote then (if starts quote bs then quote ∷ inside quote 1 bs else [])
     else b ∷ inside quote 0 bs
 
--- the bytes that a text between quotes stands for
+-- the bytes that a text between quotes denotes
 abbrev pub text_of : List ℕ → List ℕ
 text_of [] = []
 text_of (quote ∷ bs) = inside quote 0 bs
@@ -125,17 +122,17 @@ kind_of Dated w = DateLiteral
 kind_of Quoted w = TextLiteral
 kind_of Symbol w = symbol_kind w
 
--- a reserved word stands for its kind alone
+-- a reserved word denotes its kind alone
 abbrev pub word_meaning : Option TokenKind → List ℕ → Meaning
 word_meaning None w = Spelling w
 word_meaning (Some k) w = KindAlone
 
--- what a word of this form stands for
+-- what a word of this form denotes
 unfoldable pub meaning_of : Form → List ℕ → Meaning
 meaning_of Word w = word_meaning (keyword_of w) w
-meaning_of Qualified w = Parts (front is_name_byte w) (behind is_name_byte w)
+meaning_of Qualified w = Parts (leading is_name_byte w) (after_separator is_name_byte w)
 meaning_of Digits w = Whole (number_of w)
-meaning_of Fractional w = Scaled (scaled_of (front is_digit w) (behind is_digit w))
+meaning_of Fractional w = Scaled (scaled_of (leading is_digit w) (after_separator is_digit w))
 meaning_of Dated w = Day (date_of w)
 meaning_of Quoted w = TextBytes (text_of w)
 meaning_of Symbol w = KindAlone

@@ -10,7 +10,7 @@ use Rattle.abl_tree.specs.declared.token.Meaning.TheVariants.{KindAlone}
 use Rattle.abl_lex.specs.declared.form.Form.{Form}
 use Rattle.abl_lex.specs.declared.form.Form.TheVariants.{Word, Qualified, Digits, Fractional, Dated}
 use Rattle.abl_lex.specs.Bytes.{line_feed, is_digit, is_name_byte, starts_quote}
-use Rattle.abl_lex.specs.Forms.{Longest, NoForm, front, behind}
+use Rattle.abl_lex.specs.Forms.{Longest, NoForm, leading, after_separator}
 use Rattle.abl_lex.specs.Gaps.{Gap, OpenGap}
 use Rattle.abl_lex.specs.Meanings.{kind_of, meaning_of, is_date, date_of}
 
@@ -26,8 +26,8 @@ place_of text at = record {
 abbrev pub bytes_of : List ℕ → ℕ → ℕ → List ℕ
 bytes_of text start end = take (end - start) (drop start text)
 
--- Behind the gap at this place stands a word of this form, the longest there.
-pub record Stands (text : List ℕ) (at : ℕ) (f : Form) (start end : ℕ) : Type 0 where
+-- the next word after the gap at this place: its form and its ends; no longer word begins there
+pub record IsNextWord (text : List ℕ) (at : ℕ) (f : Form) (start end : ℕ) : Type 0 where
   pub gap : ℕ
   pub gap_is : Gap (drop at text) gap
   pub start_is : start ≡ at + gap
@@ -54,37 +54,37 @@ end_token text = record {
   meaning = KindAlone;
 }
 
--- From this place on the text is white space, comments and the listed tokens, and the end token stands after its last byte.
+-- From this place on the text consists of white space, comments and these tokens; the end token follows its last byte.
 pub data TokensFrom (text : List ℕ) : ℕ → List Token → Type 0 where
   ended : {at : ℕ} (gap : ℕ) → Gap (drop at text) gap → at + gap ≡ length text → TokensFrom text at (end_token text ∷ [])
-  token : {at : ℕ} {list : List Token} {f : Form} {start end : ℕ} → Stands text at f start end → TokensFrom text end list → TokensFrom text at (token_of text f start end ∷ list)
+  token : {at : ℕ} {list : List Token} {f : Form} {start end : ℕ} → IsNextWord text at f start end → TokensFrom text end list → TokensFrom text at (token_of text f start end ∷ list)
 
 -- the tokens of the text
 abbrev pub HasTokens : List ℕ → List Token → Type 0
 HasTokens text list = TokensFrom text 0 list
 
--- How a word of a form breaks a rule, and so many bytes behind its start: a name or a part of one
--- above 32 bytes, a number of more than 18 digits or more than 10 behind the point, no date.
+-- How a word of a form breaks a rule, and so many bytes after its start: a name or a part of one
+-- above 32 bytes, a number of more than 18 digits or more than 10 after the point, no date.
 pub data Misfit : Form → List ℕ → Rule → ℕ → Type 0 where
   long_name : {w : List ℕ} → 32 < length w → Misfit Word w L4 0
-  long_first : {w : List ℕ} → 32 < length (front is_name_byte w) → Misfit Qualified w L4 0
-  long_second : {w : List ℕ} → 32 < length (behind is_name_byte w) → Misfit Qualified w L4 (prefix_len is_name_byte w + 1)
+  long_first : {w : List ℕ} → 32 < length (leading is_name_byte w) → Misfit Qualified w L4 0
+  long_second : {w : List ℕ} → 32 < length (after_separator is_name_byte w) → Misfit Qualified w L4 (prefix_len is_name_byte w + 1)
   long_whole : {w : List ℕ} → 18 < length w → Misfit Digits w L5 0
-  long_before : {w : List ℕ} → 18 < length (front is_digit w) → Misfit Fractional w L5 0
-  long_behind : {w : List ℕ} → 10 < length (behind is_digit w) → Misfit Fractional w L5 0
+  long_before : {w : List ℕ} → 18 < length (leading is_digit w) → Misfit Fractional w L5 0
+  long_fraction : {w : List ℕ} → 10 < length (after_separator is_digit w) → Misfit Fractional w L5 0
   no_date : {w : List ℕ} → is_date (date_of w) ≡ false → Misfit Dated w L5 0
 
--- Behind the gap at this place the rule is broken.
+-- the rule that the text breaks directly after the gap at this place
 pub data Broken (text : List ℕ) (at : ℕ) : Rule → ℕ → Type 0 where
   no_token : (gap : ℕ) → Gap (drop at text) gap → at + gap < length text → starts_quote (drop (at + gap) text) ≡ false → NoForm (drop (at + gap) text) → Broken text at L1 (at + gap)
   open_comment : (gap : ℕ) → OpenGap (drop at text) gap → Broken text at L2 (at + gap)
   open_text : (gap : ℕ) → Gap (drop at text) gap → starts_quote (drop (at + gap) text) ≡ true → NoForm (drop (at + gap) text) → Broken text at L3 (at + gap)
-  misfit : {f : Form} {start end offset : ℕ} {rule : Rule} → Stands text at f start end → Misfit f (bytes_of text start end) rule offset → Broken text at rule (start + offset)
+  misfit : {f : Form} {start end offset : ℕ} {rule : Rule} → IsNextWord text at f start end → Misfit f (bytes_of text start end) rule offset → Broken text at rule (start + offset)
 
--- From this place on the rule is broken somewhere: here, or behind some tokens.
+-- the rule is broken after the gap at this place, or after some further tokens
 pub data BreaksFrom (text : List ℕ) : ℕ → Rule → ℕ → Type 0 where
   here : {at spot : ℕ} {rule : Rule} → Broken text at rule spot → BreaksFrom text at rule spot
-  later : {at start end spot : ℕ} {f : Form} {rule : Rule} → Stands text at f start end → BreaksFrom text end rule spot → BreaksFrom text at rule spot
+  later : {at start end spot : ℕ} {f : Form} {rule : Rule} → IsNextWord text at f start end → BreaksFrom text end rule spot → BreaksFrom text at rule spot
 
 -- the places that break a rule
 abbrev pub Breaks : List ℕ → Rule → ℕ → Type 0
@@ -99,7 +99,7 @@ number L4 = 4
 number L5 = 5
 number _ = 6
 
--- no word of a form stands in front of the text, which is no end
+-- the text is not empty and begins with no word of a form
 abbrev pub BreaksFront : Rule → List ℕ → Type 0
 BreaksFront L1 text = (starts_quote text ≡ false) × NoForm text
 BreaksFront L3 text = (starts_quote text ≡ true) × NoForm text
@@ -118,7 +118,7 @@ pub record IsFirstMisfit (f : Form) (w : List ℕ) (rule : Rule) (offset : ℕ) 
 abbrev pub EndsAt : List ℕ → ℕ → Type 0
 EndsAt text at = (gap : ℕ) × Gap (drop at text) gap × (at + gap ≡ length text)
 
--- the first rule broken behind the gap at this place
+-- the first rule broken after the gap at this place
 pub record IsBrokenFirst (text : List ℕ) (at : ℕ) (rule : Rule) (spot : ℕ) : Type 0 where
   pub breaks : Broken text at rule spot
   pub first : (other : Rule) (x : ℕ) → Broken text at other x → (spot ≤ x) × (number rule ≤ number other)

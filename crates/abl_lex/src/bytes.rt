@@ -1,4 +1,4 @@
-//! Bytes of a source, by what they may stand in.
+//! Classes of the bytes of a source.
 
 ghost use Rattle.std.specs.Prelude.{◌≡◌, ◌≤◌, drop, length};
 ghost use Rattle.abl_lex.specs.Bytes.{is_digit, is_letter, is_name_byte, is_quote, is_symbol_byte, is_white, starts, starts_letter};
@@ -25,7 +25,7 @@ pub fn is_digit(b: u8) -> bool
     b >= b'0' && b <= b'9'
 }
 
-/// What may stand behind the first letter of a name: letters, digits and `# $ % & - _`.
+/// Whether the byte may follow the first letter of a name: letters, digits and `# $ % & - _`.
 pub fn is_name_byte(b: u8) -> bool
     ensures { result ≡ is_name_byte b }
 {
@@ -63,15 +63,15 @@ pub fn piece(text: &[u8], start: usize, end: usize) -> &[u8]
     &text[start..end]
 }
 
-/// Whether this byte stands at this place.
-pub fn stands_at(text: &[u8], i: usize, b: u8) -> bool
+/// Whether this byte is at this place.
+pub fn has_byte_at(text: &[u8], i: usize, b: u8) -> bool
     requires { i ≤ length text.now }
     ensures { result ≡ starts b (drop i text.now) }
 {
     if i < text.len() { text[i] == b } else { false }
 }
 
-/// Whether a letter stands in front of the text.
+/// Whether the text begins with a letter.
 pub fn starts_letter(text: &[u8]) -> bool
     ensures { result ≡ starts_letter text.now }
 {

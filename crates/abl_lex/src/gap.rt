@@ -5,9 +5,9 @@ ghost use Rattle.abl_lex.specs.Bytes.{comment_at, pair_at, starts_gap};
 ghost use Rattle.abl_lex.specs.Forms.{ends_here};
 ghost use Rattle.abl_lex.specs.Gaps.{Gap, OpenGap, comment};
 
-use crate::bytes::{is_white, rest_from, stands_at};
+use crate::bytes::{has_byte_at, is_white, rest_from};
 
-// These two bytes stand here.
+// These two bytes are here.
 fn pair_at(rest: &[u8], i: usize, a: u8, b: u8) -> bool
     requires { i + 1 < length rest.now }
     ensures { result ≡ pair_at rest.now i a b }
@@ -22,7 +22,7 @@ fn comment_at(rest: &[u8], i: usize) -> bool
     i + 1 < rest.len() && pair_at(rest, i, b'/', b'*')
 }
 
-// How many bytes there are up to the end of the comment that is open at the front.
+// How many bytes there are up to the end of the comment that is open at the start.
 fn comment_len(rest: &[u8]) -> Option<usize>
     ensures is { result ≡ comment 1 rest.now }
     ensures within { IfSome result (λ n. n ≤ length rest.now) }
@@ -46,7 +46,7 @@ fn comment_len(rest: &[u8]) -> Option<usize>
     None
 }
 
-/// How long the white space and the comments in front are, or where one of them is open at the end.
+/// How many bytes of white space and comments the text begins with, or where a comment is open at the end.
 pub fn gap(rest: &[u8]) -> Result<usize, usize>
     ensures gap { IfOk result (λ n. Gap rest.now n × (n ≤ length rest.now)) }
     ensures open { IfErr result (λ n. OpenGap rest.now n × (n ≤ length rest.now)) }
@@ -79,7 +79,7 @@ pub fn ends_here(rest: &[u8]) -> bool
         return true;
     }
     if b == b'/' {
-        stands_at(rest, 1, b'*')
+        has_byte_at(rest, 1, b'*')
     } else {
         false
     }

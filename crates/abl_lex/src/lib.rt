@@ -1,5 +1,5 @@
 //! Cuts a source into its tokens, or names the first rule of tokens that it breaks and the place.
-//! It stands on `abl_tree`, whose `Tokens` it makes. `Texts` in specs/ says which tokens a text
+//! It depends on `abl_tree`, whose `Tokens` it makes. `Texts` in specs/ says which tokens a text
 //! has and where it breaks a rule; the layer above needs the source no more.
 #![tactic(auto)]
 
@@ -12,8 +12,6 @@ mod misfit;
 mod number;
 mod place;
 mod source;
-#[cfg(test)]
-mod tests;
 mod word;
 
 pub use form::Form;

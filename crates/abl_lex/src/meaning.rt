@@ -1,14 +1,14 @@
-//! What words stand for.
+//! The meanings of words.
 
 ghost use Rattle.std.specs.Prelude.{◌+◌, ◌<◌, ◌≤◌, ◌≡◌, ◌++◌, ℕ, List, drop, length, true, IfOk, OnOk};
 ghost use Rattle.std.specs.List.{list_all, prefix_len};
 ghost use Rattle.abl_lex.specs.Bytes.{is_digit, is_name_byte};
-ghost use Rattle.abl_lex.specs.Forms.{behind, form, front};
+ghost use Rattle.abl_lex.specs.Forms.{after_separator, form, leading};
 ghost use Rattle.abl_lex.specs.Meanings.{control_of, escape_length, escaped, inside, is_octal, kind_of, meaning_of, octal_of, pair_kind, scaled_of, single_kind, symbol_kind, text_of};
 ghost use Rattle.abl_lex.specs.Texts.{IsFit};
 ghost use Rattle.abl_tree.specs.declared.token.Meaning.TheVariants.{Parts, Scaled};
 
-use crate::bytes::{piece, rest_from, stands_at};
+use crate::bytes::{has_byte_at, piece, rest_from};
 use crate::form::Form;
 use crate::number::{date, number, scaled};
 use crate::word::{digits_len, name_len};
@@ -16,7 +16,7 @@ use abl_base::Items;
 use abl_tree::{Meaning, TokenKind, keyword_of};
 use std::alloc::{AllocError, Global};
 
-// Whether three octal digits up to 377 stand in front.
+// Whether the text begins with three octal digits up to 377.
 fn is_octal(rest: &[u8]) -> bool
     ensures { result ≡ is_octal rest.now }
 {
@@ -27,7 +27,7 @@ fn is_octal(rest: &[u8]) -> bool
     (a >= b'0' && a <= b'3') && (b >= b'0' && b <= b'7') && (c >= b'0' && c <= b'7')
 }
 
-// The byte that the three octal digits in front stand for.
+// The byte that the three octal digits at the start denote.
 fn octal(rest: &[u8]) -> u8
     requires { is_octal rest.now ≡ true }
     ensures { result ≡ octal_of rest.now }
@@ -46,7 +46,7 @@ fn control(b: u8) -> u8
     }
 }
 
-// Writes what `~` and the bytes behind it stand for, and says how many of these belong to it.
+// Writes what `~` and the bytes after it denote, and says how many of these belong to it.
 fn push_escaped(bytes: &mut Vec<u8>, rest: &[u8]) -> Result<usize, AllocError>
     ensures length { IfOk result (λ n. n ≡ escape_length rest.now) }
     ensures bytes { OnOk result (bytes.new.items ≡ bytes.old.items ++ escaped rest.now) }
@@ -65,7 +65,7 @@ fn push_escaped(bytes: &mut Vec<u8>, rest: &[u8]) -> Result<usize, AllocError>
     Ok(1)
 }
 
-// What the bytes behind an opening quote stand for, up to the closing one.
+// What the bytes after an opening quote denote, up to the closing one.
 fn inside(alloc: Global, rest: &[u8], quote: u8) -> Result<Vec<u8>, AllocError>
     ensures { IfOk result (λ v. v.items ≡ inside quote 0 rest.now) }
 {
@@ -78,7 +78,7 @@ fn inside(alloc: Global, rest: &[u8], quote: u8) -> Result<Vec<u8>, AllocError>
         } else if b != quote {
             bytes.push(b)?;
             i += 1;
-        } else if stands_at(rest, i + 1, quote) {
+        } else if has_byte_at(rest, i + 1, quote) {
             bytes.push(quote)?;
             i += 2;
         } else {
@@ -144,7 +144,7 @@ fn symbol_kind(word: &[u8]) -> TokenKind
 
 fn qualified(alloc: Global, word: &[u8]) -> Result<Meaning, AllocError>
     requires { prefix_len is_name_byte word.now < length word.now }
-    ensures { IfOk result (λ meaning. meaning ≡ Parts (front is_name_byte word.now) (behind is_name_byte word.now)) }
+    ensures { IfOk result (λ meaning. meaning ≡ Parts (leading is_name_byte word.now) (after_separator is_name_byte word.now)) }
 {
     let n = name_len(word);
     let first = Items::of(alloc, piece(word, 0, n))?;
@@ -155,15 +155,15 @@ fn qualified(alloc: Global, word: &[u8]) -> Result<Meaning, AllocError>
 fn fractional(word: &[u8]) -> Meaning
     requires point { prefix_len is_digit word.now < length word.now }
     requires few_before { prefix_len is_digit word.now ≤ 18 }
-    requires few_after { length (behind is_digit word.now) ≤ 10 }
-    requires digits_after { list_all is_digit (behind is_digit word.now) ≡ true }
-    ensures { result ≡ Scaled (scaled_of (front is_digit word.now) (behind is_digit word.now)) }
+    requires few_after { length (after_separator is_digit word.now) ≤ 10 }
+    requires digits_after { list_all is_digit (after_separator is_digit word.now) ≡ true }
+    ensures { result ≡ Scaled (scaled_of (leading is_digit word.now) (after_separator is_digit word.now)) }
 {
     let n = digits_len(word);
     Meaning::Scaled(scaled(piece(word, 0, n), rest_from(word, n + 1)))
 }
 
-/// The kind of a word of this form, and what it stands for.
+/// The kind of a word of this form, and what it denotes.
 pub fn meaning(alloc: Global, shape: Form, word: &[u8]) -> Result<(TokenKind, Meaning), AllocError>
     requires form { (after : List ℕ) × (form shape word.now after ≡ true) }
     requires fit { IsFit shape word.now }

@@ -16,7 +16,7 @@ pub const MAX_NAME_BYTES: usize = 32;
 /// How many digits a number has before the point at most.
 pub const MAX_WHOLE_DIGITS: usize = 18;
 
-/// How many digits a number has behind the point at most.
+/// How many digits a number has after the point at most.
 pub const MAX_DECIMALS: usize = 10;
 
 fn long_part(word: &[u8]) -> Option<(Rule, usize)>
@@ -47,8 +47,8 @@ fn long_fraction(word: &[u8]) -> Option<(Rule, usize)>
     None
 }
 
-/// The first rule that a word of this form breaks, and how many bytes behind its start: L4 for a
-/// part of a name above 32 bytes; L5 for more than 18 digits before or 10 behind the point, and
+/// The first rule that a word of this form breaks, and how many bytes after its start: L4 for a
+/// part of a name above 32 bytes; L5 for more than 18 digits before or 10 after the point, and
 /// for no date of the years 1 to 9999.
 pub fn misfit(shape: Form, word: &[u8]) -> Option<(Rule, usize)>
     requires { (after : List ℕ) × (form shape word.now after ≡ true) }

@@ -24,7 +24,7 @@ pub fn number(digits: &[u8]) -> u64
     n
 }
 
-/// The number times 10^10 that at most 18 digits before and 10 behind the point spell.
+/// The number times 10^10 that at most 18 digits before and 10 after the point spell.
 pub fn scaled(before: &[u8], after: &[u8]) -> u128
     requires few_before { length before.now ≤ 18 }
     requires few_after { length after.now ≤ 10 }

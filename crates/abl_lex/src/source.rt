@@ -3,7 +3,7 @@
 ghost use Rattle.std.specs.Prelude.{◌+◌, ◌<◌, ◌≤◌, ◌≡◌, ◌^◌, ℕ, length, Err, IfErr, IfNone, IfOk, IfSome};
 ghost use Rattle.abl_base.specs.declared.place.Place.{Place};
 ghost use Rattle.abl_base.specs.declared.rule.Rule.{Rule};
-ghost use Rattle.abl_lex.specs.Texts.{Breaks, EndsAt, HasTokens, IsBrokenFirst, IsFit, IsRefused, Stands, bytes_of, end_token, place_of, token_of};
+ghost use Rattle.abl_lex.specs.Texts.{Breaks, EndsAt, HasTokens, IsBrokenFirst, IsFit, IsRefused, IsNextWord, bytes_of, end_token, place_of, token_of};
 
 use crate::bytes::{piece, rest_from};
 use crate::form::Form;
@@ -45,7 +45,7 @@ impl<T: Drop> From<AllocFailed<T>> for LexRefusal {
     }
 }
 
-// A word in a source: its form and where it stands.
+// A word of a source: its form, its first byte and the byte after its last.
 #[derive(Clone, Copy)]
 struct Found {
     form: Form,
@@ -53,10 +53,10 @@ struct Found {
     end: usize,
 }
 
-// The next word behind the gap, or none at the end, or the first rule that is broken there.
+// The next word after the gap, or none at the end, or the first rule that is broken there.
 fn next(text: &[u8], at: usize) -> Result<Option<Found>, (Rule, usize)>
     requires { at ≤ length text.now }
-    ensures word { IfOk result (λ found. IfSome found (λ w. Stands text.now at w.form w.start w.end × IsFit w.form (bytes_of text.now w.start w.end))) }
+    ensures word { IfOk result (λ found. IfSome found (λ w. IsNextWord text.now at w.form w.start w.end × IsFit w.form (bytes_of text.now w.start w.end))) }
     ensures end { IfOk result (λ found. IfNone found (EndsAt text.now at)) }
     ensures broken { IfErr result (λ e. IsBrokenFirst text.now at e.0 e.1) }
 {
@@ -84,8 +84,8 @@ fn fitting(
     end: usize,
 ) -> Result<Option<Found>, (Rule, usize)>
     requires within { at ≤ length text.now }
-    requires word { Stands text.now at form start end }
-    ensures word { IfOk result (λ found. IfSome found (λ w. Stands text.now at w.form w.start w.end × IsFit w.form (bytes_of text.now w.start w.end))) }
+    requires word { IsNextWord text.now at form start end }
+    ensures word { IfOk result (λ found. IfSome found (λ w. IsNextWord text.now at w.form w.start w.end × IsFit w.form (bytes_of text.now w.start w.end))) }
     ensures end { IfOk result (λ found. IfNone found (EndsAt text.now at)) }
     ensures broken { IfErr result (λ e. IsBrokenFirst text.now at e.0 e.1) }
 {
@@ -105,7 +105,7 @@ fn token(
 ) -> Result<Token, AllocError>
     requires small { length text.now + 1 < 2 ^ 32 }
     requires within { at ≤ length text.now }
-    requires word { Stands text.now at found.form found.start found.end }
+    requires word { IsNextWord text.now at found.form found.start found.end }
     requires fit { IsFit found.form (bytes_of text.now found.start found.end) }
     requires known { place ≡ place_of text.now found.start }
     ensures { IfOk result (λ t. t ≡ token_of text.now found.form found.start found.end) }
@@ -136,9 +136,9 @@ fn end(text: &[u8], place: Place, at: usize) -> Token
     }
 }
 
-/// The tokens of the source, or the first rule L1 to L5 that it breaks with its line and column.
+/// The tokens of the source, or the first rule of L1 to L5 that it breaks, with its line and column.
 /// The tokens come exactly where the source breaks no rule, and then they are the only ones that
-/// it has. Want of memory may be answered in place of either.
+/// it has. `NoMemory` may be returned in place of either.
 pub fn lex(alloc: Global, text: &[u8]) -> Result<Tokens, LexRefusal>
     requires { length text.now + 1 < 2 ^ 32 }
     ensures tokens { IfOk result (λ list. HasTokens text.now list) }

@@ -1,14 +1,14 @@
-//! The longest form in front of a text.
+//! The longest form that a text begins with.
 
 ghost use Rattle.std.specs.Prelude.{◌&&◌, ◌==◌, ◌||◌, ◌+◌, ◌<◌, ◌≤◌, ◌≡◌, ℕ, false, length, true, IfErr, IfNone, IfOk, IfSome};
 ghost use Rattle.std.specs.List.{prefix_len};
 ghost use Rattle.abl_lex.specs.Bytes.{is_digit, is_letter, is_name_byte, is_quote, slash, starts_digit, starts_letter, starts_quote};
-ghost use Rattle.abl_lex.specs.Forms.{closing, is_pair, front, is_single, one_or_two, parted, starts_pair, DatedAt, DayYearAt, Longest, NoForm};
+ghost use Rattle.abl_lex.specs.Forms.{closing, is_pair, leading, is_single, one_or_two, parted, starts_pair, DatedAt, DayYearAt, Longest, NoForm};
 ghost use Rattle.abl_lex.specs.Texts.{BreaksFront};
 ghost use Rattle.abl_lex.specs.declared.form.Form.TheVariants.{Symbol};
 
 use crate::bytes::{
-    is_digit, is_letter, is_name_byte, is_quote, is_symbol_byte, piece, rest_from, stands_at,
+    has_byte_at, is_digit, is_letter, is_name_byte, is_quote, is_symbol_byte, piece, rest_from,
     starts_letter,
 };
 use crate::form::Form;
@@ -16,7 +16,7 @@ use crate::gap::ends_here;
 use abl_base::Rule;
 use abl_tree::keyword_of;
 
-/// How many bytes in front may stand in a name.
+/// How many bytes of a name the text begins with.
 pub fn name_len(rest: &[u8]) -> usize
     ensures is { result ≡ prefix_len is_name_byte rest.now }
     ensures within { result ≤ length rest.now }
@@ -28,7 +28,7 @@ pub fn name_len(rest: &[u8]) -> usize
     i
 }
 
-/// How many digits stand in front.
+/// How many digits the text begins with.
 pub fn digits_len(rest: &[u8]) -> usize
     ensures is { result ≡ prefix_len is_digit rest.now }
     ensures within { result ≤ length rest.now }
@@ -51,7 +51,7 @@ fn closing_len(rest: &[u8], quote: u8) -> Option<usize>
             i += 2;
         } else if rest[i] != quote {
             i += 1;
-        } else if stands_at(rest, i + 1, quote) {
+        } else if has_byte_at(rest, i + 1, quote) {
             i += 2;
         } else {
             return Some(i + 1);
@@ -66,7 +66,7 @@ fn named(rest: &[u8]) -> (Form, usize)
     ensures { Longest result.0 result.1 rest.now }
 {
     let n = name_len(rest);
-    if stands_at(rest, n, b'.') {
+    if has_byte_at(rest, n, b'.') {
         let second = rest_from(rest, n + 1);
         if starts_letter(second) && keyword_of(piece(rest, 0, n)).is_none() {
             return (Form::Qualified, n + 1 + name_len(second));
@@ -81,12 +81,12 @@ fn is_one_or_two(n: usize) -> bool
     n == 1 || n == 2
 }
 
-// Whether the n digits in front are one or two, with `/` behind them.
+// Whether the n digits at the start are one or two, with `/` after them.
 fn ends_in_slash(rest: &[u8], n: usize) -> bool
     requires { n ≡ prefix_len is_digit rest.now }
-    ensures { result ≡ (parted is_digit slash rest.now && one_or_two (front is_digit rest.now)) }
+    ensures { result ≡ (parted is_digit slash rest.now && one_or_two (leading is_digit rest.now)) }
 {
-    if stands_at(rest, n, b'/') {
+    if has_byte_at(rest, n, b'/') {
         is_one_or_two(n)
     } else {
         false
@@ -99,7 +99,7 @@ fn is_two_or_four(n: usize) -> bool
     n == 2 || n == 4
 }
 
-// How many bytes a day, `/` and a year have in front of the text.
+// How many bytes the day, `/` and year have that the text begins with.
 fn day_year_len(rest: &[u8]) -> Option<usize>
     ensures found { IfSome result (λ m. DayYearAt rest.now m) }
     ensures none { IfNone result ((m : ℕ) → DayYearAt rest.now m → ⊥) }
@@ -116,7 +116,7 @@ fn day_year_len(rest: &[u8]) -> Option<usize>
     }
 }
 
-// How many bytes a date has in front of the text.
+// How many bytes the date has that the text begins with.
 fn dated_len(rest: &[u8]) -> Option<usize>
     ensures found { IfSome result (λ m. DatedAt rest.now m) }
     ensures none { IfNone result ((m : ℕ) → DatedAt rest.now m → ⊥) }
@@ -137,7 +137,7 @@ fn numbered(rest: &[u8]) -> (Form, usize)
     ensures { Longest result.0 result.1 rest.now }
 {
     let n = digits_len(rest);
-    if stands_at(rest, n, b'.') {
+    if has_byte_at(rest, n, b'.') {
         let m = digits_len(rest_from(rest, n + 1));
         return if m > 0 {
             (Form::Fractional, n + 1 + m)
@@ -158,7 +158,7 @@ fn is_pair(b: u8, c: u8) -> bool
     (b == b'<' && (c == b'>' || c == b'=')) || (b == b'>' && c == b'=')
 }
 
-// Whether the byte is a symbol in front of what follows.
+// Whether the byte is a symbol before what follows.
 fn is_single(b: u8, after: &[u8]) -> bool
     ensures { result ≡ is_single b after.now }
 {
@@ -166,13 +166,13 @@ fn is_single(b: u8, after: &[u8]) -> bool
         return false;
     }
     match b {
-        b'/' => !stands_at(after, 0, b'*'),
+        b'/' => !has_byte_at(after, 0, b'*'),
         b'.' => ends_here(after),
         _ => true,
     }
 }
 
-// Whether a symbol of two bytes stands in front.
+// Whether the text begins with a symbol of two bytes.
 fn starts_pair(rest: &[u8]) -> bool
     ensures { result ≡ starts_pair rest.now }
 {
@@ -202,8 +202,8 @@ fn symbol_len(rest: &[u8]) -> Option<usize>
     }
 }
 
-/// The longest form in front of the text, and how many bytes it has. Where no form matches, L3 if
-/// a quote stands there and L1 if not.
+/// The longest form that the text begins with, and its number of bytes. Where no form matches, L3 if
+/// the text begins with a quote and L1 if not.
 pub fn word(rest: &[u8]) -> Result<(Form, usize), Rule>
     requires { 0 < length rest.now }
     ensures found { IfOk result (λ w. Longest w.0 w.1 rest.now) }

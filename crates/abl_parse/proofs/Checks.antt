@@ -3,20 +3,20 @@ use Rattle.std.proofs.Common.{ℕ, suc, ◌≡◌, Bool, true, false, not, ◌&&
 use Rattle.std.specs.Prelude.{◌==◌}
 use Rattle.abl_tree.specs.declared.token.TokenKind.{TokenKind}
 use Rattle.abl_tree.specs.declared.token.TokenKind.TheVariants.{Name}
-use Rattle.abl_parse.specs.declared.part.Part.TheVariants.{Statement}
+use Rattle.abl_parse.specs.declared.nonterminal.Nonterminal.TheVariants.{Statement}
 use Rattle.abl_parse.specs.declared.symbol.Symbol.{Symbol}
 use Rattle.abl_parse.specs.declared.symbol.Symbol.TheVariants.{Take, Open}
 use Rattle.abl_tree.specs.declared.production.TheConstants.{STATEMENT_NAME, STATEMENT_ASSIGNMENT}
-use Rattle.abl_parse.specs.Same.{same_kind, same_part}
-use Rattle.abl_parse.specs.Grammar.{Production, row, parts, symbols, symbols_from, starts, starts_from, empty, rules}
+use Rattle.abl_parse.specs.Same.{same_kind, same_nonterminal}
+use Rattle.abl_parse.specs.Grammar.{Production, row, nonterminals, symbols, symbols_from, starts, starts_from, empty, rules}
 use Rattle.abl_parse.specs.Completions.{rank}
-use Rattle.abl_parse.specs.Table.{has, starts_with, vanishes_as, some, front, is_nil, ends_free, each, of_part}
+use Rattle.abl_parse.specs.Table.{has, starts_with, vanishes_as, some, front, is_nil, ends_free, each, of_nonterminal}
 
 -- the tokens that these symbols begin with, by the rows
 abbrev pub leads : List Production → List Symbol → List TokenKind
 leads rs [] = []
 leads rs (Take k ∷ s) = k ∷ []
-leads rs (Open a ∷ s) = of_part rs a ++ cond (some (vanishes_as a) rs) (leads rs s) []
+leads rs (Open a ∷ s) = of_nonterminal rs a ++ cond (some (vanishes_as a) rs) (leads rs s) []
 
 abbrev pub all_vanish : List Production → List Symbol → Bool
 all_vanish rs [] = true
@@ -29,12 +29,12 @@ within xs ys = each (has ys) xs
 -- one row against all rows
 abbrev pub row_ok : List Production → Production → Bool
 row_ok rs x =
-    within (leads rs x.symbols) x.starts && (within x.starts (leads rs x.symbols) && ((not (all_vanish rs x.symbols) || x.empty) && ((not x.empty || all_vanish rs x.symbols) && (ltb (front rs x.symbols) (rank x.part) && ends_free x.symbols))))
+    within (leads rs x.symbols) x.starts && (within x.starts (leads rs x.symbols) && ((not (all_vanish rs x.symbols) || x.empty) && ((not x.empty || all_vanish rs x.symbols) && (ltb (front rs x.symbols) (rank x.nonterminal) && ends_free x.symbols))))
 
--- two rows of one part
+-- two rows of one nonterminal
 abbrev pub pair_ok : Production → Production → Bool
 pair_ok x y =
-    not (same_part x.part y.part) || (each (λ k. not (has y.starts k) || (same_kind k Name && same_part x.part Statement)) x.starts && (not (x.empty && y.empty) && ((not x.empty || is_nil x.symbols) && (not y.empty || is_nil y.symbols))))
+    not (same_nonterminal x.nonterminal y.nonterminal) || (each (λ k. not (has y.starts k) || (same_kind k Name && same_nonterminal x.nonterminal Statement)) x.starts && (not (x.empty && y.empty) && ((not x.empty || is_nil x.symbols) && (not y.empty || is_nil y.symbols))))
 
 abbrev pub pairs_ok : List Production → Bool
 pairs_ok [] = true
@@ -42,11 +42,11 @@ pairs_ok (x ∷ xs) = each (pair_ok x) xs && pairs_ok xs
 
 -- THE CHECK OF THE TABLE
 pub rows_hold : each (row_ok rules) rules ≡ true
-unfolding rules row parts symbols symbols_from starts starts_from empty same_kind same_part
+unfolding rules row nonterminals symbols symbols_from starts starts_from empty same_kind same_nonterminal
 rows_hold = refl
 
 pub pairs_hold : pairs_ok rules ≡ true
-unfolding rules row parts symbols symbols_from starts starts_from empty same_kind same_part
+unfolding rules row nonterminals symbols symbols_from starts starts_from empty same_kind same_nonterminal
 pairs_hold = refl
 
 -- THE EXCEPTION: only two productions of a statement begin with a name, and none of it is empty
@@ -61,9 +61,9 @@ only_named i [] = true
 only_named i (x ∷ xs) = (not (starts_with Statement Name x) || (i == label_row || i == assign_row)) && only_named (suc i) xs
 
 pub named_hold : only_named 0 rules ≡ true
-unfolding rules row parts symbols symbols_from starts starts_from empty same_kind same_part
+unfolding rules row nonterminals symbols symbols_from starts starts_from empty same_kind same_nonterminal
 named_hold = refl
 
 pub never_empty : some (vanishes_as Statement) rules ≡ false
-unfolding rules row parts symbols symbols_from starts starts_from empty same_kind same_part
+unfolding rules row nonterminals symbols symbols_from starts starts_from empty same_kind same_nonterminal
 never_empty = refl

@@ -9,7 +9,7 @@ use Rattle.abl_parse.specs.Same.{same_kind}
 use Rattle.abl_parse.specs.Grammar.{Spells, openings, full}
 use Rattle.abl_parse.specs.Table.{ends_once, is_nil}
 use Rattle.abl_parse.specs.Engine.{plain, Steps, done, take_one, open_one}
-use Rattle.abl_base.proofs.Bools.{tells, chosen_true, chosen_false}
+use Rattle.std.proofs.lemmas.Bool.{cases_Bool, cond-true, cond-false}
 use Rattle.abl_parse.proofs.Flags.{nil_is, kinds_equal, same_first, same_rest}
 use Rattle.abl_parse.proofs.Steps.{ends_row}
 use Rattle.abl_parse.proofs.Runs.{plain_nil, no_more, steps_of_forest, open_source}
@@ -26,13 +26,13 @@ ends_here : {at : ℕ} {stack : List Entry} {os : List Opening} {ts : List Token
 ends_here done e xs ys f = absurd (not_empty xs ys f)
 ends_here (take_one {at} {stack} {os} {k} {ts} d) e [] ys f =
     let s : same_kind k EndOfSource ≡ true = kinds_equal k EndOfSource (same_first f) in
-    let n : is_nil (plain stack) ≡ true = sym (chosen_true (same_kind k EndOfSource) (is_nil (plain stack)) (ends_once (plain stack)) s) ∙ e in
+    let n : is_nil (plain stack) ≡ true = sym (cond-true (same_kind k EndOfSource) (is_nil (plain stack)) (ends_once (plain stack)) s) ∙ e in
     sym (same_rest f) ∙ last_taken (at + 1) k stack os ts (inr s) s d n
-ends_here (take_one {at} {stack} {os} {k} {ts} d) e (x ∷ xs) ys f = elim (tells (same_kind k EndOfSource)) [
+ends_here (take_one {at} {stack} {os} {k} {ts} d) e (x ∷ xs) ys f = elim (cases_Bool (same_kind k EndOfSource)) [
   | inl s ↦ (
-      let n : is_nil (plain stack) ≡ true = sym (chosen_true (same_kind k EndOfSource) (is_nil (plain stack)) (ends_once (plain stack)) s) ∙ e in
+      let n : is_nil (plain stack) ≡ true = sym (cond-true (same_kind k EndOfSource) (is_nil (plain stack)) (ends_once (plain stack)) s) ∙ e in
       absurd (not_empty xs ys (sym (last_taken (at + 1) k stack os ts (inr s) s d n) ∙ same_rest f)))
-  | inr s ↦ ends_here d (sym (chosen_false (same_kind k EndOfSource) (is_nil (plain stack)) (ends_once (plain stack)) s) ∙ e) xs ys (same_rest f)
+  | inr s ↦ ends_here d (sym (cond-false (same_kind k EndOfSource) (is_nil (plain stack)) (ends_once (plain stack)) s) ∙ e) xs ys (same_rest f)
 ]
 ends_here (open_one {at} {stack} {os} {ts} {a} {room} r w p g d) e xs ys f = ends_here d (ends_row room a r _ stack _ w refl refl e) xs ys f
 

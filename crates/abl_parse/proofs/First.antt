@@ -6,12 +6,12 @@ use Rattle.abl_parse.specs.declared.symbol.Symbol.TheVariants.{Take, Open}
 use Rattle.abl_parse.specs.declared.symbol.Room.{Room}
 use Rattle.abl_parse.specs.declared.symbol.Entry.{Entry}
 use Rattle.abl_parse.specs.declared.symbol.Opening.{Opening}
-use Rattle.abl_parse.specs.Grammar.{rule, inside, Vanishes, nothing, both, Begins, here, inside_part, past}
+use Rattle.abl_parse.specs.Grammar.{rule, inside, Vanishes, nothing, both, Begins, here, inside_nonterminal, past}
 use Rattle.abl_parse.specs.Engine.{entries, Steps}
 use Rattle.abl_parse.proofs.Flags.{same_first, no_first}
 use Rattle.abl_parse.proofs.Trees.{taken, opened}
 
--- the symbols stand for nothing, and the derivation goes on behind them
+-- the symbols are empty, and the derivation goes on after them
 pub record Passed (at : ℕ) (symbols : List Symbol) (stack : List Entry) (os : List Opening) (ts : List TokenKind) : Type 0 where
   pub vanishes : Vanishes symbols
   pub more : List Opening
@@ -32,15 +32,15 @@ first (suc n) at room (Open a ∷ symbols) stack os k ts h d =
     let o = opened d in
     let e : length os ≡ suc (length o.rest) = ap length o.is in
     elim (first n at (inside o.r room) (rule o.r).symbols (entries room symbols ++ stack) o.rest k ts (omega arith) o.then') [
-      | inl b ↦ inl (inside_part o.r o.within o.part b)
+      | inl b ↦ inl (inside_nonterminal o.r o.within o.nonterminal b)
       | inr p ↦
           elim (first n at room symbols stack p.more k ts (let s = p.shorter in omega arith) p.then') [
-            | inl b ↦ inl (past (both o.r o.within p.vanishes nothing o.part) b)
-            | inr q ↦ inr (record { vanishes = both o.r o.within p.vanishes q.vanishes o.part; more = q.more; shorter = (let s = p.shorter in let s' = q.shorter in omega arith); then' = q.then' })
+            | inl b ↦ inl (past (both o.r o.within p.vanishes nothing o.nonterminal) b)
+            | inr q ↦ inr (record { vanishes = both o.r o.within p.vanishes q.vanishes o.nonterminal; more = q.more; shorter = (let s = p.shorter in let s' = q.shorter in omega arith); then' = q.then' })
           ]
     ]
 
--- before no token the symbols stand for nothing
+-- before no token the symbols are empty
 pub silent : (n at : ℕ) (room : Room) (symbols : List Symbol) (stack : List Entry) (os : List Opening) → length os ≤ n → Steps at (entries room symbols ++ stack) os [] → Passed at symbols stack os []
 silent n at room [] stack os h d = record { vanishes = nothing; more = os; shorter = omega arith; then' = d }
 silent n at room (Take w ∷ symbols) stack os h d = absurd (no_first (taken d).is)
@@ -53,4 +53,4 @@ silent (suc n) at room (Open a ∷ symbols) stack os h d =
     let e : length os ≡ suc (length o.rest) = ap length o.is in
     let p = silent n at (inside o.r room) (rule o.r).symbols (entries room symbols ++ stack) o.rest (omega arith) o.then' in
     let q = silent n at room symbols stack p.more (let s = p.shorter in omega arith) p.then' in
-    record { vanishes = both o.r o.within p.vanishes q.vanishes o.part; more = q.more; shorter = (let s = p.shorter in let s' = q.shorter in omega arith); then' = q.then' }
+    record { vanishes = both o.r o.within p.vanishes q.vanishes o.nonterminal; more = q.more; shorter = (let s = p.shorter in let s' = q.shorter in omega arith); then' = q.then' }

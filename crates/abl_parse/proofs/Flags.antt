@@ -1,12 +1,13 @@
--- Tests of kinds and parts, and of lists of them.
+-- Tests of kinds and nonterminals, and of lists of them.
 use Rattle.std.proofs.Common.{ℕ, zero, suc, ◌<◌, ◌≡◌, Bool, true, false, List, [], ◌∷◌, ◌++◌, length, slice_index_or, refl, subst, arith, ◌⊎◌, inl, inr}
-use Rattle.abl_base.proofs.Bools.{and_left, and_right, or_cases, or_left, or_right}
+use Rattle.std.proofs.lemmas.Bool.{or_cases, or_left, or_right}
+use Rattle.abl_base.proofs.Bools.{left_of_and, right_of_and}
 use Rattle.abl_tree.specs.declared.token.TokenKind.{TokenKind}
-use Rattle.abl_parse.specs.declared.part.Part.{Part}
+use Rattle.abl_parse.specs.declared.nonterminal.Nonterminal.{Nonterminal}
 use denote.Enum.Bare.{same_true, true_same, false_same}
 use Rattle.abl_tree.specs.contracts.token.TokenKind.{the_type as kind_type}
-use Rattle.abl_parse.specs.contracts.part.Part.{the_type as part_type}
-use Rattle.abl_parse.specs.Same.{same_kind, same_part}
+use Rattle.abl_parse.specs.contracts.nonterminal.Nonterminal.{the_type as nonterminal_type}
+use Rattle.abl_parse.specs.Same.{same_kind, same_nonterminal}
 use Rattle.abl_parse.specs.Table.{has, some, each, is_nil}
 
 pub nil_is : {A : Type 0} (xs : List A) → is_nil xs ≡ true → xs ≡ []
@@ -29,23 +30,23 @@ pub kinds_equal : (a b : TokenKind) → a ≡ b → same_kind a b ≡ true
 unfolding same_kind
 kinds_equal a b e = true_same kind_type a b e
 
-pub parts_same : (a b : Part) → same_part a b ≡ true → a ≡ b
-unfolding same_part
-parts_same a b e = same_true part_type tt a b e
+pub nonterminals_same : (a b : Nonterminal) → same_nonterminal a b ≡ true → a ≡ b
+unfolding same_nonterminal
+nonterminals_same a b e = same_true nonterminal_type tt a b e
 
-pub parts_equal : (a b : Part) → a ≡ b → same_part a b ≡ true
-unfolding same_part
-parts_equal a b e = true_same part_type a b e
+pub nonterminals_equal : (a b : Nonterminal) → a ≡ b → same_nonterminal a b ≡ true
+unfolding same_nonterminal
+nonterminals_equal a b e = true_same nonterminal_type a b e
 
-pub parts_differ : (a b : Part) → (a ≡ b → ⊥) → same_part a b ≡ false
-unfolding same_part
-parts_differ a b h = false_same part_type tt a b h
+pub nonterminals_differ : (a b : Nonterminal) → (a ≡ b → ⊥) → same_nonterminal a b ≡ false
+unfolding same_nonterminal
+nonterminals_differ a b h = false_same nonterminal_type tt a b h
 
 -- lists of tests
 pub each_at : {A : Type 0} (p : A → Bool) (xs : List A) (i : ℕ) (d : A) → each p xs ≡ true → i < length xs → p (slice_index_or xs i d) ≡ true
 each_at p [] i d e h = absurd (omega arith)
-each_at p (x ∷ xs) zero d e h = and_left (p x) (each p xs) e
-each_at p (x ∷ xs) (suc i) d e h = each_at p xs i d (and_right (p x) (each p xs) e) (omega arith)
+each_at p (x ∷ xs) zero d e h = left_of_and (p x) (each p xs) e
+each_at p (x ∷ xs) (suc i) d e h = each_at p xs i d (right_of_and (p x) (each p xs) e) (omega arith)
 
 pub some_at : {A : Type 0} (p : A → Bool) (xs : List A) (i : ℕ) (d : A) → p (slice_index_or xs i d) ≡ true → i < length xs → some p xs ≡ true
 some_at p [] i d e h = absurd (omega arith)
@@ -101,6 +102,6 @@ has_right (x ∷ xs) ys k e = or_right (same_kind x k) (has (xs ++ ys) k) (has_r
 pub each_has : (p : TokenKind → Bool) (xs : List TokenKind) (k : TokenKind) → each p xs ≡ true → has xs k ≡ true → p k ≡ true
 each_has p [] k e h = cc
 each_has p (x ∷ xs) k e h = elim (or_cases (same_kind x k) (has xs k) h) [
-  | inl g ↦ subst (λ y. p y ≡ true) (kinds_same x k g) (and_left (p x) (each p xs) e)
-  | inr g ↦ each_has p xs k (and_right (p x) (each p xs) e) g
+  | inl g ↦ subst (λ y. p y ≡ true) (kinds_same x k g) (left_of_and (p x) (each p xs) e)
+  | inr g ↦ each_has p xs k (right_of_and (p x) (each p xs) e) g
 ]

@@ -5,15 +5,15 @@ use Rattle.abl_tree.specs.declared.tree.Node.{Node}
 use Rattle.abl_tree.specs.declared.production.TheConstants.{PRODUCTIONS}
 use Rattle.abl_parse.specs.declared.symbol.Symbol.{Symbol}
 use Rattle.abl_parse.specs.declared.symbol.Symbol.TheVariants.{Take, Open}
-use Rattle.abl_parse.specs.Grammar.{Forest, none, leaf, node, spelt, Derives, rule, rules, row, parts, symbols, symbols_from, starts, starts_from, empty, rule_count, whole, nodes, node_count, Spells}
+use Rattle.abl_parse.specs.Grammar.{Forest, none, leaf, node, spelt, Derives, rule, rules, row, nonterminals, symbols, symbols_from, starts, starts_from, empty, rule_count, whole, nodes, node_count, Spells}
 use Rattle.abl_parse.specs.Within.{IsWithin}
 
 rows_named : rule_count ≡ PRODUCTIONS
-unfolding rules row parts symbols symbols_from starts starts_from empty
+unfolding rules row nonterminals symbols symbols_from starts starts_from empty
 rows_named = refl
 
 record Fit (number last most : ℕ) (x : Node) : Type 0 where
-  behind : number < x.end
+  beyond : number < x.end
   ends : x.end ≤ last
   begins : x.first ≤ most
   uses : x.production < rule_count
@@ -46,7 +46,7 @@ all_fit (node r f g) n at last most (Open a ∷ symbols) after d h i =
     let l = length-append (spelt f) (spelt g) in
     let long = nodes_long f (n + 1) at in
     let s : n + 1 + length (nodes (n + 1) at f) ≡ m = omega arith in (
-      record { behind = omega arith; ends = omega arith; begins = omega arith; uses = d.0 },
+      record { beyond = omega arith; ends = omega arith; begins = omega arith; uses = d.0 },
       all_append (n + 1) last most (nodes (n + 1) at f) (nodes m next g)
           (all_fit f (n + 1) at last most (rule r).symbols _ d.3 (omega arith) (omega arith))
           (subst (λ x. AllFit x last most (nodes m next g)) (sym s) (all_fit g m next last most symbols after d.4 (omega arith) (omega arith))),
@@ -63,7 +63,7 @@ fit_at [] n last most i x h e = absurd (let z : None ≡ Some x = e in cc)
 fit_at (y ∷ ys) n last most zero x h e = let z : y ≡ x = cc in subst (λ m. Fit m last most x) (omega arith) (subst (λ w. Fit n last most w) z h.0)
 fit_at (y ∷ ys) n last most (suc i) x h e = subst (λ m. Fit m last most x) (omega arith) (fit_at ys (n + 1) last most i x h.1 e)
 
--- a program, and behind it the end token
+-- a program, and after it the end token
 record Cut (f : Forest) : Type 0 where
   before : ℕ
   fits : AllFit 0 (node_count f) before (nodes 0 0 f)
@@ -77,7 +77,7 @@ cut (node r f (leaf k none)) d =
     record {
       before = length (spelt f);
       fits = (
-        record { behind = omega arith; ends = omega arith; begins = omega arith; uses = d.0 },
+        record { beyond = omega arith; ends = omega arith; begins = omega arith; uses = d.0 },
         all_append 1 last (length (spelt f)) (nodes 1 0 f) [] (all_fit f 1 0 last (length (spelt f)) (rule r).symbols _ d.3 (omega arith) (omega arith)) tt,
       );
       shorter = omega arith;
@@ -95,7 +95,7 @@ within tree tokens s number x e =
     let t = s.1 in
     let c = cut f t.derives in
     let w = fit_at (nodes 0 0 f) 0 (node_count f) c.before number x c.fits (ap (λ y. slice_get y number) t.laid ∙ e) in
-    let a = w.behind in
+    let a = w.beyond in
     let b = w.ends in
     let g = w.begins in
     let u = w.uses in
@@ -103,4 +103,4 @@ within tree tokens s number x e =
     let m : node_count f ≡ length tree = sym (nodes_long f 0 0) ∙ ap length t.laid in
     let l : length (spelt f) ≡ length tokens = ap length t.spells in
     let h = c.shorter in
-    record { ends_behind = omega arith; ends_within = omega arith; begins = omega arith; uses = omega arith }
+    record { ends_beyond = omega arith; ends_within = omega arith; begins = omega arith; uses = omega arith }

@@ -5,15 +5,15 @@ use Rattle.std.proofs.lemmas.List.{append_cancel_left}
 use Rattle.abl_base.specs.declared.rule.Rule.{Rule}
 use Rattle.abl_base.specs.declared.rule.Rule.TheVariants.{G1, G2}
 use Rattle.abl_tree.specs.declared.token.TokenKind.{TokenKind}
-use Rattle.abl_parse.specs.declared.part.Part.TheVariants.{Statement}
+use Rattle.abl_parse.specs.declared.nonterminal.Nonterminal.TheVariants.{Statement}
 use Rattle.abl_parse.specs.declared.symbol.Room.{Room}
 use Rattle.abl_parse.specs.declared.symbol.Entry.{Entry}
 use Rattle.abl_parse.specs.declared.symbol.Opening.{Opening}
 use Rattle.abl_parse.specs.Grammar.{Viable, openings, full, rule, statement, too_deep, any_deep, DeepAt}
 use Rattle.abl_parse.specs.Violations.{Breaks, Stops, Overflows}
 use Rattle.abl_parse.specs.Engine.{source, Steps, done, take_one, open_one, AllAt, Went, plainly, looking, Reached}
-use Rattle.abl_base.proofs.Bools.{or_cases, or_left, or_right, tells, clash}
-use Rattle.abl_parse.proofs.Flags.{parts_equal}
+use Rattle.std.proofs.lemmas.Bool.{or_cases, or_left, or_right, cases_Bool, both_ways}
+use Rattle.abl_parse.proofs.Flags.{nonterminals_equal}
 use Rattle.abl_parse.proofs.Trees.{opened}
 use Rattle.abl_parse.proofs.Runs.{seen_more, first_is, steps_of_forest, forest_of_steps, Finished}
 
@@ -39,21 +39,21 @@ any_append (x ∷ xs) ys e = elim (or_cases x.deep (any_deep (xs ++ ys)) e) [
 ]
 
 pub none_append : (xs ys : List Opening) → any_deep xs ≡ false → any_deep ys ≡ false → any_deep (xs ++ ys) ≡ false
-none_append xs ys e f = elim (tells (any_deep (xs ++ ys))) [
-  | inl h ↦ elim (any_append xs ys h) [ inl g ↦ absurd (clash _ e g) | inr g ↦ absurd (clash _ f g) ]
+none_append xs ys e f = elim (cases_Bool (any_deep (xs ++ ys))) [
+  | inl h ↦ elim (any_append xs ys h) [ inl g ↦ absurd (both_ways _ e g) | inr g ↦ absurd (both_ways _ f g) ]
   | inr h ↦ h
 ]
 
 -- where all are here, one that finds no room is here
 pub deep_here : (at : ℕ) (xs : List Opening) → AllAt at xs → any_deep xs ≡ true → DeepAt at xs
-deep_here at [] h e = let z : false ≡ true = e in absurd (clash _ (sym z) refl)
+deep_here at [] h e = let z : false ≡ true = e in absurd (both_ways _ (sym z) refl)
 deep_here at (x ∷ xs) h e = elim (or_cases x.deep (any_deep xs) e) [ inl g ↦ inl (g, h.0) | inr g ↦ inr (deep_here at xs h.1 g) ]
 
 -- where none finds no room, none does at any place
 pub shallow_none : (at : ℕ) (xs : List Opening) → any_deep xs ≡ false → DeepAt at xs → ⊥
 shallow_none at [] e h = h
-shallow_none at (x ∷ xs) e (inl h) = clash _ e (or_left x.deep (any_deep xs) h.0)
-shallow_none at (x ∷ xs) e (inr h) = shallow_none at xs (elim (tells (any_deep xs)) [ inl g ↦ absurd (clash _ e (or_right x.deep (any_deep xs) g)) | inr g ↦ g ]) h
+shallow_none at (x ∷ xs) e (inl h) = both_ways _ e (or_left x.deep (any_deep xs) h.0)
+shallow_none at (x ∷ xs) e (inr h) = shallow_none at xs (elim (cases_Bool (any_deep xs)) [ inl g ↦ absurd (both_ways _ e (or_right x.deep (any_deep xs) g)) | inr g ↦ g ]) h
 
 -- what comes later is opened later
 pub not_before : {at : ℕ} {stack : List Entry} {os : List Opening} {ts : List TokenKind} → Steps at stack os ts → (p : ℕ) → p < at → DeepAt p os → ⊥
@@ -62,14 +62,14 @@ not_before (take_one x) p h d = not_before x p (omega arith) d
 not_before (open_one r w q g x) p h (inl d) = let e = d.1 in absurd (omega arith)
 not_before (open_one r w q g x) p h (inr d) = not_before x p h d
 
-is_statement : (r : ℕ) → (rule r).part ≡ Statement → statement r ≡ true
+is_statement : (r : ℕ) → (rule r).nonterminal ≡ Statement → statement r ≡ true
 unfolding statement
-is_statement r p = parts_equal (rule r).part Statement p
+is_statement r p = nonterminals_equal (rule r).nonterminal Statement p
 
 zero_is : (n : ℕ) → n ≡ 0 → (n == 0) ≡ true
 zero_is n e = ap (λ x. x == 0) e
 
-no_room : (r : ℕ) (room : Room) → (rule r).part ≡ Statement → room.statements ≡ 0 → too_deep r room ≡ true
+no_room : (r : ℕ) (room : Room) → (rule r).nonterminal ≡ Statement → room.statements ≡ 0 → too_deep r room ≡ true
 unfolding too_deep
 no_room r room p e = or_left (statement r && room.statements == 0) _ (ap (λ b. b && room.statements == 0) (is_statement r p) ∙ zero_is room.statements e)
 
@@ -91,7 +91,7 @@ opens_65th at start earlier goal later k n added (looking room rest between l m 
       | inl h ↦ in_added at l.added one.0 os l.all_here h one.1
       | inr h ↦ (
           let o = opened one.2 in
-          let x : DeepAt at one.0 = subst (λ y. DeepAt at y) (sym o.is) (inl (no_room o.r room o.part (m.deep h), refl)) in
+          let x : DeepAt at one.0 = subst (λ y. DeepAt at y) (sym o.is) (inl (no_room o.r room o.nonterminal (m.deep h), refl)) in
           subst (λ y. DeepAt at y) (sym one.1) (deep_right at l.added one.0 x))
     ]
 

@@ -16,7 +16,7 @@ use Rattle.abl_parse.proofs.Runs.{steps_of_forest}
 use Rattle.abl_parse.proofs.Nesting.{shallow_none}
 use Rattle.abl_parse.proofs.Unique.{unique}
 
--- the ends of the nodes of a forest that stand in no other
+-- the ends of the outermost nodes of a forest
 roots : ℕ → Forest → List ℕ
 roots n none = []
 roots n (leaf k f) = roots n f
@@ -48,31 +48,31 @@ unfolding end_from
 end_is n zero xs = refl
 end_is n (suc k) xs = refl
 
-last_root : (f : Forest) (m : ℕ) (symbols : List Symbol) (after : List TokenKind) (behind : List ℕ) → Derives f symbols after → end_from m (opens_in symbols) (roots m f ++ behind) ≡ m + node_count f
+last_root : (f : Forest) (m : ℕ) (symbols : List Symbol) (after : List TokenKind) (beyond : List ℕ) → Derives f symbols after → end_from m (opens_in symbols) (roots m f ++ beyond) ≡ m + node_count f
 unfolding roots end_from
-last_root none m [] after behind d = omega arith
-last_root (leaf k f) m (Take w ∷ symbols) after behind d = last_root f m symbols after behind d.1
-last_root (node r f g) m (Open a ∷ symbols) after behind d =
+last_root none m [] after beyond d = omega arith
+last_root (leaf k f) m (Take w ∷ symbols) after beyond d = last_root f m symbols after beyond d.1
+last_root (node r f g) m (Open a ∷ symbols) after beyond d =
     let e = m + 1 + node_count f in
-    one_more m (opens_in symbols) e (roots e g ++ behind) ∙ last_root g e symbols after behind d.4 ∙ omega arith
-last_root none m (x ∷ symbols) after behind d = absurd d
-last_root (leaf k f) m [] after behind d = absurd d
-last_root (leaf k f) m (Open a ∷ symbols) after behind d = absurd d
-last_root (node r f g) m [] after behind d = absurd d
-last_root (node r f g) m (Take w ∷ symbols) after behind d = absurd d
+    one_more m (opens_in symbols) e (roots e g ++ beyond) ∙ last_root g e symbols after beyond d.4 ∙ omega arith
+last_root none m (x ∷ symbols) after beyond d = absurd d
+last_root (leaf k f) m [] after beyond d = absurd d
+last_root (leaf k f) m (Open a ∷ symbols) after beyond d = absurd d
+last_root (node r f g) m [] after beyond d = absurd d
+last_root (node r f g) m (Take w ∷ symbols) after beyond d = absurd d
 
 abbrev joined : List Node → List ℕ → Closed → Closed
 joined ns es c = record { laid_out = ns ++ c.laid_out; ends = es ++ c.ends }
 
-closed_node : (n at r : ℕ) (room : Room) (f : Forest) (symbols : List Symbol) (after : List TokenKind) (behind : Closed) → Derives f (rule r).symbols after
-    → closed n (opening r at room) (joined (nodes (n + 1) at f) (roots (n + 1) f) behind)
-    ≡ joined (record { production = r; first = at; end = n + 1 + node_count f } ∷ nodes (n + 1) at f) ((n + 1 + node_count f) ∷ []) behind
-closed_node n at r room f symbols after behind d =
+closed_node : (n at r : ℕ) (room : Room) (f : Forest) (symbols : List Symbol) (after : List TokenKind) (beyond : Closed) → Derives f (rule r).symbols after
+    → closed n (opening r at room) (joined (nodes (n + 1) at f) (roots (n + 1) f) beyond)
+    ≡ joined (record { production = r; first = at; end = n + 1 + node_count f } ∷ nodes (n + 1) at f) ((n + 1 + node_count f) ∷ []) beyond
+closed_node n at r room f symbols after beyond d =
     let s = (rule r).symbols in
-    let e : end_after n (opens_in s) (roots (n + 1) f ++ behind.ends) ≡ n + 1 + node_count f = end_is n (opens_in s) (roots (n + 1) f ++ behind.ends) ∙ last_root f (n + 1) s after behind.ends d in
-    let g : drop (opens_in s) (roots (n + 1) f ++ behind.ends) ≡ behind.ends = drop_at (roots (n + 1) f) behind.ends (opens_in s) (roots_long f (n + 1) s after d) in
-    ap (λ x. record { laid_out = record { production = r; first = at; end = x } ∷ (nodes (n + 1) at f ++ behind.laid_out); ends = x ∷ drop (opens_in s) (roots (n + 1) f ++ behind.ends) }) e
-    ∙ ap (λ x. record { laid_out = record { production = r; first = at; end = n + 1 + node_count f } ∷ (nodes (n + 1) at f ++ behind.laid_out); ends = (n + 1 + node_count f) ∷ x }) g
+    let e : end_after n (opens_in s) (roots (n + 1) f ++ beyond.ends) ≡ n + 1 + node_count f = end_is n (opens_in s) (roots (n + 1) f ++ beyond.ends) ∙ last_root f (n + 1) s after beyond.ends d in
+    let g : drop (opens_in s) (roots (n + 1) f ++ beyond.ends) ≡ beyond.ends = drop_at (roots (n + 1) f) beyond.ends (opens_in s) (roots_long f (n + 1) s after d) in
+    ap (λ x. record { laid_out = record { production = r; first = at; end = x } ∷ (nodes (n + 1) at f ++ beyond.laid_out); ends = x ∷ drop (opens_in s) (roots (n + 1) f ++ beyond.ends) }) e
+    ∙ ap (λ x. record { laid_out = record { production = r; first = at; end = n + 1 + node_count f } ∷ (nodes (n + 1) at f ++ beyond.laid_out); ends = (n + 1 + node_count f) ∷ x }) g
 
 joined_twice : (ns ms : List Node) (es fs : List ℕ) (c : Closed) → joined ns es (joined ms fs c) ≡ joined (ns ++ ms) (es ++ fs) c
 joined_twice ns ms es fs c =
@@ -89,14 +89,14 @@ closing_is (node r f g) n at room (Open a ∷ symbols) after os d =
     let fs = openings at (inside r room) f in
     let gs = openings next room g in
     let o = opening r at room in
-    let behind = closing (m + node_count g) os in
-    let one : closing (n + 1) ((fs ++ gs) ++ os) ≡ joined (nodes (n + 1) at f) (roots (n + 1) f) (joined (nodes m next g) (roots m g) behind) =
+    let beyond = closing (m + node_count g) os in
+    let one : closing (n + 1) ((fs ++ gs) ++ os) ≡ joined (nodes (n + 1) at f) (roots (n + 1) f) (joined (nodes m next g) (roots m g) beyond) =
     ap (closing (n + 1)) (append_assoc fs gs os)
     ∙ closing_is f (n + 1) at (inside r room) (rule r).symbols _ (gs ++ os) d.3
     ∙ ap (joined (nodes (n + 1) at f) (roots (n + 1) f)) (closing_is g m next room symbols after os d.4) in
     ap (closed n o) one
-    ∙ closed_node n at r room f symbols _ (joined (nodes m next g) (roots m g) behind) d.3
-    ∙ joined_twice (record { production = r; first = at; end = m } ∷ nodes (n + 1) at f) (nodes m next g) (m ∷ []) (roots m g) behind
+    ∙ closed_node n at r room f symbols _ (joined (nodes m next g) (roots m g) beyond) d.3
+    ∙ joined_twice (record { production = r; first = at; end = m } ∷ nodes (n + 1) at f) (nodes m next g) (m ∷ []) (roots m g) beyond
     ∙ ap (λ x. joined (nodes n at (node r f g)) (roots n (node r f g)) (closing x os)) (omega arith)
 closing_is none n at room (x ∷ symbols) after os d = absurd d
 closing_is (leaf k f) n at room [] after os d = absurd d

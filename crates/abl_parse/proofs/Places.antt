@@ -1,4 +1,4 @@
--- Where the reader stands before a token, and what each outcome of reading it means.
+-- The state of the parser before a token, and what each outcome of reading it means.
 use Rattle.std.proofs.Common.{ℕ, suc, ◌+◌, ◌<◌, ◌≡◌, true, false, not, List, [], ◌∷◌, length, take, drop, slice_index_or, IsTrue, refl, sym, ◌∙◌, ap, subst, arith}
 use Rattle.std.proofs.Math.Seq.{drop-append_seam}
 use Rattle.std.proofs.Math.Decide.{dec_lt}
@@ -16,7 +16,8 @@ use Rattle.abl_parse.specs.Violations.{Breaks, IsFirst, Stops, Overflows}
 use Rattle.abl_parse.specs.Table.{ends_once}
 use Rattle.abl_parse.specs.Completing.{suits}
 use Rattle.abl_parse.specs.Engine.{plain, source, Leads, Went, Stuck, IsTaking, Reached, IsRead}
-use Rattle.abl_base.proofs.Bools.{and_left, and_right, not_so}
+use Rattle.std.proofs.lemmas.Bool.{not-true}
+use Rattle.abl_base.proofs.Bools.{left_of_and, right_of_and}
 use Rattle.abl_parse.proofs.Completes.{suits_take, suits_source}
 use Rattle.abl_parse.proofs.Runs.{refused, refused_went, reached, open_after, closed_after, ended, open_source, viable, finished, onward, Onward, forest_of_steps}
 use Rattle.abl_parse.proofs.Nesting.{overflows, no_overflow, unbroken, broken_within, none_append}
@@ -107,7 +108,7 @@ clean_on tokens at stack used a s o p h broken b = elim (dec_lt p at) [
   | no l ↦ (let e : p ≡ at = omega arith in unbroken tokens at s o broken (subst (λ q. Breaks tokens broken q) e b))
 ]
 
--- it does not, and the reader stands before the next
+-- it does not, and the parser goes on to the next token
 pub onward_here : (tokens : List TokenKind) (at : ℕ) (k n : TokenKind) (stack stack' rest : List Entry) (used used' : List Opening) → IsText tokens → At tokens at stack used → at < length tokens → k ≡ slice_index_or tokens at Name
     → (at + 1 < length tokens → n ≡ slice_index_or tokens (at + 1) Name) → Went at stack used stack' used' k n → stack' ≡ Await k ∷ rest → suits rules (plain stack') EndOfSource ≡ true → ends_once (plain stack') ≡ true
     → any_deep (drop (length used) used') ≡ false → At tokens (at + 1) rest used'
@@ -148,7 +149,7 @@ end_is_not k e q = let z : true ≡ false = ap is_end (sym q) ∙ e in cc
 text_by : (tokens : List Token) → tokens_end_once tokens ≡ true → IsText (kinds tokens)
 text_by [] e = cc
 text_by (t ∷ []) e = end_is t.kind e
-text_by (t ∷ u ∷ ts) e = (end_is_not t.kind (not_so (is_end t.kind) (and_left (not (is_end t.kind)) (tokens_end_once (u ∷ ts)) e)), text_by (u ∷ ts) (and_right (not (is_end t.kind)) (tokens_end_once (u ∷ ts)) e))
+text_by (t ∷ u ∷ ts) e = (end_is_not t.kind (not-true (is_end t.kind) (left_of_and (not (is_end t.kind)) (tokens_end_once (u ∷ ts)) e)), text_by (u ∷ ts) (right_of_and (not (is_end t.kind)) (tokens_end_once (u ∷ ts)) e))
 
 pub text_of : (tokens : List Token) → IsTrue (tokens_end_once tokens) → IsText (kinds tokens)
 text_of tokens h = text_by tokens h

@@ -4,7 +4,7 @@ use Rattle.std.proofs.lemmas.List.{take_more}
 use Rattle.std.proofs.Math.Decide.{dec_lt}
 use Rattle.abl_tree.specs.declared.token.TokenKind.{TokenKind}
 use Rattle.abl_tree.specs.declared.token.TokenKind.TheVariants.{EndOfSource, Name}
-use Rattle.abl_parse.specs.declared.part.Part.TheVariants.{Statement}
+use Rattle.abl_parse.specs.declared.nonterminal.Nonterminal.TheVariants.{Statement}
 use Rattle.abl_parse.specs.declared.symbol.Entry.{Entry}
 use Rattle.abl_parse.specs.declared.symbol.Entry.TheVariants.{Await, Derive}
 use Rattle.abl_parse.specs.declared.symbol.Opening.{Opening}
@@ -13,7 +13,7 @@ use Rattle.abl_parse.specs.Grammar.{Forest, spelt, Derives, whole, nodes, Viable
 use Rattle.abl_parse.specs.Table.{ends_once, is_nil}
 use Rattle.abl_parse.specs.Completing.{suits, weigh}
 use Rattle.abl_parse.specs.Engine.{plain, source, Steps, done, take_one, Leads, Went, plainly, looking, FirstIs, Stuck, IsTaking, Reached, IsRead}
-use Rattle.abl_base.proofs.Bools.{chosen_true, chosen_false}
+use Rattle.std.proofs.lemmas.Bool.{cond-true, cond-false}
 use Rattle.abl_parse.proofs.Flags.{nil_is, kinds_differ, kinds_equal, same_first, same_rest}
 use Rattle.abl_parse.proofs.Trees.{taken, steps_of, split, Split}
 use Rattle.abl_parse.proofs.Completes.{complete}
@@ -68,7 +68,7 @@ run_of seen v =
 no_token : {at : ℕ} {os : List Opening} {k : TokenKind} {ts : List TokenKind} → Steps at [] os (k ∷ ts) → ⊥
 no_token d = elim d [ ]
 
--- the token is not on top, and no part is
+-- the token is not on top, and no nonterminal is
 pub mismatch : (at : ℕ) (stack : List Entry) (k : TokenKind) → IsTaking stack → ((rest : List Entry) → stack ≡ Await k ∷ rest → ⊥) → Stuck at stack k
 mismatch at [] k t o os ts d = no_token d
 mismatch at (Await w ∷ rest) k t o os ts d = o rest (ap (λ x. Await x ∷ rest) (sym (same_first (taken d).is)))
@@ -122,7 +122,7 @@ refused_went tokens at d n stack stack' earlier later h r (plainly l) t o v = re
 refused_went tokens at d n stack stack' earlier later h r (looking room rest between l m k) t o v = o m.top.0 (m.top.1 ∙ ap (λ x. Await x ∷ m.top.0) (sym k))
 
 -- ON BY ONE TOKEN
--- the openings of a way, and that it keeps what is sound
+-- the openings of some steps, and that these preserve soundness
 pub record Onward (at : ℕ) (start : List Entry) (earlier : List Opening) (goal : List Entry) (later : List Opening) (k : TokenKind) : Type 0 where
   pub added : List Opening
   pub is : later ≡ earlier ++ added
@@ -171,17 +171,17 @@ reached tokens at d n stack stack' rest earlier later t h r (plainly l) e m =
           let two = l.only one.0 ts one.2 in
           only_on at k stack' rest earlier later l.added os one.0 two.0 ts l.is e one.1 two.1 two.2;
     }
-reached tokens at d n stack stack' rest earlier later t h r (looking room behind between l w c) e m =
+reached tokens at d n stack stack' rest earlier later t h r (looking room beyond between l w c) e m =
     let k = slice_index_or tokens at d in
     let follows : at + 1 < length tokens = before_last tokens at d t h (λ q. name_apart (sym c ∙ q)) in
     record {
-      sound = sound_on tokens at d stack stack' rest earlier later h r.sound (onward at stack earlier stack' later k n (looking room behind between l w c)) e;
+      sound = sound_on tokens at d stack stack' rest earlier later h r.sound (onward at stack earlier stack' later k n (looking room beyond between l w c)) e;
       only = λ os ts f x.
           let one = r.only os (k ∷ ts) (first_is tokens at d ts h) (subst (λ t. Steps 0 source os t) (seen_more tokens at d ts h) x) in
           let g = first_next tokens at d ts follows f in
           let q : ts ≡ n ∷ g.0 = g.1 ∙ ap (λ z. z ∷ g.0) (sym (m follows)) in
           let two = l.only one.0 ts one.2 in
-          let y : Steps at (Derive Statement room ∷ behind) two.0 (Name ∷ n ∷ g.0) = subst (λ z. Steps at (Derive Statement room ∷ behind) two.0 (Name ∷ z)) q (subst (λ j. Steps at (Derive Statement room ∷ behind) two.0 (j ∷ ts)) c two.2) in
+          let y : Steps at (Derive Statement room ∷ beyond) two.0 (Name ∷ n ∷ g.0) = subst (λ z. Steps at (Derive Statement room ∷ beyond) two.0 (Name ∷ z)) q (subst (λ j. Steps at (Derive Statement room ∷ beyond) two.0 (j ∷ ts)) c two.2) in
           let three = w.only two.0 g.0 y in
           let z : Steps at stack' three.0 (k ∷ ts) = subst (λ j. Steps at stack' three.0 (j ∷ ts)) (sym c) (subst (λ v. Steps at stack' three.0 (Name ∷ v)) (sym q) three.2) in
           only_on at k stack' rest earlier later (l.added ++ w.added) os one.0 three.0 ts
@@ -192,7 +192,7 @@ reached tokens at d n stack stack' rest earlier later t h r (looking room behind
 pub open_after : (tokens : List TokenKind) (at : ℕ) (d : TokenKind) (stack rest : List Entry) → IsText tokens → ends_once (plain stack) ≡ true → stack ≡ Await (slice_index_or tokens at d) ∷ rest → at + 1 < length tokens → ends_once (plain rest) ≡ true
 open_after tokens at d stack rest t e s h =
     let k = slice_index_or tokens at d in
-    sym (chosen_false (same_kind k EndOfSource) (is_nil (plain rest)) (ends_once (plain rest)) (kinds_differ k EndOfSource (text_before tokens at d t h))) ∙ sym (ap (λ x. ends_once (plain x)) s) ∙ e
+    sym (cond-false (same_kind k EndOfSource) (is_nil (plain rest)) (ends_once (plain rest)) (kinds_differ k EndOfSource (text_before tokens at d t h))) ∙ sym (ap (λ x. ends_once (plain x)) s) ∙ e
 
 pub plain_nil : (stack : List Entry) → plain stack ≡ [] → stack ≡ []
 plain_nil [] e = refl
@@ -201,7 +201,7 @@ plain_nil (x ∷ xs) e = cc
 pub closed_after : (tokens : List TokenKind) (at : ℕ) (d : TokenKind) (stack rest : List Entry) → IsText tokens → ends_once (plain stack) ≡ true → stack ≡ Await (slice_index_or tokens at d) ∷ rest → at + 1 ≡ length tokens → rest ≡ []
 closed_after tokens at d stack rest t e s h =
     let k = slice_index_or tokens at d in
-    plain_nil rest (nil_is (plain rest) (sym (chosen_true (same_kind k EndOfSource) (is_nil (plain rest)) (ends_once (plain rest)) (kinds_equal k EndOfSource (text_last tokens at d t h))) ∙ sym (ap (λ x. ends_once (plain x)) s) ∙ e))
+    plain_nil rest (nil_is (plain rest) (sym (cond-true (same_kind k EndOfSource) (is_nil (plain rest)) (ends_once (plain rest)) (kinds_equal k EndOfSource (text_last tokens at d t h))) ∙ sym (ap (λ x. ends_once (plain x)) s) ∙ e))
 
 take_all : (xs : List TokenKind) → take (length xs) xs ≡ xs
 take_all [] = refl

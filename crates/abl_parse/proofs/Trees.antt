@@ -1,7 +1,7 @@
 -- The reader's steps and the trees are the same derivations.
 use Rattle.std.proofs.Common.{ℕ, zero, suc, ◌+◌, ◌<◌, ◌≤◌, ◌≡◌, List, [], ◌∷◌, ◌++◌, length, refl, sym, ◌∙◌, ap, subst, append_assoc, arith, length-append}
 use Rattle.abl_tree.specs.declared.token.TokenKind.{TokenKind}
-use Rattle.abl_parse.specs.declared.part.Part.{Part}
+use Rattle.abl_parse.specs.declared.nonterminal.Nonterminal.{Nonterminal}
 use Rattle.abl_parse.specs.declared.symbol.Symbol.{Symbol}
 use Rattle.abl_parse.specs.declared.symbol.Symbol.TheVariants.{Take, Open}
 use Rattle.abl_parse.specs.declared.symbol.Room.{Room}
@@ -20,18 +20,18 @@ pub record Taken (at : ℕ) (stack : List Entry) (os : List Opening) (k : TokenK
 pub taken : {at : ℕ} {stack : List Entry} {os : List Opening} {k : TokenKind} {ts : List TokenKind} → Steps at (Await k ∷ stack) os ts → Taken at stack os k ts
 taken (take_one d) = record { rest = _; is = refl; then' = d }
 
--- what a derivation from a part has done
-pub record Opened (at : ℕ) (room : Room) (stack : List Entry) (os : List Opening) (a : Part) (ts : List TokenKind) : Type 0 where
+-- what a derivation from a nonterminal has done
+pub record Opened (at : ℕ) (room : Room) (stack : List Entry) (os : List Opening) (a : Nonterminal) (ts : List TokenKind) : Type 0 where
   pub r : ℕ
   pub rest : List Opening
   pub is : os ≡ opening r at room ∷ rest
   pub within : r < rule_count
-  pub part : (rule r).part ≡ a
+  pub nonterminal : (rule r).nonterminal ≡ a
   pub greedy : Greedy r ts
   pub then' : Steps at (body r room ++ stack) rest ts
 
-pub opened : {at : ℕ} {room : Room} {stack : List Entry} {os : List Opening} {a : Part} {ts : List TokenKind} → Steps at (Derive a room ∷ stack) os ts → Opened at room stack os a ts
-opened (open_one r w p g d) = record { r = r; rest = _; is = refl; within = w; part = p; greedy = g; then' = d }
+pub opened : {at : ℕ} {room : Room} {stack : List Entry} {os : List Opening} {a : Nonterminal} {ts : List TokenKind} → Steps at (Derive a room ∷ stack) os ts → Opened at room stack os a ts
+opened (open_one r w p g d) = record { r = r; rest = _; is = refl; within = w; nonterminal = p; greedy = g; then' = d }
 
 shift_one : (at n : ℕ) → at + suc n ≡ at + 1 + n
 shift_one at n = omega arith
@@ -39,14 +39,14 @@ shift_one at n = omega arith
 shift_append : (at : ℕ) (f g : List TokenKind) → at + length (f ++ g) ≡ at + length f + length g
 shift_append at f g = let e = length-append f g in omega arith
 
--- a tree in front of a derivation
+-- a tree before a derivation
 pub steps_of : (f : Forest) (at : ℕ) (room : Room) (symbols : List Symbol) (stack : List Entry) (after : List TokenKind) (os : List Opening) → Derives f symbols after → Steps (at + length (spelt f)) stack os after
     → Steps at (entries room symbols ++ stack) (openings at room f ++ os) (spelt f ++ after)
 steps_of none at room [] stack after os d s = subst (λ n. Steps n stack os after) (omega arith) s
 steps_of (leaf k f) at room (Take wanted ∷ symbols) stack after os d s =
     subst (λ w. Steps at (Await w ∷ (entries room symbols ++ stack)) (openings (at + 1) room f ++ os) (k ∷ (spelt f ++ after))) d.0 (
     take_one (steps_of f (at + 1) room symbols stack after os d.1 (subst (λ n. Steps n stack os after) (shift_one at (length (spelt f))) s)))
-steps_of (node r f g) at room (Open part ∷ symbols) stack after os d s =
+steps_of (node r f g) at room (Open nonterminal ∷ symbols) stack after os d s =
     let next = at + length (spelt f) in
     open_one r d.0 d.1 (subst (Greedy r) (sym (append_assoc (spelt f) (spelt g) after)) d.2) (
     subst (λ q. Steps at (body r room ++ (entries room symbols ++ stack)) q ((spelt f ++ spelt g) ++ after)) (sym (append_assoc (openings at (inside r room) f) (openings next room g) os)) (
@@ -55,11 +55,11 @@ steps_of (node r f g) at room (Open part ∷ symbols) stack after os d s =
     steps_of g next room symbols stack after os d.4 (subst (λ n. Steps n stack os after) (shift_append at (spelt f) (spelt g)) s)))))
 steps_of none at room (x ∷ symbols) stack after os d s = absurd d
 steps_of (leaf k f) at room [] stack after os d s = absurd d
-steps_of (leaf k f) at room (Open part ∷ symbols) stack after os d s = absurd d
+steps_of (leaf k f) at room (Open nonterminal ∷ symbols) stack after os d s = absurd d
 steps_of (node r f g) at room [] stack after os d s = absurd d
 steps_of (node r f g) at room (Take wanted ∷ symbols) stack after os d s = absurd d
 
--- a derivation split after these symbols: a tree for them, and what goes on behind it
+-- a derivation split after these symbols: a tree for them, and what goes on after it
 pub record Split (at : ℕ) (room : Room) (symbols : List Symbol) (stack : List Entry) (os : List Opening) (ts : List TokenKind) : Type 0 where
   pub tree : Forest
   pub more : List Opening
@@ -80,7 +80,7 @@ joined at room symbols stack k os rest s = record {
   then' = subst (λ n. Steps n stack s.more s.after) (sym (shift_one at (length (spelt s.tree)))) s.then';
 }
 
-nested : (at : ℕ) (room : Room) (a : Part) (symbols : List Symbol) (stack : List Entry) (r : ℕ) (os : List Opening) (ts : List TokenKind) → r < rule_count → (rule r).part ≡ a → Greedy r ts
+nested : (at : ℕ) (room : Room) (a : Nonterminal) (symbols : List Symbol) (stack : List Entry) (r : ℕ) (os : List Opening) (ts : List TokenKind) → r < rule_count → (rule r).nonterminal ≡ a → Greedy r ts
     → (i : Split at (inside r room) (rule r).symbols (entries room symbols ++ stack) os ts) → (o : Split (at + length (spelt i.tree)) room symbols stack i.more i.after)
     → Split at room (Open a ∷ symbols) stack (opening r at room ∷ os) ts
 nested at room a symbols stack r os ts w p g i o =
@@ -118,4 +118,4 @@ split (suc n) at room (Open a ∷ symbols) stack os ts h d =
     let er : length o.rest ≡ length (openings at (inside o.r room) i.tree) + length i.more = ap length i.openings_are ∙ length-append (openings at (inside o.r room) i.tree) i.more in
     let et : length ts ≡ length (spelt i.tree) + length i.after = ap length i.tokens_are ∙ length-append (spelt i.tree) i.after in
     subst (λ x. Split at room (Open a ∷ symbols) stack x ts) (sym o.is) (
-    nested at room a symbols stack o.r o.rest ts o.within o.part o.greedy i (split n (at + length (spelt i.tree)) room symbols stack i.more i.after (omega arith) i.then'))
+    nested at room a symbols stack o.r o.rest ts o.within o.nonterminal o.greedy i (split n (at + length (spelt i.tree)) room symbols stack i.more i.after (omega arith) i.then'))

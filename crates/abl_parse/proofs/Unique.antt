@@ -2,8 +2,8 @@
 use Rattle.std.proofs.Common.{ℕ, ◌+◌, ◌≡◌, List, [], ◌∷◌, ◌++◌, refl, sym, ◌∙◌, ap, subst, inl, inr}
 use Rattle.abl_tree.specs.declared.token.TokenKind.{TokenKind}
 use Rattle.abl_tree.specs.declared.token.TokenKind.TheVariants.{Name, Colon, Equals}
-use Rattle.abl_parse.specs.declared.part.Part.{Part}
-use Rattle.abl_parse.specs.declared.part.Part.TheVariants.{Statement}
+use Rattle.abl_parse.specs.declared.nonterminal.Nonterminal.{Nonterminal}
+use Rattle.abl_parse.specs.declared.nonterminal.Nonterminal.TheVariants.{Statement}
 use Rattle.abl_parse.specs.declared.symbol.Room.{Room}
 use Rattle.abl_parse.specs.declared.symbol.Entry.{Entry}
 use Rattle.abl_parse.specs.declared.symbol.Opening.{Opening}
@@ -35,25 +35,25 @@ at_name at room stack os os' ts o p = elim (one_of_two at room stack os ts o) [
   ]
 ]
 
-named_alike : (at : ℕ) (room : Room) (a : Part) (k : TokenKind) (stack : List Entry) (os os' : List Opening) (ts : List TokenKind) → k ≡ Name → a ≡ Statement → (o : Opened at room stack os a (k ∷ ts)) (p : Opened at room stack os' a (k ∷ ts)) → o.r ≡ p.r
+named_alike : (at : ℕ) (room : Room) (a : Nonterminal) (k : TokenKind) (stack : List Entry) (os os' : List Opening) (ts : List TokenKind) → k ≡ Name → a ≡ Statement → (o : Opened at room stack os a (k ∷ ts)) (p : Opened at room stack os' a (k ∷ ts)) → o.r ≡ p.r
 named_alike at room a k stack os os' ts e f =
-    let P : TokenKind → Part → Type 0 = λ j b. (o : Opened at room stack os b (j ∷ ts)) (p : Opened at room stack os' b (j ∷ ts)) → o.r ≡ p.r in
+    let P : TokenKind → Nonterminal → Type 0 = λ j b. (o : Opened at room stack os b (j ∷ ts)) (p : Opened at room stack os' b (j ∷ ts)) → o.r ≡ p.r in
     subst (λ j. P j a) (sym e) (subst (λ b. P Name b) (sym f) (at_name at room stack os os' ts))
 
-same_row : (at : ℕ) (room : Room) (a : Part) (stack : List Entry) (os os' : List Opening) (ts : List TokenKind) (o : Opened at room stack os a ts) (p : Opened at room stack os' a ts) → o.r ≡ p.r
-same_row at room a stack os os' [] o p = elim (alike o.r p.r o.within p.within (o.part ∙ sym p.part)) [
+same_row : (at : ℕ) (room : Room) (a : Nonterminal) (stack : List Entry) (os os' : List Opening) (ts : List TokenKind) (o : Opened at room stack os a ts) (p : Opened at room stack os' a ts) → o.r ≡ p.r
+same_row at room a stack os os' [] o p = elim (alike o.r p.r o.within p.within (o.nonterminal ∙ sym p.nonterminal)) [
   | inl g ↦ g
   | inr x ↦ absurd (x.one_empty (begun_silent at room a stack os o) (begun_silent at room a stack os' p))
 ]
-same_row at room a stack os os' (k ∷ ts) o p = elim (alike o.r p.r o.within p.within (o.part ∙ sym p.part)) [
+same_row at room a stack os os' (k ∷ ts) o p = elim (alike o.r p.r o.within p.within (o.nonterminal ∙ sym p.nonterminal)) [
   | inl g ↦ g
   | inr x ↦ elim (begun at room a k stack os ts o) [
     | inl g ↦ elim (begun at room a k stack os' ts p) [
-      | inl h ↦ (let d = x.disjoint k g h in named_alike at room a k stack os os' ts d.0 (sym o.part ∙ d.1) o p)
-      | inr h ↦ absurd (p.greedy (x.second_nil h) o.r k ts o.within (o.part ∙ sym p.part) refl (starts_begin o.r k o.within g))
+      | inl h ↦ (let d = x.disjoint k g h in named_alike at room a k stack os os' ts d.0 (sym o.nonterminal ∙ d.1) o p)
+      | inr h ↦ absurd (p.greedy (x.second_nil h) o.r k ts o.within (o.nonterminal ∙ sym p.nonterminal) refl (starts_begin o.r k o.within g))
     ]
     | inr g ↦ elim (begun at room a k stack os' ts p) [
-      | inl h ↦ absurd (o.greedy (x.first_nil g) p.r k ts p.within (p.part ∙ sym o.part) refl (starts_begin p.r k p.within h))
+      | inl h ↦ absurd (o.greedy (x.first_nil g) p.r k ts p.within (p.nonterminal ∙ sym o.nonterminal) refl (starts_begin p.r k p.within h))
       | inr h ↦ absurd (x.one_empty g h)
     ]
   ]
@@ -69,7 +69,7 @@ unique (take_one {at} {stack} {os} {k} {ts} d) os' e =
     unique d os' (subst (λ x. Steps (at + 1) stack os' x) (sym (same_rest t.is)) t.then')
 unique (open_one {at} {stack} {os} {ts} {a} {room} r w p g d) os' e =
     let o = opened e in
-    let own : Opened at room stack (opening r at room ∷ os) a ts = record { r = r; rest = os; is = refl; within = w; part = p; greedy = g; then' = d } in
+    let own : Opened at room stack (opening r at room ∷ os) a ts = record { r = r; rest = os; is = refl; within = w; nonterminal = p; greedy = g; then' = d } in
     let same : r ≡ o.r = same_row at room a stack (opening r at room ∷ os) os' ts own o in
     let below : os ≡ o.rest = unique d o.rest (subst (λ x. Steps at (body x room ++ stack) o.rest ts) (sym same) o.then') in
     ap (λ x. opening x at room ∷ os) same ∙ ap (λ x. opening o.r at room ∷ x) below ∙ sym o.is

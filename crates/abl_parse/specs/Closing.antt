@@ -6,34 +6,34 @@ use Rattle.abl_parse.specs.declared.symbol.Symbol.TheVariants.{Take, Open}
 use Rattle.abl_parse.specs.declared.symbol.Opening.{Opening}
 use Rattle.abl_parse.specs.Grammar.{rule}
 
-abbrev pub is_part : Symbol → Bool
-is_part (Take k) = false
-is_part (Open a) = true
+abbrev pub is_nonterminal : Symbol → Bool
+is_nonterminal (Take k) = false
+is_nonterminal (Open a) = true
 
--- how many parts are among these symbols
+-- how many nonterminals are among these symbols
 abbrev pub opens_in : List Symbol → ℕ
 opens_in [] = 0
 opens_in (Take k ∷ symbols) = opens_in symbols
 opens_in (Open a ∷ symbols) = suc (opens_in symbols)
 
--- how many nodes stand directly inside a node of this production
-abbrev pub parts_of : ℕ → ℕ
-parts_of r = opens_in (rule r).symbols
+-- the number of children of a node of this production
+abbrev pub children_of : ℕ → ℕ
+children_of r = opens_in (rule r).symbols
 
--- the end of a node with this number and this many inside it, where these are the ends of the nodes behind it
+-- the end of a node with this number and this many inside it, where these are the ends of the nodes after it
 abbrev pub end_after : ℕ → ℕ → List ℕ → ℕ
 end_after number zero ends = number + 1
-end_after number (suc parts) ends = slice_index ends parts
+end_after number (suc nonterminals) ends = slice_index ends nonterminals
 
--- the nodes that begin behind a place, and the ends of those of them that stand in no other
+-- the nodes that begin after a place, and the ends of the outermost of them
 pub record Closed : Type 0 where
   pub laid_out : List Node
   pub ends : List ℕ
 
 abbrev pub closed : ℕ → Opening → Closed → Closed
-closed number o behind = record {
-  laid_out = record { production = o.production; first = o.first; end = end_after number (parts_of o.production) behind.ends } ∷ behind.laid_out;
-  ends = end_after number (parts_of o.production) behind.ends ∷ drop (parts_of o.production) behind.ends;
+closed number o beyond = record {
+  laid_out = record { production = o.production; first = o.first; end = end_after number (children_of o.production) beyond.ends } ∷ beyond.laid_out;
+  ends = end_after number (children_of o.production) beyond.ends ∷ drop (children_of o.production) beyond.ends;
 }
 
 abbrev pub closing : ℕ → List Opening → Closed

@@ -1,12 +1,12 @@
--- How a run of symbols is completed by the short productions of its parts, so that what was read is viable.
+-- How a run of symbols is completed by the short productions of its nonterminals, so that what was read is viable.
 use Rattle.std.specs.Prelude.{ℕ, ◌+◌, Bool, true, false, not, ◌&&◌, ◌||◌, cond, nat_lt, List, [], ◌∷◌, length, slice_index_or, Option, Some, None}
 use Rattle.abl_tree.specs.declared.token.TokenKind.{TokenKind}
-use Rattle.abl_parse.specs.declared.part.Part.{Part}
+use Rattle.abl_parse.specs.declared.nonterminal.Nonterminal.{Nonterminal}
 use Rattle.abl_parse.specs.declared.symbol.Symbol.{Symbol}
 use Rattle.abl_parse.specs.declared.symbol.Symbol.TheVariants.{Take, Open}
-use Rattle.abl_parse.specs.Same.{same_kind, same_part}
+use Rattle.abl_parse.specs.Same.{same_kind, same_nonterminal}
 use Rattle.abl_parse.specs.Grammar.{Production, blank}
-use Rattle.abl_parse.specs.Table.{has, vanishes_as, some, is_nil, each, of_part}
+use Rattle.abl_parse.specs.Table.{has, vanishes_as, some, is_nil, each, of_nonterminal}
 use Rattle.abl_parse.specs.Completions.{short, first_of, expects, size}
 
 abbrev pub nil_rule : List Production → ℕ → Production
@@ -36,15 +36,15 @@ abbrev pub no_head : Option TokenKind → Bool
 no_head None = true
 no_head (Some w) = false
 
--- the short production of the part completes it
-abbrev pub part_ok : List Production → Part → Bool
-part_ok rs a =
-    same_part (nil_rule rs (short a)).part a && (nat_lt (short a) (length rs) && (nat_lt (weigh (nil_rule rs (short a)).symbols) (size a)
-    && ((not (is_nil (nil_rule rs (short a)).symbols) || each (λ k. not (has (of_part rs a) k)) (expects a))
+-- the short production of the nonterminal completes it
+abbrev pub nonterminal_ok : List Production → Nonterminal → Bool
+nonterminal_ok rs a =
+    same_nonterminal (nil_rule rs (short a)).nonterminal a && (nat_lt (short a) (length rs) && (nat_lt (weigh (nil_rule rs (short a)).symbols) (size a)
+    && ((not (is_nil (nil_rule rs (short a)).symbols) || each (λ k. not (has (of_nonterminal rs a) k)) (expects a))
     && cond (some (vanishes_as a) rs) (no_head (head rs (nil_rule rs (short a)).symbols)) (is_head (head rs (nil_rule rs (short a)).symbols) (first_of a)))))
 
--- the symbols can be completed in front of k
+-- the symbols can be completed before k
 abbrev pub suits : List Production → List Symbol → TokenKind → Bool
 suits rs [] k = true
 suits rs (Take w ∷ s) k = suits rs s k
-suits rs (Open a ∷ s) k = (has (expects a) (before (head rs s) k) && part_ok rs a) && suits rs s k
+suits rs (Open a ∷ s) k = (has (expects a) (before (head rs s) k) && nonterminal_ok rs a) && suits rs s k

@@ -1,12 +1,12 @@
--- How deep the productions of a part go before a token, and how a part is completed. Written by tools/grammar from tools/grammar.txt.
+-- How deep the productions of a nonterminal go before a token, and how a nonterminal is completed. Written by tools/grammar from tools/grammar.txt.
 use Rattle.std.specs.Prelude.{ℕ, List, [], ◌∷◌}
-use Rattle.abl_parse.specs.declared.part.Part.{Part}
-use Rattle.abl_parse.specs.declared.part.Part.TheVariants.{Program, Item, Statement, Block, Header, Phrase, Action, RecordOption, Definition, DataType, VariableOption, Literal, Assignment, Target, RightSide, Record, Flow, Argument, Streaming, StreamChoice, PutItem, Expression, Conjunction, Negation, Comparison, Sum, Product, Signed, Primary, Function, Items, Statements, ProcedureWord, ElseBranch, DoOrRepeat, MoreNames, StrongBuffers, WhichRecords, RecordOptions, Step, Counting, Phrases, Condition, OptionalName, OptionalAction, LeaveNextOrRetry, ErrorWord, OptionalExpression, VariableOptions, Direction, FormatOrLabel, LiteralSign, LiteralNumber, NoErrorWord, Assignments, SequenceFunction, FindWhich, FindOptions, RecordVerb, LeaveOrNext, MoreArguments, Arguments, ArgumentList, InputWord, OutputDirection, ImportTargets, Expressions, UnformattedWord, PutItems, InputSource, AppendWord, OutputGoal, NamedStream, PutFormat, SkipOrSpace, RepeatCount, OrOthers, AndOthers, ComparedWith, PlusOrMinus, AddedOthers, ProductSign, MultipliedOthers, RecordTest, TestedName, StringFormat, MoreExpressions}
+use Rattle.abl_parse.specs.declared.nonterminal.Nonterminal.{Nonterminal}
+use Rattle.abl_parse.specs.declared.nonterminal.Nonterminal.TheVariants.{Program, Item, Statement, Block, Header, Phrase, Action, RecordOption, Definition, DataType, VariableOption, Literal, Assignment, Target, RightSide, Record, Flow, Argument, Streaming, StreamChoice, PutItem, Expression, Conjunction, Negation, Comparison, Sum, Product, Signed, Primary, Function, Items, Statements, ProcedureWord, ElseBranch, DoOrRepeat, MoreNames, StrongBuffers, WhichRecords, RecordOptions, Step, Counting, Phrases, Condition, OptionalName, OptionalAction, LeaveNextOrRetry, ErrorWord, OptionalExpression, VariableOptions, Direction, FormatOrLabel, LiteralSign, LiteralNumber, NoErrorWord, Assignments, SequenceFunction, FindWhich, FindOptions, RecordVerb, LeaveOrNext, MoreArguments, Arguments, ArgumentList, InputWord, OutputDirection, ImportTargets, Expressions, UnformattedWord, PutItems, InputSource, AppendWord, OutputGoal, NamedStream, PutFormat, SkipOrSpace, RepeatCount, OrOthers, AndOthers, ComparedWith, PlusOrMinus, AddedOthers, ProductSign, MultipliedOthers, RecordTest, TestedName, StringFormat, MoreExpressions}
 use Rattle.abl_tree.specs.declared.token.TokenKind.{TokenKind}
 use Rattle.abl_tree.specs.declared.token.TokenKind.TheVariants.{Assign, Available, Character, Close, Colon, Create, Do, Each, Else, End, EndOfSource, Equals, Error, Find, Format, Input, Integer, Leave, LeftParenthesis, Message, Name, NextValue, NoLock, NoUndo, Output, Parameter, Period, Plus, RightParenthesis, Skip, Star, Stop, Stream, TextLiteral, Then, To, Transaction, Undo, WholeNumber}
 
--- above the ranks of the parts that stand before the first token of any of its productions
-abbrev pub rank : Part → ℕ
+-- above the ranks of the nonterminals before the first token of any of its productions
+abbrev pub rank : Nonterminal → ℕ
 rank Program = 6
 rank Item = 4
 rank Statement = 3
@@ -95,8 +95,8 @@ rank TestedName = 1
 rank StringFormat = 1
 rank MoreExpressions = 1
 
--- the production that completes the part soonest
-abbrev pub short : Part → ℕ
+-- the production that completes the nonterminal soonest
+abbrev pub short : Nonterminal → ℕ
 short Program = 0
 short Item = 2
 short Statement = 7
@@ -185,8 +185,8 @@ short TestedName = 240
 short StringFormat = 243
 short MoreExpressions = 245
 
--- the first token of the completion; of a part that completes to nothing the end token, which is not asked for
-abbrev pub first_of : Part → TokenKind
+-- the first token of the completion; of a nonterminal that completes to nothing the end token, which is not asked for
+abbrev pub first_of : Nonterminal → TokenKind
 first_of Program = EndOfSource
 first_of Item = Stop
 first_of Statement = Stop
@@ -275,8 +275,8 @@ first_of TestedName = Name
 first_of StringFormat = EndOfSource
 first_of MoreExpressions = EndOfSource
 
--- the tokens that a completion may have behind the part
-abbrev pub expects : Part → List TokenKind
+-- the tokens that a completion may have after the nonterminal
+abbrev pub expects : Nonterminal → List TokenKind
 expects Program = EndOfSource ∷ []
 expects Item = EndOfSource ∷ []
 expects Statement = End ∷ EndOfSource ∷ []
@@ -366,7 +366,7 @@ expects StringFormat = RightParenthesis ∷ []
 expects MoreExpressions = RightParenthesis ∷ []
 
 -- above the number of steps of the completion
-abbrev pub size : Part → ℕ
+abbrev pub size : Nonterminal → ℕ
 size Program = 2
 size Item = 5
 size Statement = 4

@@ -2,8 +2,8 @@
 use Rattle.std.specs.Prelude.{ℕ, ◌<◌, ◌≡◌, ◌+◌, List, [], ◌∷◌, ◌++◌, true}
 use Rattle.abl_tree.specs.declared.token.TokenKind.{TokenKind}
 use Rattle.abl_tree.specs.declared.token.TokenKind.TheVariants.{Name}
-use Rattle.abl_parse.specs.declared.part.Part.{Part}
-use Rattle.abl_parse.specs.declared.part.Part.TheVariants.{Statement}
+use Rattle.abl_parse.specs.declared.nonterminal.Nonterminal.{Nonterminal}
+use Rattle.abl_parse.specs.declared.nonterminal.Nonterminal.TheVariants.{Statement}
 use Rattle.abl_parse.specs.declared.symbol.Symbol.{Symbol}
 use Rattle.abl_parse.specs.declared.symbol.Symbol.TheVariants.{Take, Open}
 use Rattle.abl_parse.specs.declared.symbol.Room.{Room}
@@ -38,11 +38,11 @@ abbrev pub plain : List Entry → List Symbol
 plain [] = []
 plain (e ∷ es) = symbol_of e ∷ plain es
 
--- These openings in turn, each for the leftmost part, make these tokens of what is to come, where the first of the tokens has this number.
+-- These openings in turn, each for the leftmost nonterminal, make these tokens of what is to come, where the first of the tokens has this number.
 pub data Steps : ℕ → List Entry → List Opening → List TokenKind → Type 0 where
   done : {at : ℕ} → Steps at [] [] []
   take_one : {at : ℕ} {stack : List Entry} {os : List Opening} {k : TokenKind} {ts : List TokenKind} → Steps (at + 1) stack os ts → Steps at (Await k ∷ stack) os (k ∷ ts)
-  open_one : {at : ℕ} {stack : List Entry} {os : List Opening} {ts : List TokenKind} {a : Part} {room : Room} (r : ℕ) → r < rule_count → (rule r).part ≡ a → Greedy r ts
+  open_one : {at : ℕ} {stack : List Entry} {os : List Opening} {ts : List TokenKind} {a : Nonterminal} {room : Room} (r : ℕ) → r < rule_count → (rule r).nonterminal ≡ a → Greedy r ts
       → Steps at (body r room ++ stack) os ts → Steps at (Derive a room ∷ stack) (opening r at room ∷ os) ts
 
 -- these openings are all at this place
@@ -50,7 +50,7 @@ abbrev pub AllAt : ℕ → List Opening → Type 0
 AllAt at [] = Unit {0}
 AllAt at (o ∷ os) = (o.first ≡ at) × AllAt at os
 
--- From one stack to another, with the openings on the way: every derivation of tokens that begin with k goes this way.
+-- From one stack to another, with the openings between: every derivation of tokens that begin with k takes these steps.
 pub record Leads (at : ℕ) (start : List Entry) (earlier : List Opening) (goal : List Entry) (later : List Opening) (k : TokenKind) : Type 0 where
   pub added : List Opening
   pub is : later ≡ earlier ++ added
@@ -58,10 +58,10 @@ pub record Leads (at : ℕ) (start : List Entry) (earlier : List Opening) (goal 
   pub sound : (os : List Opening) (ts : List TokenKind) → Steps at goal os (k ∷ ts) → Steps at start (added ++ os) (k ∷ ts)
   pub only : (os : List Opening) (ts : List TokenKind) → Steps at start os (k ∷ ts) → (more : List Opening) × (os ≡ added ++ more) × Steps at goal more (k ∷ ts)
 
--- The one production of the part that a derivation can use where the next token is k.
-pub record OnlyRule (a : Part) (k : TokenKind) (r : ℕ) : Type 0 where
+-- The one production of the nonterminal that a derivation can use where the next token is k.
+pub record OnlyRule (a : Nonterminal) (k : TokenKind) (r : ℕ) : Type 0 where
   pub within : r < rule_count
-  pub part : (rule r).part ≡ a
+  pub nonterminal : (rule r).nonterminal ≡ a
   pub greedy : (ts : List TokenKind) → Greedy r (k ∷ ts)
   pub only : (at : ℕ) (q : ℕ) (room : Room) (stack : List Entry) (os : List Opening) (ts : List TokenKind) → Steps at (Derive a room ∷ stack) (opening q at room ∷ os) (k ∷ ts) → q ≡ r
 
@@ -69,21 +69,21 @@ pub record OnlyRule (a : Part) (k : TokenKind) (r : ℕ) : Type 0 where
 abbrev pub Stuck : ℕ → List Entry → TokenKind → Type 0
 Stuck at stack k = (os : List Opening) (ts : List TokenKind) → Steps at stack os (k ∷ ts) → ⊥
 
--- no part is on top
+-- no nonterminal is on top
 abbrev pub IsTaking : List Entry → Type 0
-IsTaking stack = (a : Part) (room : Room) (rest : List Entry) → stack ≡ Derive a room ∷ rest → ⊥
+IsTaking stack = (a : Nonterminal) (room : Room) (rest : List Entry) → stack ≡ Derive a room ∷ rest → ⊥
 
--- The same where the token behind a name is known too, from a statement on.
+-- The same where the token after a name is known too, from a statement on.
 pub record Named (at : ℕ) (room : Room) (rest : List Entry) (earlier : List Opening) (goal : List Entry) (later : List Opening) (next : TokenKind) : Type 0 where
   pub added : List Opening
   pub is : later ≡ earlier ++ added
   pub all_here : AllAt at added
   pub deep : any_deep added ≡ true → room.statements ≡ 0
-  pub top : (behind : List Entry) × (goal ≡ Await Name ∷ behind)
+  pub top : (beyond : List Entry) × (goal ≡ Await Name ∷ beyond)
   pub sound : (os : List Opening) (ts : List TokenKind) → Steps at goal os (Name ∷ ts) → Steps at (Derive Statement room ∷ rest) (added ++ os) (Name ∷ ts)
   pub only : (os : List Opening) (ts : List TokenKind) → Steps at (Derive Statement room ∷ rest) os (Name ∷ next ∷ ts) → (more : List Opening) × (os ≡ added ++ more) × Steps at goal more (Name ∷ next ∷ ts)
 
--- by k alone, or at a name by the token behind it too
+-- by k alone, or at a name by the token after it too
 pub data Went (at : ℕ) (start : List Entry) (earlier : List Opening) (goal : List Entry) (later : List Opening) (k next : TokenKind) : Type 0 where
   plainly : Leads at start earlier goal later k → Went at start earlier goal later k next
   looking : (room : Room) (rest : List Entry) (between : List Opening) → Leads at start earlier (Derive Statement room ∷ rest) between k → Named at room rest between goal later next → k ≡ Name → Went at start earlier goal later k next

@@ -5,26 +5,26 @@ use Rattle.abl_tree.specs.declared.token.TokenKind.TheVariants.{EndOfSource}
 use Rattle.abl_tree.specs.declared.token.Token.{Token}
 use Rattle.abl_tree.specs.declared.tree.Node.{Node}
 use Rattle.abl_tree.specs.declared.production.TheConstants.{NEGATION_NOT, SIGNED_PLUS_OR_MINUS}
-use Rattle.abl_parse.specs.declared.part.Part.{Part}
-use Rattle.abl_parse.specs.declared.part.Part.TheVariants.{Program, Statement, Expression}
+use Rattle.abl_parse.specs.declared.nonterminal.Nonterminal.{Nonterminal}
+use Rattle.abl_parse.specs.declared.nonterminal.Nonterminal.TheVariants.{Program, Statement, Expression}
 use Rattle.abl_parse.specs.declared.symbol.Symbol.{Symbol}
 use Rattle.abl_parse.specs.declared.symbol.Symbol.TheVariants.{Take, Open}
 use Rattle.abl_parse.specs.declared.symbol.Room.{Room}
 use Rattle.abl_parse.specs.declared.symbol.Opening.{Opening}
-use Rattle.abl_parse.specs.declared.rows.TheConstants.{PARTS, EMPTY, SYMBOLS_FROM, STARTS_FROM}
+use Rattle.abl_parse.specs.declared.rows.TheConstants.{NONTERMINALS, EMPTY, SYMBOLS_FROM, STARTS_FROM}
 use Rattle.abl_parse.specs.declared.symbols.TheConstants.{SYMBOLS}
 use Rattle.abl_parse.specs.declared.starts.TheConstants.{STARTS}
-use Rattle.abl_parse.specs.Same.{same_part}
+use Rattle.abl_parse.specs.Same.{same_nonterminal}
 
--- a production: its part and its symbols, and what the table says beside them
+-- a production: its nonterminal and its symbols, and what the table says beside them
 pub record Production : Type 0 where
-  pub part : Part
+  pub nonterminal : Nonterminal
   pub symbols : List Symbol
   pub starts : List TokenKind
   pub empty : Bool
 
-unfoldable pub parts : List Part
-parts = PARTS
+unfoldable pub nonterminals : List Nonterminal
+nonterminals = NONTERMINALS
 
 unfoldable pub symbols : List Symbol
 symbols = SYMBOLS
@@ -43,12 +43,12 @@ empty = EMPTY
 
 -- a production that the table does not have
 abbrev pub blank : Production
-blank = record { part = Program; symbols = []; starts = []; empty = false }
+blank = record { nonterminal = Program; symbols = []; starts = []; empty = false }
 
 -- the row of the table with this number
 unfoldable pub row : ℕ → Production
 row r = record {
-  part = slice_index_or parts r Program;
+  nonterminal = slice_index_or nonterminals r Program;
   symbols = slice_range symbols (slice_index symbols_from r) (slice_index symbols_from (r + 1));
   starts = slice_range starts (slice_index starts_from r) (slice_index starts_from (r + 1));
   empty = slice_index_or empty r false;
@@ -60,7 +60,7 @@ rows_after (suc n) r = row r ∷ rows_after n (r + 1)
 
 -- the productions
 unfoldable pub rules : List Production
-rules = rows_after (length parts) 0
+rules = rows_after (length nonterminals) 0
 
 abbrev pub rule_count : ℕ
 rule_count = length rules
@@ -69,7 +69,7 @@ rule_count = length rules
 unfoldable pub rule : ℕ → Production
 rule r = slice_index_or rules r blank
 
--- what a run of symbols stands for: tokens, and nodes that each use a production, in order
+-- a derivation of a run of symbols: tokens, and nodes that each use a production, in order
 pub data Forest : Type 0 where
   none : Forest
   leaf : TokenKind → Forest → Forest
@@ -81,32 +81,32 @@ spelt none = []
 spelt (leaf k f) = k ∷ spelt f
 spelt (node r f g) = spelt f ++ spelt g
 
--- these symbols can stand for nothing
+-- these symbols can be empty
 pub data Vanishes : List Symbol → Type 0 where
   nothing : Vanishes []
-  both : {symbols : List Symbol} (r : ℕ) → r < rule_count → Vanishes (rule r).symbols → Vanishes symbols → {a : Part} → (rule r).part ≡ a → Vanishes (Open a ∷ symbols)
+  both : {symbols : List Symbol} (r : ℕ) → r < rule_count → Vanishes (rule r).symbols → Vanishes symbols → {a : Nonterminal} → (rule r).nonterminal ≡ a → Vanishes (Open a ∷ symbols)
 
--- what these symbols stand for can begin with this token
+-- a derivation of these symbols can begin with this token
 pub data Begins : List Symbol → TokenKind → Type 0 where
   here : {symbols : List Symbol} {k : TokenKind} → Begins (Take k ∷ symbols) k
-  inside_part : {symbols : List Symbol} {k : TokenKind} {a : Part} (r : ℕ) → r < rule_count → (rule r).part ≡ a → Begins (rule r).symbols k → Begins (Open a ∷ symbols) k
-  past : {symbols : List Symbol} {k : TokenKind} {a : Part} → Vanishes (Open a ∷ []) → Begins symbols k → Begins (Open a ∷ symbols) k
+  inside_nonterminal : {symbols : List Symbol} {k : TokenKind} {a : Nonterminal} (r : ℕ) → r < rule_count → (rule r).nonterminal ≡ a → Begins (rule r).symbols k → Begins (Open a ∷ symbols) k
+  past : {symbols : List Symbol} {k : TokenKind} {a : Nonterminal} → Vanishes (Open a ∷ []) → Begins symbols k → Begins (Open a ∷ symbols) k
 
--- The greedy rule: an empty production is used only where the next token can begin no other production of its part.
+-- The greedy rule: an empty production is used only where the next token can begin no other production of its nonterminal.
 abbrev pub Greedy : ℕ → List TokenKind → Type 0
 Greedy r tokens =
     (rule r).symbols ≡ [] →
-    (q : ℕ) (k : TokenKind) (rest : List TokenKind) → q < rule_count → (rule q).part ≡ (rule r).part → tokens ≡ k ∷ rest → Begins (rule q).symbols k → ⊥
+    (q : ℕ) (k : TokenKind) (rest : List TokenKind) → q < rule_count → (rule q).nonterminal ≡ (rule r).nonterminal → tokens ≡ k ∷ rest → Begins (rule q).symbols k → ⊥
 
--- The forest is a derivation of the symbols by the productions under the greedy rule, in front of these tokens.
+-- The forest is a derivation of the symbols by the productions under the greedy rule, before these tokens.
 abbrev pub Derives : Forest → List Symbol → List TokenKind → Type 0
 Derives none [] after = Unit {0}
 Derives (leaf k f) (Take sought ∷ ss) after = (k ≡ sought) × Derives f ss after
-Derives (node r f g) (Open part ∷ ss) after =
-    (r < rule_count) × ((rule r).part ≡ part) × Greedy r (spelt f ++ (spelt g ++ after)) × Derives f (rule r).symbols (spelt g ++ after) × Derives g ss after
+Derives (node r f g) (Open nonterminal ∷ ss) after =
+    (r < rule_count) × ((rule r).nonterminal ≡ nonterminal) × Greedy r (spelt f ++ (spelt g ++ after)) × Derives f (rule r).symbols (spelt g ++ after) × Derives g ss after
 Derives none (s ∷ ss) after = ⊥
 Derives (leaf k f) [] after = ⊥
-Derives (leaf k f) (Open part ∷ ss) after = ⊥
+Derives (leaf k f) (Open nonterminal ∷ ss) after = ⊥
 Derives (node r f g) [] after = ⊥
 Derives (node r f g) (Take sought ∷ ss) after = ⊥
 
@@ -143,15 +143,15 @@ Viable tokens = (more : List TokenKind) × (tree : List Node) × Spells tree (to
 
 -- a statement
 unfoldable pub statement : ℕ → Bool
-statement r = same_part (rule r).part Statement
+statement r = same_nonterminal (rule r).nonterminal Statement
 
--- a NOT with what it stands before, or a sign with what it stands before; the sign of a literal is none
+-- a NOT with its operand, or a sign with its operand; the sign of a literal does not count
 abbrev pub not_or_sign : ℕ → Bool
 not_or_sign r = r == NEGATION_NOT || r == SIGNED_PLUS_OR_MINUS
 
 -- an expression, a NOT or a sign
 unfoldable pub expression : ℕ → Bool
-expression r = same_part (rule r).part Expression || not_or_sign r
+expression r = same_nonterminal (rule r).nonterminal Expression || not_or_sign r
 
 -- the whole source has room for 64 statements inside one another, and for 64 expressions, NOTs and signs
 abbrev pub full : Room

@@ -1,16 +1,16 @@
--- What the table is asked: which production a part can begin with a token, and which can be empty.
+-- Questions to the table: which production a nonterminal can begin with a token, and which can be empty.
 use Rattle.std.specs.Prelude.{ℕ, ◌+◌, Bool, true, false, not, cond, ◌&&◌, ◌||◌, List, [], ◌∷◌, ◌++◌}
 use Rattle.abl_tree.specs.declared.token.TokenKind.{TokenKind}
 use Rattle.abl_tree.specs.declared.token.TokenKind.TheVariants.{EndOfSource}
-use Rattle.abl_parse.specs.declared.part.Part.{Part}
+use Rattle.abl_parse.specs.declared.nonterminal.Nonterminal.{Nonterminal}
 use Rattle.abl_parse.specs.declared.symbol.Symbol.{Symbol}
 use Rattle.abl_parse.specs.declared.symbol.Symbol.TheVariants.{Take, Open}
 use Rattle.abl_parse.specs.declared.rows.TheConstants.{ROWS_FROM}
-use Rattle.abl_parse.specs.Same.{same_kind, same_part}
+use Rattle.abl_parse.specs.Same.{same_kind, same_nonterminal}
 use Rattle.abl_parse.specs.Grammar.{Production}
 use Rattle.abl_parse.specs.Completions.{rank}
 
--- where the productions of each part begin
+-- where the productions of each nonterminal begin
 unfoldable pub rows_from : List ℕ
 rows_from = ROWS_FROM
 
@@ -18,11 +18,11 @@ abbrev pub has : List TokenKind → TokenKind → Bool
 has [] k = false
 has (x ∷ xs) k = same_kind x k || has xs k
 
-abbrev pub starts_with : Part → TokenKind → Production → Bool
-starts_with a k x = same_part x.part a && has x.starts k
+abbrev pub starts_with : Nonterminal → TokenKind → Production → Bool
+starts_with a k x = same_nonterminal x.nonterminal a && has x.starts k
 
-abbrev pub vanishes_as : Part → Production → Bool
-vanishes_as a x = same_part x.part a && x.empty
+abbrev pub vanishes_as : Nonterminal → Production → Bool
+vanishes_as a x = same_nonterminal x.nonterminal a && x.empty
 
 abbrev pub some : {A : Type 0} → (A → Bool) → List A → Bool
 some p [] = false
@@ -36,7 +36,7 @@ abbrev pub is_nil : {A : Type 0} → List A → Bool
 is_nil [] = true
 is_nil (x ∷ xs) = false
 
--- the ranks up to the first symbol that stands for something
+-- the sum of the ranks up to the first symbol that cannot be empty
 abbrev pub front : List Production → List Symbol → ℕ
 front rs [] = 0
 front rs (Take k ∷ s) = 0
@@ -54,7 +54,7 @@ ends_once [] = false
 ends_once (Open a ∷ s) = ends_once s
 ends_once (Take k ∷ s) = cond (same_kind k EndOfSource) (is_nil s) (ends_once s)
 
--- the tokens that the productions of a part begin with
-abbrev pub of_part : List Production → Part → List TokenKind
-of_part [] a = []
-of_part (x ∷ xs) a = cond (same_part x.part a) x.starts [] ++ of_part xs a
+-- the tokens that the productions of a nonterminal begin with
+abbrev pub of_nonterminal : List Production → Nonterminal → List TokenKind
+of_nonterminal [] a = []
+of_nonterminal (x ∷ xs) a = cond (same_nonterminal x.nonterminal a) x.starts [] ++ of_nonterminal xs a

@@ -4,9 +4,9 @@ use Rattle.abl_tree.specs.declared.token.TokenKind.{TokenKind}
 use Rattle.abl_tree.specs.declared.tree.Node.{Node}
 use Rattle.abl_tree.specs.declared.production.TheConstants.{PRODUCTIONS}
 
--- The node with this number ends behind itself and within the tree, begins at one of the tokens, and uses a production of the table.
+-- the node with this number ends within the tree and not before its own number, begins at a token, and uses a production of the table
 pub record IsWithin (number : ℕ) (node : Node) (tree : List Node) (tokens : List TokenKind) : Type 0 where
-  pub ends_behind : number < node.end
+  pub ends_beyond : number < node.end
   pub ends_within : node.end ≤ length tree
   pub begins : node.first < length tokens
   pub uses : node.production < PRODUCTIONS

@@ -9,54 +9,55 @@ ghost use Rattle.abl_parse.specs.Grammar.{rule, rule_count};
 ghost use Rattle.abl_parse.specs.Table.{starts_with, vanishes_as};
 ghost use Rattle.abl_parse.specs.Engine.{OnlyRule, Stuck};
 
-use crate::part::Part;
+use crate::nonterminal::Nonterminal;
 use crate::table::{
-    after_rows, first_row, has, may_be_empty, part_at, same_kind, same_part, starts_at,
+    after_rows, first_row, has, may_be_empty, nonterminal_at, same_kind, same_nonterminal,
+    starts_at,
 };
 use abl_tree::TokenKind;
 
-// The production of the part that begins with this token.
-fn starting(part: Part, kind: TokenKind) -> Option<usize>
-    ensures some { IfSome result (λ r. (r < rule_count) × (starts_with part kind (rule r) ≡ true)) }
-    ensures none { IfNone result ((q : ℕ) → q < rule_count → starts_with part kind (rule q) ≡ false) }
+// The production of the nonterminal that begins with this token.
+fn starting(nonterminal: Nonterminal, kind: TokenKind) -> Option<usize>
+    ensures some { IfSome result (λ r. (r < rule_count) × (starts_with nonterminal kind (rule r) ≡ true)) }
+    ensures none { IfNone result ((q : ℕ) → q < rule_count → starts_with nonterminal kind (rule q) ≡ false) }
 {
-    for r in first_row(part)..after_rows(part) {
-        if same_part(part_at(r), part) && has(starts_at(r), kind) {
+    for r in first_row(nonterminal)..after_rows(nonterminal) {
+        if same_nonterminal(nonterminal_at(r), nonterminal) && has(starts_at(r), kind) {
             return Some(r);
         }
     }
     None
 }
 
-// The production of the part that can be empty.
-fn vanishing(part: Part) -> Option<usize>
-    ensures some { IfSome result (λ r. (r < rule_count) × (vanishes_as part (rule r) ≡ true)) }
-    ensures none { IfNone result ((q : ℕ) → q < rule_count → vanishes_as part (rule q) ≡ false) }
+// The production of the nonterminal that can be empty.
+fn vanishing(nonterminal: Nonterminal) -> Option<usize>
+    ensures some { IfSome result (λ r. (r < rule_count) × (vanishes_as nonterminal (rule r) ≡ true)) }
+    ensures none { IfNone result ((q : ℕ) → q < rule_count → vanishes_as nonterminal (rule q) ≡ false) }
 {
-    for r in first_row(part)..after_rows(part) {
-        if same_part(part_at(r), part) && may_be_empty(r) {
+    for r in first_row(nonterminal)..after_rows(nonterminal) {
+        if same_nonterminal(nonterminal_at(r), nonterminal) && may_be_empty(r) {
             return Some(r);
         }
     }
     None
 }
 
-/// The one production of the part that a derivation can use where the next token is this one.
-pub(crate) fn choose(part: Part, kind: TokenKind) -> Option<usize>
-    requires { kind ≡ TokenKind.Name → part ≡ Part.Statement → ⊥ }
-    ensures some { IfSome result (λ r. OnlyRule part kind r) }
-    ensures none { IfNone result ((at : ℕ) (room : Room) (stack : List Entry) → Stuck at (Derive part room ∷ stack) kind) }
+/// The one production of the nonterminal that a derivation can use where the next token is this one.
+pub(crate) fn choose(nonterminal: Nonterminal, kind: TokenKind) -> Option<usize>
+    requires { kind ≡ TokenKind.Name → nonterminal ≡ Nonterminal.Statement → ⊥ }
+    ensures some { IfSome result (λ r. OnlyRule nonterminal kind r) }
+    ensures none { IfNone result ((at : ℕ) (room : Room) (stack : List Entry) → Stuck at (Derive nonterminal room ∷ stack) kind) }
 {
-    match starting(part, kind) {
+    match starting(nonterminal, kind) {
         Some(r) => Some(r),
-        None => vanishing(part),
+        None => vanishing(nonterminal),
     }
 }
 
 /// Whether the next token alone does not decide: a statement that begins with a name.
-pub(crate) fn needs_two(part: Part, kind: TokenKind) -> bool
-    ensures yes { result ≡ true → (part ≡ Part.Statement) × (kind ≡ TokenKind.Name) }
-    ensures no { result ≡ false → kind ≡ TokenKind.Name → part ≡ Part.Statement → ⊥ }
+pub(crate) fn needs_two(nonterminal: Nonterminal, kind: TokenKind) -> bool
+    ensures yes { result ≡ true → (nonterminal ≡ Nonterminal.Statement) × (kind ≡ TokenKind.Name) }
+    ensures no { result ≡ false → kind ≡ TokenKind.Name → nonterminal ≡ Nonterminal.Statement → ⊥ }
 {
-    same_part(part, Part::Statement) && same_kind(kind, TokenKind::Name)
+    same_nonterminal(nonterminal, Nonterminal::Statement) && same_kind(kind, TokenKind::Name)
 }

@@ -4,15 +4,15 @@ ghost use Rattle.std.specs.Prelude.{◌++◌, IfOk, Ok, ℕ, ◌<◌, ◌≡◌,
 ghost use Rattle.abl_tree.specs.declared.token.TokenKind.TheVariants.{Name, EndOfSource};
 ghost use Rattle.abl_parse.specs.declared.symbol.Entry.{Entry};
 ghost use Rattle.abl_parse.specs.declared.symbol.Entry.TheVariants.{Await, Derive};
-ghost use Rattle.abl_parse.specs.declared.part.Part.TheVariants.{Statement};
+ghost use Rattle.abl_parse.specs.declared.nonterminal.Nonterminal.TheVariants.{Statement};
 ghost use Rattle.abl_parse.specs.Grammar.{rule_count, rules, opening};
 ghost use Rattle.abl_parse.specs.Table.{ends_once, front};
 ghost use Rattle.abl_parse.specs.Completing.{suits};
 ghost use Rattle.abl_parse.specs.Engine.{body, plain, Stuck, Leads, Named, Went, IsTaking};
 
 use crate::choice::{choose, needs_two};
+use crate::nonterminal::Nonterminal;
 use crate::opening::{inside, opening};
-use crate::part::Part;
 use crate::stack::Stack;
 use crate::symbol::{Entry, Opening, Room};
 use crate::table::{same_kind, symbols_at};
@@ -20,18 +20,18 @@ use abl_tree::TokenKind;
 use abl_tree::production::{ASSIGNMENT_TARGET, STATEMENT_ASSIGNMENT, STATEMENT_NAME, TARGET_NAME};
 use std::alloc::AllocError;
 
-// The topmost part goes by this production.
+// Replaces the topmost nonterminal by this production.
 fn open_row(
     stack: &mut Stack,
     used: &mut Vec<Opening>,
-    part: Part,
+    nonterminal: Nonterminal,
     room: Room,
     at: u32,
     r: usize,
 ) -> Result<(), AllocError>
-    requires top { (rest : List Entry) × (stack.old ≡ Derive part room ∷ rest) }
+    requires top { (rest : List Entry) × (stack.old ≡ Derive nonterminal room ∷ rest) }
     requires row { r < rule_count }
-    ensures stack { IfOk result (λ _. (rest : List Entry) → stack.old ≡ Derive part room ∷ rest → stack.new ≡ body r room ++ rest) }
+    ensures stack { IfOk result (λ _. (rest : List Entry) → stack.old ≡ Derive nonterminal room ∷ rest → stack.new ≡ body r room ++ rest) }
     ensures used { IfOk result (λ _. used.new.items ≡ used.old.items ++ opening r at room ∷ []) }
 {
     stack.pop();
@@ -40,26 +40,26 @@ fn open_row(
     Ok(())
 }
 
-// The topmost part goes by its production, where the next token allows one.
+// Replaces the topmost nonterminal by its production, where the next token allows one.
 fn open_top(
     stack: &mut Stack,
     used: &mut Vec<Opening>,
-    part: Part,
+    nonterminal: Nonterminal,
     room: Room,
     at: u32,
     kind: TokenKind,
 ) -> Result<bool, AllocError>
-    requires top { (rest : List Entry) × (stack.old ≡ Derive part room ∷ rest) }
-    requires plain { kind ≡ TokenKind.Name → part ≡ Part.Statement → ⊥ }
+    requires top { (rest : List Entry) × (stack.old ≡ Derive nonterminal room ∷ rest) }
+    requires plain { kind ≡ TokenKind.Name → nonterminal ≡ Nonterminal.Statement → ⊥ }
     ensures leads { IfOk result (λ _. Leads at stack.old used.old.items stack.new used.new.items kind) }
     ensures nearer { result ≡ Ok true → front rules (plain stack.new) < front rules (plain stack.old) }
     ensures ends { IfOk result (λ _. ends_once (plain stack.old) ≡ true → ends_once (plain stack.new) ≡ true) }
     ensures suits { IfOk result (λ _. suits rules (plain stack.old) EndOfSource ≡ true → suits rules (plain stack.new) EndOfSource ≡ true) }
     ensures stuck { result ≡ Ok false → Stuck at stack.new kind }
 {
-    match choose(part, kind) {
+    match choose(nonterminal, kind) {
         Some(r) => {
-            open_row(stack, used, part, room, at, r)?;
+            open_row(stack, used, nonterminal, room, at, r)?;
             Ok(true)
         }
         None => Ok(false),
@@ -74,8 +74,8 @@ fn open_name(
     at: u32,
     next: TokenKind,
 ) -> Result<(), AllocError>
-    requires { (rest : List Entry) × (stack.old ≡ Derive Part.Statement room ∷ rest) }
-    ensures named { IfOk result (λ _. (rest : List Entry) → stack.old ≡ Derive Part.Statement room ∷ rest → Named at room rest used.old.items stack.new used.new.items next) }
+    requires { (rest : List Entry) × (stack.old ≡ Derive Nonterminal.Statement room ∷ rest) }
+    ensures named { IfOk result (λ _. (rest : List Entry) → stack.old ≡ Derive Nonterminal.Statement room ∷ rest → Named at room rest used.old.items stack.new used.new.items next) }
     ensures ends { IfOk result (λ _. ends_once (plain stack.old) ≡ true → ends_once (plain stack.new) ≡ true) }
     ensures suits { IfOk result (λ _. suits rules (plain stack.old) EndOfSource ≡ true → suits rules (plain stack.new) EndOfSource ≡ true) }
 {
@@ -83,7 +83,7 @@ fn open_name(
         open_row(
             stack,
             used,
-            Part::Statement,
+            Nonterminal::Statement,
             room,
             at,
             STATEMENT_NAME as usize,
@@ -95,7 +95,7 @@ fn open_name(
     open_row(
         stack,
         used,
-        Part::Statement,
+        Nonterminal::Statement,
         room,
         at,
         STATEMENT_ASSIGNMENT as usize,
@@ -103,12 +103,19 @@ fn open_name(
     open_row(
         stack,
         used,
-        Part::Assignment,
+        Nonterminal::Assignment,
         within,
         at,
         ASSIGNMENT_TARGET as usize,
     )?;
-    open_row(stack, used, Part::Target, target, at, TARGET_NAME as usize)?;
+    open_row(
+        stack,
+        used,
+        Nonterminal::Target,
+        target,
+        at,
+        TARGET_NAME as usize,
+    )?;
     Ok(())
 }
 
@@ -126,12 +133,12 @@ pub(crate) fn expand(
     ensures taking { result ≡ Ok true → IsTaking stack.new }
     ensures stuck { result ≡ Ok false → Leads at stack.old used.old.items stack.new used.new.items kind × Stuck at stack.new kind }
 {
-    while let Some(Entry::Derive(part, room)) = stack.top() {
-        if needs_two(part, kind) {
+    while let Some(Entry::Derive(nonterminal, room)) = stack.top() {
+        if needs_two(nonterminal, kind) {
             open_name(stack, used, room, at, next)?;
             return Ok(true);
         }
-        if !open_top(stack, used, part, room, at, kind)? {
+        if !open_top(stack, used, nonterminal, room, at, kind)? {
             return Ok(false);
         }
     }

@@ -9,7 +9,7 @@ ghost use Rattle.abl_parse.specs.Grammar.{Spells, Begins, rule, rule_count};
 ghost use Rattle.abl_parse.specs.Table.{has};
 ghost use Rattle.abl_parse.specs.Within.{IsWithin};
 
-use crate::part::Part;
+use crate::nonterminal::Nonterminal;
 use abl_tree::TokenKind;
 
 /// No list of tokens is spelled by two trees.
@@ -22,7 +22,7 @@ pub fn nothing_follows_the_end()
     ensures { (before after : List TokenKind) (tree : List Node) → Spells tree (before ++ EndOfSource ∷ after) → after ≡ [] }
 {}
 
-/// Each node of a tree ends behind itself and within the tree, begins at one of the tokens, and
+/// Each node of a tree has its end within the tree and after its number, begins at a token, and
 /// uses a production of the table.
 pub fn nodes_are_within()
     ensures { (tree : List Node) (tokens : List TokenKind) → Spells tree tokens → (number : ℕ) (node : Node) → slice_get tree number ≡ Some node → IsWithin number node tree tokens }
@@ -33,8 +33,8 @@ pub fn starts_are_first_tokens()
     ensures { (r : ℕ) (kind : TokenKind) → r < rule_count → (has (rule r).starts kind ≡ true) ↔ Begins (rule r).symbols kind }
 {}
 
-/// Two productions of one part begin with no common token, but for the statements that begin with
+/// Two productions of one nonterminal begin with no common token, but for the statements that begin with
 /// a name.
 pub fn one_token_decides()
-    ensures { (q r : ℕ) (kind : TokenKind) → q < rule_count → r < rule_count → (rule q).part ≡ (rule r).part → Begins (rule q).symbols kind → Begins (rule r).symbols kind → (q ≡ r) ⊎ ((kind ≡ TokenKind.Name) × ((rule r).part ≡ Part.Statement)) }
+    ensures { (q r : ℕ) (kind : TokenKind) → q < rule_count → r < rule_count → (rule q).nonterminal ≡ (rule r).nonterminal → Begins (rule q).symbols kind → Begins (rule r).symbols kind → (q ≡ r) ⊎ ((kind ≡ TokenKind.Name) × ((rule r).nonterminal ≡ Nonterminal.Statement)) }
 {}

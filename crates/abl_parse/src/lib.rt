@@ -1,4 +1,4 @@
-//! The parser: from the tokens of a source to its syntax tree. It stands on `abl_tree`, which has
+//! The parser: from the tokens of a source to its syntax tree. It depends on `abl_tree`, which has
 //! the tokens, the tree and the names of the productions. The layers above may rely on a tree
 //! being the one derivation of its tokens from `Program` by the table of productions
 //! (`Spells` of the definitions), and on each refusal being the first place where a rule is broken.
@@ -9,22 +9,16 @@
 
 mod choice;
 mod expand;
-#[cfg(test)]
-mod expected;
 pub mod laws;
 mod nodes;
+pub mod nonterminal;
 mod opening;
-pub mod part;
 pub mod rows;
-#[cfg(test)]
-mod sources;
 mod stack;
 pub mod starts;
 pub mod symbol;
 pub mod symbols;
 pub mod syntax;
 mod table;
-#[cfg(test)]
-mod tests;
 
 pub use syntax::{SyntaxRefusal, parse};

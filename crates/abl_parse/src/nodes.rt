@@ -1,7 +1,7 @@
 //! The nodes of a tree, from its openings.
 
 ghost use Rattle.std.specs.Prelude.{ℕ, ◌<◌, ◌≡◌, ◌+◌, ◌^◌, List, ◌∷◌, drop, length, slice_index, IfOk};
-ghost use Rattle.abl_parse.specs.Closing.{end_after, is_part, laid, opens_in, parts_of};
+ghost use Rattle.abl_parse.specs.Closing.{end_after, is_nonterminal, laid, opens_in, children_of};
 
 use crate::symbol::{Opening, Symbol};
 use crate::table::{count, symbols_at};
@@ -9,7 +9,7 @@ use abl_tree::Node;
 use std::alloc::{AllocError, Global};
 use std::marker::Model;
 
-// The ends of the nodes that begin behind a place, the nearest first.
+// The ends of the nodes that begin after a place, the nearest first.
 #[derive(Drop)]
 struct Ends {
     // The nearest is last.
@@ -37,18 +37,18 @@ impl Ends {
     }
 
     // In place of the first few this one.
-    fn close(&mut self, parts: usize, end: u32) -> Result<(), AllocError>
-        ensures { IfOk result (λ _. self.new ≡ end ∷ drop parts self.old) }
+    fn close(&mut self, nonterminals: usize, end: u32) -> Result<(), AllocError>
+        ensures { IfOk result (λ _. self.new ≡ end ∷ drop nonterminals self.old) }
     {
-        let keep = self.ends.as_slice().len().saturating_sub(parts);
+        let keep = self.ends.as_slice().len().saturating_sub(nonterminals);
         self.ends.truncate(keep);
         self.ends.push(end)?;
         Ok(())
     }
 }
 
-fn is_part(symbol: Symbol) -> bool
-    ensures { result ≡ is_part symbol }
+fn is_nonterminal(symbol: Symbol) -> bool
+    ensures { result ≡ is_nonterminal symbol }
 {
     matches!(symbol, Symbol::Open(_))
 }
@@ -56,17 +56,17 @@ fn is_part(symbol: Symbol) -> bool
 fn opens_in(symbols: &[Symbol]) -> usize
     ensures { result ≡ opens_in symbols.now }
 {
-    let mut parts: usize = 0;
+    let mut nonterminals: usize = 0;
     for symbol in symbols {
-        if is_part(*symbol) {
-            parts += 1;
+        if is_nonterminal(*symbol) {
+            nonterminals += 1;
         }
     }
-    parts
+    nonterminals
 }
 
-fn parts_of(r: usize) -> usize
-    ensures { result ≡ parts_of r }
+fn children_of(r: usize) -> usize
+    ensures { result ≡ children_of r }
 {
     if r < count() {
         opens_in(symbols_at(r))
@@ -75,18 +75,18 @@ fn parts_of(r: usize) -> usize
     }
 }
 
-fn end_after(ends: &Ends, number: u32, parts: usize) -> u32
+fn end_after(ends: &Ends, number: u32, nonterminals: usize) -> u32
     requires { number + 1 < 2 ^ 32 }
-    ensures { result ≡ end_after number parts ends.now }
+    ensures { result ≡ end_after number nonterminals ends.now }
 {
-    if parts == 0 {
+    if nonterminals == 0 {
         number + 1
     } else {
-        ends.at(parts - 1)
+        ends.at(nonterminals - 1)
     }
 }
 
-/// The nodes with these openings. Want of memory is the only refusal.
+/// The nodes with these openings. It fails only out of memory.
 pub(crate) fn nodes_of(alloc: Global, openings: &[Opening]) -> Result<Vec<Node>, AllocError>
     requires { length openings.now < 2 ^ 32 }
     ensures { IfOk result (λ nodes. nodes.items ≡ laid openings.now) }
@@ -98,9 +98,9 @@ pub(crate) fn nodes_of(alloc: Global, openings: &[Opening]) -> Result<Vec<Node>,
     for k in 0..openings.len() {
         let number = openings.len() - 1 - k;
         let opening = openings[number];
-        let parts = parts_of(opening.production as usize);
-        let end = end_after(&ends, number as u32, parts);
-        ends.close(parts, end)?;
+        let nonterminals = children_of(opening.production as usize);
+        let end = end_after(&ends, number as u32, nonterminals);
+        ends.close(nonterminals, end)?;
         nodes.push(Node {
             production: opening.production,
             first: opening.first,

@@ -5,7 +5,7 @@ ghost use Rattle.abl_parse.specs.declared.symbol.Entry.{Entry};
 ghost use Rattle.abl_parse.specs.declared.symbol.Entry.TheVariants.{Await};
 ghost use Rattle.abl_parse.specs.Engine.{entry, entries, source};
 
-use crate::part::Part;
+use crate::nonterminal::Nonterminal;
 use crate::symbol::{Entry, Room, Symbol};
 use crate::table::same_kind;
 use abl_tree::TokenKind;
@@ -29,7 +29,7 @@ impl Model for Stack {
 }
 
 impl Stack {
-    /// A program, and behind it the end of the source.
+    /// A program, and after it the end of the source.
     pub(crate) fn whole(alloc: Global) -> Result<Stack, AllocError>
         ensures { IfOk result (λ s. s ≡ source) }
     {
@@ -39,7 +39,7 @@ impl Stack {
         };
         let mut entries = Vec::new(alloc);
         entries.push(Entry::Await(TokenKind::EndOfSource))?;
-        entries.push(Entry::Derive(Part::Program, room))?;
+        entries.push(Entry::Derive(Nonterminal::Program, room))?;
         Ok(Stack { entries })
     }
 
@@ -88,7 +88,7 @@ fn entry_of(symbol: Symbol, room: Room) -> Entry
 {
     match symbol {
         Symbol::Take(kind) => Entry::Await(kind),
-        Symbol::Open(part) => Entry::Derive(part, room),
+        Symbol::Open(nonterminal) => Entry::Derive(nonterminal, room),
     }
 }
 

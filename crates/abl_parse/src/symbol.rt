@@ -1,13 +1,13 @@
 //! What productions and derivations are made of.
 
-use crate::part::Part;
+use crate::nonterminal::Nonterminal;
 use abl_tree::TokenKind;
 
-/// A symbol of a production: a token, or a part that a production of its own stands for.
+/// A symbol of a production: a token, or a nonterminal.
 #[derive(Clone, Copy, Debug, PartialEq, Eq)]
 pub enum Symbol {
     Take(TokenKind),
-    Open(Part),
+    Open(Nonterminal),
 }
 
 /// How many more statements, and how many more expressions, NOTs and signs, may be opened at a
@@ -18,11 +18,11 @@ pub struct Room {
     pub expressions: u8,
 }
 
-/// What is still to come: a token, or a part with the room at its place.
+/// An entry of the stack: a token that is expected, or a nonterminal to be derived and the room at its place.
 #[derive(Clone, Copy, Debug, PartialEq, Eq)]
 pub enum Entry {
     Await(TokenKind),
-    Derive(Part, Room),
+    Derive(Nonterminal, Room),
 }
 
 /// Where a production is opened: its number, the number of the token before which it is, and

@@ -113,7 +113,7 @@ fn read(alloc: Global, tokens: &[Token]) -> Result<Vec<Opening>, SyntaxRefusal>
 /// The syntax tree of the tokens, in time linear in them and with no recursion.
 ///
 /// `G1` and `G2` come exactly where the tokens break them; the first of them in the order of the
-/// tokens is told. Want of memory is the one other answer.
+/// tokens is returned. `NoMemory` may be returned in place of either.
 pub fn parse(alloc: Global, tokens: &Tokens) -> Result<Tree, SyntaxRefusal>
     ensures spelled { IfOk result (λ tree. Spells tree (kinds tokens.now)) }
     ensures shallow { IfOk result (λ tree. (forest : Forest) → IsTree forest tree (kinds tokens.now) → IsShallow forest) }

@@ -1,22 +1,22 @@
 //! The table of productions, read by row.
 
 ghost use Rattle.std.specs.Prelude.{◌+◌, length, ℕ, ◌<◌, ◌≤◌, ◌≡◌, true, false};
-ghost use Rattle.abl_parse.specs.Same.{same_kind, same_part, part_number};
-ghost use Rattle.abl_parse.specs.Grammar.{rule, rule_count, parts, symbols, symbols_from, starts, starts_from, empty, statement, not_or_sign, expression};
+ghost use Rattle.abl_parse.specs.Same.{same_kind, same_nonterminal, nonterminal_number};
+ghost use Rattle.abl_parse.specs.Grammar.{rule, rule_count, nonterminals, symbols, symbols_from, starts, starts_from, empty, statement, not_or_sign, expression};
 ghost use Rattle.abl_parse.specs.Table.{rows_from, has};
 
-use crate::part::Part;
-use crate::rows::{EMPTY, PARTS, ROWS_FROM, STARTS_FROM, SYMBOLS_FROM};
+use crate::nonterminal::Nonterminal;
+use crate::rows::{EMPTY, NONTERMINALS, ROWS_FROM, STARTS_FROM, SYMBOLS_FROM};
 use crate::starts::STARTS;
 use crate::symbol::Symbol;
 use crate::symbols::SYMBOLS;
 use abl_tree::TokenKind;
 use abl_tree::production::{NEGATION_NOT, SIGNED_PLUS_OR_MINUS};
 
-fn parts() -> &'static [Part]
-    ensures { result.now ≡ parts }
+fn nonterminals() -> &'static [Nonterminal]
+    ensures { result.now ≡ nonterminals }
 {
-    &PARTS
+    &NONTERMINALS
 }
 
 fn symbols() -> &'static [Symbol]
@@ -59,15 +59,15 @@ fn rows_from() -> &'static [usize]
 pub(crate) fn count() -> usize
     ensures { result ≡ rule_count }
 {
-    parts().len()
+    nonterminals().len()
 }
 
-/// The part of a production.
-pub(crate) fn part_at(r: usize) -> Part
+/// The nonterminal of a production.
+pub(crate) fn nonterminal_at(r: usize) -> Nonterminal
     requires { r < rule_count }
-    ensures { result ≡ (rule r).part }
+    ensures { result ≡ (rule r).nonterminal }
 {
-    let all = parts();
+    let all = nonterminals();
     all[r]
 }
 
@@ -91,7 +91,7 @@ pub(crate) fn starts_at(r: usize) -> &'static [TokenKind]
     &all[from[r]..from[r + 1]]
 }
 
-/// Whether a production can stand for nothing.
+/// Whether a production can be empty.
 pub(crate) fn may_be_empty(r: usize) -> bool
     requires { r < rule_count }
     ensures { result ≡ (rule r).empty }
@@ -106,25 +106,25 @@ pub(crate) fn same_kind(a: TokenKind, b: TokenKind) -> bool
     a == b
 }
 
-pub(crate) fn same_part(a: Part, b: Part) -> bool
-    ensures { result ≡ same_part a b }
+pub(crate) fn same_nonterminal(a: Nonterminal, b: Nonterminal) -> bool
+    ensures { result ≡ same_nonterminal a b }
 {
     a == b
 }
 
-fn part_number(part: Part) -> usize
-    ensures { result ≡ part_number part }
+fn nonterminal_number(nonterminal: Nonterminal) -> usize
+    ensures { result ≡ nonterminal_number nonterminal }
 {
-    part as usize
+    nonterminal as usize
 }
 
-/// The first row of the part, or 0 where the table does not say.
-pub(crate) fn first_row(part: Part) -> usize
+/// The first row of the nonterminal, or 0 where the table does not say.
+pub(crate) fn first_row(nonterminal: Nonterminal) -> usize
     ensures below { result ≤ rule_count }
-    ensures before { (q : ℕ) → q < rule_count → (rule q).part ≡ part → result ≤ q }
+    ensures before { (q : ℕ) → q < rule_count → (rule q).nonterminal ≡ nonterminal → result ≤ q }
 {
     let from = rows_from();
-    let number = part_number(part);
+    let number = nonterminal_number(nonterminal);
     if number < from.len() && from[number] <= count() {
         from[number]
     } else {
@@ -132,13 +132,13 @@ pub(crate) fn first_row(part: Part) -> usize
     }
 }
 
-/// The row after the last of the part, or the number of rows where the table does not say.
-pub(crate) fn after_rows(part: Part) -> usize
+/// The row after the last of the nonterminal, or the number of rows where the table does not say.
+pub(crate) fn after_rows(nonterminal: Nonterminal) -> usize
     ensures below { result ≤ rule_count }
-    ensures behind { (q : ℕ) → q < rule_count → (rule q).part ≡ part → q < result }
+    ensures beyond { (q : ℕ) → q < rule_count → (rule q).nonterminal ≡ nonterminal → q < result }
 {
     let from = rows_from();
-    let number = part_number(part);
+    let number = nonterminal_number(nonterminal);
     if number < from.len() && number + 1 < from.len() && from[number + 1] <= count() {
         from[number + 1]
     } else {
@@ -163,7 +163,7 @@ pub(crate) fn is_statement(r: usize) -> bool
     requires { r < rule_count }
     ensures { result ≡ statement r }
 {
-    same_part(part_at(r), Part::Statement)
+    same_nonterminal(nonterminal_at(r), Nonterminal::Statement)
 }
 
 /// Whether the production is one of an expression, a NOT or a sign.
@@ -171,7 +171,7 @@ pub(crate) fn is_expression(r: usize) -> bool
     requires { r < rule_count }
     ensures { result ≡ expression r }
 {
-    if same_part(part_at(r), Part::Expression) {
+    if same_nonterminal(nonterminal_at(r), Nonterminal::Expression) {
         true
     } else {
         not_or_sign(r)

@@ -4,7 +4,8 @@ use Rattle.std.proofs.Math.Seq.{drop-cons}
 use Rattle.std.proofs.Math.ListN.{drop_of_length-le}
 use Rattle.std.specs.Prelude.{◌==◌}
 use Rattle.std.specs.Char.{to_ascii_uppercase}
-use Rattle.abl_base.proofs.Bools.{chosen_true, chosen_false, and_right, refuted, same, different}
+use Rattle.std.proofs.lemmas.Bool.{cond-true, cond-false, false_from_ne_true, eq-eqb, ne_eqb}
+use Rattle.abl_base.proofs.Bools.{right_of_and}
 use Rattle.abl_tree.specs.declared.token.TokenKind.{TokenKind}
 use Rattle.abl_tree.specs.Keywords.{abbreviation, capitals, spells, spelled_in_full, spelled_short}
 
@@ -13,10 +14,10 @@ unfolding spells
 spells_length [] [] e = refl
 spells_length [] (b ∷ bs) e = cc
 spells_length (c ∷ cs) [] e = cc
-spells_length (c ∷ cs) (b ∷ bs) e = let h = spells_length cs bs (and_right (c == to_ascii_uppercase b) _ e) in omega arith
+spells_length (c ∷ cs) (b ∷ bs) e = let h = spells_length cs bs (right_of_and (c == to_ascii_uppercase b) _ e) in omega arith
 
 pub other_length : (cs w : List ℕ) → length cs ≢ length w → false ≡ spells cs w
-other_length cs w n = sym (refuted (spells cs w) (λ e. n (spells_length cs w e)))
+other_length cs w n = sym (false_from_ne_true (spells cs w) (λ e. n (spells_length cs w e)))
 
 step : (c b : ℕ) (cs bs : List ℕ) → (c == to_ascii_uppercase b) ≡ true → spells (c ∷ cs) (b ∷ bs) ≡ spells cs bs
 unfolding spells
@@ -32,12 +33,12 @@ parts cs i h = rw (add-one, drop-cons cs i 0)
 pub next_same : (cs w : List ℕ) (i : ℕ) → i < length cs → i < length w → get_or cs i 0 ≡ to_ascii_uppercase (get_or w i 0) → spells (drop i cs) (drop i w) ≡ spells (drop (i + 1) cs) (drop (i + 1) w)
 next_same cs w i h l e =
     ap (λ x. spells x (drop i w)) (parts cs i h) ∙ ap (λ x. spells (get_or cs i 0 ∷ drop (i + 1) cs) x) (parts w i l)
-    ∙ step (get_or cs i 0) (get_or w i 0) (drop (i + 1) cs) (drop (i + 1) w) (same _ _ e)
+    ∙ step (get_or cs i 0) (get_or w i 0) (drop (i + 1) cs) (drop (i + 1) w) (eq-eqb _ _ e)
 
 pub next_other : (cs w : List ℕ) (i : ℕ) → i < length cs → i < length w → get_or cs i 0 ≢ to_ascii_uppercase (get_or w i 0) → spells (drop i cs) (drop i w) ≡ false
 next_other cs w i h l e =
     ap (λ x. spells x (drop i w)) (parts cs i h) ∙ ap (λ x. spells (get_or cs i 0 ∷ drop (i + 1) cs) x) (parts w i l)
-    ∙ stop (get_or cs i 0) (get_or w i 0) (drop (i + 1) cs) (drop (i + 1) w) (different _ _ e)
+    ∙ stop (get_or cs i 0) (get_or w i 0) (drop (i + 1) cs) (drop (i + 1) w) (ne_eqb _ _ e)
 
 drop_all : (xs : List ℕ) → drop (length xs) xs ≡ []
 drop_all [] = refl
@@ -59,11 +60,11 @@ full_nil w = refl
 
 pub full_here : (k : TokenKind) (ks : List TokenKind) (w : List ℕ) → spells (capitals k) w ≡ true → spelled_in_full (k ∷ ks) w ≡ Some k
 unfolding spelled_in_full
-full_here k ks w e = chosen_true (spells (capitals k) w) (Some k) _ e
+full_here k ks w e = cond-true (spells (capitals k) w) (Some k) _ e
 
 pub full_later : (k : TokenKind) (ks : List TokenKind) (w : List ℕ) → spells (capitals k) w ≡ false → spelled_in_full (k ∷ ks) w ≡ spelled_in_full ks w
 unfolding spelled_in_full
-full_later k ks w e = chosen_false (spells (capitals k) w) (Some k) _ e
+full_later k ks w e = cond-false (spells (capitals k) w) (Some k) _ e
 
 pub short_nil : (w : List ℕ) → spelled_short [] w ≡ None
 unfolding spelled_short
@@ -71,11 +72,11 @@ short_nil w = refl
 
 pub short_here : (k : TokenKind) (ks : List TokenKind) (w : List ℕ) → spells (abbreviation k) w ≡ true → spelled_short (k ∷ ks) w ≡ Some k
 unfolding spelled_short
-short_here k ks w e = chosen_true (spells (abbreviation k) w) (Some k) _ e
+short_here k ks w e = cond-true (spells (abbreviation k) w) (Some k) _ e
 
 pub short_later : (k : TokenKind) (ks : List TokenKind) (w : List ℕ) → spells (abbreviation k) w ≡ false → spelled_short (k ∷ ks) w ≡ spelled_short ks w
 unfolding spelled_short
-short_later k ks w e = chosen_false (spells (abbreviation k) w) (Some k) _ e
+short_later k ks w e = cond-false (spells (abbreviation k) w) (Some k) _ e
 
 kinds_from : (ks : List TokenKind) (i : ℕ) (k : TokenKind) → i < length ks → drop i ks ≡ get_or ks i k ∷ drop (i + 1) ks
 kinds_from ks i k h = rw (add-one, drop-cons ks i k)

@@ -1,4 +1,4 @@
--- Where the end token stands in a list of tokens.
+-- The place of the end token in a list of tokens.
 use Rattle.std.specs.Prelude.{Bool, true, false, not, ◌&&◌, List, [], ◌∷◌}
 use Rattle.abl_tree.specs.declared.token.TokenKind.{TokenKind}
 use Rattle.abl_tree.specs.declared.token.TokenKind.TheVariants.{EndOfSource}
@@ -9,7 +9,7 @@ abbrev pub is_end : TokenKind → Bool
 is_end EndOfSource = true
 is_end _ = false
 
--- the end token is the last, and stands nowhere else
+-- the end token is the last, and occurs nowhere else
 abbrev pub ends_once : List Token → Bool
 ends_once [] = false
 ends_once (t ∷ []) = is_end t.kind

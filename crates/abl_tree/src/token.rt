@@ -158,10 +158,10 @@ pub enum TokenKind {
     EndOfSource,
 }
 
-/// What a token stands for beside its kind.
+/// What a token means beyond its kind.
 #[derive(Drop)]
 pub enum Meaning {
-    /// A keyword, a symbol or the end: the kind says all.
+    /// A keyword, a symbol or the end: the kind is the whole meaning.
     KindAlone,
     /// The name as the source spells it.
     Spelling(Bytes),
@@ -186,7 +186,7 @@ pub struct CivilDate {
 }
 
 /// A token: its kind, the bytes of the source from `start` up to and without `end`, the line and
-/// column of its first byte, and what it stands for.
+/// column of its first byte, and its meaning.
 #[derive(Drop)]
 pub struct Token {
     pub kind: TokenKind,
@@ -205,7 +205,7 @@ impl TokenKind {
     }
 }
 
-/// The tokens of a source in order. The end token stands last and nowhere else.
+/// The tokens of a source in order. The end token is the last and occurs nowhere else.
 #[derive(Drop)]
 pub struct Tokens {
     items: Vec<Token>,

@@ -4,13 +4,13 @@ ghost use Rattle.std.specs.Prelude.{◌≡◌, ◌<◌, length, slice_get, Some}
 
 use std::marker::Model;
 
-/// A node of a syntax tree: a production that the source uses, with what it stands for.
+/// A node of a syntax tree: a production that the source uses.
 #[derive(Clone, Copy, Debug, PartialEq, Eq)]
 pub struct Node {
     /// The number of the production, one of `production`.
     pub production: u16,
-    /// The number of the first token inside, counted from 0. Of a node that stands for no token:
-    /// the number of the token before which it stands.
+    /// The number of the first token inside, counted from 0. Of an empty node: the number of the
+    /// token that follows it.
     pub first: u32,
     /// One more than the number of the last node inside, so that the nodes inside are those after
     /// this one and before `end`, and the next node beside this one is `end` itself.
@@ -20,7 +20,7 @@ pub struct Node {
 /// The syntax tree of a source: its nodes, each before those inside it, and those from left to
 /// right. The node 0 is the whole program. A node is known by its number.
 ///
-/// The nodes inside a node are one for each part that its production names, in that order. The
+/// The children of a node are one for each nonterminal of its production, in that order. The
 /// first has the next number, and each other begins where the one before ends.
 #[derive(Drop)]
 pub struct Tree {

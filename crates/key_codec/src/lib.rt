@@ -1,4 +1,4 @@
-//! The key bytes of rows in indexes. It stands on `abl_values`, which says which bytes a value has as
+//! The key bytes of rows in indexes. It depends on `abl_values`, which says which bytes a value has as
 //! a component of an index, and proves that the byte order of keys is the index's order of rows.
 //! The layer above may rely on exactly these bytes, and on keys of at most 200 bytes.
 #![tactic(auto)]
@@ -7,7 +7,7 @@ ghost use Rattle.std.specs.Prelude.{◌≡◌, ◌<◌, ◌≤◌, length, IfOk,
 ghost use Rattle.abl_values.specs.Keys.{component_bytes, key_bytes};
 
 use abl_base::{Bytes, Items, Row, Value};
-use abl_values::{IndexDef, Part, key_bytes};
+use abl_values::{IndexDef, KeyPart, key_bytes};
 use std::alloc::{AllocError, Global};
 
 /// The greatest length of a key, in bytes (this project's choice).
@@ -18,7 +18,7 @@ pub const MAX_KEY_BYTES: usize = 200;
 pub enum KeyFault {
     /// The key bytes would pass `MAX_KEY_BYTES`.
     TooLong,
-    /// Memory is wanting.
+    /// Out of memory.
     NoMemory,
 }
 
@@ -33,8 +33,8 @@ impl From<AllocError> for KeyFault {
     }
 }
 
-/// The key bytes of a row in an index: those of its components one after the other. TooLong comes
-/// exactly where they are more than 200; NoMemory may come at any row.
+/// The key bytes of a row in an index: those of its components one after the other. `TooLong` is returned
+/// exactly where they are more than 200; `NoMemory` may be returned for any row.
 pub fn key(def: &IndexDef, row: &Row) -> Result<Bytes, KeyFault>
     ensures key { IfOk result (λ key. key ≡ key_bytes def.now.parts row.now) }
     ensures fits { OnOk result (length (key_bytes def.now.parts row.now) ≤ MAX_KEY_BYTES) }
@@ -47,8 +47,8 @@ pub fn key(def: &IndexDef, row: &Row) -> Result<Bytes, KeyFault>
     Ok(key)
 }
 
-/// The bytes of a value as a component of an index, descending or not. Want of memory is the only
-/// refusal.
+/// The bytes of a value as a component of an index, descending or not. It fails only out of
+/// memory.
 pub fn part(alloc: Global, value: &Value, descending: bool) -> Result<Bytes, AllocError>
     ensures { IfOk result (λ bytes. bytes ≡ component_bytes descending value.now) }
 {
@@ -58,7 +58,7 @@ pub fn part(alloc: Global, value: &Value, descending: bool) -> Result<Bytes, All
     let row = Items::from_vec(values);
     let bytes = key_bytes(
         alloc,
-        &[Part {
+        &[KeyPart {
             field: 0,
             descending,
         }],
@@ -66,6 +66,3 @@ pub fn part(alloc: Global, value: &Value, descending: bool) -> Result<Bytes, All
     )?;
     Ok(bytes)
 }
-
-#[cfg(test)]
-mod tests;

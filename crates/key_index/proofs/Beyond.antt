@@ -6,7 +6,7 @@ use Rattle.std.specs.FinMap as map
 use Rattle.std.proofs.lemmas.Grind.{common_steps}
 use Rattle.key_index.specs.declared.left.Seat.{Seat}
 use Rattle.key_index.specs.Left.{owner_at, owners_of}
-use Rattle.key_index.specs.Standing.{HasEntry, Rows}
+use Rattle.key_index.specs.Places.{HasEntry, Rows}
 use Rattle.key_index.proofs.Owners.{get_owner}
 
 -- the rows above a given one, at most

@@ -7,8 +7,9 @@ use Rattle.std.specs.FinMap as map
 use Rattle.std.proofs.lemmas.Map.Lookups.{exact_unsigned}
 use Rattle.std.proofs.lemmas.Map.Views.{tells_apart}
 use Rattle.key_index.specs.declared.index.Node.{Node}
-use Rattle.key_index.specs.Standing.{Rows}
-use Rattle.key_index.specs.Index.{Keys, standing, keeper_of, Puts, IsSame}
+use Rattle.key_index.specs.Places.{Rows}
+use Rattle.key_index.specs.Index.{Keys, place_at, keeper_of, Forgets, Puts, IsSame}
+use Rattle.key_index.specs.Nodes.{IsNodeForgotten}
 
 -- a node with a place put, and its keeper
 abbrev pub put_node : Node → ℕ → ℕ → Bool → Option ℕ → Node
@@ -24,8 +25,8 @@ insert_other rows row owner q differ = map.get-insert nat_cmp_total rows row own
     pick true is = absurd (differ (tells_apart exact_unsigned q row is))
     pick false is = refl
 
--- what stands under a key, by its node
-pub at_node : (index : Keys) (key : List ℕ) (row : ℕ) (node : Option Node) → map.get index key ≡ node → standing index key row ≡ option_and_then (λ n. map.get n.rows row) node
+-- the content of a place, by the node of its key
+pub at_node : (index : Keys) (key : List ℕ) (row : ℕ) (node : Option Node) → map.get index key ≡ node → place_at index key row ≡ option_and_then (λ n. map.get n.rows row) node
 at_node index key row found is = ap (option_and_then (λ (n : Node). map.get n.rows row)) is
 
 pub of_node : (index : Keys) (key : List ℕ) (node : Option Node) → map.get index key ≡ node → keeper_of index key ≡ option_and_then (λ n. n.keeper) node
@@ -54,15 +55,26 @@ fresh_puts old new client key row unique owner was now others = record {
   keepers = λ other differ. of_node new other _ (others other differ);
 }
 
+-- an entry taken out under a key that was there
+pub known_forgets : (old new : Keys) (was now : Node) (key : List ℕ) (row : ℕ) (keeper : Option ℕ) → map.get old key ≡ Some was → map.get new key ≡ Some now → IsNodeForgotten row keeper was now
+    → ((other : List ℕ) → other ≢ key → map.get new other ≡ map.get old other) → Forgets old key row keeper new
+known_forgets old new was now key row keeper before after node others = record {
+  place = at_node new key row _ after ∙ node.place;
+  rows = λ other differ. at_node new key other _ after ∙ node.rows other differ ∙ sym (at_node old key other _ before);
+  places = λ other at differ. at_node new other at _ (others other differ);
+  keeper_is = of_node new key _ after ∙ node.keeper_is;
+  keepers = λ other differ. of_node new other _ (others other differ);
+}
+
 pub same_nodes : (old new : Keys) → ((key : List ℕ) → map.get new key ≡ map.get old key) → IsSame old new
 same_nodes old new same = record { places = λ key row. at_node new key row _ (same key); keepers = λ key. of_node new key _ (same key) }
 
--- a place that stands is under a node that has it
-pub has_place : (index : Keys) (key : List ℕ) (row : ℕ) (node : Node) (owner : Option ℕ) → map.get index key ≡ Some node → standing index key row ≡ Some owner → map.get node.rows row ≡ Some owner
-has_place index key row node owner is stands = sym (at_node index key row _ is) ∙ stands
+-- the content of a place is in the node of its key
+pub has_place : (index : Keys) (key : List ℕ) (row : ℕ) (node : Node) (owner : Option ℕ) → map.get index key ≡ Some node → place_at index key row ≡ Some owner → map.get node.rows row ≡ Some owner
+has_place index key row node owner is is_there = sym (at_node index key row _ is) ∙ is_there
 
-pub no_place : (index : Keys) (key : List ℕ) (row : ℕ) (owner : Option ℕ) → map.get index key ≡ None → standing index key row ≡ Some owner → ⊥
-no_place index key row owner is stands = let none = sym (at_node index key row None is) ∙ stands in nothing owner none
+pub no_place : (index : Keys) (key : List ℕ) (row : ℕ) (owner : Option ℕ) → map.get index key ≡ None → place_at index key row ≡ Some owner → ⊥
+no_place index key row owner is is_there = let none = sym (at_node index key row None is) ∙ is_there in nothing owner none
   where
     nothing : (o : Option ℕ) → None ≡ Some o → ⊥
     nothing o h = cc

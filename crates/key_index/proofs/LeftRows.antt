@@ -3,10 +3,10 @@ use Rattle.std.proofs.Common.{◌≡◌, ◌≢◌, ◌↔◌, ◌⊎◌, inl, i
 use Rattle.std.specs.Option.{option_map}
 use Rattle.std.specs.BTreeMap.{BTreeMap}
 use Rattle.std.proofs.lemmas.Grind.{common_steps}
-use Rattle.abl_base.proofs.Bools.{clash}
+use Rattle.std.proofs.lemmas.Bool.{both_ways}
 use Rattle.key_index.specs.declared.left.Seat.{Seat}
 use Rattle.key_index.specs.Left.{AreListed, IsListed, Lists, owner_at, seat_at}
-use Rattle.key_index.specs.Standing.{IsLeft, without_left}
+use Rattle.key_index.specs.Places.{IsLeft, without_left}
 
 pub same_or_other : (a b : ℕ) → (a ≡ b) ⊎ (a ≢ b)
 same_or_other a b = grind (arith, common_steps)
@@ -22,7 +22,7 @@ not_left client (Some (Some other)) is = pick (eqb other client) refl is
   where
     pick : (b : Bool) → eqb other client ≡ b → cond b None (Some (Some other)) ≡ Some (Some client) → ⊥
     pick true same h = cc
-    pick false same h = clash (eqb other client) same (subst (λ (c : ℕ). eqb other c ≡ true) (other_is h) (eqb_itself other))
+    pick false same h = both_ways (eqb other client) same (subst (λ (c : ℕ). eqb other c ≡ true) (other_is h) (eqb_itself other))
       where
         other_is : Some (Some other) ≡ Some (Some client) → other ≡ client
         other_is e = cc
@@ -59,8 +59,8 @@ pub is_left-owner : (owner : Option ℕ) (place : Option (Option ℕ)) → place
 is_left-owner owner place is = (owned owner is, λ was_left. some_owner was_left.0 owner (sym is ∙ was_left.1))
   where
     owned : (o : Option ℕ) → place ≡ Some o → IsSome o → IsLeft place
-    owned None stands some = cc
-    owned (Some client) stands some = (client, stands)
+    owned None is_there some = cc
+    owned (Some client) is_there some = (client, is_there)
 
 -- the list has each placeholder
 pub left_listed : (seats : BTreeMap ℕ Seat) (left : List ℕ) (row : ℕ) → AreListed seats left → IsLeft (owner_at seats row) → Lists left row

@@ -12,3 +12,4 @@ pub mod Owners
 pub mod TouchedKeys
 pub mod NodesOf
 pub mod TouchedPuts
+pub mod Forgotten

@@ -1,11 +1,11 @@
 -- What a search finds under the cursor's own key.
 use Rattle.std.proofs.Common.{◌≡◌, ◌<◌, ◌≤◌, ◌⊎◌, inl, inr, ℕ, Bool, true, false, List, Option, Some, None, MatchOption, IfSome, IfNone, refl, sym, subst, ◌∙◌}
 use Rattle.std.specs.FinMap as map
-use Rattle.abl_base.specs.declared.row.Cursor.{Cursor}
+use Rattle.client_database.specs.declared.row_order.Cursor.{Cursor}
 use Rattle.key_index.specs.declared.index.Node.{Node}
 use Rattle.key_index.specs.Index.{Keys, IsEntry}
 use Rattle.key_index.specs.Search.{BeginsWith, IsKeyBefore, IsBeyondCursor, IsNextAmong, FindsNoneAmong, LiesBeyond}
-use Rattle.key_index.specs.Standing.{HasEntry, IsAbove, IsBelow}
+use Rattle.key_index.specs.Places.{HasEntry, IsAbove, IsBelow}
 use Rattle.key_index.proofs.Orders.{not_itself}
 use Rattle.key_index.proofs.Ranged.{entry_node, node_entry, same_or_below}
 

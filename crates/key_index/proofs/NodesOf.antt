@@ -11,9 +11,9 @@ use Rattle.std.specs.List.Sorted.{IsStrictlySortedBy}
 use Rattle.std.specs.declared.ops.Bound.{Bound}
 use Rattle.key_index.specs.declared.index.Node.{Node}
 use Rattle.key_index.specs.declared.touched.Keyed.{Keyed}
-use Rattle.key_index.specs.Index.{Keys, IsEnded, keeper_of, standing}
+use Rattle.key_index.specs.Index.{Keys, IsEnded, keeper_of, place_at}
 use Rattle.key_index.specs.Keyed.{by_bytes}
-use Rattle.key_index.specs.Standing.{without_keeper, without_left}
+use Rattle.key_index.specs.Places.{without_keeper, without_left}
 use Rattle.key_index.specs.Touched.{AreKeysListed, EndsAt, ListsKey, keeper_in, keyed_at, nodes_of, row_of}
 use Rattle.key_index.proofs.KeyedNodes.{node_at, seen}
 use Rattle.key_index.proofs.Ranged.{IsSorted, by_items}
@@ -42,8 +42,8 @@ module _ {Z : Type 0} where
   pub seen_node : (nodes : BTreeMap (Vec ℕ Z) Keyed) (index : Keys) → map.from_entries (by_bytes (nodes_of nodes.entries)) ≡ index → (key : List ℕ) → map.get index key ≡ node_in (keyed_at nodes key)
   seen_node nodes index is key = seen (nodes_of nodes.entries) index is key ∙ node_of nodes.entries key
 
-  pub standing_is : (nodes : BTreeMap (Vec ℕ Z) Keyed) (index : Keys) → map.from_entries (by_bytes (nodes_of nodes.entries)) ≡ index → (key : List ℕ) (row : ℕ) → standing index key row ≡ row_of (keyed_at nodes key) row
-  standing_is nodes index is key row = ap (option_and_then (λ (n : Node). map.get n.rows row)) (seen_node nodes index is key) ∙ row_in_node (keyed_at nodes key) row
+  pub place_at_is : (nodes : BTreeMap (Vec ℕ Z) Keyed) (index : Keys) → map.from_entries (by_bytes (nodes_of nodes.entries)) ≡ index → (key : List ℕ) (row : ℕ) → place_at index key row ≡ row_of (keyed_at nodes key) row
+  place_at_is nodes index is key row = ap (option_and_then (λ (n : Node). map.get n.rows row)) (seen_node nodes index is key) ∙ row_in_node (keyed_at nodes key) row
 
   pub keeper_is : (nodes : BTreeMap (Vec ℕ Z) Keyed) (index : Keys) → map.from_entries (by_bytes (nodes_of nodes.entries)) ≡ index → (key : List ℕ) → keeper_of index key ≡ keeper_in (keyed_at nodes key)
   keeper_is nodes index is key = ap (option_and_then (λ (n : Node). n.keeper)) (seen_node nodes index is key) ∙ keeper_in_node (keyed_at nodes key)
@@ -51,7 +51,7 @@ module _ {Z : Type 0} where
   pub index_ended : (client : ℕ) (before after : BTreeMap (Vec ℕ Z) Keyed) (old : Keys) → map.from_entries (by_bytes (nodes_of before.entries)) ≡ old → ((key : List ℕ) → EndsAt client (keyed_at before key) (keyed_at after key))
       → IsEnded client old (map.from_entries (by_bytes (nodes_of after.entries)))
   index_ended client before after old is ended = record {
-    places = λ key row. standing_is after _ refl key row ∙ (ended key).rows row ∙ ap (without_left client) (sym (standing_is before old is key row));
+    places = λ key row. place_at_is after _ refl key row ∙ (ended key).rows row ∙ ap (without_left client) (sym (place_at_is before old is key row));
     keepers = λ key. keeper_is after _ refl key ∙ (ended key).keeper ∙ ap (without_keeper client) (sym (keeper_is before old is key));
   }
 

@@ -53,8 +53,8 @@ before_is_upto a b before = ap is_gt before
 
 pub prefix_upto : (key prefix : List ℕ) → BeginsWith key prefix → IsKeyUpTo prefix key
 prefix_upto key prefix (rest, is) =
-    ap is_gt (ap (λ (p : List ℕ). slice_cmp nat_cmp p key) (sym (append-nil prefix)) ∙ ap (λ (k : List ℕ). slice_cmp nat_cmp (prefix ++ []) k) is ∙ same_front prefix [] rest) ∙ ahead rest
+    ap is_gt (ap (λ (p : List ℕ). slice_cmp nat_cmp p key) (sym (append-nil prefix)) ∙ ap (λ (k : List ℕ). slice_cmp nat_cmp (prefix ++ []) k) is ∙ same_front prefix [] rest) ∙ after_cursor rest
   where
-    ahead : (rest : List ℕ) → is_gt (slice_cmp nat_cmp [] rest) ≡ false
-    ahead [] = refl
-    ahead (b ∷ bs) = refl
+    after_cursor : (rest : List ℕ) → is_gt (slice_cmp nat_cmp [] rest) ≡ false
+    after_cursor [] = refl
+    after_cursor (b ∷ bs) = refl

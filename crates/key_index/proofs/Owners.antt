@@ -10,7 +10,7 @@ use Rattle.std.proofs.lemmas.Map.Lookups.{exact_unsigned}
 use Rattle.std.proofs.lemmas.Map.Views.{tells_apart}
 use Rattle.key_index.specs.declared.left.Seat.{Seat}
 use Rattle.key_index.specs.Left.{AreListed, IsListed, Lists, owner_at, owners_of, seat_at}
-use Rattle.key_index.specs.Standing.{Rows}
+use Rattle.key_index.specs.Places.{Rows}
 use Rattle.abl_base.proofs.TreeEntries.{at, get_at, one_put}
 
 owner_pick : (seat : Seat) (es : List (ℕ × Option ℕ)) (fs : List (ℕ × Seat)) (q : ℕ) (b : Bool) → at es q ≡ option_map (λ (s : Seat). s.owner) (at fs q)
@@ -35,7 +35,7 @@ none_some a h = cc
 nothing_stands : is_some {T = Option ℕ} None ≡ true → ⊥
 nothing_stands h = cc
 
--- no row stands where no seat is
+-- a row without a seat is not there
 pub no_seat : (seats : BTreeMap ℕ Seat) (rows : Rows) (row : ℕ) → map.from_entries (owners_of seats.entries) ≡ rows → None ≡ seat_at seats row → IsSome (map.get rows row) → ⊥
 no_seat seats rows row is none some =
     nothing_stands (ap is_some (ap (option_map (λ (s : Seat). s.owner)) none) ∙ sym (ap is_some (get_owner seats rows is row)) ∙ some)
@@ -69,7 +69,7 @@ no_owner (Some client) is some = cc
 pub entry_listed : (left : List ℕ) (row : ℕ) (seat : Seat) → seat.owner ≡ None → (seat.spare ≡ None → Lists left row) → IsListed left row seat
 entry_listed left row seat is used = record { owned = λ some. absurd (no_owner seat.owner is some); used = used }
 
--- where no row stands there is no entry
+-- without a row there is no entry
 pub no_entry : (es : List (ℕ × Seat)) → ((row : ℕ) → option_map (λ (s : Seat). s.owner) (at es row) ≡ None) → es ≡ []
 no_entry [] none = refl
 no_entry (e ∷ es) none = absurd (nothing (sym (none e.0) ∙ first))

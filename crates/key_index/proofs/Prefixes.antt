@@ -21,7 +21,7 @@ one_up b xs = ap (λ r. ordering_then r (slice_cmp nat_cmp xs [])) less
     less : nat_cmp b (b + 1) ≡ Less
     less = grind (arith, common_steps)
 
--- the prefix cut before a byte, with one more than that byte, stands after each key with the prefix
+-- the prefix cut before a byte, with one more than that byte, follows each key with the prefix
 pub before_next : (prefix : List ℕ) (end : ℕ) → end < length prefix → (key : List ℕ) → BeginsWith key prefix → IsKeyBefore key (take end prefix ++ (get_or prefix end 0 + 1) ∷ [])
 before_next prefix end inside key (rest, is) =
     let split : key ≡ take end prefix ++ (get_or prefix end 0 ∷ (drop (end + 1) prefix ++ rest)) =

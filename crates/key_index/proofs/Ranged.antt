@@ -19,15 +19,15 @@ use Rattle.std.proofs.lemmas.List.Kept.{IsStrictlySortedBy-filter}
 use Rattle.std.proofs.lemmas.Map.Entries.{lookup-filter-keys}
 use Rattle.std.proofs.lemmas.Map.Keys.{sorted_head, sorted_tail}
 use Rattle.std.proofs.lemmas.Map.Views.{IsInRange-from_range_contains, range_contains-from_IsInRange}
-use Rattle.abl_base.specs.declared.row.Cursor.{Cursor}
-use Rattle.abl_base.proofs.Bools.{clash}
+use Rattle.client_database.specs.declared.row_order.Cursor.{Cursor}
+use Rattle.std.proofs.lemmas.Bool.{both_ways}
 use Rattle.key_index.specs.declared.index.Node.{Node}
 use Rattle.key_index.specs.Index.{Keys, IsEntry}
 use Rattle.key_index.specs.Keyed.{by_bytes}
 use Rattle.key_index.specs.Search.{BeginsWith, IsKeyBefore, IsKeyBeyond, IsBeyondCursor, IsFindable, IsNextAmong, FindsNoneAmong, LiesBeyond}
 use Rattle.key_index.specs.Seeking.{NodeList, ArePassed, IsFirst, IsLast}
 use Rattle.key_index.specs.Span.{IsFromStart, IsUpToEnd, IsSpan}
-use Rattle.key_index.specs.Standing.{HasEntry}
+use Rattle.key_index.specs.Places.{HasEntry}
 use Rattle.key_index.proofs.KeyedNodes.{node_at, same_bytes, seen}
 use Rattle.key_index.proofs.Orders.{not_itself}
 
@@ -40,7 +40,7 @@ none_some x h = cc
 pub equal_itself : (a : List ℕ) → is_eq (slice_cmp nat_cmp a a) ≡ true
 equal_itself a = ap is_eq (tied_itself nat_list_cmp_total a)
 
--- an entry of an index stands in a node
+-- an entry of an index is in a node
 pub entry_node : (index : Keys) (key : List ℕ) (row : ℕ) → IsEntry index key row → (n : Node) × (map.get index key ≡ Some n) × HasEntry n.rows row
 entry_node index key row entry = pick (map.get index key) refl
   where
@@ -116,7 +116,7 @@ module _ {Z : Type 0} where
       (was.0, ap (λ t. cond t (Some e.1) (node_at es key)) at ∙ was.1)
   was_one lo hi e es rest key n below false is true at h =
       let was = below h in
-      absurd (clash (range.range_contains by_items lo hi e.0) is (inside lo hi e.0 key (same_bytes key e.0.items at) was.0.0 was.0.1))
+      absurd (both_ways (range.range_contains by_items lo hi e.0) is (inside lo hi e.0 key (same_bytes key e.0.items at) was.0.0 was.0.1))
   was_one lo hi e es rest key n below false is false at h =
       let was = below h in
       (was.0, ap (λ t. cond t (Some e.1) (node_at es key)) at ∙ was.1)

@@ -2,11 +2,11 @@
 use Rattle.std.proofs.Common.{◌≡◌, ℕ, ◌≤◌, List, [], ◌∷◌, ◌++◌, Vec, refl, sym, ap, subst, ◌∙◌, append_assoc}
 use Rattle.std.proofs.lemmas.List.{append-nil}
 use Rattle.key_index.specs.declared.index.Node.{Node}
-use Rattle.key_index.specs.Standing.{HasEntry}
+use Rattle.key_index.specs.Places.{HasEntry}
 use Rattle.key_index.specs.Search.{BeginsWith}
 use Rattle.key_index.specs.Seeking.{NodeList, IsPassed, ArePassed, IsFirst, IsLast}
 
--- the nodes at the front were passed, these are left
+-- the first nodes were passed, these are left
 pub record SearchedUp {Z : Type 0} (prefix : List ℕ) (all left : NodeList Z) : Type 0 where
   pub before : NodeList Z
   pub split : all ≡ before ++ left

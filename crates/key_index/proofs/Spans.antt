@@ -2,7 +2,7 @@
 use Rattle.std.proofs.Common.{◌≡◌, ◌↔◌, ℕ, List, Bool, true, false, not, IsTrue, Option, Some, None, IfSome, MatchOption, Vec, refl, sym, subst}
 use Rattle.std.specs.declared.ops.Bound.{Bound}
 use Rattle.std.specs.declared.ops.Bound.TheVariants.{Included, Excluded}
-use Rattle.abl_base.specs.declared.row.Cursor.{Cursor}
+use Rattle.client_database.specs.declared.row_order.Cursor.{Cursor}
 use Rattle.abl_base.proofs.Bools.{not_true}
 use Rattle.key_index.specs.Search.{BeginsWith, IsKeyBefore, IsKeyBeyond}
 use Rattle.key_index.specs.Span.{IsFromStart, IsUpToEnd, IsBeforeEnd, IsInOrder, IsNoSpan, IsSpan, StartsBefore, end_at}
@@ -11,7 +11,7 @@ use Rattle.key_index.proofs.Orders.{before_before, before_upto, upto_before, upt
 false_not_true : false ≡ true → ⊥
 false_not_true h = cc
 
--- a key that does not stand before the end stands behind all that do
+-- a key that does not precede the end follows all that do
 pub past_end : (b : Bool) (key bytes other : List ℕ) → (IsTrue b ↔ IsKeyBefore key bytes) → IsTrue (not b) → IsKeyBefore other bytes → IsKeyBefore other key
 past_end b key bytes other iff past before = before_upto other bytes key before (upto_from_not_before bytes key (λ less. not_true b past (iff.1 less)))
 
@@ -32,7 +32,7 @@ module _ {Z : Type 0} where
   before_from_end None key h = h
   before_from_end (Some bytes) key h = h
 
-  -- bytes behind all keys with a prefix are an end of them
+  -- bytes that follow all keys with a prefix are an end of them
   pub before_after : (end : Option (Vec ℕ Z)) (prefix : List ℕ) → IfSome end (λ bytes. (key : List ℕ) → BeginsWith key prefix → IsKeyBefore key bytes.items) → (key : List ℕ) → BeginsWith key prefix → IsBeforeEnd end key
   before_after None prefix h key begins = tt
   before_after (Some bytes) prefix h key begins = h key begins

@@ -5,10 +5,10 @@ use Rattle.std.specs.Ordering.{is_eq}
 use Rattle.std.specs.Cmp.Lexicographic.{slice_cmp}
 use Rattle.std.specs.BTreeMap.{BTreeMap, UpdatesBy, WritesThrough}
 use Rattle.std.proofs.lemmas.Grind.{common_steps}
-use Rattle.abl_base.proofs.Bools.{clash}
+use Rattle.std.proofs.lemmas.Bool.{both_ways}
 use Rattle.key_index.specs.declared.touched.Keyed.{Keyed}
 use Rattle.key_index.specs.Nodes.{IsNodeEnded, IsTouched}
-use Rattle.key_index.specs.Standing.{without_keeper, without_left}
+use Rattle.key_index.specs.Places.{without_keeper, without_left}
 use Rattle.key_index.specs.Touched.{AreKeysListed, EndsAt, IsKeyListed, ListsKey, keeper_in, keyed_at, row_of}
 use Rattle.key_index.proofs.KeyedNodes.{node_updated, same_bytes, write_node}
 use Rattle.key_index.proofs.LeftRows.{left_again, not_left, others_stay}
@@ -25,7 +25,7 @@ same_key_or_other a b = pick (is_eq (slice_cmp nat_cmp a b)) refl
   where
     pick : (t : Bool) → is_eq (slice_cmp nat_cmp a b) ≡ t → (a ≡ b) ⊎ (a ≢ b)
     pick true is = inl (same_bytes a b is)
-    pick false is = inr (λ same. clash (is_eq (slice_cmp nat_cmp a b)) is (subst (λ (c : List ℕ). is_eq (slice_cmp nat_cmp a c) ≡ true) same (equal_itself a)))
+    pick false is = inr (λ same. both_ways (is_eq (slice_cmp nat_cmp a b)) is (subst (λ (c : List ℕ). is_eq (slice_cmp nat_cmp a c) ≡ true) same (equal_itself a)))
 
 -- what is left of a keeper is not the client
 not_kept : (client : ℕ) (o : Option ℕ) → without_keeper client o ≡ Some client → ⊥
@@ -34,7 +34,7 @@ not_kept client (Some other) is = pick (eqb other client) refl is
   where
     pick : (b : Bool) → eqb other client ≡ b → cond b None (Some other) ≡ Some client → ⊥
     pick true same h = cc
-    pick false same h = clash (eqb other client) same (subst (λ (c : ℕ). eqb other c ≡ true) (other_is h) (eqb_itself other))
+    pick false same h = both_ways (eqb other client) same (subst (λ (c : ℕ). eqb other c ≡ true) (other_is h) (eqb_itself other))
       where
         other_is : Some other ≡ Some client → other ≡ client
         other_is e = cc

@@ -9,7 +9,7 @@ use Rattle.key_index.specs.declared.index.Node.{Node}
 use Rattle.key_index.specs.declared.touched.Keyed.{Keyed}
 use Rattle.key_index.specs.declared.touched.Spare.{Spare}
 use Rattle.key_index.specs.Nodes.{IsTouched, no_node, node_entered}
-use Rattle.key_index.specs.Standing.{Rows}
+use Rattle.key_index.specs.Places.{Rows}
 use Rattle.key_index.specs.Touched.{AreKeysListed, IsKeyListed, ListsKey, keyed_at}
 use Rattle.key_index.proofs.TouchedKeys.{same_key_or_other, some_keyed}
 
@@ -23,7 +23,7 @@ no_spare (Some s) some none = cc
 
 -- an entry is no placeholder
 entry_left : (rows : Rows) (row q client : ℕ) → map.get (map.insert rows row None) q ≡ Some (Some client) → map.get rows q ≡ Some (Some client)
-entry_left rows row q client stands = pick (eq_by_cmp nat_cmp q row) (sym (map.get-insert nat_cmp_total rows row None q) ∙ stands)
+entry_left rows row q client is_there = pick (eq_by_cmp nat_cmp q row) (sym (map.get-insert nat_cmp_total rows row None q) ∙ is_there)
   where
     nothing : Some None ≡ Some (Some client) → ⊥
     nothing h = cc

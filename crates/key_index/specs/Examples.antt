@@ -6,9 +6,9 @@ use Rattle.std.specs.Cmp.Lexicographic.{nat_list_cmp_total}
 use Rattle.std.specs.FinMap as map
 use Rattle.std.specs.Option.{option_and_then}
 use Rattle.key_index.specs.declared.index.Node.{Node}
-use Rattle.key_index.specs.Index.{Keys, keeper_of, standing}
+use Rattle.key_index.specs.Index.{Keys, keeper_of, place_at}
 use Rattle.key_index.specs.Search.{BeginsWith, IsBefore, LiesBeyond}
-use Rattle.key_index.specs.Standing.{Rows, is_client, without_keeper, without_left}
+use Rattle.key_index.specs.Places.{Rows, is_client, without_keeper, without_left}
 
 -- the entry 2, and 7 as the client 1 left it
 abbrev pub two_rows : Rows
@@ -24,13 +24,13 @@ one_key = map.insert map.empty (codes "ab") one_node
 node_there : map.get one_key (codes "ab") ≡ Some one_node
 node_there = map.get-insert nat_list_cmp_total map.empty (codes "ab") one_node (codes "ab")
 
-pub entry_stands : standing one_key (codes "ab") 2 ≡ Some None
-entry_stands =
+pub entry_is_there : place_at one_key (codes "ab") 2 ≡ Some None
+entry_is_there =
     ap (option_and_then (λ (n : Node). map.get n.rows 2)) node_there
     ∙ (map.get-insert nat_cmp_total (map.insert map.empty 2 None) 7 (Some 1) 2 ∙ map.get-insert nat_cmp_total map.empty 2 None 2)
 
-pub placeholder_stands : standing one_key (codes "ab") 7 ≡ Some (Some 1)
-placeholder_stands = ap (option_and_then (λ (n : Node). map.get n.rows 7)) node_there ∙ map.get-insert nat_cmp_total (map.insert map.empty 2 None) 7 (Some 1) 7
+pub placeholder_is_there : place_at one_key (codes "ab") 7 ≡ Some (Some 1)
+placeholder_is_there = ap (option_and_then (λ (n : Node). map.get n.rows 7)) node_there ∙ map.get-insert nat_cmp_total (map.insert map.empty 2 None) 7 (Some 1) 7
 
 pub kept_by_one : keeper_of one_key (codes "ab") ≡ Some 1
 kept_by_one = ap (option_and_then (λ (n : Node). n.keeper)) node_there

@@ -11,11 +11,11 @@ abbrev pub Lists : {X : Type 0} → List X → X → Type 0
 Lists [] y = ⊥
 Lists (x ∷ xs) y = (x ≡ y) ⊎ Lists xs y
 
--- what stands at a row, with its room
+-- the seat of a row: its content and its room
 abbrev pub seat_at : BTreeMap ℕ Seat → ℕ → Option Seat
 seat_at seats row = tree.get nat_cmp seats row
 
--- what stands at a row: None for an entry, or the client that left it
+-- the content of a row: None for an entry, or the client whose placeholder it is
 abbrev pub owner_at : BTreeMap ℕ Seat → ℕ → Option (Option ℕ)
 owner_at seats row = option_map (λ (s : Seat). s.owner) (seat_at seats row)
 

@@ -1,6 +1,6 @@
 pub mod Chain
 pub mod Left
-pub mod Standing
+pub mod Places
 pub mod Nodes
 pub mod Index
 pub mod Keyed

@@ -3,18 +3,18 @@ use Rattle.std.specs.Prelude.{◌≡◌, ◌⊎◌, ℕ, ◌<◌, Bool, true, fa
 use Rattle.std.specs.Ordering.{nat_cmp}
 use Rattle.std.specs.declared.cmp.Ordering.TheVariants.{Less}
 use Rattle.std.specs.Cmp.Lexicographic.{slice_cmp}
-use Rattle.abl_base.specs.declared.row.Cursor.{Cursor}
+use Rattle.client_database.specs.declared.row_order.Cursor.{Cursor}
 use Rattle.key_index.specs.Index.{Keys, IsEntry}
 
 -- the first bytes of the key are these
 abbrev pub BeginsWith : List ℕ → List ℕ → Type 0
 BeginsWith key prefix = (rest : List ℕ) × (key ≡ prefix ++ rest)
 
--- a key stands before another
+-- a key precedes another
 abbrev pub IsKeyBefore : List ℕ → List ℕ → Type 0
 IsKeyBefore key other = slice_cmp nat_cmp key other ≡ Less
 
--- a place stands before another: its key does, or the keys are the same and its row does
+-- a place precedes another: its key does, or the keys are equal and its row is less
 abbrev pub IsBefore : List ℕ → ℕ → List ℕ → ℕ → Type 0
 IsBefore key row other at = IsKeyBefore key other ⊎ ((key ≡ other) × (row < at))
 

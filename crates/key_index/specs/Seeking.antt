@@ -1,7 +1,7 @@
 -- What a search through nodes in order has found.
 use Rattle.std.specs.Prelude.{◌≡◌, ℕ, ◌≤◌, List, [], ◌∷◌, ◌++◌, Vec}
 use Rattle.key_index.specs.declared.index.Node.{Node}
-use Rattle.key_index.specs.Standing.{HasEntry}
+use Rattle.key_index.specs.Places.{HasEntry}
 use Rattle.key_index.specs.Search.{BeginsWith}
 
 -- nodes under their keys, in an order

@@ -6,10 +6,10 @@ use Rattle.std.specs.Cmp.Lexicographic.{slice_cmp}
 use Rattle.std.specs.Range.Bound.{IsForward}
 use Rattle.std.specs.declared.ops.Bound.{Bound}
 use Rattle.std.specs.declared.ops.Bound.TheVariants.{Included, Excluded, Unbounded}
-use Rattle.abl_base.specs.declared.row.Cursor.{Cursor}
+use Rattle.client_database.specs.declared.row_order.Cursor.{Cursor}
 use Rattle.key_index.specs.Search.{BeginsWith, IsKeyBefore, IsKeyBeyond}
 
--- a key is another or stands before it
+-- a key equals another or precedes it
 abbrev pub IsKeyUpTo : List ℕ → List ℕ → Type 0
 IsKeyUpTo key other = is_gt (slice_cmp nat_cmp key other) ≡ false
 
@@ -36,7 +36,7 @@ module _ {Z : Type 0} where
   end_at None = Unbounded
   end_at (Some end) = Excluded end
 
--- the ends do not stand in the wrong order; all keys with the prefix beyond the cursor's lie between them, and no key that is not beyond it
+-- the range is well ordered, contains every key with the prefix beyond the cursor's, and no key at or before the cursor's
 pub record IsSpan {Z : Type 0} (cursor : Option Cursor) (prefix : List ℕ) (forward : Bool) (start end : Bound (Vec ℕ Z)) : Type 0 where
   pub in_order : IsForward (IsLeBy (λ x y. slice_cmp nat_cmp x.items y.items)) (IsLtBy (λ x y. slice_cmp nat_cmp x.items y.items)) start end
   pub covers : (key : List ℕ) → BeginsWith key prefix → IsKeyBeyond cursor forward key → IsFromStart start key × IsUpToEnd end key

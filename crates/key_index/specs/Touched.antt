@@ -9,9 +9,9 @@ use Rattle.std.specs.FinMap as map
 use Rattle.key_index.specs.declared.index.Node.{Node}
 use Rattle.key_index.specs.declared.touched.Keyed.{Keyed}
 use Rattle.key_index.specs.Nodes.{IsTouched}
-use Rattle.key_index.specs.Standing.{without_keeper, without_left}
+use Rattle.key_index.specs.Places.{without_keeper, without_left}
 
--- what stands at a row under a key, and who keeps the key
+-- the content of a row under a key, and the keeper of the key
 abbrev pub row_of : Option Keyed → ℕ → Option (Option ℕ)
 row_of keyed row = option_and_then (λ (k : Keyed). map.get k.node.rows row) keyed
 
@@ -24,7 +24,7 @@ pub record EndsAt (client : ℕ) (before after : Option Keyed) : Type 0 where
   pub keeper : keeper_in after ≡ without_keeper client (keeper_in before)
 
 module _ {Z : Type 0} where
-  -- what stands under these bytes
+  -- the value under these bytes
   abbrev pub keyed_at : BTreeMap (Vec ℕ Z) Keyed → List ℕ → Option Keyed
   keyed_at nodes key = tree.get_by (λ v. slice_cmp nat_cmp key v.items) nodes
 

@@ -1,6 +1,6 @@
-//! Lists that grow without memory: an item comes with the room that it is to stand in. The room is a
-//! cell of the list, and each item has one of its own from the moment it may be listed. So there is
-//! no capacity that could be used up, and no other way to go for want of it.
+//! Lists that grow without allocation: an item is added together with room for it. The room is a cell
+//! of the list, allocated when the item is made that may later be listed. So a list has no capacity
+//! that could be exhausted, and adding never fails.
 
 ghost use Rattle.std.specs.Prelude.{◌≡◌, [], ◌∷◌, IfOk, MatchOption};
 ghost use Rattle.key_index.specs.Chain.{items_of};
@@ -90,7 +90,7 @@ impl<T: Drop> Chain<T> {
         self.links = Links::More(item, cell);
     }
 
-    /// Takes the first item out, and the room that it stood in.
+    /// Takes out the first item and its room.
     pub fn take(&mut self) -> Option<(T, Room<T>)>
         ensures { MatchOption result (self.old ≡ []) (λ first. self.old ≡ first.0 ∷ self.new) }
     {

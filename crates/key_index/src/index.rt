@@ -3,16 +3,17 @@
 ghost use Rattle.std.specs.Prelude.{◌≡◌, ◌↔◌, true, false, IsTrue, IsSome, IsOk, OnOk, OnErr, IfOk, MatchOption, Some, None};
 ghost use Rattle.std.specs.FinMap as map;
 ghost use Rattle.std.specs.Option.{option_copied};
-ghost use Rattle.key_index.specs.Index.{IsEnded, IsEntry, IsSame, KeepsSome, MayEnter, NoOtherKeeps, Puts, keeper_of, standing};
+ghost use Rattle.key_index.specs.Index.{Forgets, IsEnded, IsEntry, IsSame, KeepsSome, MayEnter, NoOtherKeeps, Puts, keeper_of, place_at};
 ghost use Rattle.key_index.specs.Search.{FindsNone, FindsNoneAmong, IsKeyBeyond, IsNext, IsNextAmong};
 
 use crate::chain::Chain;
 use crate::prefix::begins_with;
 use crate::rows::{Rows, is_client};
 use crate::seek::{first_entry, last_entry};
-use crate::span::{ends_ahead, ends_behind};
+use crate::span::{span_after, span_before};
 use crate::touched::{Keyed, Nodes, end_keys, keeps_one, list};
-use abl_base::{Bytes, Cursor, RowId};
+use abl_base::{Bytes, RowId};
+use client_database::Cursor;
 use std::alloc::{AllocError, Global};
 use std::collections::BTreeMap;
 use std::marker::Model;
@@ -25,7 +26,7 @@ pub struct Node {
 }
 
 impl Node {
-    ghost use Rattle.key_index.specs.Nodes.{no_node, node_entered, node_left, IsBare, IsNodeEnded, IsTouched};
+    ghost use Rattle.key_index.specs.Nodes.{no_node, node_entered, node_left, IsBare, IsNodeEnded, IsNodeForgotten, IsTouched};
 
     /// No row, and no keeper.
     pub(crate) fn new(alloc: Global) -> Node
@@ -37,7 +38,7 @@ impl Node {
         }
     }
 
-    /// Lets a row stand as an entry, and the client keep the key where it is a unique one.
+    /// Makes a row an entry, and the client the keeper of the key if it is unique.
     pub(crate) fn enter(
         &mut self,
         alloc: Global,
@@ -56,8 +57,8 @@ impl Node {
         Ok(())
     }
 
-    /// Lets a row that stands here stand as a placeholder of the client, which keeps the key where
-    /// it is a unique one. It takes no memory.
+    /// Makes a row that is here a placeholder of the client, and the client the keeper of the key if
+    /// it is unique. It takes no memory.
     pub(crate) fn leave(&mut self, client: u16, row: u32, unique: bool)
         requires { IsSome (map.get self.old.rows row) }
         ensures { self.new ≡ node_left self.old client row unique }
@@ -68,7 +69,15 @@ impl Node {
         }
     }
 
-    /// Takes the placeholders of a client away, and frees the key where the client keeps it. Tells
+    /// Takes a row out, and has the key kept by this client or by none. It takes no memory.
+    pub(crate) fn forget(&mut self, row: u32, keeper: Option<u16>)
+        ensures { IsNodeForgotten row keeper self.old self.new }
+    {
+        self.rows.forget(row);
+        self.keeper = keeper;
+    }
+
+    /// Takes the placeholders of a client away, and frees the key if the client keeps it. Returns
     /// whether anything is left.
     pub(crate) fn end(&mut self, client: u16) -> bool
         ensures ended { IsNodeEnded client self.old self.new }
@@ -128,7 +137,7 @@ impl Index {
 
     /// The first entry after the cursor whose key begins with the prefix, or the last one before it
     /// where the search does not go forward; without a cursor the first or the last of all.
-    /// Placeholders are passed over. Want of memory is the only refusal.
+    /// Placeholders are passed over. It fails only out of memory.
     pub fn next(
         &self,
         cursor: Option<&Cursor>,
@@ -174,18 +183,22 @@ impl Index {
         ensures { IfOk result (λ found. MatchOption found (FindsNoneAmong (IsKeyBeyond (option_copied cursor.entry) forward) self.now (option_copied cursor.entry) prefix.now forward) (λ f. IsNextAmong (IsKeyBeyond (option_copied cursor.entry) forward) self.now (option_copied cursor.entry) prefix.now forward f.key f.row.0)) }
     {
         if forward {
-            self.ahead(cursor, prefix)
+            self.after_cursor(cursor, prefix)
         } else {
-            self.behind(cursor, prefix)
+            self.before_cursor(cursor, prefix)
         }
     }
 
     /// The first entry under a key after the cursor's.
-    fn ahead(&self, cursor: Option<&Cursor>, prefix: &Bytes) -> Result<Option<Cursor>, AllocError>
+    fn after_cursor(
+        &self,
+        cursor: Option<&Cursor>,
+        prefix: &Bytes,
+    ) -> Result<Option<Cursor>, AllocError>
         ensures { IfOk result (λ found. MatchOption found (FindsNoneAmong (IsKeyBeyond (option_copied cursor.entry) true) self.now (option_copied cursor.entry) prefix.now true) (λ f. IsNextAmong (IsKeyBeyond (option_copied cursor.entry) true) self.now (option_copied cursor.entry) prefix.now true f.key f.row.0)) }
     {
         let alloc = prefix.allocator();
-        let Some(ends) = ends_ahead(alloc, cursor, prefix.as_slice())? else {
+        let Some(ends) = span_after(alloc, cursor, prefix.as_slice())? else {
             return Ok(None);
         };
         let Some((key, row)) = first_entry(self.nodes.range(ends), prefix.as_slice()) else {
@@ -198,11 +211,15 @@ impl Index {
     }
 
     /// The last entry under a key before the cursor's.
-    fn behind(&self, cursor: Option<&Cursor>, prefix: &Bytes) -> Result<Option<Cursor>, AllocError>
+    fn before_cursor(
+        &self,
+        cursor: Option<&Cursor>,
+        prefix: &Bytes,
+    ) -> Result<Option<Cursor>, AllocError>
         ensures { IfOk result (λ found. MatchOption found (FindsNoneAmong (IsKeyBeyond (option_copied cursor.entry) false) self.now (option_copied cursor.entry) prefix.now false) (λ f. IsNextAmong (IsKeyBeyond (option_copied cursor.entry) false) self.now (option_copied cursor.entry) prefix.now false f.key f.row.0)) }
     {
         let alloc = prefix.allocator();
-        let Some(ends) = ends_behind(alloc, cursor, prefix.as_slice())? else {
+        let Some(ends) = span_before(alloc, cursor, prefix.as_slice())? else {
             return Ok(None);
         };
         let Some((key, row)) = last_entry(self.nodes.range(ends), prefix.as_slice()) else {
@@ -214,7 +231,7 @@ impl Index {
         }))
     }
 
-    /// Whether the client may enter here: nothing stands at the place, or a placeholder of its own.
+    /// Whether the client may enter here: the place is empty or has a placeholder of its own.
     pub fn may_enter(&self, client: u16, key: &Bytes, row: RowId) -> bool
         ensures { IsTrue result ↔ MayEnter self.now client key.now row.0 }
     {
@@ -224,7 +241,7 @@ impl Index {
         }
     }
 
-    /// Whether an entry stands at the place.
+    /// Whether the place has an entry.
     pub fn has_entry(&self, key: &Bytes, row: RowId) -> bool
         ensures { IsTrue result ↔ IsEntry self.now key.now row.0 }
     {
@@ -244,9 +261,10 @@ impl Index {
         }
     }
 
-    /// What stands at the place: None for an entry, or the client that left it.
+    /// The content of the place: None if it is empty, Some None for an entry, or the client whose
+    /// placeholder it has.
     fn place(&self, key: &Bytes, row: RowId) -> Option<Option<u16>>
-        ensures { result ≡ standing self.now key.now row.0 }
+        ensures { result ≡ place_at self.now key.now row.0 }
     {
         self.nodes.get(key.as_slice())?.node.rows.get(row.0)
     }
@@ -265,8 +283,8 @@ impl Index {
         self.nodes.get(key.as_slice())?.node.keeper
     }
 
-    /// Adds an entry. `unique` says that the key is a unique key, which the client then keeps. Want
-    /// of memory is the only refusal, and does not come where the client takes back what it left.
+    /// Adds an entry. If `unique` says that the key is a unique key, the client keeps it from now on.
+    /// It fails only out of memory, and not if the client takes back an entry that it left.
     pub fn enter(
         &mut self,
         client: u16,
@@ -278,7 +296,7 @@ impl Index {
         requires unkept { IsTrue unique → NoOtherKeeps self.old client key.now }
         ensures ok { OnOk result (Puts self.old client key.now row.0 unique None self.new) }
         ensures err { OnErr result (IsSame self.old self.new) }
-        ensures taken_back { standing self.old key.now row.0 ≡ Some (Some client) → IsOk result }
+        ensures taken_back { place_at self.old key.now row.0 ≡ Some (Some client) → IsOk result }
     {
         let alloc = key.allocator();
         if let Some(keyed) = self.nodes.get_mut(key.as_slice()) {
@@ -294,10 +312,10 @@ impl Index {
         Ok(())
     }
 
-    /// Takes an entry out: it stays as a placeholder of the client, which keeps the key where it is
-    /// a unique one. It takes no memory.
+    /// Takes an entry out: a placeholder of the client stays in its place, and the client keeps the
+    /// key if it is unique. It takes no memory.
     pub fn leave(&mut self, client: u16, key: &Bytes, row: RowId, unique: bool)
-        requires there { standing self.old key.now row.0 ≡ Some None }
+        requires there { place_at self.old key.now row.0 ≡ Some None }
         requires unkept { IsTrue unique → NoOtherKeeps self.old client key.now }
         ensures { Puts self.old client key.now row.0 unique (Some client) self.new }
     {
@@ -308,8 +326,23 @@ impl Index {
         list(&mut self.touched, used);
     }
 
-    /// Removes the client's placeholders and frees the keys that it keeps. It takes no memory, and
-    /// goes over those keys alone that a client keeps or under which one has left a row.
+    /// Takes an entry out as if it had never been entered: no placeholder stays, and `keeper` is the
+    /// client that keeps the key, or None. With the keeper from before an `enter` at an empty place
+    /// this undoes that `enter` (law `forget_undoes_enter`). It takes no memory.
+    pub fn forget(&mut self, key: &Bytes, row: RowId, keeper: Option<u16>)
+        requires { IsEntry self.old key.now row.0 }
+        ensures { Forgets self.old key.now row.0 keeper self.new }
+    {
+        let Some(keyed) = self.nodes.get_mut(key.as_slice()) else {
+            return;
+        };
+        let used = keyed.forget(row.0, keeper);
+        list(&mut self.touched, used);
+    }
+
+    /// Removes the client's placeholders and frees the keys that it keeps. It takes no memory, and its
+    /// time grows with the keys and rows that any client touched since the last end, and with those
+    /// that other clients still keep or left; entries that none of them touched do not count.
     pub fn end(&mut self, client: u16)
         ensures { IsEnded client self.old self.new }
     {

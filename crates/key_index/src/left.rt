@@ -1,27 +1,27 @@
 //! The rows under one key with their owners, and the list of those that were left.
 
-ghost use Rattle.std.specs.Prelude.{◌≡◌, ◌≢◌, ◌↔◌, ℕ, IsTrue, Some, false};
+ghost use Rattle.std.specs.Prelude.{◌≡◌, ◌≢◌, ◌↔◌, ℕ, IsTrue, Some, None, false};
 ghost use Rattle.key_index.specs.declared.left.Seat.{Seat as SeatOf};
 ghost use Rattle.key_index.specs.Left.{AreListed, IsListed, Lists, owner_at, seat_at};
-ghost use Rattle.key_index.specs.Standing.{IsLeft, without_left};
+ghost use Rattle.key_index.specs.Places.{IsLeft, without_left};
 
 use crate::chain::{Chain, Links, Room};
 use std::collections::BTreeMap;
 use std::mem;
 
-/// What stands at a row: None for an entry, or the client that left it; and room for the row in the
-/// list of those that were left, while it is not used.
+/// The seat of a row: None for an entry, or the client whose placeholder it is; and room for the row
+/// in the list of the rows that were left, while that is unused.
 #[derive(Drop)]
 pub struct Seat {
     pub owner: Option<u16>,
     pub spare: Option<Room<u32>>,
 }
 
-/// The rows with what stands at each.
+/// The rows with the seat of each.
 pub(crate) type Seats = BTreeMap<u32, Seat>;
 
 impl Seat {
-    /// Lets it stand as a placeholder of the client. Gives the room for its row, if it is unused.
+    /// Makes it a placeholder of the client. Returns the room for its row, if that is unused.
     pub fn leave(&mut self, client: u16) -> Option<Room<u32>>
         ensures owner { self.new.owner ≡ Some client }
         ensures spare { result ≡ self.old.spare }
@@ -29,6 +29,14 @@ impl Seat {
         self.owner = Some(client);
         self.spare.take()
     }
+}
+
+/// Takes a row out. The list may keep its number.
+pub(crate) fn forget_row(seats: &mut Seats, row: u32)
+    ensures gone { seat_at seats.new row ≡ None }
+    ensures others { (q : ℕ) → q ≢ row → seat_at seats.new q ≡ seat_at seats.old q }
+{
+    let _ = seats.remove(&row);
 }
 
 /// Takes the placeholders of a client away. It goes over the list alone.

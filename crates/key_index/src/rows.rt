@@ -1,12 +1,12 @@
 //! The rows under one key.
 
-ghost use Rattle.std.specs.Prelude.{◌≡◌, ◌↔◌, ◌≤◌, ℕ, IsTrue, IsSome, IsOk, OnOk, OnErr, IfSome, IfNone, None, Some};
+ghost use Rattle.std.specs.Prelude.{◌≡◌, ◌≢◌, ◌↔◌, ◌≤◌, ℕ, IsTrue, IsSome, IsOk, OnOk, OnErr, IfSome, IfNone, None, Some};
 ghost use Rattle.std.specs.FinMap as map;
 ghost use Rattle.key_index.specs.Left.{owner_at};
-ghost use Rattle.key_index.specs.Standing.{HasEntry, HasLeft, IsAbove, IsBelow, is_client, without_left};
+ghost use Rattle.key_index.specs.Places.{HasEntry, HasLeft, IsAbove, IsBelow, is_client, without_left};
 
 use crate::chain::{Chain, Room};
-use crate::left::{Seat, Seats, any_left, end_rows};
+use crate::left::{Seat, Seats, any_left, end_rows, forget_row};
 use std::alloc::{AllocError, Global};
 use std::collections::BTreeMap;
 use std::marker::Model;
@@ -47,8 +47,8 @@ impl Rows {
         }
     }
 
-    /// Lets a row stand as an entry. Want of memory is the only refusal, and does not come where
-    /// the row stands already: nothing is then changed.
+    /// Makes a row an entry. It fails only out of memory, and not if the row is an entry or a
+    /// placeholder already; after a failure nothing has changed.
     pub fn enter(&mut self, alloc: Global, row: u32) -> Result<(), AllocError>
         ensures ok { OnOk result (self.new ≡ map.insert self.old row None) }
         ensures err { OnErr result (self.new ≡ self.old) }
@@ -66,7 +66,7 @@ impl Rows {
         Ok(())
     }
 
-    /// Lets a row that stands here stand as a placeholder of the client. It takes no memory.
+    /// Makes a row that is here a placeholder of the client. It takes no memory.
     pub fn leave(&mut self, row: u32, client: u16)
         requires { IsSome (map.get self.old row) }
         ensures { self.new ≡ map.insert self.old row (Some client) }
@@ -80,14 +80,24 @@ impl Rows {
         self.left.add(row, room);
     }
 
-    /// Takes the placeholders of a client away. It takes no memory.
+    /// Takes a row out, if it is here. It takes no memory.
+    pub fn forget(&mut self, row: u32)
+        ensures gone { map.get self.new row ≡ None }
+        ensures others { (q : ℕ) → q ≢ row → map.get self.new q ≡ map.get self.old q }
+    {
+        forget_row(&mut self.seats, row);
+    }
+
+    /// Takes the placeholders of a client away. It takes no memory, and goes over the rows that any
+    /// client has left here since the last end, and over those whose placeholders that end left.
     pub fn end(&mut self, client: u16)
         ensures { (row : ℕ) → map.get self.new row ≡ without_left client (map.get self.old row) }
     {
         end_rows(&mut self.seats, &mut self.left, client);
     }
 
-    /// What stands at the row: None for an entry, or the client that left it.
+    /// The content of the row: None if it is not here, Some None for an entry, or the client whose
+    /// placeholder it is.
     pub fn get(&self, row: u32) -> Option<Option<u16>>
         ensures { result ≡ map.get self.now row }
     {
@@ -95,14 +105,14 @@ impl Rows {
         Some(seat.owner)
     }
 
-    /// Whether no row stands here.
+    /// Whether there is no row.
     pub fn is_empty(&self) -> bool
         ensures { IsTrue result ↔ ((row : ℕ) → map.get self.now row ≡ None) }
     {
         self.seats.is_empty()
     }
 
-    /// Whether a placeholder stands here. The list may still have rows that were entered again, but
+    /// Whether there is a placeholder. The list may still have rows that were entered again, but
     /// an end takes these out: after one, this looks at the first row of the list alone.
     pub fn has_left(&self) -> bool
         ensures { IsTrue result ↔ HasLeft self.now }
@@ -131,7 +141,7 @@ impl Rows {
     }
 }
 
-/// The first row above the given one, and what stands there.
+/// The first row above the given one, and its content.
 fn next_row(seats: &Seats, above: Option<u32>) -> Option<(u32, Option<u16>)>
     ensures found { IfSome result (λ next. owner_at seats.now next.0 ≡ Some next.1) }
     ensures beyond { IfSome result (λ next. IsAbove above next.0) }
@@ -152,7 +162,7 @@ fn next_row(seats: &Seats, above: Option<u32>) -> Option<(u32, Option<u16>)>
     }
 }
 
-/// The last row below the given one, and what stands there.
+/// The last row below the given one, and its content.
 fn previous_row(seats: &Seats, below: Option<u32>) -> Option<(u32, Option<u16>)>
     ensures found { IfSome result (λ next. owner_at seats.now next.0 ≡ Some next.1) }
     ensures beyond { IfSome result (λ next. IsBelow below next.0) }

@@ -1,7 +1,7 @@
 //! Searches through the nodes of a range.
 
 ghost use Rattle.std.specs.Prelude.{◌≤◌, ℕ, IfSome, IfNone, MatchOption};
-ghost use Rattle.key_index.specs.Standing.{HasEntry};
+ghost use Rattle.key_index.specs.Places.{HasEntry};
 ghost use Rattle.key_index.specs.Search.{BeginsWith};
 ghost use Rattle.key_index.specs.Seeking.{ArePassed, IsFirst, IsLast, IsPassed};
 ghost use Rattle.key_index.specs.Touched.{nodes_of};

@@ -6,7 +6,7 @@ ghost use Rattle.key_index.specs.Search.{BeginsWith, IsKeyBefore, IsKeyBeyond};
 ghost use Rattle.key_index.specs.Span.{IsBeforeEnd, IsFromStart, IsInOrder, IsNoSpan, IsSpan, StartsBefore};
 
 use crate::prefix::after_prefix;
-use abl_base::Cursor;
+use client_database::Cursor;
 use std::alloc::{AllocError, Global};
 use std::ops::Bound;
 
@@ -14,7 +14,7 @@ use std::ops::Bound;
 pub(crate) type Ends = (Bound<Vec<u8>>, Bound<Vec<u8>>);
 
 /// The ends of the keys that a search forward looks through; None where no key is left.
-pub(crate) fn ends_ahead(
+pub(crate) fn span_after(
     alloc: Global,
     cursor: Option<&Cursor>,
     prefix: &[u8],
@@ -27,7 +27,7 @@ pub(crate) fn ends_ahead(
 }
 
 /// The ends of the keys that a search back looks through; None where no key is left.
-pub(crate) fn ends_behind(
+pub(crate) fn span_before(
     alloc: Global,
     cursor: Option<&Cursor>,
     prefix: &[u8],
@@ -57,8 +57,8 @@ fn start_after(
     Ok(Bound::Excluded(Vec::from_slice(alloc, from.key.as_slice())?))
 }
 
-/// Bytes before which those keys with the prefix lie that stand before the cursor's, and no other
-/// key than such as stand before it.
+/// An end for the keys before the cursor's: every key with the prefix that precedes the cursor's key
+/// precedes these bytes, and every key that precedes these bytes precedes the cursor's key.
 fn end_before(
     alloc: Global,
     cursor: Option<&Cursor>,
@@ -101,7 +101,7 @@ fn starts_before(start: &Bound<Vec<u8>>, bytes: &[u8]) -> bool
     }
 }
 
-/// Whether the key does not stand before the end.
+/// Whether the key does not precede the end.
 fn is_past(end: &Option<Vec<u8>>, key: &[u8]) -> bool
     ensures inside { result ≡ false → IsBeforeEnd end.now key.now }
     ensures past { IsTrue result → (other : List ℕ) → IsBeforeEnd end.now other → IsKeyBefore other key.now }
@@ -112,7 +112,7 @@ fn is_past(end: &Option<Vec<u8>>, key: &[u8]) -> bool
     }
 }
 
-/// Whether a key stands before another.
+/// Whether a key precedes another.
 fn is_before(key: &[u8], other: &[u8]) -> bool
     ensures { IsTrue result ↔ IsKeyBefore key.now other.now }
 {

@@ -4,7 +4,7 @@
 ghost use Rattle.std.specs.Prelude.{◌≡◌, ◌≢◌, ◌↔◌, ℕ, false, if◌then◌else◌, List, IsTrue, IsSome, IsOk, OnErr, IfOk, IfSome, MatchOption, ◌∷◌, Some, None};
 ghost use Rattle.std.specs.FinMap as map;
 ghost use Rattle.key_index.specs.declared.touched.Keyed.{Keyed as KeyedOf};
-ghost use Rattle.key_index.specs.Nodes.{IsBare, IsTouched, no_node, node_entered, node_left};
+ghost use Rattle.key_index.specs.Nodes.{IsBare, IsNodeForgotten, IsTouched, no_node, node_entered, node_left};
 ghost use Rattle.key_index.specs.Touched.{AreKeysListed, EndsAt, IsKeyListed, ListsKey, keeper_at, keyed_at};
 
 use crate::chain::{Chain, Links, Room};
@@ -21,14 +21,14 @@ pub struct Spare {
     pub room: Room<Vec<u8>>,
 }
 
-/// What stands under a key, and what puts the key into the list, while it is not used.
+/// The value of a key: its node, and what puts the key into the list, while that is unused.
 #[derive(Drop)]
 pub struct Keyed {
     pub node: Node,
     pub spare: Option<Spare>,
 }
 
-/// The keys with what stands under each.
+/// The keys with the value of each.
 pub(crate) type Nodes = BTreeMap<Vec<u8>, Keyed>;
 
 impl Keyed {
@@ -48,8 +48,8 @@ impl Keyed {
         })
     }
 
-    /// Lets a row stand as an entry, and the client keep the key where it is a unique one. Then the
-    /// key is to be listed, and this gives what puts it into the list, if it is unused.
+    /// Makes a row an entry, and the client the keeper of the key if it is unique. A unique key has to
+    /// be listed then: returns what puts it into the list, if that is unused.
     pub fn enter(
         &mut self,
         alloc: Global,
@@ -70,8 +70,8 @@ impl Keyed {
         Ok(self.spare.take())
     }
 
-    /// Lets a row that stands here stand as a placeholder of the client, which keeps the key where
-    /// it is a unique one. Gives what puts the key into the list, if it is unused.
+    /// Makes a row that is here a placeholder of the client, and the client the keeper of the key if
+    /// it is unique. Returns what puts the key into the list, if that is unused.
     pub fn leave(&mut self, client: u16, row: u32, unique: bool) -> Option<Spare>
         requires { IsSome (map.get self.old.node.rows row) }
         ensures node { self.new.node ≡ node_left self.old.node client row unique }
@@ -79,6 +79,17 @@ impl Keyed {
         ensures used { result ≡ self.old.spare }
     {
         self.node.leave(client, row, unique);
+        self.spare.take()
+    }
+
+    /// Takes a row out, and has the key kept by this client or by none. Gives what puts the key into
+    /// the list, if it is unused, so that an end looks at the key and takes it out where it is bare.
+    pub fn forget(&mut self, row: u32, keeper: Option<u16>) -> Option<Spare>
+        ensures node { IsNodeForgotten row keeper self.old.node self.new.node }
+        ensures spare { self.new.spare ≡ None }
+        ensures used { result ≡ self.old.spare }
+    {
+        self.node.forget(row, keeper);
         self.spare.take()
     }
 }

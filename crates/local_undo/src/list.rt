@@ -1,6 +1,6 @@
 //! The undo list and its marks.
 
-ghost use Rattle.std.specs.Prelude.{◌≡◌, ◌<◌, ◌≤◌, ◌↔◌, [], ◌∷◌, ◌++◌, length, OnOk, OnErr, IfErr};
+ghost use Rattle.std.specs.Prelude.{◌≡◌, ◌<◌, ◌≤◌, ◌↔◌, [], ◌∷◌, ◌++◌, length, IsTrue, OnOk, OnErr, IfErr};
 ghost use Rattle.local_undo.specs.Undo.{PopsTo};
 
 use std::alloc::{AllocFailed, Global};
@@ -56,8 +56,15 @@ impl<E> UndoList<E> {
         }
     }
 
-    /// Adds an entry at the end. Want of memory is the only refusal: the list is then as before,
-    /// and the entry comes back.
+    /// Whether the mark is within the list, so that `pop_to` may be called with it.
+    pub fn holds(&self, mark: &UndoMark) -> bool
+        ensures { IsTrue result ↔ (mark.now ≤ length self.now) }
+    {
+        mark.entries <= self.entries.len()
+    }
+
+    /// Adds an entry at the end. It fails only out of memory: the list is then as before, and the
+    /// failure hands the entry back.
     pub fn push(&mut self, entry: E) -> Result<(), AllocFailed<E>>
         ensures added { OnOk result (self.new ≡ self.old ++ entry ∷ []) }
         ensures unchanged { OnErr result (self.new ≡ self.old) }
@@ -66,9 +73,9 @@ impl<E> UndoList<E> {
         self.entries.push(entry)
     }
 
-    /// Takes out the last entry that was pushed since the mark, and answers None exactly where none
-    /// is left. The mark is one of this list, so that it is within the list: no `pop_to` an earlier
-    /// mark came since. It takes no memory.
+    /// Takes out the last entry that was pushed since the mark; None exactly where none is left. The
+    /// mark must be within the list, as a mark of this list is unless an earlier mark was popped to
+    /// since. It takes no memory.
     pub fn pop_to(&mut self, mark: &UndoMark) -> Option<E>
         requires { mark.now ≤ length self.old }
         ensures popped { PopsTo mark.now self.old result self.new }
@@ -79,31 +86,5 @@ impl<E> UndoList<E> {
         } else {
             None
         }
-    }
-}
-
-#[cfg(test)]
-mod tests {
-    use super::*;
-    use std::test::Fail;
-
-    #[test]
-    fn inner_and_outer_marks_hand_back_their_own(rt: HostRuntime) -> Result<(), Fail> {
-        let mut list = UndoList::new(rt.alloc());
-        list.push(1)?;
-        let outer = list.mark();
-        list.push(2)?;
-        let inner = list.mark();
-        list.push(3)?;
-        list.push(4)?;
-        assert_eq!(rt; list.pop_to(&inner), Some(4));
-        assert_eq!(rt; list.pop_to(&inner), Some(3));
-        assert_eq!(rt; list.pop_to(&inner), None);
-        list.push(5)?;
-        assert_eq!(rt; list.pop_to(&outer), Some(5));
-        assert_eq!(rt; list.pop_to(&outer), Some(2));
-        assert_eq!(rt; list.pop_to(&outer), None);
-        assert!(rt; list.mark() == outer);
-        Ok(())
     }
 }

@@ -48,7 +48,7 @@ module _ {T E O : Type 0} (entries : T → List E) (client : E → ℕ) (origin 
       → Allows (Rule key) slots id m 1 (λ k. (k + 1) % 2 ^ 64) (Draws m)
   draws key slots id m n mine e = subst (λ (z : M). Allows (Rule key) slots id z 1 (λ k. (k + 1) % 2 ^ 64) (Draws z)) (sym e) (tickets entries client origin key slots id 1 ((n, mine) ∷ []) [] (omega arith))
 
-  -- what a look tells, at the key and the ticket of the seat
+  -- what is known after a look, at the key and the ticket of the seat
   looked_as : (key : Key T) (v : View T E) (t r : ℕ) (m : M) → v.key ≡ Some key → v.stage ≡ Waits t
       → (r ≡ t % 2 ^ 64 → TakesOut entries client origin key v t m) × (¬ (r ≡ t % 2 ^ 64) → m ≡ (v, [])) → Looks entries client origin (v, []) r m
   looked_as key v t r m is at h k i e q =
@@ -63,7 +63,7 @@ module _ {T E O : Type 0} (entries : T → List E) (client : E → ℕ) (origin 
   looks_out key slots id m n t mine e = subst (λ (z : M). Allows (Rule key) slots id z 2 (λ k. k) (Looks entries client origin z)) (sym e)
       (λ s r sized at small. let h = looks entries client origin key slots id 1 t ((n, mine) ∷ []) s r sized at small in (h.0, h.1, h.2, h.3, looked_as key (pass_view key n mine (Waits t)) t _ _ refl refl h.4))
 
-  -- what a look tells the pass
+  -- what the pass knows after a look
   pub saw : (key : Key T) (m m' : M) (r n t : ℕ) (mine : List E) → m ≡ (pass_view key n mine (Waits t), []) → Looks entries client origin m r m'
       → (r ≡ t % 2 ^ 64 → TakesOut entries client origin key (pass_view key n mine (Waits t)) t m') × (¬ (r ≡ t % 2 ^ 64) → m' ≡ m)
   saw key m m' r n t mine e h =

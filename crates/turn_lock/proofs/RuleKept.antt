@@ -15,7 +15,7 @@ use Rattle.turn_lock.specs.declared.view.Stage.TheVariants.{Idle, Waits, Holds}
 use Rattle.turn_lock.specs.Journal.{own_entries}
 use Rattle.turn_lock.specs.View.{queued, view, pass_view, kept_part, handed_part, joined_view, spent_view}
 use Rattle.turn_lock.specs.Steps.{TakesOut}
-use Rattle.turn_lock.specs.Rule.{parts_of, queued_of, clients_of, Stands, Owns, Fits, IsKept}
+use Rattle.turn_lock.specs.Rule.{parts_of, queued_of, clients_of, AllowsStage, Owns, Fits, IsKept}
 use Rattle.turn_lock.proofs.Sums.{total-set, total-push, two-le-total, total-le, total-but, own_entries-other, put_at, put_here, put_else, in_range}
 
 module _ {T E O : Type 0} (entries : T → List E) (client : E → ℕ) (origin : T → O) (key : Key T) where
@@ -112,15 +112,15 @@ module _ {T E O : Type 0} (entries : T → List E) (client : E → ℕ) (origin 
         (refl, let h = r.numbers in let k = r.whole in let t = total-but parts_of clients_of s.views id v at (λ j u other e. let f = r.each j u e in let c = f.counts.0 in let g = f.full (λ is. other (is ∙ sym mine)) in omega arith) in omega arith),
       )
 
-  -- one ticket more is drawn, by the seat id, and each other stands where it stood
-  stands_longer : (out : Type 0) (served drawn id : ℕ) (bearer : ℕ → ℕ) (log : List E) (j : ℕ) (st : Stage E) → Stands out served drawn bearer log j st → Stands out served (drawn + 1) (put_at drawn id bearer) log j st
-  stands_longer out served drawn id bearer log j Idle h = tt
-  stands_longer out served drawn id bearer log j (Waits t) h = let b = h.1 in (h.0, omega arith, put_else drawn id bearer t (λ e. omega arith) ∙ h.2)
-  stands_longer out served drawn id bearer log j (Holds t l) h = let b = h.1 in (h.0, omega arith, put_else drawn id bearer t (λ e. omega arith) ∙ h.2, h.3, h.4)
+  -- one ticket more is drawn, by the seat id, and each other is where it was
+  stage_longer : (out : Type 0) (served drawn id : ℕ) (bearer : ℕ → ℕ) (log : List E) (j : ℕ) (st : Stage E) → AllowsStage out served drawn bearer log j st → AllowsStage out served (drawn + 1) (put_at drawn id bearer) log j st
+  stage_longer out served drawn id bearer log j Idle h = tt
+  stage_longer out served drawn id bearer log j (Waits t) h = let b = h.1 in (h.0, omega arith, put_else drawn id bearer t (λ e. omega arith) ∙ h.2)
+  stage_longer out served drawn id bearer log j (Holds t l) h = let b = h.1 in (h.0, omega arith, put_else drawn id bearer t (λ e. omega arith) ∙ h.2, h.3, h.4)
 
   -- the ticket of the seat that has the turn was drawn
   holder_drawn : (s : St) (r : Rule s) (k : ℕ) (u : V) → get_elem? s.views k ≡ some u → u.stage ≡ Holds r.served r.log → r.served < r.drawn
-  holder_drawn s r k u e is = (subst (Stands (s.homes ≡ none ∷ []) r.served r.drawn r.bearer r.log k) is (r.each k u e).stage).1
+  holder_drawn s r k u e is = (subst (AllowsStage (s.homes ≡ none ∷ []) r.served r.drawn r.bearer r.log k) is (r.each k u e).stage).1
 
   -- ticket
   pub tickets : (slots id p : ℕ) (ls : List (ℕ × List E)) (c : List (ℕ × Option T)) → 0 < p
@@ -167,16 +167,16 @@ module _ {T E O : Type 0} (entries : T → List E) (client : E → ℕ) (origin 
               (λ other. let less : t < d = omega arith in let h = r.ticketed t a less in (h.0, stays t h.0 less h.1 (⊎_elim (λ q. ap queued q) (λ q. ap queued q.1) h.2), h.2));
           each = subst (λ (z : ℕ). (j : ℕ) (u : V) → get_elem? (set s.views id w) j ≡ some u → New z j u) (sym (word 3 (λ e. omega arith))) (set_each (New (get_or s.words 3 0)) s.views id w
               record { same = mine.same; counts = (mine.counts.0, omega arith); full = mine.full; lists = mine.lists; stage = (omega arith, omega arith, put_here d id r.bearer) }
-              (λ j u other e. let h = r.each j u e in record { same = h.same; counts = h.counts; full = h.full; lists = h.lists; stage = stands_longer (s.homes ≡ none ∷ []) r.served d id r.bearer r.log j u.stage h.stage }));
+              (λ j u other e. let h = r.each j u e in record { same = h.same; counts = h.counts; full = h.full; lists = h.lists; stage = stage_longer (s.homes ≡ none ∷ []) r.served d id r.bearer r.log j u.stage h.stage }));
         },
         (d, before, refl),
       )
 
-  -- the slot is out now, and each ticket stands where it stood
-  stands_out : (out out' : Type 0) (served drawn : ℕ) (bearer : ℕ → ℕ) (log : List E) (j : ℕ) → out' → (st : Stage E) → Stands out served drawn bearer log j st → Stands out' served drawn bearer log j st
-  stands_out out out' served drawn bearer log j is Idle h = tt
-  stands_out out out' served drawn bearer log j is (Waits t) h = h
-  stands_out out out' served drawn bearer log j is (Holds t l) h = (h.0, h.1, h.2, h.3, is)
+  -- the slot is out now, and each ticket is where it was
+  stage_out : (out out' : Type 0) (served drawn : ℕ) (bearer : ℕ → ℕ) (log : List E) (j : ℕ) → out' → (st : Stage E) → AllowsStage out served drawn bearer log j st → AllowsStage out' served drawn bearer log j st
+  stage_out out out' served drawn bearer log j is Idle h = tt
+  stage_out out out' served drawn bearer log j is (Waits t) h = h
+  stage_out out out' served drawn bearer log j is (Holds t l) h = (h.0, h.1, h.2, h.3, is)
 
   -- a step that changes no word
   unmoved : (s : St) (i : ℕ) (homes : List (Maybe (Option T))) (views : List V) → Rule record { words = s.words; homes = homes; views = views } → Rule record { words = set s.words i (get_or s.words i 0); homes = homes; views = views }
@@ -225,7 +225,7 @@ module _ {T E O : Type 0} (entries : T → List E) (client : E → ℕ) (origin 
             (λ other. let h = r.ticketed k a b in (h.0, set_else s.views id (r.bearer k) w other ∙ h.1, h.2));
         each = set_each New s.views id w
             record { same = mine.same; counts = mine.counts; full = mine.full; lists = mine.lists; stage = (sym is, mine.stage.1, mine.stage.2, same, out) }
-            (λ j u other e. let h = r.each j u e in record { same = h.same; counts = h.counts; full = h.full; lists = h.lists; stage = stands_out (s.homes ≡ none ∷ []) (set s.homes 0 none ≡ none ∷ []) r.served r.drawn r.bearer r.log j out u.stage h.stage });
+            (λ j u other e. let h = r.each j u e in record { same = h.same; counts = h.counts; full = h.full; lists = h.lists; stage = stage_out (s.homes ≡ none ∷ []) (set s.homes 0 none ≡ none ∷ []) r.served r.drawn r.bearer r.log j out u.stage h.stage });
       }
 
   -- the slot is at home where a seat waits with the ticket that is served
@@ -259,12 +259,12 @@ module _ {T E O : Type 0} (entries : T → List E) (client : E → ℕ) (origin 
       ))
       (λ no. (v, keeps, tt, unmoved s 2 s.homes (set s.views id v) (subst (λ (l : List V). Rule record { words = s.words; homes = s.homes; views = l }) (sym (set_again s.views id v at)) r), ((λ is. absurd (no is)), (λ _. refl))))
 
-  -- the next ticket is served, and each other than that of the seat id stands where it stood
-  stands_next : (out out' : Type 0) (served drawn id : ℕ) (bearer : ℕ → ℕ) (log : List E) (j : ℕ) → bearer served ≡ id → j ≢ id → (st : Stage E) → Stands out served drawn bearer log j st → Stands out' (served + 1) drawn bearer log j st
-  stands_next out out' served drawn id bearer log j is other Idle h = tt
-  stands_next out out' served drawn id bearer log j is other (Waits t) h =
+  -- the next ticket is served, and each other than that of the seat id is where it was
+  stage_next : (out out' : Type 0) (served drawn id : ℕ) (bearer : ℕ → ℕ) (log : List E) (j : ℕ) → bearer served ≡ id → j ≢ id → (st : Stage E) → AllowsStage out served drawn bearer log j st → AllowsStage out' (served + 1) drawn bearer log j st
+  stage_next out out' served drawn id bearer log j is other Idle h = tt
+  stage_next out out' served drawn id bearer log j is other (Waits t) h =
       let apart : t ≢ served = λ e. other (sym h.2 ∙ (ap bearer e ∙ is)) in let a = h.0 in (omega arith, h.1, h.2)
-  stands_next out out' served drawn id bearer log j is other (Holds t l) h = absurd (other (sym h.2 ∙ (ap bearer h.0 ∙ is)))
+  stage_next out out' served drawn id bearer log j is other (Holds t l) h = absurd (other (sym h.2 ∙ (ap bearer h.0 ∙ is)))
 
   -- serve, and with it put back
   pub serves : (id p t : ℕ) (ls : List (ℕ × List E)) (x : T) → origin x ≡ origin key.start.value
@@ -315,7 +315,7 @@ module _ {T E O : Type 0} (entries : T → List E) (client : E → ℕ) (origin 
           );
           each = subst (λ (z : ℕ). (j : ℕ) (u : V) → get_elem? (set s.views id w) j ≡ some u → New z j u) (sym (word 3 (λ e. omega arith))) (set_each (New (get_or s.words 3 0)) s.views id w
               record { same = mine.same; counts = (mine.counts.0, omega arith); full = mine.full; lists = mine.lists; stage = tt }
-              (λ j u other e. let h = r.each j u e in record { same = h.same; counts = h.counts; full = h.full; lists = h.lists; stage = stands_next (s.homes ≡ none ∷ []) (set s.homes 0 (some (Some x)) ≡ none ∷ []) r.served r.drawn id r.bearer r.log j bears other u.stage h.stage }));
+              (λ j u other e. let h = r.each j u e in record { same = h.same; counts = h.counts; full = h.full; lists = h.lists; stage = stage_next (s.homes ≡ none ∷ []) (set s.homes 0 (some (Some x)) ≡ none ∷ []) r.served r.drawn id r.bearer r.log j bears other u.stage h.stage }));
         },
         refl,
       )
@@ -360,10 +360,10 @@ module _ {T E O : Type 0} (entries : T → List E) (client : E → ℕ) (origin 
       (o.0, o.1, o.2, own_entries-other client q.0 l e (λ same. other (sym o.2 ∙ (ap owner (sym same ∙ by) ∙ mine))) ∙ o.3)
 
   -- another list is to be put back by the seat id, and each other seat has a ticket as before
-  stands_log : (out : Type 0) (served drawn id : ℕ) (bearer : ℕ → ℕ) (log log' : List E) (j : ℕ) → bearer served ≡ id → j ≢ id → (st : Stage E) → Stands out served drawn bearer log j st → Stands out served drawn bearer log' j st
-  stands_log out served drawn id bearer log log' j is other Idle h = tt
-  stands_log out served drawn id bearer log log' j is other (Waits t) h = h
-  stands_log out served drawn id bearer log log' j is other (Holds t l) h = absurd (other (sym h.2 ∙ (ap bearer h.0 ∙ is)))
+  stage_log : (out : Type 0) (served drawn id : ℕ) (bearer : ℕ → ℕ) (log log' : List E) (j : ℕ) → bearer served ≡ id → j ≢ id → (st : Stage E) → AllowsStage out served drawn bearer log j st → AllowsStage out served drawn bearer log' j st
+  stage_log out served drawn id bearer log log' j is other Idle h = tt
+  stage_log out served drawn id bearer log log' j is other (Waits t) h = h
+  stage_log out served drawn id bearer log log' j is other (Holds t l) h = absurd (other (sym h.2 ∙ (ap bearer h.0 ∙ is)))
 
   -- a seat with one client owns that one
   only_list : (next id n : ℕ) (owner : ℕ → ℕ) (log mine : List E) → Owns entries client origin key.first next owner log id (n, mine) → (i : ℕ) (q : ℕ × List E) → get_elem? ((n, mine) ∷ []) i ≡ some q → Owns entries client origin key.first next owner log id q
@@ -429,7 +429,7 @@ module _ {T E O : Type 0} (entries : T → List E) (client : E → ℕ) (origin 
                 counts = h.counts;
                 full = h.full;
                 lists = λ i q e'. subst (λ (z : List E). Owns entries client origin key.first (get_or s.words 3 0) r.owner z j q) (sym log) (apart_lists (get_or s.words 3 0) id j n r.owner r.log e q by had.2 other (h.lists i q e'));
-                stage = stands_log (s.homes ≡ none ∷ []) r.served r.drawn id r.bearer r.log (entries x) j bears other u.stage h.stage;
+                stage = stage_log (s.homes ≡ none ∷ []) r.served r.drawn id r.bearer r.log (entries x) j bears other u.stage h.stage;
               }));
         },
         refl,

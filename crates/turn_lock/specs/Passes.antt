@@ -18,7 +18,7 @@ module _ {T E : Type 0} where
   abbrev pub IsPassOf : Lock T → ClientPass T E → Type 0
   IsPassOf lock p = p.lock ≡ lock
 
-  -- the passes of so many clients from the first on, in order, with no entry yet
+  -- the passes of the given number of clients from the first on, in order, with no entry yet
   abbrev pub passes_from : Lock T → ℕ → ℕ → List (ClientPass T E)
   passes_from lock first zero = []
   passes_from lock first (suc k) = passes_from lock first k ++ record { lock = lock; client = first + k; list = [] } ∷ []

@@ -29,10 +29,10 @@ module _ {T E : Type 0} where
 
 module _ {E : Type 0} (out : Type 0) (served drawn : ℕ) (bearer : ℕ → ℕ) (log : List E) (j : ℕ) where
   -- the ticket of the seat j was drawn and is not served, and no other seat has it. Who has the value out has the ticket that is to be served next, and its list is the history
-  abbrev pub Stands : Stage E → Type 0
-  Stands Idle = Unit {0}
-  Stands (Waits t) = (served ≤ t) × (t < drawn) × (bearer t ≡ j)
-  Stands (Holds t l) = (t ≡ served) × (t < drawn) × (bearer t ≡ j) × (l ≡ log) × out
+  abbrev pub AllowsStage : Stage E → Type 0
+  AllowsStage Idle = Unit {0}
+  AllowsStage (Waits t) = (served ≤ t) × (t < drawn) × (bearer t ≡ j)
+  AllowsStage (Holds t l) = (t ≡ served) × (t < drawn) × (bearer t ≡ j) × (l ≡ log) × out
 
 module _ {T E O : Type 0} (entries : T → List E) (client : E → ℕ) (origin : T → O) where
   -- the client's number was given out, to the seat j alone, and these are its own entries
@@ -50,7 +50,7 @@ module _ {T E O : Type 0} (entries : T → List E) (client : E → ℕ) (origin 
     -- its clients are its own
     pub lists : (i : ℕ) (p : ℕ × List E) → get_elem? v.lists i ≡ some p → Owns key.first next owner log j p
     -- its ticket is its own
-    pub stage : Stands out served drawn bearer log j v.stage
+    pub stage : AllowsStage out served drawn bearer log j v.stage
 
   -- the slot has a value with this list and the key's origin, or is out with the seat that has the turn
   abbrev pub SlotFits : Key T → ℕ → (ℕ → ℕ) → List E → State (Option T) (View T E) → Type 0
@@ -85,6 +85,6 @@ module _ {T E O : Type 0} (entries : T → List E) (client : E → ℕ) (origin 
     -- the history begins with that of the key's value
     pub begins : IsPrefix (entries key.start.value) log
     pub slot : SlotFits key served bearer log s
-    -- each ticket that is drawn and not served stands in a view
+    -- each ticket that is drawn and not served is in a view
     pub ticketed : (t : ℕ) → served ≤ t → t < drawn → (v : View T E) × (get_elem? s.views (bearer t) ≡ some v) × ((v.stage ≡ Waits t) ⊎ ((l : List E) × (v.stage ≡ Holds t l)))
     pub each : (j : ℕ) (v : View T E) → get_elem? s.views j ≡ some v → Fits key maker (s.homes ≡ none ∷ []) (slice_index s.words 3) served drawn bearer owner log j v

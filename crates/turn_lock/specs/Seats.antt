@@ -1,4 +1,4 @@
--- What a seat of the table stands for: a pass, a turn, or the maker of the passes.
+-- What a seat of the table represents: a pass, a turn, or the maker of the passes.
 use Rattle.std.specs.Prelude.{◌≡◌, ℕ, ◌<◌, ◌^◌, Bool, List, [], ◌∷◌, ◌++◌, length, Option, Some, None, MatchBool}
 use Rattle.atomic_table.specs.declared.shared.Seat.{Seat}
 use Rattle.turn_lock.specs.declared.view.Key.{Key}
@@ -41,6 +41,6 @@ module _ {T E : Type 0} where
   HasPutBack entries client origin lock p =
       (key : Key T) × (n : ℕ) × (t : ℕ) × (x : T) × (p.me ≡ (pass_view key n (own_entries client n (entries x)) (Holds t (entries x)), (0, Some x) ∷ [])) × HasOrigin origin lock x
 
-  -- the seat may make so many passes more
+  -- the number of passes that the seat may still make
   abbrev pub IsMaker : Seat (Option T) (View T E) → ℕ → Type 0
   IsMaker p left = (key : Key T) × (p.me ≡ (view (Some key) left [] Idle, []))

@@ -26,7 +26,7 @@ module _ {T : Type 0} where
   abbrev pub seats_of : Lock T → ℕ
   seats_of lock = seats_in lock.key
 
-  -- the lock was made of this value, for so many clients from the first on
+  -- the lock was made of this value, for this number of clients from the first on
   abbrev pub IsMadeOf : Lock T → T → ℕ → ℕ → Type 0
   IsMadeOf lock value first seats = IsSomeAnd lock.key (λ key. (key.start.value ≡ value) × (key.first ≡ first) × (key.seats ≡ seats))
 
@@ -37,5 +37,5 @@ module _ {T O : Type 0} (origin : T → O) where
 
 module _ {T E O : Type 0} (entries : T → List E) (origin : T → O) where
   -- the value has the origin of the value that the lock was made of, and its list begins with that value's
-  abbrev pub GoesOn : Lock T → T → Type 0
-  GoesOn lock x = IsSomeAnd lock.key (λ key. (origin x ≡ origin key.start.value) × IsPrefix (entries key.start.value) (entries x))
+  abbrev pub Extends : Lock T → T → Type 0
+  Extends lock x = IsSomeAnd lock.key (λ key. (origin x ≡ origin key.start.value) × IsPrefix (entries key.start.value) (entries x))

@@ -1,4 +1,4 @@
--- What each step tells the seat that makes it: of the seat before, the number found, and the seat after.
+-- What a seat knows after each of its steps: a relation of the seat before, the number found and the seat after.
 use Rattle.std.specs.Prelude.{◌≡◌, ℕ, ◌+◌, ◌%◌, ◌^◌, List, [], ◌∷◌, Option, Some}
 use mathlib.Core.List.{IsPrefix}
 use mathlib.Core.Option.{some}

@@ -1,7 +1,7 @@
 // What lies under the lock.
 ghost use Rattle.std.specs.Prelude.{◌≡◌, ℕ, List, length};
 
-/// A value that stands for a list of entries, each of one client, and for an origin.
+/// A value that represents a list of entries, each of one client, and an origin.
 ///
 /// The entries are those that clients have added, the oldest first. The origin is what no client changes, such as the schema and the rows that a database began with. Clients have numbers.
 /// This meaning is this project's choice. It exists in contracts alone: the value itself may keep as much of it as it needs, or nothing but the length.

@@ -1,5 +1,5 @@
-//! A ticket lock whose value stands for one history: a list of entries, each of one client, and an origin.
-//! It stands on `atomic_table`, and uses no `unsafe`.
+//! A ticket lock whose value represents one history: a list of entries, each of one client, and an origin.
+//! It depends on `atomic_table`, and uses no `unsafe`.
 //! Each client has a pass, which carries the client's own entries. Who takes the value with a pass finds just those entries of the client in the list, in order, and a list that begins with the one that the lock was made with, under the same origin.
 //! `specs/Journal.antt`, `specs/Shared.antt`, `specs/Passes.antt` and `specs/Turn.antt` have the words of the public contracts. `specs/Rule.antt` has the rule that every step on the table keeps.
 #![tactic(auto)]

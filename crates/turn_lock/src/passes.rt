@@ -61,7 +61,7 @@ impl<T: Journal> Passes<T> {
         self.list.pop()
     }
 
-    /// Adds a pass of the same lock at the end. Fewer stand in the list than `Shared::new` made.
+    /// Adds a pass of the same lock at the end. The list has fewer than `Shared::new` made.
     pub fn put_back(&mut self, pass: Pass<T>)
         requires lock { pass.lock ≡ self.old.lock }
         requires room { length self.old.passes < seats_of self.old.lock }

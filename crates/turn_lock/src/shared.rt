@@ -1,7 +1,7 @@
 // The lock.
 ghost use Rattle.std.specs.Prelude.{◌≡◌, ℕ, ◌+◌, ◌≤◌, ◌<◌, [], length, All, IfOk, IfErr, vec_capacity};
 ghost use Rattle.turn_lock.specs.Journal.{own_entries, Adds};
-ghost use Rattle.turn_lock.specs.Shared.{IsMadeOf, HasOrigin, GoesOn, first_of, seats_of};
+ghost use Rattle.turn_lock.specs.Shared.{IsMadeOf, HasOrigin, Extends, first_of, seats_of};
 ghost use Rattle.turn_lock.specs.Passes.{passes_from};
 ghost use Rattle.turn_lock.specs.View.{with_stage};
 ghost use Rattle.turn_lock.specs.declared.view.Stage.TheVariants.{Idle};
@@ -41,7 +41,7 @@ const VALUE: usize = 0;
 #[derive(Drop)]
 pub struct NoMemory;
 
-/// A lock over one value, for so many clients as it was made with.
+/// A lock over one value, for the clients that it was made with.
 ///
 /// Contracts see which lock it is, and of which value and clients it was made.
 #[derive(Drop)]
@@ -142,7 +142,7 @@ impl<T: Journal> Shared<T> {
     pub fn take<R: Wait>(&self, rt: &R, pass: Pass<T>) -> (T, Turn<T>)
         requires { pass.lock ≡ self.now }
         ensures own { own_entries T.client pass.client (T.entries result.0) ≡ pass.list }
-        ensures start { GoesOn T.entries T.origin self.now result.0 }
+        ensures start { Extends T.entries T.origin self.now result.0 }
         ensures lock { result.1.lock ≡ self.now }
         ensures client { result.1.client ≡ pass.client }
         ensures taken { result.1.taken ≡ T.entries result.0 }
@@ -178,7 +178,7 @@ impl<T: Journal> Shared<T> {
     {
         let Turn { mut place, count } = turn;
         let longer = value.entries() > count;
-        // The value comes first: a record tells the seat what it knows of the list in the slot.
+        // The value comes first: a record gives the seat its knowledge of the list in the slot.
         let nothing = self.table.shared.exchange(&mut place, VALUE, Some(value));
         let None = nothing else { unreachable!() };
         self.record(&mut place, longer);
@@ -223,7 +223,7 @@ impl<T: Journal> Shared<T> {
         requires lock { passes.lock ≡ self }
         requires all { length passes.passes ≡ seats_of self }
         ensures own { All (λ p. own_entries T.client p.client (T.entries result) ≡ p.list) passes.passes }
-        ensures start { GoesOn T.entries T.origin self result }
+        ensures start { Extends T.entries T.origin self result }
     {
         let Passes {
             mut maker,

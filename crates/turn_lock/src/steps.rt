@@ -1,4 +1,4 @@
-// What each step on the table tells the seat that makes it. No value of these types is made.
+// What a seat knows after each of its steps on the table. No value of these types is made.
 ghost use Rattle.turn_lock.specs.View.{kept_part, handed_part, joined_view, spent_view};
 ghost use Rattle.turn_lock.specs.Steps.{Numbers, Draws, Looks, Records, Serves, Rings};
 

@@ -1,4 +1,4 @@
-//! What the lock's table was told once, and what a seat of it knows. Values of these types exist in contracts and proofs alone, but for the key, which has two numbers.
+//! What the lock's table was made with, and what a seat of it knows. Values of these types exist in contracts and proofs alone, but for the key, which has two numbers.
 use std::collections::LinkedList;
 use std::snapshot::Snapshot;
 
@@ -27,7 +27,7 @@ pub enum Stage<E> {
 pub struct View<T, E> {
     /// What the lock was made of. None where another seat has taken this one in.
     pub key: Option<Key<T>>,
-    /// How many passes the seat stands for, with those that it may still make.
+    /// The number of passes that the seat represents, those included that it may still make.
     pub parts: u64,
     /// The clients whose passes it has, each with the client's own entries.
     pub lists: LinkedList<(u64, LinkedList<E>)>,

@@ -1,4 +1,4 @@
--- What a task knows, and how the register goes on.
+-- What a task knows, and how the register grows.
 use Rattle.std.specs.Prelude.{◌≡◌, ℕ, ◌+◌, ◌<◌, List, [], length, slice_index_or, Some}
 use mathlib.Core.List.{IsPrefix}
 use Rattle.turn_lock.specs.Shared.{Lock}

@@ -15,7 +15,7 @@ pub struct Task {
 }
 
 impl Task {
-    /// Takes as many turns as there are rounds, and adds an entry in each.
+    /// Takes a turn in each round, and adds an entry in it.
     pub fn run<R: Wait>(&mut self, rt: &R, shared: &Shared<Register>, rounds: u64)
         requires { IsReady shared.now self.old }
         ensures ready { IsReady shared.now self.new }

@@ -19,7 +19,7 @@ const EARLIER: Entry = Entry {
     round: 9,
 };
 
-// The register after so many clients took their turns. Its entries are sorted by client alone, which keeps the order of each client's.
+// The register after a number of clients took their turns. Its entries are sorted by client alone, which keeps the order of each client's.
 fn register_after<R: Threads + Wait + Sync>(
     rt: &R,
     alloc: Global,

@@ -1,5 +1,5 @@
 use Rattle.std.proofs.Common.{sym, ◌∙◌}
-use Rattle.abl_base.proofs.Bools.{different, same}
+use Rattle.std.proofs.lemmas.Bool.{ne_eqb, eq-eqb}
 use Rattle.abl_lex.proofs.Insides.{at_doubled, at_end, at_last, at_plain, at_start, at_tilde}
 use Rattle.abl_lex.proofs.meaning.inside.Goals as goal
 
@@ -7,16 +7,16 @@ pub loop-i-init : goal.loop-i-init
 loop-i-init c = at_start _ _ _ c.in_ok-bytes.ensures.items
 
 pub loop-i-preserved-then-b-eq126 : goal.loop-i-preserved-then-b-eq126
-loop-i-preserved-then-b-eq126 c = at_tilde _ _ _ _ _ _ _ c.loop-i.invariant c.loop-i-test.true (same _ _ c.if-b-eq126.true) c.rest_from.ensures c.in_ok-i.ensures.length c.in_ok-i.ensures.bytes
+loop-i-preserved-then-b-eq126 c = at_tilde _ _ _ _ _ _ _ c.loop-i.invariant c.loop-i-test.true (eq-eqb _ _ c.if-b-eq126.true) c.rest_from.ensures c.in_ok-i.ensures.length c.in_ok-i.ensures.bytes
 
 pub loop-i-preserved-then-b-quote : goal.loop-i-preserved-then-b-quote
-loop-i-preserved-then-b-quote c = at_plain _ _ _ _ _ c.loop-i.invariant c.loop-i-test.true (different _ _ c.if-b-eq126.false) (different _ _ c.if-b-quote.true) c.in_ok-push.ensures.items
+loop-i-preserved-then-b-quote c = at_plain _ _ _ _ _ c.loop-i.invariant c.loop-i-test.true (ne_eqb _ _ c.if-b-eq126.false) (ne_eqb _ _ c.if-b-quote.true) c.in_ok-push.ensures.items
 
 pub loop-i-preserved : goal.loop-i-preserved
-loop-i-preserved c = at_doubled _ _ _ _ _ c.loop-i.invariant c.loop-i-test.true (different _ _ c.if-b-eq126.false) (same _ _ c.if-b-quote.false) (sym c.stands_at.ensures ∙ c.if-stands_at.true) c.in_ok-push-2.ensures.items
+loop-i-preserved c = at_doubled _ _ _ _ _ c.loop-i.invariant c.loop-i-test.true (ne_eqb _ _ c.if-b-eq126.false) (eq-eqb _ _ c.if-b-quote.false) (sym c.has_byte_at.ensures ∙ c.if-has_byte_at.true) c.in_ok-push-2.ensures.items
 
-pub returns-else-stands_at : goal.returns-else-stands_at
-returns-else-stands_at c = at_last _ _ _ _ c.loop-i.invariant c.loop-i-test.true (different _ _ c.if-b-eq126.false) (same _ _ c.if-b-quote.false) (sym c.stands_at.ensures ∙ c.if-stands_at.false)
+pub returns-else-has_byte_at : goal.returns-else-has_byte_at
+returns-else-has_byte_at c = at_last _ _ _ _ c.loop-i.invariant c.loop-i-test.true (ne_eqb _ _ c.if-b-eq126.false) (eq-eqb _ _ c.if-b-quote.false) (sym c.has_byte_at.ensures ∙ c.if-has_byte_at.false)
 
 pub returns : goal.returns
 returns c = at_end _ _ _ _ c.loop-i.invariant c.loop-i-test.false

@@ -1,5 +1,5 @@
 use Rattle.abl_lex.proofs.Misfits.{dated_word}
-use Rattle.abl_lex.proofs.Told.{dated_kind, dated_meaning, digits_few, digits_kind, digits_meaning, digits_only, fraction_after, fraction_few_after, fraction_few_before, fraction_point, fractional_kind, fractional_meaning, name_kind, name_meaning, qualified_kind, qualified_meaning, qualified_point, quoted_kind, quoted_meaning, reserved_kind, reserved_meaning, symbol_kind_is, symbol_meaning}
+use Rattle.abl_lex.proofs.FormMeanings.{dated_kind, dated_meaning, digits_few, digits_kind, digits_meaning, digits_only, fraction_after, fraction_few_after, fraction_few_before, fraction_point, fractional_kind, fractional_meaning, name_kind, name_meaning, qualified_kind, qualified_meaning, qualified_point, quoted_kind, quoted_meaning, reserved_kind, reserved_meaning, symbol_kind_is, symbol_meaning}
 use Rattle.std.proofs.Common.{◌∙◌}
 use Rattle.abl_lex.proofs.meaning.meaning.Goals as goal
 

@@ -1,6 +1,6 @@
 use Rattle.std.proofs.Common.{◌≡◌, ◌<◌, ◌≤◌, subst, arith, length}
 use Rattle.abl_lex.specs.Texts.{place_of}
-use Rattle.abl_lex.proofs.Places.{as_told, column_small, feed, known, line_small, other, told}
+use Rattle.abl_lex.proofs.Places.{as_known, column_small, feed, known, line_small, other, place_known}
 use Rattle.abl_lex.proofs.place.moved.Goals.{then-text-i-eq10, else-text-i-eq10}
 use Rattle.abl_lex.proofs.place.moved.Goals as goal
 
@@ -23,11 +23,11 @@ pub loop-i-preserved : goal.loop-i-preserved
 loop-i-preserved c =
     let h : c.loop-i.i < length c.args.text.now = omega arith in
     elim c.if-text-i-eq10.branch [
-      | then-text-i-eq10 w ↦ as_told _ _ _ _ _ _ (feed _ _ _ _ c.loop-i.invariant h w.if-text-i-eq10.true) w.line-is w.column-is
-      | else-text-i-eq10 w ↦ as_told _ _ _ _ _ _ (other _ _ _ _ c.loop-i.invariant h w.if-text-i-eq10.false) w.line-is w.column-is
+      | then-text-i-eq10 w ↦ as_known _ _ _ _ _ _ (feed _ _ _ _ c.loop-i.invariant h w.if-text-i-eq10.true) w.line-is w.column-is
+      | else-text-i-eq10 w ↦ as_known _ _ _ _ _ _ (other _ _ _ _ c.loop-i.invariant h w.if-text-i-eq10.false) w.line-is w.column-is
     ]
 
 pub returns : goal.returns
 returns c =
     let e : c.loop-i.i ≡ c.args.to = omega arith in
-    subst (λ i. record { line = c.loop-i.line; column = c.loop-i.column } ≡ place_of c.args.text.now i) e (told _ _ _ _ c.loop-i.invariant)
+    subst (λ i. record { line = c.loop-i.line; column = c.loop-i.column } ≡ place_of c.args.text.now i) e (place_known _ _ _ _ c.loop-i.invariant)

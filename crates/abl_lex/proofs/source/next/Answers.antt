@@ -1,4 +1,4 @@
-use Rattle.abl_lex.proofs.Runs.{comment_first, front_broken, front_first}
+use Rattle.abl_lex.proofs.Runs.{comment_first, leading_broken, leading_first}
 use Rattle.abl_lex.proofs.source.next.Goals as goal
 
 pub returns-in-Err-clause-broken : goal.returns-in-Err-clause-broken
@@ -6,4 +6,4 @@ returns-in-Err-clause-broken c = comment_first _ _ _ _ c.rest_from.ensures c.in-
 
 pub returns-in-Err-word-clause-broken : goal.returns-in-Err-word-clause-broken
 returns-in-Err-word-clause-broken c =
-    front_first _ _ _ _ _ _ (front_broken _ _ _ _ _ c.rest_from.ensures c.in-Ok.ensures.gap.0 c.in-Ok.ensures.gap.1 c.if-start-text.false c.requires c.rest_from-in-Ok.ensures) c.in-Err-word.ensures.broken
+    leading_first _ _ _ _ _ _ (leading_broken _ _ _ _ _ c.rest_from.ensures c.in-Ok.ensures.gap.0 c.in-Ok.ensures.gap.1 c.if-start-text.false c.requires c.rest_from-in-Ok.ensures) c.in-Err-word.ensures.broken

@@ -4,11 +4,11 @@ use Rattle.abl_lex.proofs.Prefixes.{prefix_within}
 use Rattle.abl_lex.proofs.Numbers.{slash_few, slash_none}
 use Rattle.abl_lex.proofs.word.ends_in_slash.Goals as goal
 
-pub returns-then-stands_at : goal.returns-then-stands_at
-returns-then-stands_at c = c.is_one_or_two.ensures ∙ slash_few _ _ c.requires (sym c.stands_at.ensures ∙ c.if-stands_at.true)
+pub returns-then-has_byte_at : goal.returns-then-has_byte_at
+returns-then-has_byte_at c = c.is_one_or_two.ensures ∙ slash_few _ _ c.requires (sym c.has_byte_at.ensures ∙ c.if-has_byte_at.true)
 
-pub returns-else-stands_at : goal.returns-else-stands_at
-returns-else-stands_at c = slash_none _ _ c.requires (sym c.stands_at.ensures ∙ c.if-stands_at.false)
+pub returns-else-has_byte_at : goal.returns-else-has_byte_at
+returns-else-has_byte_at c = slash_none _ _ c.requires (sym c.has_byte_at.ensures ∙ c.if-has_byte_at.false)
 
-pub stands_at-requires : goal.stands_at-requires
-stands_at-requires c = omega (arith, c.requires, prefix_within is_digit c.args.rest.now)
+pub has_byte_at-requires : goal.has_byte_at-requires
+has_byte_at-requires c = omega (arith, c.requires, prefix_within is_digit c.args.rest.now)

@@ -6,7 +6,7 @@ use Rattle.abl_lex.proofs.word.named.Goals as goal
 
 pub returns-then-is_none : goal.returns-then-is_none
 returns-then-is_none c =
-    found_qualified _ _ _ _ _ c.requires c.name_len-n.ensures.is (sym c.stands_at.ensures ∙ c.if-stands_at.true) c.rest_from-second.ensures (sym c.starts_letter.ensures ∙ c.if-starts_letter.true) c.piece.ensures (ap is_some (sym c.keyword_of.ensures) ∙ c.is_none.ensures ∙ ap not c.if-is_none.true) c.name_len.ensures.is
+    found_qualified _ _ _ _ _ c.requires c.name_len-n.ensures.is (sym c.has_byte_at.ensures ∙ c.if-has_byte_at.true) c.rest_from-second.ensures (sym c.starts_letter.ensures ∙ c.if-starts_letter.true) c.piece.ensures (ap is_some (sym c.keyword_of.ensures) ∙ c.is_none.ensures ∙ ap not c.if-is_none.true) c.name_len.ensures.is
 
 pub returns-else-starts_letter : goal.returns-else-starts_letter
 returns-else-starts_letter c =
@@ -15,5 +15,5 @@ returns-else-starts_letter c =
       | else-starts_letter-via-else-starts_letter w ↦ word_no_letter _ _ _ c.requires c.name_len-n.ensures.is c.rest_from-second.ensures (sym c.starts_letter.ensures ∙ w.if-starts_letter.false)
     ]
 
-pub returns-else-stands_at : goal.returns-else-stands_at
-returns-else-stands_at c = word_no_point _ _ c.requires c.name_len-n.ensures.is (sym c.stands_at.ensures ∙ c.if-stands_at.false)
+pub returns-else-has_byte_at : goal.returns-else-has_byte_at
+returns-else-has_byte_at c = word_no_point _ _ c.requires c.name_len-n.ensures.is (sym c.has_byte_at.ensures ∙ c.if-has_byte_at.false)

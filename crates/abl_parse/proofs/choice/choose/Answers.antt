@@ -1,6 +1,6 @@
 use Rattle.std.proofs.Common.{List, ◌∷◌, ◌≡◌, ℕ, ◌<◌, true, false, Option, IfSome, IfNone, Some, None}
 use Rattle.abl_tree.specs.declared.token.TokenKind.{TokenKind}
-use Rattle.abl_parse.specs.declared.part.Part.{Part}
+use Rattle.abl_parse.specs.declared.nonterminal.Nonterminal.{Nonterminal}
 use Rattle.abl_parse.specs.declared.symbol.Room.{Room}
 use Rattle.abl_parse.specs.declared.symbol.Entry.{Entry}
 use Rattle.abl_parse.specs.declared.symbol.Entry.TheVariants.{Derive}
@@ -13,16 +13,16 @@ use Rattle.abl_parse.proofs.choice.choose.Goals as goal
 pub returns-in-Some-clause-some : goal.returns-in-Some-clause-some
 returns-in-Some-clause-some c = by_start _ _ _ c.requires c.in-Some.ensures.some.0 c.in-Some.ensures.some.1
 
-some_of : (o : Option ℕ) (a : Part) (k : TokenKind) → IfSome o (λ r. (r < rule_count) × (vanishes_as a (rule r) ≡ true)) → ((q : ℕ) → q < rule_count → starts_with a k (rule q) ≡ false) → IfSome o (λ r. OnlyRule a k r)
+some_of : (o : Option ℕ) (a : Nonterminal) (k : TokenKind) → IfSome o (λ r. (r < rule_count) × (vanishes_as a (rule r) ≡ true)) → ((q : ℕ) → q < rule_count → starts_with a k (rule q) ≡ false) → IfSome o (λ r. OnlyRule a k r)
 some_of (Some r) a k h none = by_nothing a k r h.0 h.1 none
 some_of None a k h none = h
 
-none_of : (o : Option ℕ) (a : Part) (k : TokenKind) → IfNone o ((q : ℕ) → q < rule_count → vanishes_as a (rule q) ≡ false) → ((q : ℕ) → q < rule_count → starts_with a k (rule q) ≡ false) → IfNone o ((at : ℕ) (room : Room) (stack : List Entry) → Stuck at (Derive a room ∷ stack) k)
+none_of : (o : Option ℕ) (a : Nonterminal) (k : TokenKind) → IfNone o ((q : ℕ) → q < rule_count → vanishes_as a (rule q) ≡ false) → ((q : ℕ) → q < rule_count → starts_with a k (rule q) ≡ false) → IfNone o ((at : ℕ) (room : Room) (stack : List Entry) → Stuck at (Derive a room ∷ stack) k)
 none_of (Some r) a k h none = h
 none_of None a k h none = by_none a k none h
 
 pub returns-in-None-clause-some : goal.returns-in-None-clause-some
-returns-in-None-clause-some c = some_of c.vanishing.result c.args.part c.args.kind c.vanishing.ensures.some c.in-None.ensures.none
+returns-in-None-clause-some c = some_of c.vanishing.result c.args.nonterminal c.args.kind c.vanishing.ensures.some c.in-None.ensures.none
 
 pub returns-in-None-clause-none : goal.returns-in-None-clause-none
-returns-in-None-clause-none c = none_of c.vanishing.result c.args.part c.args.kind c.vanishing.ensures.none c.in-None.ensures.none
+returns-in-None-clause-none c = none_of c.vanishing.result c.args.nonterminal c.args.kind c.vanishing.ensures.none c.in-None.ensures.none

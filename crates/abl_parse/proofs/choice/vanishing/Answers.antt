@@ -1,14 +1,14 @@
 use Rattle.std.proofs.Common.{arith}
 use Rattle.std.proofs.Math.Decide.{dec_lt}
-use Rattle.abl_base.proofs.Bools.{and_first}
-use Rattle.abl_parse.proofs.Flags.{parts_differ}
+use Rattle.std.proofs.lemmas.Bool.{and_left}
+use Rattle.abl_parse.proofs.Flags.{nonterminals_differ}
 use Rattle.abl_parse.proofs.choice.vanishing.Goals as goal
 
 pub loop-r-init : goal.loop-r-init
-loop-r-init c = λ q h. and_first _ _ (parts_differ _ _ (λ e. absurd (let b = c.first_row-r.ensures.before q (let w = c.first_row-r.ensures.below in omega arith) e in omega arith)))
+loop-r-init c = λ q h. and_left _ _ (nonterminals_differ _ _ (λ e. absurd (let b = c.first_row-r.ensures.before q (let w = c.first_row-r.ensures.below in omega arith) e in omega arith)))
 
 pub returns-clause-none : goal.returns-clause-none
 returns-clause-none c = λ q w. elim (dec_lt q c.loop-r.r) [
   | yes h ↦ c.loop-r.invariant q h
-  | no h ↦ and_first _ _ (parts_differ _ _ (λ e. absurd (let b = c.after_rows-r-end.ensures.behind q w e in let t = c.loop-r-test.false in omega arith)))
+  | no h ↦ and_left _ _ (nonterminals_differ _ _ (λ e. absurd (let b = c.after_rows-r-end.ensures.beyond q w e in let t = c.loop-r-test.false in omega arith)))
 ]

@@ -4,4 +4,4 @@ use Rattle.abl_parse.specs.Table.{vanishes_as}
 use Rattle.abl_parse.proofs.choice.vanishing.Given as goal
 
 abbrev pub invariant-loop-r : goal.invariant-loop-r
-invariant-loop-r l = (q : ℕ) → q < l.r → vanishes_as l.part (rule q) ≡ false
+invariant-loop-r l = (q : ℕ) → q < l.r → vanishes_as l.nonterminal (rule q) ≡ false

@@ -14,8 +14,8 @@ pub record Sofar (at : ℕ) (from : List Entry) (before : List Opening) (to : Li
   pub suits : suits rules (plain from) EndOfSource ≡ true → suits rules (plain to) EndOfSource ≡ true
   pub ends : ends_once (plain from) ≡ true → ends_once (plain to) ≡ true
 
-abbrev pub invariant-loop-part : goal.invariant-loop-part
-invariant-loop-part l = Sofar l.at l.initial.stack l.initial.used.items l.stack l.used.items l.kind
+abbrev pub invariant-loop-nonterminal : goal.invariant-loop-nonterminal
+invariant-loop-nonterminal l = Sofar l.at l.initial.stack l.initial.used.items l.stack l.used.items l.kind
 
-abbrev pub decreases-loop-part : goal.decreases-loop-part
-decreases-loop-part l = front rules (plain l.stack)
+abbrev pub decreases-loop-nonterminal : goal.decreases-loop-nonterminal
+decreases-loop-nonterminal l = front rules (plain l.stack)

@@ -1,11 +1,11 @@
 use Rattle.std.proofs.Common.{sym, ◌∙◌, ap, arith}
 use Rattle.abl_tree.specs.declared.token.TokenKind.TheVariants.{Colon}
 use Rattle.abl_parse.specs.Same.{same_kind}
-use Rattle.abl_base.proofs.Bools.{clash}
+use Rattle.std.proofs.lemmas.Bool.{both_ways}
 use Rattle.abl_parse.proofs.Flags.{kinds_same, kind_itself}
 use Rattle.abl_parse.proofs.Steps.{ends_row}
 use Rattle.abl_parse.proofs.Completes.{suits_row}
-use Rattle.abl_parse.proofs.NameRows.{rows_there, parts_are, form_only, target_only}
+use Rattle.abl_parse.proofs.NameRows.{rows_there, nonterminals_are, form_only, target_only}
 use Rattle.abl_parse.proofs.NameSteps.{label_step, assign_step, second_at, third_at}
 use Rattle.abl_parse.proofs.expand.open_name.Goals as goal
 
@@ -49,7 +49,7 @@ pub returns-then-same_kind-clause-ends : goal.returns-then-same_kind-clause-ends
 returns-then-same_kind-clause-ends c = ends_row c.args.room _ _ c.args.stack.now c.requires.0 c.open_row.new.stack (let h = rows_there in omega arith) c.requires.1 (c.in_ok-open_row.ensures.stack _ c.requires.1)
 
 pub returns-then-same_kind-clause-suits : goal.returns-then-same_kind-clause-suits
-returns-then-same_kind-clause-suits c = suits_row c.args.room _ _ c.args.stack.now c.requires.0 c.open_row.new.stack (let h = rows_there in omega arith) parts_are.0 c.requires.1 (c.in_ok-open_row.ensures.stack _ c.requires.1)
+returns-then-same_kind-clause-suits c = suits_row c.args.room _ _ c.args.stack.now c.requires.0 c.open_row.new.stack (let h = rows_there in omega arith) nonterminals_are.0 c.requires.1 (c.in_ok-open_row.ensures.stack _ c.requires.1)
 
 pub returns-clause-named : goal.returns-clause-named
 returns-clause-named c = λ rest e.
@@ -60,7 +60,7 @@ returns-clause-named c = λ rest e.
     let s3 = c.in_ok-open_row-4.ensures.stack _ t3 in
     assign_step c.args.at c.args.room c.inside-within.result c.inside-target.result rest c.open_row-4.new.stack c.args.used.now.items c.open_row-2.new.used.items c.open_row-3.new.used.items c.open_row-4.new.used.items c.args.next
     c.inside-within.ensures c.inside-target.ensures s3 c.in_ok-open_row-2.ensures.used c.in_ok-open_row-3.ensures.used c.in_ok-open_row-4.ensures.used
-    (λ f. clash _ (sym c.same_kind.ensures ∙ c.if-same_kind.false) (ap (λ x. same_kind x Colon) f ∙ kind_itself Colon))
+    (λ f. both_ways _ (sym c.same_kind.ensures ∙ c.if-same_kind.false) (ap (λ x. same_kind x Colon) f ∙ kind_itself Colon))
 
 pub returns-clause-ends : goal.returns-clause-ends
 returns-clause-ends c = λ p.
@@ -80,6 +80,6 @@ returns-clause-suits c = λ p.
     let s2 = c.in_ok-open_row-3.ensures.stack _ t2 in
     let t3 = third_at c.inside-within.result c.inside-target.result c.open_row-3.new.stack c.requires.0 c.inside-target.ensures s2 in
     let s3 = c.in_ok-open_row-4.ensures.stack _ t3 in
-    suits_row c.inside-target.result _ _ c.open_row-3.new.stack _ c.open_row-4.new.stack (let h = rows_there in omega arith) target_only.part t3 s3 (
-    suits_row c.inside-within.result _ _ c.open_row-2.new.stack c.requires.0 c.open_row-3.new.stack (let h = rows_there in omega arith) form_only.part t2 s2 (
-    suits_row c.args.room _ _ c.args.stack.now c.requires.0 c.open_row-2.new.stack (let h = rows_there in omega arith) parts_are.1 c.requires.1 s1 p))
+    suits_row c.inside-target.result _ _ c.open_row-3.new.stack _ c.open_row-4.new.stack (let h = rows_there in omega arith) target_only.nonterminal t3 s3 (
+    suits_row c.inside-within.result _ _ c.open_row-2.new.stack c.requires.0 c.open_row-3.new.stack (let h = rows_there in omega arith) form_only.nonterminal t2 s2 (
+    suits_row c.args.room _ _ c.args.stack.now c.requires.0 c.open_row-2.new.stack (let h = rows_there in omega arith) nonterminals_are.1 c.requires.1 s1 p))

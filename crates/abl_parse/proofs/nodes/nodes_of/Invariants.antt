@@ -5,7 +5,7 @@ use Rattle.abl_parse.specs.declared.symbol.Opening.{Opening}
 use Rattle.abl_parse.specs.Closing.{closing}
 use Rattle.abl_parse.proofs.nodes.nodes_of.Given as goal
 
--- the nodes from this number on, the last first, and the ends of those that stand in no other
+-- the nodes from this number on, the last first, and the ends of the outermost of them
 pub record Laid (openings : List Opening) (number : ℕ) (nodes : List Node) (ends : List ℕ) : Type 0 where
   pub nodes_are : reverse nodes ≡ (closing number (drop number openings)).laid_out
   pub ends_are : ends ≡ (closing number (drop number openings)).ends

@@ -8,8 +8,8 @@ use Rattle.abl_parse.specs.Violations.{IsFirst}
 use Rattle.abl_parse.proofs.Places.{begun, stuck_here, other_here, deep_here, onward_here, at_end, clean_end, text_of, kinds_long}
 use Rattle.abl_parse.proofs.syntax.read.Goals as goal
 
-told : (T : Type 0) (tokens : List TokenKind) (x : Result T SyntaxRefusal) (r : SyntaxRefusal) (one other : Rule) (p q : ℕ) → x ≡ Err r → r ≡ Broken one p → x ≡ Err (Broken other q) → IsFirst tokens one p → IsFirst tokens other q
-told T tokens x r one other p q d e f h =
+as_refused : (T : Type 0) (tokens : List TokenKind) (x : Result T SyntaxRefusal) (r : SyntaxRefusal) (one other : Rule) (p q : ℕ) → x ≡ Err r → r ≡ Broken one p → x ≡ Err (Broken other q) → IsFirst tokens one p → IsFirst tokens other q
+as_refused T tokens x r one other p q d e f h =
     let a : one ≡ other = cc in
     let b : p ≡ q = cc in
     subst (λ y. IsFirst tokens y q) a (subst (λ y. IsFirst tokens one y) b h)
@@ -34,7 +34,7 @@ returns-then-not-branch-clause-refused c = λ broken place e.
     let q = kinds_long c.args.tokens.now in
     let h : c.loop-at.at < length ks = omega arith in
     let s = c.in_ok-expand.ensures.stuck (cc) in
-    told _ ks _ _ _ _ _ _ refl c.refusal.ensures e (
+    as_refused _ ks _ _ _ _ _ _ refl c.refusal.ensures e (
     stuck_here ks c.loop-at.at c.kind_at-kind.result c.loop-at.stack c.expand.new.stack c.loop-at.used.items c.expand.new.used.items c.loop-at.invariant h c.kind_at-kind.ensures s.0 s.1)
 
 pub returns-then-not-take-clause-refused : goal.returns-then-not-take-clause-refused
@@ -42,7 +42,7 @@ returns-then-not-take-clause-refused c = λ broken place e.
     let ks = kinds c.args.tokens.now in
     let q = kinds_long c.args.tokens.now in
     let h : c.loop-at.at < length ks = omega arith in
-    told _ ks _ _ _ _ _ _ refl c.refusal-then-not-take.ensures e (
+    as_refused _ ks _ _ _ _ _ _ refl c.refusal-then-not-take.ensures e (
     other_here ks c.loop-at.at c.kind_at-kind.result c.kind_after-next.result c.loop-at.stack c.expand.new.stack c.loop-at.used.items c.expand.new.used.items c.loop-at.invariant h c.kind_at-kind.ensures
     c.in_ok-expand.ensures.went (c.in_ok-expand.ensures.taking (cc)) (c.if-not-take.ensures.other refl))
 
@@ -52,7 +52,7 @@ returns-then-finds_deep-clause-refused c = λ broken place e.
     let q = kinds_long c.args.tokens.now in
     let h : c.loop-at.at < length ks = omega arith in
     let d : drop (length c.loop-at.used.items) c.expand.new.used.items ≡ c.rest_from.result.now = sym (c.rest_from.ensures ∙ ap (λ n. drop n c.as_slice.result.now) (ap length c.as_slice-before.ensures.value) ∙ ap (drop (length c.loop-at.used.items)) c.as_slice.ensures.value) in
-    told _ ks _ _ _ _ _ _ refl c.refusal-then-finds_deep.ensures e (
+    as_refused _ ks _ _ _ _ _ _ refl c.refusal-then-finds_deep.ensures e (
     deep_here ks c.loop-at.at c.kind_at-kind.result c.kind_after-next.result c.loop-at.stack c.expand.new.stack c.take.new.self c.loop-at.used.items c.expand.new.used.items
     (text_of c.args.tokens.now c.requires) c.loop-at.invariant h c.kind_at-kind.ensures (λ l. c.kind_after-next.ensures (omega arith)) c.in_ok-expand.ensures.went (c.if-not-take.ensures.taken refl)
     (c.in_ok-expand.ensures.suits c.loop-at.invariant.suits) (ap any_deep d ∙ sym c.finds_deep.ensures ∙ c.if-finds_deep.true))

@@ -3,4 +3,4 @@ use Rattle.abl_parse.proofs.Cuts.{count_is}
 use Rattle.abl_parse.proofs.table.count.Goals as goal
 
 pub returns : goal.returns
-returns c = ap length c.parts.ensures ∙ sym count_is
+returns c = ap length c.nonterminals.ensures ∙ sym count_is

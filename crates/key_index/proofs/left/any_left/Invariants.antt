@@ -1,7 +1,7 @@
 use Rattle.std.proofs.Common.{ℕ}
 use Rattle.key_index.specs.Chain.{items_of}
 use Rattle.key_index.specs.Left.{Lists, owner_at}
-use Rattle.key_index.specs.Standing.{IsLeft}
+use Rattle.key_index.specs.Places.{IsLeft}
 use Rattle.key_index.proofs.left.any_left.Given as goal
 
 -- none of the rows so far is a placeholder

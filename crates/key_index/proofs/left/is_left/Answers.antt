@@ -2,7 +2,7 @@ use Rattle.std.proofs.Common.{◌↔◌, IsSome, sym, ap, ◌∙◌}
 use Rattle.std.specs.Option.{option_map}
 use Rattle.key_index.specs.declared.left.Seat.{Seat}
 use Rattle.key_index.specs.Left.{owner_at}
-use Rattle.key_index.specs.Standing.{IsLeft}
+use Rattle.key_index.specs.Places.{IsLeft}
 use Rattle.key_index.proofs.LeftRows.{is_left-owner}
 use Rattle.key_index.proofs.left.is_left.Goals as goal
 

@@ -1,6 +1,6 @@
 use Rattle.std.proofs.Common.{◌≡◌, ℕ, Some, None}
 use Rattle.key_index.specs.Left.{owner_at}
-use Rattle.key_index.specs.Standing.{IsBelow}
+use Rattle.key_index.specs.Places.{IsBelow}
 use Rattle.key_index.proofs.Beyond.{rows_below}
 use Rattle.key_index.proofs.rows.greatest_entry.Given as goal
 

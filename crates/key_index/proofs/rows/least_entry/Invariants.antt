@@ -1,6 +1,6 @@
 use Rattle.std.proofs.Common.{◌≡◌, ℕ, Some, None}
 use Rattle.key_index.specs.Left.{owner_at}
-use Rattle.key_index.specs.Standing.{IsAbove}
+use Rattle.key_index.specs.Places.{IsAbove}
 use Rattle.key_index.proofs.Beyond.{rows_above}
 use Rattle.key_index.proofs.rows.least_entry.Given as goal
 

@@ -1,7 +1,7 @@
 use Rattle.std.proofs.Common.{◌<◌, ℕ, Option, subst}
 use Rattle.std.proofs.lemmas.Map.Keys.{ge_from_not_lt}
 use Rattle.key_index.specs.Left.{seat_at}
-use Rattle.key_index.specs.Standing.{IsBelow}
+use Rattle.key_index.specs.Places.{IsBelow}
 use Rattle.key_index.proofs.Beyond.{less_from_lt}
 use Rattle.key_index.proofs.Owners.{some_seat}
 use Rattle.key_index.proofs.rows.previous_row.Goals as goal

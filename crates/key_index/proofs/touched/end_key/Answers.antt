@@ -1,6 +1,6 @@
 use Rattle.std.proofs.Common.{◌≡◌, ℕ, List, inl, Some, None, IfSome, refl, sym, ap, subst, ◌∙◌}
 use Rattle.std.specs.Option.{is_some}
-use Rattle.abl_base.proofs.Bools.{clash}
+use Rattle.std.proofs.lemmas.Bool.{both_ways}
 use Rattle.key_index.specs.declared.touched.Keyed.{Keyed}
 use Rattle.key_index.specs.Nodes.{IsTouched}
 use Rattle.key_index.specs.Touched.{IsKeyListed, ListsKey, keyed_at}
@@ -66,7 +66,7 @@ returns-clause-listed c keyed is =
     let w : Keyed = record { node = c.end.new.self; spare = Some (record { key = c.args.key; room = c.args.room }) } in
     let puts = written c.args.nodes.now (c.get_mut.follows.lender w) c.as_slice.result.now c.args.key.items c.in-Some.keyed.now w c.as_slice.ensures.value (c.get_mut.follows.holds w) c.in-Some.ensures.value in
     subst (IsKeyListed c.args.touched.now c.args.key.items) (some_keyed w keyed (sym puts.0 ∙ is)) (record {
-      listed = λ is_touched. absurd (clash c.is_touched.result c.if-is_touched.false (c.is_touched.ensures.1 is_touched));
+      listed = λ is_touched. absurd (both_ways c.is_touched.result c.if-is_touched.false (c.is_touched.ensures.1 is_touched));
       used = λ none. absurd (no_spare (record { key = c.args.key; room = c.args.room }) none);
       own = refl;
     })

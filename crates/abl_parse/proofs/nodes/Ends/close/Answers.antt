@@ -26,4 +26,4 @@ closed_list xs ys zs n p e a b c =
     ap reverse (c ∙ ap (λ t. t ++ e ∷ []) b) ∙ reverse-append (take n xs) (e ∷ []) ∙ ap (λ t. e ∷ t) (front xs n p a)
 
 pub returns : goal.returns
-returns c = closed_list c.self.inside.ends.items c.truncate.new.self.items c.push.new.self.items c.saturating_sub-keep.result c.args.parts c.args.end (c.saturating_sub-keep.ensures ∙ ap (λ n. n - c.args.parts) (ap length c.as_slice.ensures.value)) c.truncate.ensures.items c.in_ok-push.ensures.items ∙ ap (λ t. c.args.end ∷ drop c.args.parts t) c.self.view_is
+returns c = closed_list c.self.inside.ends.items c.truncate.new.self.items c.push.new.self.items c.saturating_sub-keep.result c.args.nonterminals c.args.end (c.saturating_sub-keep.ensures ∙ ap (λ n. n - c.args.nonterminals) (ap length c.as_slice.ensures.value)) c.truncate.ensures.items c.in_ok-push.ensures.items ∙ ap (λ t. c.args.end ∷ drop c.args.nonterminals t) c.self.view_is

@@ -3,7 +3,7 @@ use Rattle.abl_tree.specs.declared.token.TokenKind.{TokenKind}
 use Rattle.abl_parse.specs.declared.symbol.Entry.{Entry}
 use Rattle.abl_parse.specs.declared.symbol.Entry.TheVariants.{Await}
 use Rattle.abl_parse.specs.Same.{same_kind}
-use Rattle.abl_base.proofs.Bools.{clash}
+use Rattle.std.proofs.lemmas.Bool.{both_ways}
 use Rattle.abl_parse.proofs.Flags.{kinds_same, kind_itself}
 use Rattle.abl_parse.proofs.stack.Stack.take.Goals as goal
 
@@ -18,7 +18,7 @@ passed : (old : List Entry) (f : Entry) (k kind : TokenKind) → ((rest : List E
 passed old f k kind m e s rest q =
     let o : old ≡ f ∷ m.0 = m.1 in
     let d : k ≡ kind = cc in
-    clash (same_kind k kind) s (ap (λ x. same_kind k x) (sym d) ∙ kind_itself k)
+    both_ways (same_kind k kind) s (ap (λ x. same_kind k x) (sym d) ∙ kind_itself k)
 
 pub returns-then-same_kind-clause-taken : goal.returns-then-same_kind-clause-taken
 returns-then-same_kind-clause-taken c = λ t. took c.args.self.now c.pop.new.self _ _ c.args.kind c.in-Some-Await.ensures c.in-Some-Await.field-0-is (sym c.same_kind.ensures ∙ c.if-same_kind.true) c.pop.ensures

@@ -3,7 +3,7 @@ use Rattle.std.specs.FinMap as map
 use Rattle.key_index.specs.declared.index.Node.{Node}
 use Rattle.key_index.specs.declared.touched.Keyed.{Keyed}
 use Rattle.key_index.specs.Keyed.{by_bytes}
-use Rattle.key_index.specs.Index.{Keys, IsSame, standing, Puts}
+use Rattle.key_index.specs.Index.{Keys, IsSame, place_at, Puts}
 use Rattle.key_index.specs.Nodes.{node_entered}
 use Rattle.key_index.specs.Touched.{AreKeysListed, IsKeyListed, keyed_at, nodes_of}
 use Rattle.key_index.proofs.Changes.{known_puts, fresh_puts, same_nodes, has_place, no_place}
@@ -47,8 +47,8 @@ pub returns-in_err-used-clause-taken_back : goal.returns-in_err-used-clause-take
 returns-in_err-used-clause-taken_back c left =
     let key = c.as_slice.result.now in
     let was : map.get c.args.self.now key ≡ Some c.in-Some.keyed.now.node = seen_node c.self.inside.nodes c.args.self.now c.self.view_is key ∙ ap node_in (sym c.in-Some.ensures.value) in
-    let there : standing c.args.self.now key c.args.row.0 ≡ Some (Some c.args.client) =
-    subst (λ (k : List ℕ). standing c.args.self.now k c.args.row.0 ≡ Some (Some c.args.client)) (sym c.as_slice.ensures) left in
+    let there : place_at c.args.self.now key c.args.row.0 ≡ Some (Some c.args.client) =
+    subst (λ (k : List ℕ). place_at c.args.self.now k c.args.row.0 ≡ Some (Some c.args.client)) (sym c.as_slice.ensures) left in
     absurd (no_clash (c.in_err-used.ensures.known (ap is_some (has_place c.args.self.now key c.args.row.0 c.in-Some.keyed.now.node (Some c.args.client) was there))))
 
 pub invariant_of-self-in-Some : goal.invariant_of-self-in-Some
@@ -76,8 +76,8 @@ returns-in-Some-clause-ok c =
 
 -- a key that is new
 
-not_there : (index : Keys) (slice key : List ℕ) (row client : ℕ) → map.get index slice ≡ None → slice ≡ key → standing index key row ≡ Some (Some client) → ⊥
-not_there index slice key row client none same left = no_place index slice row (Some client) none (subst (λ (k : List ℕ). standing index k row ≡ Some (Some client)) (sym same) left)
+not_there : (index : Keys) (slice key : List ℕ) (row client : ℕ) → map.get index slice ≡ None → slice ≡ key → place_at index key row ≡ Some (Some client) → ⊥
+not_there index slice key row client none same left = no_place index slice row (Some client) none (subst (λ (k : List ℕ). place_at index k row ≡ Some (Some client)) (sym same) left)
 
 pub invariant_of-self-in_err-bytes : goal.invariant_of-self-in_err-bytes
 invariant_of-self-in_err-bytes c = subst (λ m. AreKeysListed m c.self.inside.touched) (sym c.get_mut.follows.holds-at-none) c.self.invariant

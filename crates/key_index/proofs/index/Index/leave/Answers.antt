@@ -3,7 +3,7 @@ use Rattle.std.specs.FinMap as map
 use Rattle.key_index.specs.declared.index.Node.{Node}
 use Rattle.key_index.specs.declared.touched.Keyed.{Keyed}
 use Rattle.key_index.specs.Keyed.{by_bytes}
-use Rattle.key_index.specs.Index.{standing, Puts}
+use Rattle.key_index.specs.Index.{place_at, Puts}
 use Rattle.key_index.specs.Touched.{AreKeysListed, nodes_of}
 use Rattle.key_index.proofs.Changes.{known_puts, has_place, no_place}
 use Rattle.key_index.proofs.NodesOf.{node_in, seen_node}
@@ -15,7 +15,7 @@ pub leave-used-requires : goal.leave-used-requires
 leave-used-requires c =
     let key = c.as_slice.result.now in
     let was : map.get c.args.self.now key ≡ Some c.in-Some.keyed.now.node = seen_node c.self.inside.nodes c.args.self.now c.self.view_is key ∙ ap node_in (sym c.in-Some.ensures.value) in
-    let there : standing c.args.self.now key c.args.row.0 ≡ Some None = subst (λ (k : List ℕ). standing c.args.self.now k c.args.row.0 ≡ Some None) (sym c.as_slice.ensures) c.requires.there in
+    let there : place_at c.args.self.now key c.args.row.0 ≡ Some None = subst (λ (k : List ℕ). place_at c.args.self.now k c.args.row.0 ≡ Some None) (sym c.as_slice.ensures) c.requires.there in
     ap is_some (has_place c.args.self.now key c.args.row.0 c.in-Some.keyed.now.node None was there)
 
 pub invariant_of-self : goal.invariant_of-self
@@ -25,7 +25,7 @@ pub returns-in_default : goal.returns-in_default
 returns-in_default c =
     let key = c.as_slice.result.now in
     let none : map.get c.args.self.now key ≡ None = seen_node c.self.inside.nodes c.args.self.now c.self.view_is key ∙ ap node_in (sym c.in_default.ensures.value) in
-    let there : standing c.args.self.now key c.args.row.0 ≡ Some None = subst (λ (k : List ℕ). standing c.args.self.now k c.args.row.0 ≡ Some None) (sym c.as_slice.ensures) c.requires.there in
+    let there : place_at c.args.self.now key c.args.row.0 ≡ Some None = subst (λ (k : List ℕ). place_at c.args.self.now k c.args.row.0 ≡ Some None) (sym c.as_slice.ensures) c.requires.there in
     absurd (no_place c.args.self.now key c.args.row.0 None none there)
 
 pub invariant_of-self-2 : goal.invariant_of-self-2

@@ -1,5 +1,5 @@
 use Rattle.std.proofs.Common.{sym, ap, ◌∙◌, refl}
-use Rattle.key_index.specs.Standing.{without_left}
+use Rattle.key_index.specs.Places.{without_left}
 use Rattle.key_index.proofs.Owners.{get_owner}
 use Rattle.key_index.proofs.rows.Rows.end.Goals as goal
 

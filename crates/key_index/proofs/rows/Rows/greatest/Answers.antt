@@ -1,5 +1,5 @@
 use Rattle.std.proofs.Common.{◌≤◌, ℕ}
-use Rattle.key_index.specs.Standing.{IsBelow}
+use Rattle.key_index.specs.Places.{IsBelow}
 use Rattle.key_index.proofs.Beyond.{found_same, first_same, none_same}
 use Rattle.key_index.proofs.rows.Rows.greatest.Goals as goal
 

@@ -1,5 +1,5 @@
 use Rattle.std.proofs.Common.{◌≤◌, ℕ}
-use Rattle.key_index.specs.Standing.{IsAbove}
+use Rattle.key_index.specs.Places.{IsAbove}
 use Rattle.key_index.proofs.Beyond.{found_same, first_same, none_same}
 use Rattle.key_index.proofs.rows.Rows.least.Goals as goal
 

@@ -2,7 +2,7 @@ use Rattle.std.proofs.Common.{rules, ◌≡◌, ◌+◌, ◌<◌, [], ◌∷◌,
 use mathlib.Core.Option.{some-injective}
 use Rattle.std.specs.Prelude.{IsSome}
 use Rattle.turn_lock.specs.Journal.{own_entries}
-use Rattle.turn_lock.specs.Shared.{GoesOn, seats_of}
+use Rattle.turn_lock.specs.Shared.{Extends, seats_of}
 use Rattle.turn_lock.specs.Passes.{IsPassOf}
 use Rattle.turn_lock.specs.View.{joined_view, client_in, list_in}
 use Rattle.turn_lock.specs.Seats.{lock_of}
@@ -76,5 +76,5 @@ returns g c =
     let e = closes_with j.entries j.client j.origin key _ _ _ i.maker.0 i.maker.1 _ _ value (ap (λ m. m.0) i.maker.2) (omega arith) c.close_with-closed.ensures.values.2 c.take.ensures.value c.unwrap-value.ensures in
     record {
       own = gathered c.args.passes.passes c.loop-pass.list.items i.maker.1 (λ p. own_entries j.client p.0 (j.entries value) ≡ p.1) (omega (arith, c.loop-pass.list.ok.0)) i.maker.4 e.2;
-      start = subst (λ l. GoesOn j.entries j.origin l value) c.self.view_is (e.0, e.1);
+      start = subst (λ l. Extends j.entries j.origin l value) c.self.view_is (e.0, e.1);
     }

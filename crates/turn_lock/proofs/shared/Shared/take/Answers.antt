@@ -1,7 +1,7 @@
 use Rattle.std.proofs.Common.{rules, [], ◌∷◌, Some, None, sym, ap, ◌∙◌, subst}
 use Rattle.atomic_table.specs.Table.{rest}
 use Rattle.turn_lock.specs.Journal.{own_entries}
-use Rattle.turn_lock.specs.Shared.{GoesOn}
+use Rattle.turn_lock.specs.Shared.{Extends}
 use Rattle.turn_lock.specs.View.{pass_view, client_in, list_out}
 use Rattle.turn_lock.specs.declared.view.Stage.TheVariants.{Holds}
 use Rattle.turn_lock.proofs.Calls.{pass_at, draws, looks_out, saw, waiting, took}
@@ -61,7 +61,7 @@ returns-then-served-ticket g c =
     let client = sym w.5 ∙ ap (λ p. p.client) c.pass.view_is in
     record {
       own = ap (λ n. own_entries j.client n (j.entries c.unwrap-value.result)) (sym client) ∙ (k.1 ∙ (sym w.6 ∙ ap (λ p. p.list) c.pass.view_is));
-      start = subst (λ l. GoesOn j.entries j.origin l c.unwrap-value.result) c.self.view_is (k.2, k.3);
+      start = subst (λ l. Extends j.entries j.origin l c.unwrap-value.result) c.self.view_is (k.2, k.3);
       lock = (λ i. record { table = table i; key = same_key i }) ∙ c.self.view_is;
       client = ap (λ m. client_in m.0.lists) k.0 ∙ client;
       taken = ap (λ m. list_out m.0.stage) k.0;
