@@ -8,17 +8,17 @@ use Rattle.abl_values.specs.Keys.{unique_key}
 use Rattle.abl_values.specs.Schema.{indexes_of}
 use Rattle.database_meaning.specs.declared.state.Key.{Key}
 use Rattle.database_meaning.specs.declared.contents.Contents.{Contents}
-use Rattle.database_meaning.specs.Frame.{Frame, key_at, keys_from, unique_keys, FitsTable}
+use Rattle.database_meaning.specs.Setting.{Setting, key_at, keys_from, unique_keys, FitsTable}
 use Rattle.database_meaning.specs.State.{State, view}
 use Rattle.database_meaning.specs.Waiting.{row_in, HasConflict}
-use Rattle.database_meaning.specs.Answers.{Answers, Middle, Succeeds, IsGone, IsFirstLongKey, entered, MayWait, IsFirstTwin, DrawsTooMany, WritesTooMany, IsNextOp}
+use Rattle.database_meaning.specs.Answers.{Answers, FromGone, Succeeds, IsGone, IsFirstLongKey, entered, MayWait, IsFirstDuplicate, DrawsTooMany, WritesTooMany, IsNextOp}
 use Rattle.database_meaning.specs.Fits.{Fits, IsNoEnd}
 use Rattle.database_meaning.specs.Traces.{state_after, opened}
 use Rattle.database_meaning.specs.Laws.{AnswersFit}
-use Rattle.database_meaning.specs.declared.operation.Op.{Op}
-use Rattle.database_meaning.specs.declared.operation.Op.TheVariants.{Enter, Leave, Back, Next, Get, Lock, Insert, Put, Delete, Drop as DropLock, NextValue, CurrentValue, End}
-use Rattle.database_meaning.specs.declared.operation.Answer.{Answer}
-use Rattle.database_meaning.specs.declared.operation.Answer.TheVariants.{Gone, KeyTooLong, Busy, Blocked, Deadlock, Duplicate, Full, TxFull, SequenceEnd, AtEnd}
+use Rattle.client_database.specs.declared.operation.Op.{Op}
+use Rattle.client_database.specs.declared.operation.Op.TheVariants.{Enter, Leave, Back, Next, Get, Lock, Insert, Put, Delete, Drop as DropLock, NextValue, CurrentValue, End}
+use Rattle.client_database.specs.declared.answer.Answer.{Answer}
+use Rattle.client_database.specs.declared.answer.Answer.TheVariants.{Gone, KeyTooLong, Busy, Blocked, Deadlock, Duplicate, Full, TxFull, SequenceEnd, AtEnd}
 use Rattle.database_meaning.proofs.Keys.{Has, has_cases, has_one}
 use Rattle.database_meaning.proofs.LockedReads.{follows_split}
 use Rattle.database_meaning.proofs.RowsFit.{RowFits, StateFits, laid_fits, fits_legal}
@@ -55,7 +55,7 @@ no_end (DropLock row) ne = tt
 no_end (NextValue sequence) ne = tt
 no_end (CurrentValue sequence) ne = tt
 
-module _ (f : Frame) (s : State) (c : ℕ) where
+module _ (f : Setting) (s : State) (c : ℕ) where
   gone_fits : (op : Op) → IsGone f s c op → Fits f.schema op Gone
   gone_fits (Get table row) h = tt
   gone_fits (Put table row values) h = tt
@@ -133,20 +133,20 @@ module _ (f : Frame) (s : State) (c : ℕ) where
   unfolding unique_keys
   index_of table values k h = let within = index_within table 0 (indexes_of f.schema table) values k h in omega arith
 
-  twin_fits : (op : Op) (index : ℕ) (row : RowId) → IsFirstTwin f s op index row → Fits f.schema op (Duplicate index row)
-  twin_fits (Insert table values) index row h = subst (λ i. i < length (indexes_of f.schema table)) h.0.1 (index_of table values h.0.0 h.0.2)
-  twin_fits (Put table at values) index row h = subst (λ i. i < length (indexes_of f.schema table)) h.0.1 (index_of table values h.0.0 h.0.2)
-  twin_fits Enter index row h = absurd (no_keys_of h.0.0 h.0.2)
-  twin_fits (Leave keep) index row h = absurd (no_keys_of h.0.0 h.0.2)
-  twin_fits (Back depth) index row h = absurd (no_keys_of h.0.0 h.0.2)
-  twin_fits (Next table order prefix cursor forward) index row h = absurd (no_keys_of h.0.0 h.0.2)
-  twin_fits (Get table at) index row h = absurd (no_keys_of h.0.0 h.0.2)
-  twin_fits (Lock table at exclusive wait) index row h = absurd (no_keys_of h.0.0 h.0.2)
-  twin_fits (Delete table at) index row h = absurd (no_keys_of h.0.0 h.0.2)
-  twin_fits (DropLock at) index row h = absurd (no_keys_of h.0.0 h.0.2)
-  twin_fits (NextValue sequence) index row h = absurd (no_keys_of h.0.0 h.0.2)
-  twin_fits (CurrentValue sequence) index row h = absurd (no_keys_of h.0.0 h.0.2)
-  twin_fits End index row h = absurd (no_keys_of h.0.0 h.0.2)
+  duplicate_fits : (op : Op) (index : ℕ) (row : RowId) → IsFirstDuplicate f s op index row → Fits f.schema op (Duplicate index row)
+  duplicate_fits (Insert table values) index row h = subst (λ i. i < length (indexes_of f.schema table)) h.0.1 (index_of table values h.0.0 h.0.2)
+  duplicate_fits (Put table at values) index row h = subst (λ i. i < length (indexes_of f.schema table)) h.0.1 (index_of table values h.0.0 h.0.2)
+  duplicate_fits Enter index row h = absurd (no_keys_of h.0.0 h.0.2)
+  duplicate_fits (Leave keep) index row h = absurd (no_keys_of h.0.0 h.0.2)
+  duplicate_fits (Back depth) index row h = absurd (no_keys_of h.0.0 h.0.2)
+  duplicate_fits (Next table order prefix cursor forward) index row h = absurd (no_keys_of h.0.0 h.0.2)
+  duplicate_fits (Get table at) index row h = absurd (no_keys_of h.0.0 h.0.2)
+  duplicate_fits (Lock table at exclusive wait) index row h = absurd (no_keys_of h.0.0 h.0.2)
+  duplicate_fits (Delete table at) index row h = absurd (no_keys_of h.0.0 h.0.2)
+  duplicate_fits (DropLock at) index row h = absurd (no_keys_of h.0.0 h.0.2)
+  duplicate_fits (NextValue sequence) index row h = absurd (no_keys_of h.0.0 h.0.2)
+  duplicate_fits (CurrentValue sequence) index row h = absurd (no_keys_of h.0.0 h.0.2)
+  duplicate_fits End index row h = absurd (no_keys_of h.0.0 h.0.2)
 
   full_fits : (op : Op) → DrawsTooMany f s op → Fits f.schema op Full
   full_fits (Insert table values) h = tt
@@ -217,30 +217,30 @@ module _ (f : Frame) (s : State) (c : ℕ) where
     by_answer : {b : Answer} → a ≡ b → Fits f.schema op b → Fits f.schema op a
     by_answer e h = subst (λ x. Fits f.schema op x) (sym e) h
 
-    middle_fits : StateFits f s → Middle f s c op a → Fits f.schema op a
-    middle_fits g (inl p) = by_answer p.1 (gone_fits op p.0)
-    middle_fits g (inr (_, inl p)) = by_answer p.1.2 (long_fits op p.1.0 p.1.1)
-    middle_fits g (inr (_, inr (_, inl p))) = by_answer p.1.2 (busy_fits op p.1.0 p.0.0 p.0.1)
-    middle_fits g (inr (_, inr (_, inr (waits, inl p)))) = by_answer p.1.2 (waiting_fits op p.1.0 p.0.0 (λ never. waits (p.0.0, never))).0
-    middle_fits g (inr (_, inr (_, inr (waits, inr (_, inl p))))) = by_answer p.1.2 (waiting_fits op p.1.0 p.0 (λ never. waits (p.0, never))).1
-    middle_fits g (inr (_, inr (_, inr (_, inr (_, inr (_, inl p)))))) = by_answer p.1.3 (twin_fits op p.1.0 p.1.1 p.1.2)
-    middle_fits g (inr (_, inr (_, inr (_, inr (_, inr (_, inr (_, inl p))))))) = by_answer p.1 (full_fits op p.0)
-    middle_fits g (inr (_, inr (_, inr (_, inr (_, inr (_, inr (_, inr (_, inl p)))))))) = by_answer p.1 (tx_full_fits op p.0)
-    middle_fits g (inr (_, inr (_, inr (_, inr (_, inr (_, inr (_, inr (_, inr (_, inl p))))))))) = by_answer p.1 (subst (λ o. Fits f.schema o SequenceEnd) (sym p.0.1) tt)
-    middle_fits g (inr (_, inr (_, inr (_, inr (_, inr (_, inr (_, inr (_, inr (_, inr (_, inl p)))))))))) = by_answer p.1 (at_end_fits op p.0.0)
-    middle_fits g (inr (_, inr (_, inr (_, inr (_, inr (_, inr (_, inr (_, inr (_, inr (_, inr p)))))))))) = success_fits g op a p.1
+    from_gone_fits : StateFits f s → FromGone f s c op a → Fits f.schema op a
+    from_gone_fits g (inl p) = by_answer p.1 (gone_fits op p.0)
+    from_gone_fits g (inr (_, inl p)) = by_answer p.1.2 (long_fits op p.1.0 p.1.1)
+    from_gone_fits g (inr (_, inr (_, inl p))) = by_answer p.1.2 (busy_fits op p.1.0 p.0.0 p.0.1)
+    from_gone_fits g (inr (_, inr (_, inr (waits, inl p)))) = by_answer p.1.2 (waiting_fits op p.1.0 p.0.0 (λ never. waits (p.0.0, never))).0
+    from_gone_fits g (inr (_, inr (_, inr (waits, inr (_, inl p))))) = by_answer p.1.2 (waiting_fits op p.1.0 p.0 (λ never. waits (p.0, never))).1
+    from_gone_fits g (inr (_, inr (_, inr (_, inr (_, inr (_, inl p)))))) = by_answer p.1.3 (duplicate_fits op p.1.0 p.1.1 p.1.2)
+    from_gone_fits g (inr (_, inr (_, inr (_, inr (_, inr (_, inr (_, inl p))))))) = by_answer p.1 (full_fits op p.0)
+    from_gone_fits g (inr (_, inr (_, inr (_, inr (_, inr (_, inr (_, inr (_, inl p)))))))) = by_answer p.1 (tx_full_fits op p.0)
+    from_gone_fits g (inr (_, inr (_, inr (_, inr (_, inr (_, inr (_, inr (_, inr (_, inl p))))))))) = by_answer p.1 (subst (λ o. Fits f.schema o SequenceEnd) (sym p.0.1) tt)
+    from_gone_fits g (inr (_, inr (_, inr (_, inr (_, inr (_, inr (_, inr (_, inr (_, inr (_, inl p)))))))))) = by_answer p.1 (at_end_fits op p.0.0)
+    from_gone_fits g (inr (_, inr (_, inr (_, inr (_, inr (_, inr (_, inr (_, inr (_, inr (_, inr p)))))))))) = success_fits g op a p.1
 
     answer_fits : StateFits f s → Answers f s c op a → Fits f.schema op a
     answer_fits g (inl (ne, inl e)) = by_answer e (no_end op ne)
     answer_fits g (inl (ne, inr p)) = by_answer p.0 (no_end op ne)
     answer_fits g (inr (inl p)) = by_answer p.1 tt
     answer_fits g (inr (inr (_, inl p))) = by_answer p.1 (no_end op p.0.1)
-    answer_fits g (inr (inr (_, inr (_, inl p)))) = middle_fits g p.1
+    answer_fits g (inr (inr (_, inr (_, inl p)))) = from_gone_fits g p.1
     answer_fits g (inr (inr (_, inr (_, inr p)))) = by_answer p.0 (no_end op (λ e. p.3 (inl e)))
 
 -- ---- every event of a legal trace
 
-pub answers_fit : (f : Frame) (contents : Contents) → AnswersFit f contents
+pub answers_fit : (f : Setting) (contents : Contents) → AnswersFit f contents
 answers_fit f contents before later e legal =
     let parts = follows_split f (opened contents) before (e ∷ later) legal.1 in
     answer_fits f (state_after f (opened contents) before) e.client e.op e.answer (fits_legal f contents before (legal.0, parts.0)) parts.1.0

@@ -19,25 +19,25 @@ starts W c idle a (x ∷ xs) b p e = idle x (subst (λ y. W y x) e p.0)
 module _ (W V : ℕ → ℕ → Type 0) (c : ℕ) where
   -- where c waits for nobody, a chain between others goes over others alone
   chain_without : ((d : ℕ) → ¬ W c d) → ((a b : ℕ) → (a ≡ c → ⊥) → (b ≡ c → ⊥) → W a b → V a b) → (a : ℕ) (xs : List ℕ) (b : ℕ) → Chain W a xs b → (b ≡ c → ⊥) → Chain V a xs b
-  chain_without idle kept a [] b p ne = kept a b (starts W c idle a [] b p) ne p
-  chain_without idle kept a (x ∷ xs) b p ne = (kept a x (starts W c idle a (x ∷ xs) b p) (starts W c idle x xs b p.1) p.0, chain_without idle kept x xs b p.1 ne)
+  chain_without idle reserved_keys a [] b p ne = reserved_keys a b (starts W c idle a [] b p) ne p
+  chain_without idle reserved_keys a (x ∷ xs) b p ne = (reserved_keys a x (starts W c idle a (x ∷ xs) b p) (starts W c idle x xs b p.1) p.0, chain_without idle reserved_keys x xs b p.1 ne)
 
   -- c waits for nobody, and what others wait for was so before: no cycle
   pub none_idle : ((d : ℕ) → ¬ W c d) → ((a b : ℕ) → (a ≡ c → ⊥) → (b ≡ c → ⊥) → W a b → V a b) → ((a : ℕ) (xs : List ℕ) → ¬ Chain V a xs a) → (a : ℕ) (xs : List ℕ) → ¬ Chain W a xs a
-  none_idle idle kept before a xs p = before a xs (chain_without idle kept a xs a p (starts W c idle a xs a p))
+  none_idle idle reserved_keys before a xs p = before a xs (chain_without idle reserved_keys a xs a p (starts W c idle a xs a p))
 
   -- a chain goes over c, or it was a chain before
   split : ((a b : ℕ) → (a ≡ c → ⊥) → W a b → V a b) → (a : ℕ) (xs : List ℕ) (b : ℕ) → Chain W a xs b → Chain V a xs b ⊎ ((zs : List ℕ) × Chain W c zs b × ((a ≡ c) ⊎ ((ys : List ℕ) × Chain W a ys c)))
-  split kept a [] b p =
+  split reserved_keys a [] b p =
       elim (cases_eq a c) [
         | inl e ↦ inr ([], subst (λ x. W x b) e p, inl e)
-        | inr ne ↦ inl (kept a b ne p)
+        | inr ne ↦ inl (reserved_keys a b ne p)
       ]
-  split kept a (x ∷ xs) b p =
+  split reserved_keys a (x ∷ xs) b p =
       elim (cases_eq a c) [
         | inl e ↦ inr (x ∷ xs, (subst (λ y. W y x) e p.0, p.1), inl e)
-        | inr ne ↦ elim (split kept x xs b p.1) [
-          | inl q ↦ inl (kept a x ne p.0, q)
+        | inr ne ↦ elim (split reserved_keys x xs b p.1) [
+          | inl q ↦ inl (reserved_keys a x ne p.0, q)
           | inr q ↦ inr (
             q.0,
             q.1,
@@ -51,8 +51,8 @@ module _ (W V : ℕ → ℕ → Type 0) (c : ℕ) where
 
   -- what others wait for was so before, and no cycle closes at c: no cycle
   pub none_closed : ((a b : ℕ) → (a ≡ c → ⊥) → W a b → V a b) → ((xs : List ℕ) → ¬ Chain W c xs c) → ((a : ℕ) (xs : List ℕ) → ¬ Chain V a xs a) → (a : ℕ) (xs : List ℕ) → ¬ Chain W a xs a
-  none_closed kept open_end before a xs p =
-      elim (split kept a xs a p) [
+  none_closed reserved_keys open_end before a xs p =
+      elim (split reserved_keys a xs a p) [
         | inl q ↦ before a xs q
         | inr q ↦ elim q.2 [
           | inl e ↦ open_end q.0 (subst (λ x. Chain W c q.0 x) e q.1)

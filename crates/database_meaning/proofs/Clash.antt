@@ -2,29 +2,29 @@
 use Rattle.std.proofs.Common.{◌≡◌, ℕ, Bool, true, false, cond, List, Option, Some, None, refl, sym, ap, ◌∙◌, subst, inl, inr, eqb}
 use Rattle.std.specs.FinMap.{get, insert, remove, empty}
 use Rattle.abl_base.specs.declared.row.RowId.{RowId}
-use Rattle.database_meaning.specs.Frame.{Frame}
+use Rattle.database_meaning.specs.Setting.{Setting}
 use Rattle.database_meaning.specs.State.{State, Client, Rows, Held, depth_of}
-use Rattle.database_meaning.specs.Waiting.{StandsAgainst}
+use Rattle.database_meaning.specs.Waiting.{LocksConflict}
 use Rattle.database_meaning.specs.Steps.{own_after, own_after_commit, own_after_leave, own_after_drop, is_outermost, row_of_answer, or_exclusive, held_after_commit, stays}
-use Rattle.database_meaning.specs.declared.operation.Op.{Op}
-use Rattle.database_meaning.specs.declared.operation.Op.TheVariants.{Enter, Leave, Back, Next, Get, Lock, Insert, Put, Delete, Drop as DropLock, NextValue, CurrentValue, End}
-use Rattle.database_meaning.specs.declared.operation.Answer.{Answer}
+use Rattle.client_database.specs.declared.operation.Op.{Op}
+use Rattle.client_database.specs.declared.operation.Op.TheVariants.{Enter, Leave, Back, Next, Get, Lock, Insert, Put, Delete, Drop as DropLock, NextValue, CurrentValue, End}
+use Rattle.client_database.specs.declared.answer.Answer.{Answer}
 use Rattle.database_meaning.proofs.Maps.{insert_cases, remove_cases, retain_cases, empty_cases, as_share_cases}
 use Rattle.database_meaning.proofs.TableRows.{Success}
 
--- of two clients' locks on a row neither stands against the other
+-- of two locks of different clients on a row neither conflicts with the other
 abbrev pub NoClash : (ℕ → Client) → Type 0
-NoClash client = (c d row : ℕ) (x : Bool) → (c ≡ d → ⊥) → get (client c).held row ≡ Some x → ¬ StandsAgainst (get (client d).held row) x
+NoClash client = (c d row : ℕ) (x : Bool) → (c ≡ d → ⊥) → get (client c).held row ≡ Some x → ¬ LocksConflict (get (client d).held row) x
 
 -- these locks of client c stand against no other client's
 abbrev pub Suits : (ℕ → Client) → ℕ → Held → Type 0
-Suits client c held = (d row : ℕ) (x : Bool) → (c ≡ d → ⊥) → get held row ≡ Some x → ¬ StandsAgainst (get (client d).held row) x
+Suits client c held = (d row : ℕ) (x : Bool) → (c ≡ d → ⊥) → get held row ≡ Some x → ¬ LocksConflict (get (client d).held row) x
 
 -- each lock of the new ones was there, as strong or stronger
 abbrev pub Weaker : Held → Held → Type 0
 Weaker new held = (row : ℕ) (x : Bool) → get new row ≡ Some x → (y : Bool) × (get held row ≡ Some y) × (x ≡ true → y ≡ true)
 
-weaker_stands : (o : Option Bool) (x y : Bool) → (x ≡ true → y ≡ true) → StandsAgainst o x → StandsAgainst o y
+weaker_stands : (o : Option Bool) (x y : Bool) → (x ≡ true → y ≡ true) → LocksConflict o x → LocksConflict o y
 weaker_stands None x y le s = absurd s
 weaker_stands (Some true) x y le s = tt
 weaker_stands (Some false) true y le s = le refl
@@ -50,22 +50,22 @@ weaker_commit rows keep held row x e =
     (share.1, retain_cases held (stays rows keep) row share.1 share.2, λ t. let weak : x ≡ false = share.0 in cc)
 
 -- a lock without a conflict
-or_true_stands : (o p : Option Bool) (x : Bool) → ((y : Bool) → o ≡ Some y → ¬ StandsAgainst p y) → ¬ StandsAgainst p x → ¬ StandsAgainst p (or_exclusive o x)
+or_true_stands : (o p : Option Bool) (x : Bool) → ((y : Bool) → o ≡ Some y → ¬ LocksConflict p y) → ¬ LocksConflict p x → ¬ LocksConflict p (or_exclusive o x)
 or_true_stands None p x had free stands = free stands
 or_true_stands (Some true) p x had free stands = had true refl stands
 or_true_stands (Some false) p x had free stands = free stands
 
-suits_lock : (client : ℕ → Client) (c k : ℕ) (x : Bool) → NoClash client → ((d : ℕ) → (c ≡ d → ⊥) → ¬ StandsAgainst (get (client d).held k) x) → Suits client c (insert (client c).held k (or_exclusive (get (client c).held k) x))
+suits_lock : (client : ℕ → Client) (c k : ℕ) (x : Bool) → NoClash client → ((d : ℕ) → (c ≡ d → ⊥) → ¬ LocksConflict (get (client d).held k) x) → Suits client c (insert (client c).held k (or_exclusive (get (client c).held k) x))
 suits_lock client c k x clash free d row y ne e stands =
     elim (insert_cases (client c).held k _ row y e) [
       | inl p ↦
           let at : get (client d).held row ≡ get (client d).held k = ap (get (client d).held) p.0 in
-          let there : StandsAgainst (get (client d).held k) (or_exclusive (get (client c).held k) x) = subst (λ b. StandsAgainst (get (client d).held k) b) (sym p.1) (subst (λ o. StandsAgainst o y) at stands) in
+          let there : LocksConflict (get (client d).held k) (or_exclusive (get (client c).held k) x) = subst (λ b. LocksConflict (get (client d).held k) b) (sym p.1) (subst (λ o. LocksConflict o y) at stands) in
           or_true_stands (get (client c).held k) (get (client d).held k) x (λ z has. clash c d k z ne has) (free d ne) there
       | inr p ↦ clash c d row y ne p.1 stands
     ]
 
-none_stands : (o : Option Bool) (x : Bool) → o ≡ None → ¬ StandsAgainst o x
+none_stands : (o : Option Bool) (x : Bool) → o ≡ None → ¬ LocksConflict o x
 none_stands None x e s = s
 none_stands (Some b) x e s = cc
 
@@ -80,7 +80,7 @@ by_test : {A : Type 0} (P : A → Type 0) (b : Bool) (x y : A) → P x → P y �
 by_test P true x y then_x else_y = then_x
 by_test P false x y then_x else_y = else_y
 
-pub own_suits : (f : Frame) (s : State) (c : ℕ) (op : Op) (a : Answer) → Success f s c op a → NoClash s.client → Suits s.client c (own_after f s c op (row_of_answer a)).held
+pub own_suits : (f : Setting) (s : State) (c : ℕ) (op : Op) (a : Answer) → Success f s c op a → NoClash s.client → Suits s.client c (own_after f s c op (row_of_answer a)).held
 own_suits f s c Enter a ok clash = suits_same s.client c clash
 own_suits f s c (Leave keep) a ok clash =
     by_test (λ (cl : Client). Suits s.client c cl.held) (is_outermost s c) (own_after_commit s c keep) (own_after_leave s c)

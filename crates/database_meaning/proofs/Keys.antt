@@ -1,9 +1,9 @@
 -- Lists of unique keys.
 use Rattle.std.proofs.Common.{◌≡◌, ◌⊎◌, ℕ, Bool, true, false, cond, List, [], ◌∷◌, ◌++◌, refl, sym, ap, ◌∙◌, inl, inr, eqb, eqb-true}
-use Rattle.abl_base.proofs.Bools.{and_parts, or_left, or_right, or_cases}
+use Rattle.std.proofs.lemmas.Bool.{and_parts, or_left, or_right, or_cases}
 use Rattle.database_meaning.specs.declared.state.Key.{Key}
 use Rattle.abl_values.specs.Masks.{same_bytes}
-use Rattle.database_meaning.specs.Frame.{same_key, has_key, keys_without}
+use Rattle.database_meaning.specs.Setting.{same_key, has_key, keys_without}
 
 abbrev pub Has : List Key → Key → Type 0
 Has ks k = has_key ks k ≡ true

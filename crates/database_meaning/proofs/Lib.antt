@@ -6,7 +6,7 @@ pub mod Chains
 pub mod Good
 pub mod LockedReads
 pub mod Keys
-pub mod Kept
+pub mod ReservedKeys
 pub mod Shortest
 pub mod Unchanged
 pub mod RowsFit

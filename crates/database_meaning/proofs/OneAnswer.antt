@@ -8,31 +8,31 @@ use Rattle.std.specs.Cmp.Lexicographic.{slice_cmp, nat_list_cmp_total}
 use Rattle.std.proofs.lemmas.Bool.{cases_eq, cases_lt}
 use Rattle.abl_base.specs.declared.value.Value.{Value}
 use Rattle.abl_base.specs.declared.row.RowId.{RowId}
-use Rattle.abl_base.specs.declared.row.Cursor.{Cursor}
+use Rattle.client_database.specs.declared.row_order.Cursor.{Cursor}
 use Rattle.abl_values.specs.declared.schema.IndexDef.{IndexDef}
 use Rattle.abl_values.specs.Keys.{unique_key}
 use Rattle.abl_values.specs.Schema.{indexes_of}
 use Rattle.database_meaning.specs.declared.state.StoredRow.{StoredRow}
 use Rattle.database_meaning.specs.declared.state.Key.{Key}
 use Rattle.database_meaning.specs.declared.contents.Contents.{Contents}
-use Rattle.database_meaning.specs.Frame.{Frame, key_at, keys_from, unique_keys}
+use Rattle.database_meaning.specs.Setting.{Setting, key_at, keys_from, unique_keys}
 use Rattle.database_meaning.specs.State.{State, view, over}
 use Rattle.database_meaning.specs.Waiting.{row_in, IsAscending, IsHolders}
 use Rattle.database_meaning.specs.Search.{IsNext, place_cmp, direction, order_key}
 use Rattle.database_meaning.specs.Counts.{HasRoom}
-use Rattle.database_meaning.specs.Answers.{when◌comes◌otherwise◌, ByTable, Middle, Succeeds, HasLongKey, IsFirstLongKey, entered, IsFirstTwin}
+use Rattle.database_meaning.specs.Answers.{when◌comes◌otherwise◌, ByTable, FromGone, Succeeds, HasLongKey, IsFirstLongKey, entered, IsFirstDuplicate}
 use Rattle.database_meaning.specs.Traces.{IsLegal, left_by}
 use Rattle.database_meaning.specs.Laws.{IsChoice, HasOneAnswer}
-use Rattle.database_meaning.specs.declared.operation.Event.{Event}
-use Rattle.database_meaning.specs.declared.operation.Op.{Op}
-use Rattle.database_meaning.specs.declared.operation.Op.TheVariants.{Enter, Leave, Back, Next, Get, Lock, Insert, Put, Delete, Drop as DropLock, NextValue, CurrentValue, End}
-use Rattle.database_meaning.specs.declared.operation.Answer.{Answer}
-use Rattle.database_meaning.specs.declared.operation.Answer.TheVariants.{TraceFull, KeyTooLong, Busy, Blocked, Deadlock, Duplicate, Committed, Found, Row as RowAnswer, Inserted}
+use Rattle.client_database.specs.declared.event.Event.{Event}
+use Rattle.client_database.specs.declared.operation.Op.{Op}
+use Rattle.client_database.specs.declared.operation.Op.TheVariants.{Enter, Leave, Back, Next, Get, Lock, Insert, Put, Delete, Drop as DropLock, NextValue, CurrentValue, End}
+use Rattle.client_database.specs.declared.answer.Answer.{Answer}
+use Rattle.client_database.specs.declared.answer.Answer.TheVariants.{TraceFull, KeyTooLong, Busy, Blocked, Deadlock, Duplicate, Committed, Found, Row as RowAnswer, Inserted}
 use Rattle.database_meaning.proofs.Keys.{Has, has_cases, has_one}
 use Rattle.database_meaning.proofs.Shortest.{here, there, uncons}
 use Rattle.database_meaning.proofs.Good.{Good, good_legal}
 use Rattle.database_meaning.proofs.LockedReads.{others_lack}
-use Rattle.database_meaning.proofs.Kept.{GoodKeys, view_cases, Named, Bare, keys_legal}
+use Rattle.database_meaning.proofs.ReservedKeys.{GoodKeys, view_cases, Named, Bare, keys_legal}
 use Rattle.database_meaning.proofs.AnswersFit.{index_at, index_within}
 
 -- ---- ascending lists
@@ -74,7 +74,7 @@ ascending_same (x ∷ xs) (y ∷ ys) hx hy there_x there_y =
     (λ d p. in_tail y x xs d (sym head) (above y ys d hy p) (there_y d (there d y ys p))) in
     cc
 
-same_holders : (f : Frame) (s : State) (c : ℕ) (op : Op) (xs ys : List ℕ) → IsHolders f s c op xs → IsHolders f s c op ys → xs ≡ ys
+same_holders : (f : Setting) (s : State) (c : ℕ) (op : Op) (xs ys : List ℕ) → IsHolders f s c op xs → IsHolders f s c op ys → xs ≡ ys
 same_holders f s c op xs ys hx hy = ascending_same xs ys hx.0 hy.0 (λ d p. (hy.1 d).1 ((hx.1 d).0 p)) (λ d p. (hx.1 d).1 ((hy.1 d).0 p))
 
 -- ---- the least number of which a fact holds
@@ -110,7 +110,7 @@ same_from table i (index ∷ indexes) values k q hk hq e =
           ]
     ]
 
-module _ (f : Frame) (s : State) (g : Good f s) (gk : GoodKeys f s) where
+module _ (f : Setting) (s : State) (g : Good f s) (gk : GoodKeys f s) where
   abbrev has : Option StoredRow → Key → Type 0
   has o k = Has (unique_keys f.schema o) k
 
@@ -165,8 +165,8 @@ module _ (f : Frame) (s : State) (g : Good f s) (gk : GoodKeys f s) where
   same_entered None k q hk hq e = cc
   same_entered (Some row) k q hk hq e = same_from row.table 0 (indexes_of f.schema row.table) row.values k q hk hq e
 
-  same_twin : (op : Op) (index : ℕ) (row other : RowId) → IsFirstTwin f s op index row → IsFirstTwin f s op index other → row ≡ other
-  same_twin op index row other x y =
+  first_duplicates_agree : (op : Op) (index : ℕ) (row other : RowId) → IsFirstDuplicate f s op index row → IsFirstDuplicate f s op index other → row ≡ other
+  first_duplicates_agree op index row other x y =
       let same : x.0.0 ≡ y.0.0 = same_entered (entered op) x.0.0 y.0.0 x.0.2 y.0.2 (x.0.1 ∙ sym y.0.1) in
       let at : row.0 ≡ other.0 = view_one row.0 other.0 x.0.0 x.0.4 (subst (λ k. has (view f s other.0) k) (sym same) y.0.4) in
       λ z. record { 0 = at z }
@@ -196,10 +196,10 @@ values_in_row : (table : ℕ) (values : List Value) → values_in (row_in table 
 unfolding values_in
 values_in_row table values = refl
 
-pub same_values : (f : Frame) (s : State) (row : ℕ) (table : ℕ) (values other : List Value) → view f s row ≡ row_in table values → view f s row ≡ row_in table other → values ≡ other
+pub same_values : (f : Setting) (s : State) (row : ℕ) (table : ℕ) (values other : List Value) → view f s row ≡ row_in table values → view f s row ≡ row_in table other → values ≡ other
 same_values f s row table values other x y = sym (values_in_row table values) ∙ ap values_in (sym x ∙ y) ∙ values_in_row table other
 
-module _ (f : Frame) (s : State) (table : ℕ) (index : Option ℕ) (prefix : List Value) (cursor : Option Cursor) (forward : Bool) where
+module _ (f : Setting) (s : State) (table : ℕ) (index : Option ℕ) (prefix : List Value) (cursor : Option Cursor) (forward : Bool) where
   same_row : (row q : RowId) (key other : List ℕ) (values more : List Value) → IsNext f s (Next table index prefix cursor forward) row key values → IsNext f s (Next table index prefix cursor forward) q other more → row ≡ q
   same_row row q key other values more x y =
       elim (x.1 q other more y.0) [
@@ -214,7 +214,7 @@ module _ (f : Frame) (s : State) (table : ℕ) (index : Option ℕ) (prefix : Li
   same_found row q key other values more x y =
       let rows : row ≡ q = same_row row q key other values more x y in
       let alike : values ≡ more = same_values f s row.0 table values more x.0.0 (ap (λ (r : RowId). view f s r.0) rows ∙ y.0.0) in
-      let keys : key ≡ other = x.0.1 ∙ ap (λ vs. order_key f table index vs) alike ∙ sym y.0.1 in
+      let keys : key ≡ other = x.0.1 ∙ ap (λ vs. order_key f.schema table index vs) alike ∙ sym y.0.1 in
       cc
 
 -- ---- two answers of one place in the table
@@ -241,7 +241,7 @@ both here later (inl p) (inr q) = absurd (q.0 p.0)
 both here later (inr p) (inl q) = absurd (p.0 q.0)
 both here later (inr p) (inr q) = later p.0 p.1 q.1
 
-module _ (f : Frame) (s : State) (c : ℕ) (a b : Answer) where
+module _ (f : Setting) (s : State) (c : ℕ) (a b : Answer) where
   succeeds_alike : (op : Op) → Succeeds f s c op a → Succeeds f s c op b → Alike a b
   unfolding Alike BothInserted BothCommitted
   succeeds_alike Enter x y = inl (x ∙ sym y)
@@ -267,22 +267,22 @@ module _ (f : Frame) (s : State) (c : ℕ) (a b : Answer) where
     same_long None i j x y = absurd x
     same_long (Some row) i j x y = same_least (λ k. HasLongKey f row k) i j x.0 y.0 x.1 y.1
 
-    twin_index : (i j : ℕ) (row other : RowId) → IsFirstTwin f s op i row → IsFirstTwin f s op j other → i ≡ j
-    twin_index i j row other x y =
+    duplicate_index : (i j : ℕ) (row other : RowId) → IsFirstDuplicate f s op i row → IsFirstDuplicate f s op j other → i ≡ j
+    duplicate_index i j row other x y =
         elim (cases_lt i j) [
           | inl lt ↦ absurd (y.1 i row lt x.0)
           | inr ge ↦ elim (cases_lt j i) [ inl lt ↦ absurd (x.1 j other lt y.0) | inr le ↦ omega arith ]
         ]
 
-    same_duplicate : Good f s → GoodKeys f s → (i j : ℕ) (row other : RowId) → IsFirstTwin f s op i row → IsFirstTwin f s op j other → Duplicate i row ≡ Duplicate j other
+    same_duplicate : Good f s → GoodKeys f s → (i j : ℕ) (row other : RowId) → IsFirstDuplicate f s op i row → IsFirstDuplicate f s op j other → Duplicate i row ≡ Duplicate j other
     same_duplicate g gk i j row other x y =
-        let indexes : i ≡ j = twin_index i j row other x y in
-        let rows : row ≡ other = same_twin f s g gk op j row other (subst (λ k. IsFirstTwin f s op k row) indexes x) y in
+        let indexes : i ≡ j = duplicate_index i j row other x y in
+        let rows : row ≡ other = first_duplicates_agree f s g gk op j row other (subst (λ k. IsFirstDuplicate f s op k row) indexes x) y in
         cc
 
-    middle_alike : Good f s → GoodKeys f s → Middle f s c op a → Middle f s c op b → Alike a b
+    from_gone_alike : Good f s → GoodKeys f s → FromGone f s c op a → FromGone f s c op b → Alike a b
     unfolding Alike BothDeadlock
-    middle_alike g gk =
+    from_gone_alike g gk =
         both (λ h x y. inl (x ∙ sym y)) (λ n1.
         both (λ h x y. equal a b _ _ x.2 y.2 (ap KeyTooLong (same_long (entered op) x.0 y.0 x.1 y.1))) (λ n2.
         both (λ h x y. equal a b _ _ x.2 y.2 (ap Busy (same_holders f s c op x.0 y.0 x.1 y.1))) (λ n3.
@@ -313,25 +313,25 @@ room_differs s op a b (inr (inr (inl p))) room full =
     absurd (full (subst (λ x. HasRoom s op x) (sym p.3) (subst (λ x. HasRoom s op x) p.2 room)))
 room_differs s op a b (inr (inr (inr p))) room full = (p.0, p.2)
 
-Roomy : Frame → State → ℕ → Op → Answer → Type 0
-Roomy f s c op a = (HasRoom s op a × Middle f s c op a) ⊎ ((a ≡ TraceFull) × (b : Answer) × Middle f s c op b × ¬ HasRoom s op b)
+Roomy : Setting → State → ℕ → Op → Answer → Type 0
+Roomy f s c op a = (HasRoom s op a × FromGone f s c op a) ⊎ ((a ≡ TraceFull) × (b : Answer) × FromGone f s c op b × ¬ HasRoom s op b)
 
 cycle_or_full : (a b : Answer) → (cycle : List ℕ) × (a ≡ Deadlock cycle) → b ≡ TraceFull → IsChoice a b × IsChoice b a
 cycle_or_full a b p e =
     (subst (λ x. IsChoice x b) (sym p.1) (subst (λ y. IsChoice (Deadlock p.0) y) (sym e) tt), subst (λ x. IsChoice b x) (sym p.1) (subst (λ y. IsChoice y (Deadlock p.0)) (sym e) tt))
 
-module _ (f : Frame) (s : State) (c : ℕ) (op : Op) (g : Good f s) (gk : GoodKeys f s) where
+module _ (f : Setting) (s : State) (c : ℕ) (op : Op) (g : Good f s) (gk : GoodKeys f s) where
   roomy_alike : (a b : Answer) → Roomy f s c op a → Roomy f s c op b → (a ≡ b) ⊎ IsChoice a b
   unfolding Roomy
-  roomy_alike a b (inl x) (inl y) = choice a b (middle_alike f s c a b op g gk x.1 y.1)
-  roomy_alike a b (inl x) (inr y) = inr (cycle_or_full a b (room_differs s op a y.1 (middle_alike f s c a y.1 op g gk x.1 y.2) x.0 y.3) y.0).0
-  roomy_alike a b (inr x) (inl y) = inr (cycle_or_full b a (room_differs s op b x.1 (middle_alike f s c b x.1 op g gk y.1 x.2) y.0 x.3) x.0).1
+  roomy_alike a b (inl x) (inl y) = choice a b (from_gone_alike f s c a b op g gk x.1 y.1)
+  roomy_alike a b (inl x) (inr y) = inr (cycle_or_full a b (room_differs s op a y.1 (from_gone_alike f s c a y.1 op g gk x.1 y.2) x.0 y.3) y.0).0
+  roomy_alike a b (inr x) (inl y) = inr (cycle_or_full b a (room_differs s op b x.1 (from_gone_alike f s c b x.1 op g gk y.1 x.2) y.0 x.3) x.0).1
   roomy_alike a b (inr x) (inr y) = inl (x.0 ∙ sym y.0)
 
   one_answer : (a b : Answer) → ByTable f s c op a → ByTable f s c op b → (a ≡ b) ⊎ IsChoice a b
   unfolding Roomy
   one_answer a b = both (λ h x y. inl (x ∙ sym y)) (λ n1. both (λ h x y. inl (x ∙ sym y)) (λ n2. roomy_alike a b))
 
-pub one_answer_legal : (f : Frame) (contents : Contents) (trace : List Event) → IsLegal f contents trace → HasOneAnswer f (left_by f contents trace)
+pub one_answer_legal : (f : Setting) (contents : Contents) (trace : List Event) → IsLegal f contents trace → HasOneAnswer f (left_by f contents trace)
 one_answer_legal f contents trace legal c op a b x y =
     one_answer f (left_by f contents trace) c op (good_legal f contents trace legal) (keys_legal f contents trace legal) a b x y

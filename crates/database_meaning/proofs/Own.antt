@@ -4,13 +4,13 @@ use Rattle.std.specs.FinMap.{get, insert, empty, get-empty}
 use Rattle.std.proofs.lemmas.Bool.{cases_eq, cases_lt}
 use Rattle.abl_base.specs.declared.row.RowId.{RowId}
 use Rattle.database_meaning.specs.declared.state.StoredRow.{StoredRow}
-use Rattle.database_meaning.specs.declared.state.Want.{Want}
-use Rattle.database_meaning.specs.Frame.{Frame}
+use Rattle.database_meaning.specs.declared.state.BlockedRequest.{BlockedRequest}
+use Rattle.database_meaning.specs.Setting.{Setting}
 use Rattle.database_meaning.specs.State.{State, Client, Overlay, Held, depth_of}
-use Rattle.database_meaning.specs.Answers.{IsRefused, IsSound}
+use Rattle.database_meaning.specs.Answers.{IsRefused, IsWellFormed}
 use Rattle.database_meaning.specs.Steps.{own_after, own_after_commit, own_after_leave, own_after_drop, is_outermost, or_exclusive}
-use Rattle.database_meaning.specs.declared.operation.Op.{Op}
-use Rattle.database_meaning.specs.declared.operation.Op.TheVariants.{Enter, Leave, Back, Next, Get, Lock, Insert, Put, Delete, Drop as DropLock, NextValue, CurrentValue, End}
+use Rattle.client_database.specs.declared.operation.Op.{Op}
+use Rattle.client_database.specs.declared.operation.Op.TheVariants.{Enter, Leave, Back, Next, Get, Lock, Insert, Put, Delete, Drop as DropLock, NextValue, CurrentValue, End}
 use Rattle.database_meaning.proofs.Maps.{get_insert_same, get_insert_other, insert_cases, empty_cases}
 
 -- each row that the overlay names is held exclusively
@@ -25,15 +25,15 @@ abbrev pub OpHeld : Held → Op → Type 0
 OpHeld held (Put table row values) = get held row.0 ≡ Some true
 OpHeld held _ = Unit {0}
 
-abbrev pub WantHeld : Held → Option Want → Type 0
-WantHeld held None = Unit {0}
-WantHeld held (Some want) = OpHeld held want.op
+abbrev pub BlockedHeld : Held → Option BlockedRequest → Type 0
+BlockedHeld held None = Unit {0}
+BlockedHeld held (Some blocked) = OpHeld held blocked.op
 
 pub record Own (cl : Client) : Type 0 where
   pub covers : Covers cl.held cl.overlay
   pub copies : CoversAll cl.held cl.levels
   pub idle : length cl.levels ≡ 0 → (row : ℕ) → get cl.overlay row ≡ None
-  pub wanted : WantHeld cl.held cl.want
+  pub wanted : BlockedHeld cl.held cl.blocked
 
 -- ---- what a sound operation says
 
@@ -45,7 +45,7 @@ stable_true None h = absurd (h (λ e. cc))
 stable_true (Some true) h = refl
 stable_true (Some false) h = absurd (h (λ e. cc))
 
-pub sound : (f : Frame) (s : State) (c : ℕ) (op : Op) → ¬ IsRefused f s c op → ¬ ¬ IsSound f s c op
+pub sound : (f : Setting) (s : State) (c : ℕ) (op : Op) → ¬ IsRefused f s c op → ¬ ¬ IsWellFormed f s c op
 sound f s c op r k = r (λ p. k p.1)
 
 -- ---- lists of copies
@@ -107,13 +107,13 @@ covers_insert held o k v has covers row change e =
 
 -- ---- a client after its own step
 
-pub forget : (cl : Client) → Own cl → Own (record cl { want = None })
+pub forget : (cl : Client) → Own cl → Own (record cl { blocked = None })
 forget cl o = record { covers = o.covers; copies = o.copies; idle = o.idle; wanted = tt }
 
-own_commit : (s : State) (c : ℕ) (keep : List RowId) → Own (record (own_after_commit s c keep) { want = None })
+own_commit : (s : State) (c : ℕ) (keep : List RowId) → Own (record (own_after_commit s c keep) { blocked = None })
 own_commit s c keep = record { covers = covers_empty _; copies = tt; idle = λ e row. get-empty nat_cmp row; wanted = tt }
 
-own_leave : (s : State) (c : ℕ) → 0 < depth_of s c → (depth_of s c ≡ 1 → ⊥) → Own (s.client c) → Own (record (own_after_leave s c) { want = None })
+own_leave : (s : State) (c : ℕ) → 0 < depth_of s c → (depth_of s c ≡ 1 → ⊥) → Own (s.client c) → Own (record (own_after_leave s c) { blocked = None })
 own_leave s c deep more o =
     record {
       covers = o.covers;
@@ -126,7 +126,7 @@ no_copies : (held : Held) (os : List Overlay) → length os ≡ 0 → CoversAll 
 no_copies held [] e = tt
 no_copies held (x ∷ xs) e = absurd (omega arith)
 
-own_free : (s : State) (c : ℕ) (row : ℕ) → depth_of s c ≡ 0 → Own (s.client c) → Own (record (own_after_drop s c row) { want = None })
+own_free : (s : State) (c : ℕ) (row : ℕ) → depth_of s c ≡ 0 → Own (s.client c) → Own (record (own_after_drop s c row) { blocked = None })
 own_free s c row none o =
     record {
       covers = λ at change e. let gone : get (s.client c).overlay at ≡ None = o.idle none at in cc;
@@ -142,15 +142,15 @@ by_test P false x y then_x else_y = else_y refl
 deep_after : (held : Held) (n : ℕ) (os : List Overlay) → 0 < n → n ≤ length os → length (take n os) ≡ 0 → ⊥
 deep_after held n os pos le e = let l = length-take n os in omega arith
 
-abbrev pub OwnAfter : Frame → State → ℕ → Op → ℕ → Type 0
-OwnAfter f s c op row = Own (record (own_after f s c op row) { want = None })
+abbrev pub OwnAfter : Setting → State → ℕ → Op → ℕ → Type 0
+OwnAfter f s c op row = Own (record (own_after f s c op row) { blocked = None })
 
-pub own_good : (f : Frame) (s : State) (c : ℕ) (op : Op) (row : ℕ) → ¬ IsRefused f s c op → Own (s.client c) → OwnAfter f s c op row
+pub own_good : (f : Setting) (s : State) (c : ℕ) (op : Op) (row : ℕ) → ¬ IsRefused f s c op → Own (s.client c) → OwnAfter f s c op row
 own_good f s c Enter row r o =
     record { covers = o.covers; copies = covers_push _ _ _ o.copies o.covers; idle = λ e at. absurd (let l = length-append (s.client c).levels ((s.client c).overlay ∷ []) in omega arith); wanted = tt }
 own_good f s c (Leave keep) row r o =
     let deep : 0 < depth_of s c = stable_lt _ _ (sound f s c (Leave keep) r) in
-    by_test (λ (cl : Client). Own (record cl { want = None })) (is_outermost s c) (own_after_commit s c keep) (own_after_leave s c)
+    by_test (λ (cl : Client). Own (record cl { blocked = None })) (is_outermost s c) (own_after_commit s c keep) (own_after_leave s c)
     (λ e. own_commit s c keep)
     (λ e. own_leave s c deep (λ one. let t : eqb (depth_of s c) 1 ≡ true = eq-eqb (depth_of s c) 1 one in cc) o)
 own_good f s c (Back depth) row r o =
@@ -180,7 +180,7 @@ own_good f s c (Delete table at) row r o =
     let deep : 0 < depth_of s c = stable_lt _ _ (λ k. sound f s c (Delete table at) r (λ p. k p.1)) in
     record { covers = covers_insert _ _ at.0 _ has o.covers; copies = o.copies; idle = λ e q. absurd (omega arith); wanted = tt }
 own_good f s c (DropLock at) row r o =
-    by_test (λ (cl : Client). Own (record cl { want = None })) (eqb (depth_of s c) 0) (own_after_drop s c at.0) (s.client c)
+    by_test (λ (cl : Client). Own (record cl { blocked = None })) (eqb (depth_of s c) 0) (own_after_drop s c at.0) (s.client c)
     (λ e. own_free s c at.0 (eqb-true (depth_of s c) 0 e) o)
     (λ e. forget _ o)
 own_good f s c (NextValue sequence) row r o = forget _ o

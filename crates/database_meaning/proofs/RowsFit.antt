@@ -13,16 +13,16 @@ use Rattle.abl_values.specs.Rows.{FitsFields}
 use Rattle.database_meaning.specs.declared.state.StoredRow.{StoredRow}
 use Rattle.database_meaning.specs.declared.contents.Contents.{Contents}
 use Rattle.database_meaning.specs.declared.contents.ContentRow.{ContentRow}
-use Rattle.database_meaning.specs.Frame.{Frame, FitsTable, kinds_of}
+use Rattle.database_meaning.specs.Setting.{Setting, FitsTable, kinds_of}
 use Rattle.database_meaning.specs.State.{State, Client, Rows, Overlay, laid, over, depth_of}
 use Rattle.database_meaning.specs.Waiting.{row_in}
 use Rattle.database_meaning.specs.Answers.{Answers, IsRefused}
-use Rattle.database_meaning.specs.Steps.{own_after, own_after_commit, own_after_leave, own_after_drop, is_outermost, is_success, row_of_answer, after, client_after, want_after, committed_after, laid_on}
+use Rattle.database_meaning.specs.Steps.{own_after, own_after_commit, own_after_leave, own_after_drop, is_outermost, is_success, row_of_answer, after, client_after, blocked_after, committed_after, laid_on}
 use Rattle.database_meaning.specs.Traces.{state_after, Follows, opened, identity_of, stored_of, IsSoundRows, IsSoundContents, IsLegal, left_by}
-use Rattle.database_meaning.specs.declared.operation.Event.{Event}
-use Rattle.database_meaning.specs.declared.operation.Op.{Op}
-use Rattle.database_meaning.specs.declared.operation.Op.TheVariants.{Enter, Leave, Back, Next, Get, Lock, Insert, Put, Delete, Drop as DropLock, NextValue, CurrentValue, End}
-use Rattle.database_meaning.specs.declared.operation.Answer.{Answer}
+use Rattle.client_database.specs.declared.event.Event.{Event}
+use Rattle.client_database.specs.declared.operation.Op.{Op}
+use Rattle.client_database.specs.declared.operation.Op.TheVariants.{Enter, Leave, Back, Next, Get, Lock, Insert, Put, Delete, Drop as DropLock, NextValue, CurrentValue, End}
+use Rattle.client_database.specs.declared.answer.Answer.{Answer}
 use Rattle.database_meaning.proofs.Maps.{insert_cases, empty_cases, get_laid_on}
 use Rattle.database_meaning.proofs.TableRows.{success_of}
 use Rattle.database_meaning.proofs.Own.{sound, by_test}
@@ -105,34 +105,34 @@ stable_fields (kind ∷ kinds) (v ∷ vs) h = (stable_field kind v (λ k. h (λ 
 
 -- ---- rows that fit
 
-abbrev pub RowFits : Frame → Option StoredRow → Type 0
+abbrev pub RowFits : Setting → Option StoredRow → Type 0
 RowFits f None = Unit {0}
 RowFits f (Some r) = FitsTable f.schema r.table r.values
 
-abbrev pub ChangesFit : Frame → Overlay → Type 0
+abbrev pub ChangesFit : Setting → Overlay → Type 0
 ChangesFit f o = (row : ℕ) (change : Option StoredRow) → get o row ≡ Some change → RowFits f change
 
-abbrev pub CopiesFit : Frame → List Overlay → Type 0
+abbrev pub CopiesFit : Setting → List Overlay → Type 0
 CopiesFit f [] = Unit {0}
 CopiesFit f (o ∷ os) = ChangesFit f o × CopiesFit f os
 
-pub record ClientFits (f : Frame) (cl : Client) : Type 0 where
+pub record ClientFits (f : Setting) (cl : Client) : Type 0 where
   pub now : ChangesFit f cl.overlay
   pub copies : CopiesFit f cl.levels
 
-pub record StateFits (f : Frame) (s : State) : Type 0 where
+pub record StateFits (f : Setting) (s : State) : Type 0 where
   pub committed : (row : ℕ) → RowFits f (get s.committed row)
   pub own : (c : ℕ) → ClientFits f (s.client c)
 
-over_fits : (f : Frame) (o : Option (Option StoredRow)) (below : Option StoredRow) → ((change : Option StoredRow) → o ≡ Some change → RowFits f change) → RowFits f below → RowFits f (over o below)
+over_fits : (f : Setting) (o : Option (Option StoredRow)) (below : Option StoredRow) → ((change : Option StoredRow) → o ≡ Some change → RowFits f change) → RowFits f below → RowFits f (over o below)
 over_fits f None below change fits = fits
 over_fits f (Some x) below change fits = change x refl
 
-pub laid_fits : (f : Frame) (n : ℕ) (client : ℕ → Client) (rows : Rows) → ((c : ℕ) → ClientFits f (client c)) → ((row : ℕ) → RowFits f (get rows row)) → (row : ℕ) → RowFits f (laid n client rows row)
+pub laid_fits : (f : Setting) (n : ℕ) (client : ℕ → Client) (rows : Rows) → ((c : ℕ) → ClientFits f (client c)) → ((row : ℕ) → RowFits f (get rows row)) → (row : ℕ) → RowFits f (laid n client rows row)
 laid_fits f zero client rows own committed row = committed row
 laid_fits f (suc n) client rows own committed row = over_fits f (get (client n).overlay row) _ ((own n).now row) (laid_fits f n client rows own committed row)
 
-module _ (f : Frame) where
+module _ (f : Setting) where
   empty_fits : ChangesFit f empty
   empty_fits row change e = absurd (empty_cases row change e)
 
@@ -200,12 +200,12 @@ module _ (f : Frame) where
   committed_fits s c (CurrentValue sequence) g row = g.committed row
   committed_fits s c End g row = g.committed row
 
-module _ (f : Frame) (s : State) (c : ℕ) (op : Op) (a : Answer) (ok : Answers f s c op a) (g : StateFits f s) where
+module _ (f : Setting) (s : State) (c : ℕ) (op : Op) (a : Answer) (ok : Answers f s c op a) (g : StateFits f s) where
   self_fits : (b : Bool) → is_success a ≡ b → ClientFits f (cond b (own_after f s c op (row_of_answer a)) (s.client c))
   self_fits true good = own_fits f s c op (row_of_answer a) (success_of f s c op a good ok).sound (g.own c)
   self_fits false fails = g.own c
 
-  rewanted : (cl : Client) → ClientFits f cl → ClientFits f (record cl { want = want_after s c op a })
+  rewanted : (cl : Client) → ClientFits f cl → ClientFits f (record cl { blocked = blocked_after s c op a })
   rewanted cl o = record { now = o.now; copies = o.copies }
 
   fits_step : StateFits f (after f s c op a)
@@ -221,24 +221,24 @@ module _ (f : Frame) (s : State) (c : ℕ) (op : Op) (a : Answer) (ok : Answers 
 
 -- ---- over whole traces
 
-found_fits : (f : Frame) (b : Bool) (r : StoredRow) (o : Option StoredRow) → RowFits f (Some r) → RowFits f o → RowFits f (cond b (Some r) o)
+found_fits : (f : Setting) (b : Bool) (r : StoredRow) (o : Option StoredRow) → RowFits f (Some r) → RowFits f o → RowFits f (cond b (Some r) o)
 found_fits f true r o here there = here
 found_fits f false r o here there = there
 
-find_fits : (f : Frame) (rows : List ContentRow) (q : ℕ) → IsSoundRows f rows → RowFits f (find nat_cmp q (map {B = ℕ × StoredRow} (λ r. (identity_of r, stored_of r)) rows))
+find_fits : (f : Setting) (rows : List ContentRow) (q : ℕ) → IsSoundRows f rows → RowFits f (find nat_cmp q (map {B = ℕ × StoredRow} (λ r. (identity_of r, stored_of r)) rows))
 find_fits f [] q ok = tt
 find_fits f (r ∷ rows) q ok = found_fits f _ (stored_of r) _ ok.0.1 (find_fits f rows q ok.1)
 
-fits_opened : (f : Frame) (contents : Contents) → IsSoundContents f contents → StateFits f (opened contents)
+fits_opened : (f : Setting) (contents : Contents) → IsSoundContents f contents → StateFits f (opened contents)
 fits_opened f contents ok =
     record {
       committed = λ row. subst (λ o. RowFits f o) (sym (get-from_entries nat_cmp_total _ row)) (find_fits f contents.rows row ok.rows);
       own = λ c. record { now = empty_fits f; copies = tt };
     }
 
-fits_after : (f : Frame) (s : State) (trace : List Event) → StateFits f s → Follows f s trace → StateFits f (state_after f s trace)
+fits_after : (f : Setting) (s : State) (trace : List Event) → StateFits f s → Follows f s trace → StateFits f (state_after f s trace)
 fits_after f s [] g ok = g
 fits_after f s (e ∷ es) g ok = fits_after f (after f s e.client e.op e.answer) es (fits_step f s e.client e.op e.answer ok.0 g) ok.1
 
-pub fits_legal : (f : Frame) (contents : Contents) (trace : List Event) → IsLegal f contents trace → StateFits f (left_by f contents trace)
+pub fits_legal : (f : Setting) (contents : Contents) (trace : List Event) → IsLegal f contents trace → StateFits f (left_by f contents trace)
 fits_legal f contents trace legal = fits_after f (opened contents) trace (fits_opened f contents legal.0) legal.1

@@ -1,11 +1,11 @@
--- A cycle that would close can be told with clients that all differ.
+-- A cycle that would close can be answered with clients that all differ.
 use Rattle.std.proofs.Common.{◌≡◌, ◌⊎◌, ℕ, zero, suc, ◌<◌, List, [], ◌∷◌, length, get_or, refl, subst, inl, inr, arith}
 use Rattle.std.specs.List.{Contains}
 use Rattle.std.proofs.lemmas.Bool.{cases_eq}
-use Rattle.database_meaning.specs.Frame.{Frame}
+use Rattle.database_meaning.specs.Setting.{Setting}
 use Rattle.database_meaning.specs.State.{State}
 use Rattle.database_meaning.specs.Waiting.{Chain, IsDistinct, IsCycle, Closes, WouldWait}
-use Rattle.database_meaning.specs.declared.operation.Op.{Op}
+use Rattle.client_database.specs.declared.operation.Op.{Op}
 
 pub here : (a : ℕ) (xs : List ℕ) → Contains (a ∷ xs) a
 here a xs = (0, omega arith, refl)
@@ -59,7 +59,7 @@ simplify W a (x ∷ xs) b p =
     ]
 
 -- where waiting would close a cycle, there is one to answer with
-pub cycle_of : (f : Frame) (s : State) (c : ℕ) (op : Op) → Closes f s c op → (cycle : List ℕ) × IsCycle f s c op cycle
+pub cycle_of : (f : Setting) (s : State) (c : ℕ) (op : Op) → Closes f s c op → (cycle : List ℕ) × IsCycle f s c op cycle
 unfolding Simple
 cycle_of f s c op closes =
     let short = simplify (WouldWait f s c op) c closes.0 c closes.1 in

@@ -5,14 +5,15 @@ use Rattle.std.specs.List.{All}
 use Rattle.std.specs.FinMap.{get}
 use Rattle.abl_base.specs.declared.value.Value.{Value}
 use Rattle.abl_base.specs.declared.row.RowId.{RowId}
+use Rattle.abl_values.specs.Schema.{SchemaData}
 use Rattle.database_meaning.specs.declared.state.StoredRow.{StoredRow}
 use Rattle.database_meaning.specs.declared.state.Key.{Key}
-use Rattle.database_meaning.specs.declared.limits.TheConstants.{MAX_ROW_BYTES, MAX_KEY_BYTES, FIRST_ROW, ROW_LIMIT, MAX_FRAGMENTS, MAX_TRANSACTION_WRITES}
-use Rattle.database_meaning.specs.declared.operation.Op.{Op}
-use Rattle.database_meaning.specs.declared.operation.Op.TheVariants.{Enter, Leave, Back, Next, Get, Lock, Insert, Put, Delete, Drop as DropLock, NextValue, CurrentValue, End}
-use Rattle.database_meaning.specs.declared.operation.Answer.{Answer}
-use Rattle.database_meaning.specs.declared.operation.Answer.TheVariants.{Refused, Closed, TraceFull, Gone, KeyTooLong, Busy, Blocked, Deadlock, Duplicate, Full, TxFull, SequenceEnd, AtEnd, NoMemory, Done, Committed, Found, Row as RowAnswer, Granted, Inserted, Value as ValueAnswer}
-use Rattle.database_meaning.specs.Frame.{Frame, unique_keys, has_key, row_size, HasTable, HasIndex, HasSequence, FitsTable, key_in, increment_of}
+use Rattle.abl_base.specs.declared.limits.TheConstants.{MAX_ROW_BYTES, MAX_KEY_BYTES, FIRST_ROW, ROW_LIMIT, MAX_FRAGMENTS, MAX_SLOT_WRITES}
+use Rattle.client_database.specs.declared.operation.Op.{Op}
+use Rattle.client_database.specs.declared.operation.Op.TheVariants.{Enter, Leave, Back, Next, Get, Lock, Insert, Put, Delete, Drop as DropLock, NextValue, CurrentValue, End}
+use Rattle.client_database.specs.declared.answer.Answer.{Answer}
+use Rattle.client_database.specs.declared.answer.Answer.TheVariants.{Refused, Closed, TraceFull, Gone, KeyTooLong, Busy, Blocked, Deadlock, Duplicate, Full, TxFull, SequenceEnd, AtEnd, NoMemory, Done, Committed, Found, Row as RowAnswer, Granted, Inserted, Value as ValueAnswer}
+use Rattle.database_meaning.specs.Setting.{Setting, unique_keys, has_key, row_size, HasTable, HasIndex, HasSequence, FitsTable, key_in, increment_of}
 use Rattle.database_meaning.specs.State.{State, view, lock_of, depth_of, HoldsExclusively}
 use Rattle.database_meaning.specs.Waiting.{row_in, HasConflict, IsHolders, Closes, IsCycle}
 use Rattle.database_meaning.specs.Search.{FindsNone, IsNext}
@@ -26,43 +27,43 @@ when applies comes answer otherwise below = (applies × answer) ⊎ (¬ applies 
 -- ---- Refused
 
 -- the values are a row of the table, of at most 30,000 bytes
-abbrev pub FitsRow : Frame → ℕ → List Value → Type 0
+abbrev pub FitsRow : Setting → ℕ → List Value → Type 0
 FitsRow f table values = FitsTable f.schema table values × (row_size values ≤ MAX_ROW_BYTES)
 
-abbrev pub HasOrder : Frame → ℕ → Option ℕ → Type 0
+abbrev pub HasOrder : Setting → ℕ → Option ℕ → Type 0
 HasOrder f table None = Unit {0}
 HasOrder f table (Some index) = HasIndex f.schema table index
 
 -- the operation names what there is, and its level, lock and values are right
-abbrev pub IsSound : Frame → State → ℕ → Op → Type 0
-IsSound f s c Enter = Unit {0}
-IsSound f s c (Leave keep) = 0 < depth_of s c
-IsSound f s c (Back depth) = (0 < depth) × (depth ≤ depth_of s c)
-IsSound f s c (Next table index prefix cursor forward) = HasTable f.schema table × HasOrder f table index
-IsSound f s c (Get table row) = HasTable f.schema table
-IsSound f s c (Lock table row exclusive wait) = HasTable f.schema table
-IsSound f s c (Insert table values) = HasTable f.schema table × FitsRow f table values × (0 < depth_of s c)
-IsSound f s c (Put table row values) = HasTable f.schema table × FitsRow f table values × (0 < depth_of s c) × HoldsExclusively s c row.0
-IsSound f s c (Delete table row) = HasTable f.schema table × (0 < depth_of s c) × HoldsExclusively s c row.0
-IsSound f s c (DropLock row) = Unit {0}
-IsSound f s c (NextValue sequence) = HasSequence f.schema sequence
-IsSound f s c (CurrentValue sequence) = HasSequence f.schema sequence
-IsSound f s c End = Unit {0}
+abbrev pub IsWellFormed : Setting → State → ℕ → Op → Type 0
+IsWellFormed f s c Enter = Unit {0}
+IsWellFormed f s c (Leave keep) = 0 < depth_of s c
+IsWellFormed f s c (Back depth) = (0 < depth) × (depth ≤ depth_of s c)
+IsWellFormed f s c (Next table index prefix cursor forward) = HasTable f.schema table × HasOrder f table index
+IsWellFormed f s c (Get table row) = HasTable f.schema table
+IsWellFormed f s c (Lock table row exclusive wait) = HasTable f.schema table
+IsWellFormed f s c (Insert table values) = HasTable f.schema table × FitsRow f table values × (0 < depth_of s c)
+IsWellFormed f s c (Put table row values) = HasTable f.schema table × FitsRow f table values × (0 < depth_of s c) × HoldsExclusively s c row.0
+IsWellFormed f s c (Delete table row) = HasTable f.schema table × (0 < depth_of s c) × HoldsExclusively s c row.0
+IsWellFormed f s c (DropLock row) = Unit {0}
+IsWellFormed f s c (NextValue sequence) = HasSequence f.schema sequence
+IsWellFormed f s c (CurrentValue sequence) = HasSequence f.schema sequence
+IsWellFormed f s c End = Unit {0}
 
--- the client asks its want again, and nothing was freed since it was answered Blocked
+-- the client asks its blocked request again, and nothing was freed since it was answered Blocked
 abbrev pub AsksAgain : State → ℕ → Op → Type 0
-AsksAgain s c op = (s.client c).want ≡ Some (record { op = op; frees = s.frees })
+AsksAgain s c op = (s.client c).blocked ≡ Some (record { op = op; frees = s.frees })
 
-abbrev pub IsRefused : Frame → State → ℕ → Op → Type 0
-IsRefused f s c op = ¬ ((c < f.clients) × IsSound f s c op × ¬ AsksAgain s c op)
+abbrev pub IsRefused : Setting → State → ℕ → Op → Type 0
+IsRefused f s c op = ¬ ((c < f.clients) × IsWellFormed f s c op × ¬ AsksAgain s c op)
 
 -- ---- Gone
 
 -- the view has a row of that table there
-abbrev pub IsThere : Frame → State → ℕ → ℕ → Type 0
+abbrev pub IsThere : Setting → State → ℕ → ℕ → Type 0
 IsThere f s table row = (r : StoredRow) × (view f s row ≡ Some r) × (r.table ≡ table)
 
-abbrev pub IsGone : Frame → State → ℕ → Op → Type 0
+abbrev pub IsGone : Setting → State → ℕ → Op → Type 0
 IsGone f s c (Get table row) = ¬ IsThere f s table row.0
 IsGone f s c (Put table row values) = ¬ IsThere f s table row.0
 IsGone f s c (Delete table row) = ¬ IsThere f s table row.0
@@ -77,15 +78,15 @@ entered (Insert table values) = row_in table values
 entered (Put table row values) = row_in table values
 entered _ = None
 
-abbrev pub HasLongKey : Frame → StoredRow → ℕ → Type 0
+abbrev pub HasLongKey : Setting → StoredRow → ℕ → Type 0
 HasLongKey f row index = HasIndex f.schema row.table index × (MAX_KEY_BYTES < length (key_in f.schema row.table index row.values))
 
 -- the index is the least one in which the row's key is too long
-abbrev pub IsFirstLongKey : Frame → Option StoredRow → ℕ → Type 0
+abbrev pub IsFirstLongKey : Setting → Option StoredRow → ℕ → Type 0
 IsFirstLongKey f None index = ⊥
 IsFirstLongKey f (Some row) index = HasLongKey f row index × ((j : ℕ) → j < index → ¬ HasLongKey f row j)
 
-abbrev pub HasTooLongKey : Frame → Op → Type 0
+abbrev pub HasTooLongKey : Setting → Op → Type 0
 HasTooLongKey f op = (index : ℕ) × IsFirstLongKey f (entered op) index
 
 -- ---- Busy, Blocked, Deadlock
@@ -104,17 +105,21 @@ abbrev pub own_row : Op → Option RowId
 own_row (Put table row values) = Some row
 own_row _ = None
 
--- another row of the view has a unique key of the new row, in this index
-abbrev pub HasTwin : Frame → State → Op → ℕ → RowId → Type 0
-HasTwin f s op index row =
-    (k : Key) × (k.index ≡ index) × IsTrue (has_key (unique_keys f.schema (entered op)) k) × (own_row op ≢ Some row) × IsTrue (has_key (unique_keys f.schema (view f s row.0)) k)
+-- a row other than the replaced one has a unique key of the new row, in this index. The rows are a function of the identity
+abbrev pub IsDuplicateIn : SchemaData → (ℕ → Option StoredRow) → Option RowId → Option StoredRow → ℕ → RowId → Type 0
+IsDuplicateIn schema rows replaced new index row =
+    (k : Key) × (k.index ≡ index) × IsTrue (has_key (unique_keys schema new) k) × (replaced ≢ Some row) × IsTrue (has_key (unique_keys schema (rows row.0)) k)
+
+-- such a row of the view
+abbrev pub HasDuplicate : Setting → State → Op → ℕ → RowId → Type 0
+HasDuplicate f s op index row = IsDuplicateIn f.schema (view f s) (own_row op) (entered op) index row
 
 -- the index is the least one with such a row
-abbrev pub IsFirstTwin : Frame → State → Op → ℕ → RowId → Type 0
-IsFirstTwin f s op index row = HasTwin f s op index row × ((j : ℕ) (other : RowId) → j < index → ¬ HasTwin f s op j other)
+abbrev pub IsFirstDuplicate : Setting → State → Op → ℕ → RowId → Type 0
+IsFirstDuplicate f s op index row = HasDuplicate f s op index row × ((j : ℕ) (other : RowId) → j < index → ¬ HasDuplicate f s op j other)
 
-abbrev pub HasTwins : Frame → State → Op → Type 0
-HasTwins f s op = (index : ℕ) × (row : RowId) × IsFirstTwin f s op index row
+abbrev pub HasDuplicates : Setting → State → Op → Type 0
+HasDuplicates f s op = (index : ℕ) × (row : RowId) × IsFirstDuplicate f s op index row
 
 -- ---- Full, TxFull
 
@@ -131,24 +136,24 @@ IsWrite (Put table row values) = Unit {0}
 IsWrite (Delete table row) = Unit {0}
 IsWrite _ = ⊥
 
-abbrev pub DrawsTooMany : Frame → State → Op → Type 0
+abbrev pub DrawsTooMany : Setting → State → Op → Type 0
 DrawsTooMany f s op = IsDrawing op × (MAX_FRAGMENTS < used f s + draws f s op)
 
-abbrev pub WritesTooMany : Frame → State → ℕ → Op → Type 0
-WritesTooMany f s c op = IsWrite op × (MAX_TRANSACTION_WRITES < (s.client c).written + writes f s op)
+abbrev pub WritesTooMany : Setting → State → ℕ → Op → Type 0
+WritesTooMany f s c op = IsWrite op × (MAX_SLOT_WRITES < (s.client c).written + writes f s op)
 
 -- ---- SequenceEnd, AtEnd
 
 abbrev pub current_value : State → ℕ → ℤ
 current_value s sequence = slice_index_or s.sequences sequence (pos 0)
 
-abbrev pub next_value : Frame → State → ℕ → ℤ
+abbrev pub next_value : Setting → State → ℕ → ℤ
 next_value f s sequence = current_value s sequence +ℤ increment_of f.schema sequence
 
 abbrev pub IsI64 : ℤ → Type 0
 IsI64 v = FitsSigned w64 v
 
-abbrev pub PassesEnd : Frame → State → Op → Type 0
+abbrev pub PassesEnd : Setting → State → Op → Type 0
 PassesEnd f s op = (sequence : ℕ) × (op ≡ NextValue sequence) × ¬ IsI64 (next_value f s sequence)
 
 abbrev pub IsNextOp : Op → Type 0
@@ -164,8 +169,8 @@ IsUntouched s c row = (get (s.client c).overlay row ≡ None) × (lock_of s c ro
 abbrev pub IsFresh : State → ℕ → Type 0
 IsFresh s row = (FIRST_ROW ≤ row) × (row < ROW_LIMIT) × (get s.committed row ≡ None) × ((c : ℕ) → IsUntouched s c row)
 
--- the answer of an operation that nothing stands against
-abbrev pub Succeeds : Frame → State → ℕ → Op → Answer → Type 0
+-- the answer of an operation that nothing prevents
+abbrev pub Succeeds : Setting → State → ℕ → Op → Answer → Type 0
 Succeeds f s c Enter a = a ≡ Done
 Succeeds f s c (Leave keep) a =
     ((depth_of s c ≡ 1) × (moment : ℕ) × (a ≡ Committed moment)) ⊎ ((depth_of s c ≢ 1) × (a ≡ Done))
@@ -184,15 +189,15 @@ Succeeds f s c End a = a ≡ Done
 
 -- ---- the table
 
--- the rows below TraceFull, in order
-abbrev pub Middle : Frame → State → ℕ → Op → Answer → Type 0
-Middle f s c op a =
+-- the rows of the table from Gone on, in order
+abbrev pub FromGone : Setting → State → ℕ → Op → Answer → Type 0
+FromGone f s c op a =
     when IsGone f s c op comes a ≡ Gone otherwise
     when HasTooLongKey f op comes ((index : ℕ) × IsFirstLongKey f (entered op) index × (a ≡ KeyTooLong index)) otherwise
     when HasConflict f s c op × ¬ MayWait op comes ((holders : List ℕ) × IsHolders f s c op holders × (a ≡ Busy holders)) otherwise
     when HasConflict f s c op × ¬ Closes f s c op comes ((holders : List ℕ) × IsHolders f s c op holders × (a ≡ Blocked holders)) otherwise
     when HasConflict f s c op comes ((cycle : List ℕ) × IsCycle f s c op cycle × (a ≡ Deadlock cycle)) otherwise
-    when HasTwins f s op comes ((index : ℕ) × (row : RowId) × IsFirstTwin f s op index row × (a ≡ Duplicate index row)) otherwise
+    when HasDuplicates f s op comes ((index : ℕ) × (row : RowId) × IsFirstDuplicate f s op index row × (a ≡ Duplicate index row)) otherwise
     when DrawsTooMany f s op comes a ≡ Full otherwise
     when WritesTooMany f s c op comes a ≡ TxFull otherwise
     when PassesEnd f s op comes a ≡ SequenceEnd otherwise
@@ -200,17 +205,17 @@ Middle f s c op a =
     Succeeds f s c op a
 
 -- the whole table. TraceFull looks at the event with an answer that would otherwise be given: where several
--- cycles may be told, any of them
-abbrev pub ByTable : Frame → State → ℕ → Op → Answer → Type 0
+-- cycles may be answered, any of them
+abbrev pub ByTable : Setting → State → ℕ → Op → Answer → Type 0
 ByTable f s c op a =
     when IsRefused f s c op comes a ≡ Refused otherwise
     when IsTrue s.closed × (op ≢ End) comes a ≡ Closed otherwise
-    ((HasRoom s op a × Middle f s c op a) ⊎ ((a ≡ TraceFull) × (b : Answer) × Middle f s c op b × ¬ HasRoom s op b))
+    ((HasRoom s op a × FromGone f s c op a) ⊎ ((a ≡ TraceFull) × (b : Answer) × FromGone f s c op b × ¬ HasRoom s op b))
 
--- an answer that may come whatever the rest of the table says: memory was wanting, or the disk failed in this step
-abbrev pub IsFree : Frame → State → ℕ → Op → Answer → Type 0
+-- an answer that may come whatever the rest of the table says: out of memory, or the disk failed in this step
+abbrev pub IsFree : Setting → State → ℕ → Op → Answer → Type 0
 IsFree f s c op a = (op ≢ End) × ((a ≡ NoMemory) ⊎ ((a ≡ Closed) × ¬ IsRefused f s c op))
 
 -- the answers that the operation may have in this state
-abbrev pub Answers : Frame → State → ℕ → Op → Answer → Type 0
+abbrev pub Answers : Setting → State → ℕ → Op → Answer → Type 0
 Answers f s c op a = IsFree f s c op a ⊎ ByTable f s c op a

@@ -1,26 +1,26 @@
 -- What is counted: the fragments that an operation draws, the slots that it writes, and the bytes of an event.
 use Rattle.std.specs.Prelude.{ℕ, zero, suc, ◌+◌, ◌-◌, ◌*◌, ◌≤◌, ◌≡◌, ◌⊎◌, max, Bool, true, false, length, map, sum, Option, Some, None}
 use Rattle.std.specs.FinMap.{values}
-use Rattle.abl_base.specs.declared.row.Cursor.{Cursor}
-use Rattle.database_meaning.specs.declared.limits.TheConstants.{MAX_TRACE_BYTES, EVENT_BYTES, NUMBER_BYTES}
-use Rattle.database_meaning.specs.declared.operation.Op.{Op}
-use Rattle.database_meaning.specs.declared.operation.Op.TheVariants.{Leave, Next, Insert, Put, Delete, End}
-use Rattle.database_meaning.specs.declared.operation.Answer.{Answer}
-use Rattle.database_meaning.specs.declared.operation.Answer.TheVariants.{TraceFull, Busy, Blocked, Deadlock, Found, Row as RowAnswer}
-use Rattle.database_meaning.specs.Frame.{Frame, row_size, fragments}
+use Rattle.client_database.specs.declared.row_order.Cursor.{Cursor}
+use Rattle.abl_base.specs.declared.limits.TheConstants.{MAX_TRACE_BYTES, EVENT_BYTES, NUMBER_BYTES}
+use Rattle.client_database.specs.declared.operation.Op.{Op}
+use Rattle.client_database.specs.declared.operation.Op.TheVariants.{Leave, Next, Insert, Put, Delete, End}
+use Rattle.client_database.specs.declared.answer.Answer.{Answer}
+use Rattle.client_database.specs.declared.answer.Answer.TheVariants.{TraceFull, Busy, Blocked, Deadlock, Found, Row as RowAnswer}
+use Rattle.database_meaning.specs.Setting.{Setting, row_size, fragments}
 use Rattle.database_meaning.specs.State.{State, view}
 use Rattle.database_meaning.specs.Waiting.{row_in}
 
 -- ---- fragments and slot writes
 
 -- how many fragments the operation draws. One that the transaction freed stays taken until its end
-abbrev pub draws : Frame → State → Op → ℕ
+abbrev pub draws : Setting → State → Op → ℕ
 draws f s (Insert table values) = fragments (row_in table values)
 draws f s (Put table row values) = fragments (row_in table values) - fragments (view f s row.0)
 draws f s _ = 0
 
 -- how many slots it writes
-abbrev pub writes : Frame → State → Op → ℕ
+abbrev pub writes : Setting → State → Op → ℕ
 writes f s (Insert table values) = fragments (row_in table values)
 writes f s (Put table row values) = max (fragments (row_in table values)) (fragments (view f s row.0))
 writes f s (Delete table row) = fragments (view f s row.0)
@@ -32,7 +32,7 @@ sum_below zero count = 0
 sum_below (suc n) count = count n + sum_below n count
 
 -- the fragments of committed rows and those drawn by all open transactions
-abbrev pub used : Frame → State → ℕ
+abbrev pub used : Setting → State → ℕ
 used f s = sum (map (λ r. fragments (Some r)) (values s.committed)) + sum_below f.clients (λ c. (s.client c).drawn)
 
 -- ---- the bytes of an event

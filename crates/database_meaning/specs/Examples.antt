@@ -8,15 +8,15 @@ use Rattle.abl_values.specs.declared.schema.TableDef.{TableDef}
 use Rattle.abl_values.specs.Keys.{key_bytes, unique_key}
 use Rattle.abl_values.specs.Rows.{bytes_of_row, number_bytes}
 use Rattle.database_meaning.specs.declared.state.Key.{Key}
-use Rattle.database_meaning.specs.declared.operation.Op.TheVariants.{Enter, Leave, Insert, Lock, End}
-use Rattle.database_meaning.specs.declared.operation.Answer.TheVariants.{Refused, Blocked, Busy, Done, NoMemory, Committed}
-use Rattle.database_meaning.specs.Frame.{Frame, unique_keys, fragments}
+use Rattle.client_database.specs.declared.operation.Op.TheVariants.{Enter, Leave, Insert, Lock, End}
+use Rattle.client_database.specs.declared.answer.Answer.TheVariants.{Refused, Blocked, Busy, Done, NoMemory, Committed}
+use Rattle.database_meaning.specs.Setting.{Setting, unique_keys, fragments}
 use Rattle.database_meaning.specs.Waiting.{row_in}
 use Rattle.database_meaning.specs.Search.{place_cmp, MatchesPrefix}
 use Rattle.database_meaning.specs.Counts.{event_size, is_counted}
 use Rattle.database_meaning.specs.Fits.{Fits}
-use Rattle.database_meaning.specs.Steps.{keeping, or_exclusive}
-use Rattle.database_meaning.specs.declared.limits.TheConstants.{MAX_CLIENTS, MAX_ROW_BYTES, MAX_KEY_BYTES, FRAGMENT_BYTES, FIRST_ROW, ROW_LIMIT, MAX_FRAGMENTS, MAX_TRANSACTION_WRITES, MAX_TRACE_BYTES, EVENT_BYTES, NUMBER_BYTES}
+use Rattle.database_meaning.specs.Steps.{reserving, or_exclusive}
+use Rattle.abl_base.specs.declared.limits.TheConstants.{MAX_CLIENTS, MAX_ROW_BYTES, MAX_KEY_BYTES, FRAGMENT_BYTES, FIRST_ROW, ROW_LIMIT, MAX_FRAGMENTS, MAX_SLOT_WRITES, MAX_TRACE_BYTES, EVENT_BYTES, NUMBER_BYTES}
 
 -- the table `customer` with the fields `num` and `name`, and the unique index `num`
 customer : TableDef
@@ -30,7 +30,7 @@ customer =
       primary = Some 0;
     }
 
-bank : Frame
+bank : Setting
 bank = record { schema = record { tables = customer ∷ []; sequences = []; order = true ∷ [] }; clients = 3 }
 
 ann : List Value
@@ -55,18 +55,18 @@ unknown_is_no_key : unique_keys bank.schema (row_in 0 nobody) ≡ []
 unfolding unique_keys unique_key key_bytes number_bytes bank customer nobody
 unknown_is_no_key = refl
 
--- a key that a Put leaves as it was is not kept, one that a row enters is
-renaming_keeps_none : keeping bank (row_in 0 ann) (row_in 0 renamed) [] ≡ []
+-- a key that a Put leaves as it was is not reserved, one that a row enters is
+renaming_reserves_none : reserving bank (row_in 0 ann) (row_in 0 renamed) [] ≡ []
 unfolding unique_keys unique_key key_bytes number_bytes bank customer ann renamed
-renaming_keeps_none = refl
+renaming_reserves_none = refl
 
-inserting_keeps_one : keeping bank None (row_in 0 ann) [] ≡ key_of_one ∷ []
+inserting_reserves_one : reserving bank None (row_in 0 ann) [] ≡ key_of_one ∷ []
 unfolding unique_keys unique_key key_bytes number_bytes bank customer ann key_of_one
-inserting_keeps_one = refl
+inserting_reserves_one = refl
 
-deleting_keeps_one : keeping bank (row_in 0 ann) None [] ≡ key_of_one ∷ []
+deleting_reserves_one : reserving bank (row_in 0 ann) None [] ≡ key_of_one ∷ []
 unfolding unique_keys unique_key key_bytes number_bytes bank customer ann key_of_one
-deleting_keeps_one = refl
+deleting_reserves_one = refl
 
 -- a short row is one fragment, and no row is none
 short_row_is_one_fragment : fragments (row_in 0 ann) ≡ 1
@@ -104,17 +104,17 @@ key_decides : place_cmp (1 ∷ []) (record { 0 = 9000 }) (1 ∷ 0 ∷ []) (recor
 key_decides = refl
 
 -- a prefix of more values than the index has components matches no row
-long_prefix_matches_none : MatchesPrefix bank 0 (Some 0) ann ann → ⊥
+long_prefix_matches_none : MatchesPrefix bank.schema 0 (Some 0) ann ann → ⊥
 unfolding bank customer ann
 long_prefix_matches_none h = h.2
 
--- a Lock that waits is never Busy, and an End never wants memory
+-- a Lock that waits is never Busy, and an End never runs out of memory
 waiting_lock_is_not_busy : Fits bank.schema (Lock 0 (record { 0 = 8192 }) true true) (Busy []) → ⊥
 waiting_lock_is_not_busy h = cc
 
-end_wants_no_memory : Fits bank.schema End NoMemory → ⊥
-end_wants_no_memory h = h
+end_never_runs_out_of_memory : Fits bank.schema End NoMemory → ⊥
+end_never_runs_out_of_memory h = h
 
 -- the limits of a database
-pub limits_are : (MAX_CLIENTS ≡ 16) × (MAX_ROW_BYTES ≡ 30000) × (MAX_KEY_BYTES ≡ 200) × (FRAGMENT_BYTES ≡ 240) × (FIRST_ROW ≡ 8192) × (ROW_LIMIT ≡ 1048576) × (MAX_FRAGMENTS ≡ 1040384) × (MAX_TRANSACTION_WRITES ≡ 7989) × (MAX_TRACE_BYTES ≡ 268435456) × (EVENT_BYTES ≡ 64) × (NUMBER_BYTES ≡ 4)
+pub limits_are : (MAX_CLIENTS ≡ 16) × (MAX_ROW_BYTES ≡ 30000) × (MAX_KEY_BYTES ≡ 200) × (FRAGMENT_BYTES ≡ 240) × (FIRST_ROW ≡ 8192) × (ROW_LIMIT ≡ 1048576) × (MAX_FRAGMENTS ≡ 1040384) × (MAX_SLOT_WRITES ≡ 7989) × (MAX_TRACE_BYTES ≡ 268435456) × (EVENT_BYTES ≡ 64) × (NUMBER_BYTES ≡ 4)
 limits_are = (refl, refl, refl, refl, refl, refl, refl, refl, refl, refl, refl)

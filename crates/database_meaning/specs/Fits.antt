@@ -1,11 +1,11 @@
 -- Which answers an operation can have at all.
 use Rattle.std.specs.Prelude.{IsTrue, IsFalse}
-use Rattle.database_meaning.specs.declared.operation.Op.{Op}
-use Rattle.database_meaning.specs.declared.operation.Op.TheVariants.{Enter, Leave, Back, Next, Get, Lock, Insert, Put, Delete, Drop as DropLock, NextValue, CurrentValue, End}
-use Rattle.database_meaning.specs.declared.operation.Answer.{Answer}
-use Rattle.database_meaning.specs.declared.operation.Answer.TheVariants.{Refused, Closed, TraceFull, Gone, KeyTooLong, Busy, Blocked, Deadlock, Duplicate, Full, TxFull, SequenceEnd, AtEnd, NoMemory, Done, Committed, Found, Row as RowAnswer, Granted, Inserted, Value as ValueAnswer}
+use Rattle.client_database.specs.declared.operation.Op.{Op}
+use Rattle.client_database.specs.declared.operation.Op.TheVariants.{Enter, Leave, Back, Next, Get, Lock, Insert, Put, Delete, Drop as DropLock, NextValue, CurrentValue, End}
+use Rattle.client_database.specs.declared.answer.Answer.{Answer}
+use Rattle.client_database.specs.declared.answer.Answer.TheVariants.{Refused, Closed, TraceFull, Gone, KeyTooLong, Busy, Blocked, Deadlock, Duplicate, Full, TxFull, SequenceEnd, AtEnd, NoMemory, Done, Committed, Found, Row as RowAnswer, Granted, Inserted, Value as ValueAnswer}
 use Rattle.abl_values.specs.Schema.{SchemaData}
-use Rattle.database_meaning.specs.Frame.{HasIndex, FitsTable}
+use Rattle.database_meaning.specs.Setting.{HasIndex, FitsTable}
 
 -- the answers of an operation's own
 abbrev pub IsOwnAnswer : SchemaData → Op → Answer → Type 0
@@ -64,7 +64,7 @@ IsNoEnd End = ⊥
 IsNoEnd _ = Unit {0}
 
 -- the answer is one that the operation can have: each may be refused, and each but End may find the database
--- closed, the trace full or memory wanting
+-- closed, the trace full or memory exhausted
 abbrev pub Fits : SchemaData → Op → Answer → Type 0
 Fits schema op Refused = Unit {0}
 Fits schema op Closed = IsNoEnd op

@@ -6,12 +6,12 @@ use Rattle.abl_base.specs.declared.row.RowId.{RowId}
 use Rattle.database_meaning.specs.declared.state.StoredRow.{StoredRow}
 use Rattle.database_meaning.specs.declared.state.Key.{Key}
 use Rattle.database_meaning.specs.declared.contents.Contents.{Contents}
-use Rattle.database_meaning.specs.declared.operation.Event.{Event}
-use Rattle.database_meaning.specs.declared.operation.Op.{Op}
-use Rattle.database_meaning.specs.declared.operation.Op.TheVariants.{Get, End}
-use Rattle.database_meaning.specs.declared.operation.Answer.{Answer}
-use Rattle.database_meaning.specs.declared.operation.Answer.TheVariants.{Row as RowAnswer, Inserted, Committed, Deadlock, TraceFull}
-use Rattle.database_meaning.specs.Frame.{Frame, has_key}
+use Rattle.client_database.specs.declared.event.Event.{Event}
+use Rattle.client_database.specs.declared.operation.Op.{Op}
+use Rattle.client_database.specs.declared.operation.Op.TheVariants.{Get, End}
+use Rattle.client_database.specs.declared.answer.Answer.{Answer}
+use Rattle.client_database.specs.declared.answer.Answer.TheVariants.{Row as RowAnswer, Inserted, Committed, Deadlock, TraceFull}
+use Rattle.database_meaning.specs.Setting.{Setting, has_key}
 use Rattle.database_meaning.specs.State.{State, view, lock_of, depth_of}
 use Rattle.database_meaning.specs.Waiting.{row_in}
 use Rattle.database_meaning.specs.Answers.{ByTable}
@@ -24,7 +24,7 @@ use Rattle.database_meaning.specs.Traces.{IsLegal, left_by, is_committed}
 abbrev pub IsExclusive : State → Type 0
 IsExclusive s = (c d row : ℕ) → c ≢ d → lock_of s c row ≡ Some true → lock_of s d row ≡ None
 
--- no row stands in the overlays of two clients
+-- no row is in the overlays of two clients
 abbrev pub HasApartOverlays : State → Type 0
 HasApartOverlays s = (c d row : ℕ) (change : Option StoredRow) → c ≢ d → get (s.client c).overlay row ≡ Some change → get (s.client d).overlay row ≡ None
 
@@ -32,7 +32,7 @@ HasApartOverlays s = (c d row : ℕ) (change : Option StoredRow) → c ≢ d →
 
 -- no two clients keep one key
 abbrev pub HasApartKeys : State → Type 0
-HasApartKeys s = (c d : ℕ) (k : Key) → c ≢ d → IsTrue (has_key (s.client c).kept k) → ¬ IsTrue (has_key (s.client d).kept k)
+HasApartKeys s = (c d : ℕ) (k : Key) → c ≢ d → IsTrue (has_key (s.client c).reserved_keys k) → ¬ IsTrue (has_key (s.client d).reserved_keys k)
 
 -- ---- locked reads
 
@@ -53,7 +53,7 @@ read_event c table row values = record { client = c; op = Get table row; answer 
 
 -- what a client reads under a lock inside a transaction is what its own overlay then has for the row, or what is
 -- committed for the row at each later moment up to just before that transaction's commit
-abbrev pub ReadsAsCommitted : Frame → Contents → Type 0
+abbrev pub ReadsAsCommitted : Setting → Contents → Type 0
 ReadsAsCommitted f contents =
     (before later : List Event) (c table : ℕ) (row : RowId) (values : List Value)
     → IsLegal f contents (before ++ read_event c table row values ∷ later)
@@ -65,21 +65,21 @@ ReadsAsCommitted f contents =
 -- ---- answers
 
 -- the answer of each event of a legal trace fits its operation
-abbrev pub AnswersFit : Frame → Contents → Type 0
+abbrev pub AnswersFit : Setting → Contents → Type 0
 AnswersFit f contents = (before later : List Event) (e : Event) → IsLegal f contents (before ++ e ∷ later) → Fits f.schema e.op e.answer
 
--- rows, locks, kept keys, levels and sequences are as before
-pub record IsUnchanged (f : Frame) (old new : State) : Type 0 where
+-- rows, locks, reserved keys, levels and sequences are as before
+pub record IsUnchanged (f : Setting) (old new : State) : Type 0 where
   pub committed : new.committed ≡ old.committed
   pub rows : (row : ℕ) → view f new row ≡ view f old row
   pub overlays : (c : ℕ) → (new.client c).overlay ≡ (old.client c).overlay
   pub levels : (c : ℕ) → (new.client c).levels ≡ (old.client c).levels
   pub locks : (c : ℕ) → (new.client c).held ≡ (old.client c).held
-  pub kept : (c : ℕ) → (new.client c).kept ≡ (old.client c).kept
+  pub reserved_keys : (c : ℕ) → (new.client c).reserved_keys ≡ (old.client c).reserved_keys
   pub sequences : new.sequences ≡ old.sequences
   pub frees : new.frees ≡ old.frees
 
--- where the table leaves a choice: the row of an Insert, the moment of a commit, and which of several cycles is told.
+-- where the table leaves a choice: the row of an Insert, the moment of a commit, and which of several cycles is answered.
 -- Near the end of the trace one cycle may have room and another may not
 abbrev pub IsChoice : Answer → Answer → Type 0
 IsChoice (Inserted row) (Inserted other) = Unit {0}
@@ -89,6 +89,6 @@ IsChoice (Deadlock cycle) TraceFull = Unit {0}
 IsChoice TraceFull (Deadlock cycle) = Unit {0}
 IsChoice _ _ = ⊥
 
--- the table gives one answer, save for these choices
-abbrev pub HasOneAnswer : Frame → State → Type 0
+-- the table allows one answer, save for these choices
+abbrev pub HasOneAnswer : Setting → State → Type 0
 HasOneAnswer f s = (c : ℕ) (op : Op) (a b : Answer) → ByTable f s c op a → ByTable f s c op b → (a ≡ b) ⊎ IsChoice a b

@@ -1,4 +1,4 @@
-pub mod Frame
+pub mod Setting
 pub mod State
 pub mod Waiting
 pub mod Search

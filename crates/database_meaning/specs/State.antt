@@ -4,8 +4,8 @@ use Rattle.std.specs.Ordering.{nat_cmp}
 use Rattle.std.specs.FinMap.{FinMap, get}
 use Rattle.database_meaning.specs.declared.state.StoredRow.{StoredRow}
 use Rattle.database_meaning.specs.declared.state.Key.{Key}
-use Rattle.database_meaning.specs.declared.state.Want.{Want}
-use Rattle.database_meaning.specs.Frame.{Frame}
+use Rattle.database_meaning.specs.declared.state.BlockedRequest.{BlockedRequest}
+use Rattle.database_meaning.specs.Setting.{Setting}
 
 -- rows by their identities
 abbrev pub Rows : Type 0
@@ -23,17 +23,17 @@ Held = FinMap nat_cmp Bool
 pub record Client : Type 0 where
   pub overlay : Overlay  -- empty where no level is open
   pub levels : List Overlay  -- for each open level a whole copy of the overlay as it stood at the level's Enter, the outermost first
-  pub kept : List Key  -- the unique keys that its open transaction entered, left or deleted
+  pub reserved_keys : List Key  -- the unique keys that its open transaction entered, left or deleted
   pub drawn : ℕ  -- the fragments that its open transaction drew, with those that a Back took back
   pub written : ℕ  -- the slot writes of its open transaction, with those that a Back took back
   pub held : Held
-  pub want : Option Want
+  pub blocked : Option BlockedRequest
 
 pub record State : Type 0 where
   pub committed : Rows
   pub sequences : List ℤ
   pub client : ℕ → Client
-  pub frees : ℕ  -- how many steps freed a lock or a kept key; a lock that became share counts as freed
+  pub frees : ℕ  -- how many steps freed a lock or a reserved key; a lock that became share counts as freed
   pub size : ℕ  -- the counted bytes of the trace so far
   pub closed : Bool
 
@@ -47,8 +47,8 @@ abbrev pub laid : ℕ → (ℕ → Client) → Rows → ℕ → Option StoredRow
 laid zero client rows row = get rows row
 laid (suc n) client rows row = over (get (client n).overlay row) (laid n client rows row)
 
--- the view: what stands at an identity for everyone who looks, unfinished changes of others included
-abbrev pub view : Frame → State → ℕ → Option StoredRow
+-- the view: the row at an identity as everyone sees it, uncommitted changes of others included
+abbrev pub view : Setting → State → ℕ → Option StoredRow
 view f s row = laid f.clients s.client s.committed row
 
 -- the client's lock on the row: None, or true where it is exclusive

@@ -3,15 +3,15 @@ use Rattle.std.specs.Prelude.{◌≡◌, ℕ, ◌≤◌, ◌==◌, Bool, true, f
 use Rattle.std.specs.FinMap.{get, empty, entries, from_entries}
 use Rattle.database_meaning.specs.declared.state.StoredRow.{StoredRow}
 use Rattle.database_meaning.specs.declared.state.Key.{Key}
-use Rattle.database_meaning.specs.declared.limits.TheConstants.{MAX_KEY_BYTES}
+use Rattle.abl_base.specs.declared.limits.TheConstants.{MAX_KEY_BYTES}
 use Rattle.database_meaning.specs.declared.contents.Contents.{Contents}
 use Rattle.database_meaning.specs.declared.contents.ContentRow.{ContentRow}
-use Rattle.database_meaning.specs.declared.operation.Op.{Op}
-use Rattle.database_meaning.specs.declared.operation.Op.TheVariants.{Leave}
-use Rattle.database_meaning.specs.declared.operation.Answer.{Answer}
-use Rattle.database_meaning.specs.declared.operation.Answer.TheVariants.{Committed}
-use Rattle.database_meaning.specs.declared.operation.Event.{Event}
-use Rattle.database_meaning.specs.Frame.{Frame, unique_keys, has_key, HasTable, HasIndex, FitsTable, key_in}
+use Rattle.client_database.specs.declared.operation.Op.{Op}
+use Rattle.client_database.specs.declared.operation.Op.TheVariants.{Leave}
+use Rattle.client_database.specs.declared.answer.Answer.{Answer}
+use Rattle.client_database.specs.declared.answer.Answer.TheVariants.{Committed}
+use Rattle.client_database.specs.declared.event.Event.{Event}
+use Rattle.database_meaning.specs.Setting.{Setting, unique_keys, has_key, HasTable, HasIndex, FitsTable, key_in}
 use Rattle.database_meaning.specs.State.{State, Client, Rows}
 use Rattle.database_meaning.specs.Waiting.{IsAscending}
 use Rattle.database_meaning.specs.Answers.{Answers}
@@ -37,21 +37,21 @@ abbrev pub contents_of : State → Contents
 contents_of s = record { rows = map content_row (entries s.committed); sequences = s.sequences }
 
 -- no two rows have one unique key
-abbrev pub HasUniqueKeys : Frame → Rows → Type 0
+abbrev pub HasUniqueKeys : Setting → Rows → Type 0
 HasUniqueKeys f rows =
     (r q : ℕ) (k : Key) → IsTrue (has_key (unique_keys f.schema (get rows r)) k) → IsTrue (has_key (unique_keys f.schema (get rows q)) k) → r ≡ q
 
 -- the row's table exists, its values fit, and none of its keys is too long
-abbrev pub IsSoundRow : Frame → StoredRow → Type 0
+abbrev pub IsSoundRow : Setting → StoredRow → Type 0
 IsSoundRow f row =
     HasTable f.schema row.table × FitsTable f.schema row.table row.values × ((index : ℕ) → HasIndex f.schema row.table index → length (key_in f.schema row.table index row.values) ≤ MAX_KEY_BYTES)
 
-abbrev pub IsSoundRows : Frame → List ContentRow → Type 0
+abbrev pub IsSoundRows : Setting → List ContentRow → Type 0
 IsSoundRows f [] = Unit {0}
 IsSoundRows f (row ∷ rows) = IsSoundRow f (stored_of row) × IsSoundRows f rows
 
 -- contents that a database of this schema can have
-pub record IsSoundContents (f : Frame) (contents : Contents) : Type 0 where
+pub record IsSoundContents (f : Setting) (contents : Contents) : Type 0 where
   pub ascending : IsAscending (map identity_of contents.rows)
   pub rows : IsSoundRows f contents.rows
   pub unique : HasUniqueKeys f (rows_of contents.rows)
@@ -60,31 +60,31 @@ pub record IsSoundContents (f : Frame) (contents : Contents) : Type 0 where
 -- ---- legal traces
 
 abbrev pub no_client : Client
-no_client = record { overlay = empty; levels = []; kept = []; drawn = 0; written = 0; held = empty; want = None }
+no_client = record { overlay = empty; levels = []; reserved_keys = []; drawn = 0; written = 0; held = empty; blocked = None }
 
--- the state as the database is opened: no overlays, levels, kept keys or locks, and not closed
+-- the state as the database is opened: no overlays, levels, reserved keys or locks, and not closed
 abbrev pub opened : Contents → State
 opened contents = record { committed = rows_of contents.rows; sequences = contents.sequences; client = λ c. no_client; frees = 0; size = 0; closed = false }
 
 -- the state after one event
-abbrev pub after_event : Frame → State → Event → State
+abbrev pub after_event : Setting → State → Event → State
 after_event f s e = after f s e.client e.op e.answer
 
 -- the state that the events leave
-abbrev pub state_after : Frame → State → List Event → State
+abbrev pub state_after : Setting → State → List Event → State
 state_after f s [] = s
 state_after f s (e ∷ es) = state_after f (after_event f s e) es
 
 -- each event has an answer that the state before it allows
-abbrev pub Follows : Frame → State → List Event → Type 0
+abbrev pub Follows : Setting → State → List Event → Type 0
 Follows f s [] = Unit {0}
 Follows f s (e ∷ es) = Answers f s e.client e.op e.answer × Follows f (after_event f s e) es
 
-abbrev pub IsLegal : Frame → Contents → List Event → Type 0
+abbrev pub IsLegal : Setting → Contents → List Event → Type 0
 IsLegal f contents trace = IsSoundContents f contents × Follows f (opened contents) trace
 
 -- the state that the trace leaves
-abbrev pub left_by : Frame → Contents → List Event → State
+abbrev pub left_by : Setting → Contents → List Event → State
 left_by f contents trace = state_after f (opened contents) trace
 
 -- ---- one client
@@ -113,8 +113,8 @@ is_leave _ = false
 abbrev pub is_unanswered_commit : State → Event → Bool
 is_unanswered_commit s e = is_closed e.answer && (not s.closed && (is_leave e.op && is_outermost s e.client))
 
--- the contents as they stand with each commit done, in order: those answered Committed, and last an unanswered one
-abbrev pub contents_after_commits : Frame → State → List Event → List Contents
+-- the contents after each commit, in order: those answered Committed, and last an unanswered one
+abbrev pub contents_after_commits : Setting → State → List Event → List Contents
 contents_after_commits f s [] = []
 contents_after_commits f s (e ∷ es) =
     if is_committed e.answer then contents_of (after_event f s e) ∷ contents_after_commits f (after_event f s e) es
@@ -122,11 +122,11 @@ contents_after_commits f s (e ∷ es) =
     else contents_after_commits f (after_event f s e) es
 
 -- how many commits the trace has
-abbrev pub commits : Frame → Contents → List Event → ℕ
+abbrev pub commits : Setting → Contents → List Event → ℕ
 commits f contents trace = length (contents_after_commits f (opened contents) trace)
 
 -- the contents with the first k commits done; with none they are the contents at opening
-abbrev pub after_commits : Frame → Contents → List Event → ℕ → Contents
+abbrev pub after_commits : Setting → Contents → List Event → ℕ → Contents
 after_commits f contents trace k = slice_index_or (contents ∷ contents_after_commits f (opened contents) trace) k contents
 
 -- how many commits were acknowledged by the moment

@@ -1,42 +1,47 @@
--- Who stands in the way of an operation, who waits for whom, and cycles of waiting clients.
+-- Which clients conflict with an operation, who waits for whom, and cycles of waiting clients.
 use Rattle.std.specs.Prelude.{◌≡◌, ◌≢◌, ◌⊎◌, ◌↔◌, ℕ, ◌<◌, Bool, true, false, IsTrue, IsFalse, List, [], ◌∷◌, Option, Some, None}
 use Rattle.std.specs.List.{Contains}
 use Rattle.abl_base.specs.declared.value.Value.{Value}
+use Rattle.abl_values.specs.Schema.{SchemaData}
 use Rattle.database_meaning.specs.declared.state.StoredRow.{StoredRow}
 use Rattle.database_meaning.specs.declared.state.Key.{Key}
-use Rattle.database_meaning.specs.declared.state.Want.{Want}
-use Rattle.database_meaning.specs.declared.operation.Op.{Op}
-use Rattle.database_meaning.specs.declared.operation.Op.TheVariants.{Lock, Insert, Put}
-use Rattle.database_meaning.specs.Frame.{Frame, unique_keys, has_key}
+use Rattle.database_meaning.specs.declared.state.BlockedRequest.{BlockedRequest}
+use Rattle.client_database.specs.declared.operation.Op.{Op}
+use Rattle.client_database.specs.declared.operation.Op.TheVariants.{Lock, Insert, Put}
+use Rattle.database_meaning.specs.Setting.{Setting, unique_keys, has_key}
 use Rattle.database_meaning.specs.State.{State, view, lock_of}
 
 -- ---- conflicts
 
--- a lock on a row stands against one that is asked for: an exclusive one against any, a share one against an exclusive one
-abbrev pub StandsAgainst : Option Bool → Bool → Type 0
-StandsAgainst None exclusive = ⊥
-StandsAgainst (Some true) exclusive = Unit {0}
-StandsAgainst (Some false) exclusive = IsTrue exclusive
+-- a lock on a row conflicts with a requested one: an exclusive lock with any, a share lock with an exclusive one
+abbrev pub LocksConflict : Option Bool → Bool → Type 0
+LocksConflict None exclusive = ⊥
+LocksConflict (Some true) exclusive = Unit {0}
+LocksConflict (Some false) exclusive = IsTrue exclusive
 
--- client c asks for a lock on a row on which each client has the given lock; client d stands against it
+-- client c asks for a lock on a row, and the lock that client d has on it conflicts
 abbrev pub LockConflicts : (ℕ → Option Bool) → ℕ → Bool → ℕ → Type 0
-LockConflicts locks c exclusive d = (d ≢ c) × StandsAgainst (locks d) exclusive
+LockConflicts locks c exclusive d = (d ≢ c) × LocksConflict (locks d) exclusive
 
--- the client keeps a unique key that the new row has and the old one has not
-abbrev pub KeepsEntered : Frame → State → ℕ → Option StoredRow → Option StoredRow → Type 0
-KeepsEntered f s d old new = (k : Key) × IsTrue (has_key (unique_keys f.schema new) k) × IsFalse (has_key (unique_keys f.schema old) k) × IsTrue (has_key (s.client d).kept k)
+-- a unique key that the new row has and the old one has not is reserved
+abbrev pub EntersReserved : SchemaData → (Key → Bool) → Option StoredRow → Option StoredRow → Type 0
+EntersReserved schema reserved old new = (k : Key) × IsTrue (has_key (unique_keys schema new) k) × IsFalse (has_key (unique_keys schema old) k) × IsTrue (reserved k)
+
+-- the same, where client d has reserved it
+abbrev pub ReservesEntered : Setting → State → ℕ → Option StoredRow → Option StoredRow → Type 0
+ReservesEntered f s d old new = EntersReserved f.schema (has_key (s.client d).reserved_keys) old new
 
 abbrev pub row_in : ℕ → List Value → Option StoredRow
 row_in table values = Some (record { table = table; values = values })
 
 -- the operation of client c conflicts with client d
-abbrev pub Conflicts : Frame → State → ℕ → Op → ℕ → Type 0
+abbrev pub Conflicts : Setting → State → ℕ → Op → ℕ → Type 0
 Conflicts f s c (Lock table row exclusive wait) d = LockConflicts (λ e. lock_of s e row.0) c exclusive d
-Conflicts f s c (Insert table values) d = (d ≢ c) × KeepsEntered f s d None (row_in table values)
-Conflicts f s c (Put table row values) d = (d ≢ c) × KeepsEntered f s d (view f s row.0) (row_in table values)
+Conflicts f s c (Insert table values) d = (d ≢ c) × ReservesEntered f s d None (row_in table values)
+Conflicts f s c (Put table row values) d = (d ≢ c) × ReservesEntered f s d (view f s row.0) (row_in table values)
 Conflicts f s c _ d = ⊥
 
-abbrev pub HasConflict : Frame → State → ℕ → Op → Type 0
+abbrev pub HasConflict : Setting → State → ℕ → Op → Type 0
 HasConflict f s c op = (d : ℕ) × Conflicts f s c op d
 
 -- ---- holders
@@ -50,18 +55,18 @@ IsAscending (x ∷ y ∷ ys) = (x < y) × IsAscending (y ∷ ys)
 abbrev pub ListsAll : List ℕ → (ℕ → Type 0) → Type 0
 ListsAll xs Holds = IsAscending xs × ((d : ℕ) → Contains xs d ↔ Holds d)
 
-abbrev pub IsHolders : Frame → State → ℕ → Op → List ℕ → Type 0
+abbrev pub IsHolders : Setting → State → ℕ → Op → List ℕ → Type 0
 IsHolders f s c op holders = ListsAll holders (Conflicts f s c op)
 
 -- ---- waiting
 
--- the client has this want
-abbrev pub Wants : State → ℕ → Op → Type 0
-Wants s c op = (w : Want) × ((s.client c).want ≡ Some w) × (w.op ≡ op)
+-- the client's blocked request is this operation
+abbrev pub IsBlockedAt : State → ℕ → Op → Type 0
+IsBlockedAt s c op = (w : BlockedRequest) × ((s.client c).blocked ≡ Some w) × (w.op ≡ op)
 
--- client c waits for client d: its want conflicts with d in the present state
-abbrev pub WaitsFor : Frame → State → ℕ → ℕ → Type 0
-WaitsFor f s c d = (op : Op) × Wants s c op × Conflicts f s c op d
+-- client c waits for client d: its blocked request conflicts with d in the present state
+abbrev pub WaitsFor : Setting → State → ℕ → ℕ → Type 0
+WaitsFor f s c d = (op : Op) × IsBlockedAt s c op × Conflicts f s c op d
 
 -- ---- chains and cycles, of any relation on clients
 
@@ -83,20 +88,20 @@ abbrev pub IsCycleFrom : (ℕ → ℕ → Type 0) → ℕ → List ℕ → Type 
 IsCycleFrom Waits c [] = ⊥
 IsCycleFrom Waits c (first ∷ others) = (first ≡ c) × IsDistinct (first ∷ others) × Chain Waits c others c
 
--- as the relation, save that c counts as waiting for those that stand against it
+-- as the relation, save that c counts as waiting for those that conflict with it
 abbrev pub WithAsked : (ℕ → ℕ → Type 0) → ℕ → (ℕ → Type 0) → ℕ → ℕ → Type 0
 WithAsked Waits c Against a b = ((a ≡ c) × Against b) ⊎ ((a ≢ c) × Waits a b)
 
 -- ---- cycles that would close
 
 -- as WaitsFor, where c counts as waiting for this operation
-abbrev pub WouldWait : Frame → State → ℕ → Op → ℕ → ℕ → Type 0
+abbrev pub WouldWait : Setting → State → ℕ → Op → ℕ → ℕ → Type 0
 WouldWait f s c op a b = WithAsked (WaitsFor f s) c (Conflicts f s c op) a b
 
 -- were c to wait for its operation, a cycle would close
-abbrev pub Closes : Frame → State → ℕ → Op → Type 0
+abbrev pub Closes : Setting → State → ℕ → Op → Type 0
 Closes f s c op = (others : List ℕ) × Chain (WouldWait f s c op) c others c
 
 -- a cycle to answer with
-abbrev pub IsCycle : Frame → State → ℕ → Op → List ℕ → Type 0
+abbrev pub IsCycle : Setting → State → ℕ → Op → List ℕ → Type 0
 IsCycle f s c op cycle = IsCycleFrom (WouldWait f s c op) c cycle

@@ -1,12 +1,12 @@
-//! What the state of the database machine is made of, as far as programs keep the same values.
+//! The parts of the database machine's state that programs keep as the same values.
 
 ghost use Rattle.std.specs.Prelude.{◌≡◌, IfOk};
 
-use crate::operation::Op;
 use abl_base::{Bytes, Row, copy_row};
+use client_database::Op;
 use std::alloc::AllocError;
 
-/// A row with the table that it stands in.
+/// A row with its table.
 #[derive(Drop)]
 pub struct StoredRow {
     pub table: u16,
@@ -14,7 +14,7 @@ pub struct StoredRow {
 }
 
 impl StoredRow {
-    /// The same row again. Want of memory is the only refusal.
+    /// A copy of the row. An error means out of memory.
     pub fn copy(&self) -> Result<StoredRow, AllocError>
         ensures { IfOk result (λ row. row ≡ self.now) }
     {
@@ -34,7 +34,7 @@ pub struct Key {
 }
 
 impl Key {
-    /// The same key again. Want of memory is the only refusal.
+    /// A copy of the key. An error means out of memory.
     pub fn copy(&self) -> Result<Key, AllocError>
         ensures { IfOk result (λ key. key ≡ self.now) }
     {
@@ -46,10 +46,10 @@ impl Key {
     }
 }
 
-/// An operation that was answered Blocked, with the count of steps that had then freed a lock or
-/// a kept key.
+/// An operation that was answered Blocked, with the number of steps that had by then freed a lock or
+/// a reserved key.
 #[derive(Drop)]
-pub struct Want {
+pub struct BlockedRequest {
     pub op: Op,
     pub frees: u64,
 }

@@ -5,9 +5,9 @@ use Rattle.std.specs.Cmp.{nat_cmp_total}
 use Rattle.std.specs.FinMap as map
 use Rattle.std.proofs.lemmas.Bool.{cases_eq}
 use Rattle.abl_base.specs.declared.row.RowId.{RowId}
-use Rattle.database_meaning.specs.Waiting.{StandsAgainst}
+use Rattle.database_meaning.specs.Waiting.{LocksConflict}
 use Rattle.record_locks.specs.declared.locks.Client.{Client}
-use Rattle.record_locks.specs.declared.locks.KeyedWant.{KeyedWant}
+use Rattle.record_locks.specs.declared.locks.KeyWait.{KeyWait}
 use Rattle.record_locks.specs.declared.locks.LockAnswer.{LockAnswer}
 use Rattle.record_locks.specs.declared.locks.LockAnswer.TheVariants.{Granted, Busy, Blocked, Deadlock, NoMemory}
 use Rattle.record_locks.specs.Settled.{has_row, settled}
@@ -54,7 +54,7 @@ taken_strict : (b : Bool) (lock : Option Bool) → cond b None lock ≡ Some tru
 taken_strict true lock is = absurd (none_some true is)
 taken_strict false lock is = is
 
-pub released_apart : (old new : List Client) (c row : ℕ) → AreApart old → OnlyChanges old c (record { held = map.remove (client_of old c).held row; want = (client_of old c).want }) new → AreApart new
+pub released_apart : (old new : List Client) (c row : ℕ) → AreApart old → OnlyChanges old c (record { held = map.remove (client_of old c).held row; blocked = (client_of old c).blocked }) new → AreApart new
 released_apart old new c row apart only =
     let left : (q : ℕ) → map.get (map.remove (client_of old c).held row) q ≡ cond (eq_by_cmp nat_cmp q row) None (lock_of old c q) = λ q. map.get-remove nat_cmp_total (client_of old c).held row q in
     only_apart old new c _ only (λ q is. taken_strict (eq_by_cmp nat_cmp q row) (lock_of old c q) (sym (left q) ∙ is)) (λ q is. left q ∙ both (eq_by_cmp nat_cmp q row) (lock_of old c q) is) apart
@@ -88,7 +88,7 @@ settled_apart old new c keep apart is =
 -- ---- a grant
 
 -- where a client gets or has an exclusive lock without a conflict, no other holds the row
-none_beside : (before : Option Bool) (exclusive : Bool) (other : Option Bool) → granted before exclusive ≡ true → (before ≡ Some true → other ≡ None) → (StandsAgainst other exclusive → ⊥) → other ≡ None
+none_beside : (before : Option Bool) (exclusive : Bool) (other : Option Bool) → granted before exclusive ≡ true → (before ≡ Some true → other ≡ None) → (LocksConflict other exclusive → ⊥) → other ≡ None
 none_beside before exclusive None is apart free = refl
 none_beside before exclusive (Some true) is apart free = absurd (free tt)
 none_beside None exclusive (Some false) is apart free = absurd (free is)
@@ -100,7 +100,7 @@ same_apart old new same apart =
     lessened_apart old new (λ d row is. sym (lock_kept old new d row (same d)) ∙ is) (λ d row is. lock_kept old new d row (same d) ∙ is) apart
 
 -- the client's locks after a grant
-now_held : (old new : List Client) (c row : ℕ) (lock : Bool) → OnlyChanges old c (record { held = map.insert (client_of old c).held row lock; want = None }) new
+now_held : (old new : List Client) (c row : ℕ) (lock : Bool) → OnlyChanges old c (record { held = map.insert (client_of old c).held row lock; blocked = None }) new
     → (q : ℕ) → lock_of new c q ≡ cond (eq_by_cmp nat_cmp q row) (Some lock) (lock_of old c q)
 now_held old new c row lock only q = ap (λ client. map.get client.held q) only.changed ∙ map.get-insert nat_cmp_total (client_of old c).held row lock q
 
@@ -119,11 +119,11 @@ other_alone : (old : List Client) (c row q : ℕ) (exclusive : Bool) → AreApar
     → eq_by_cmp nat_cmp q row ≡ here → cond here (Some (granted (lock_of old c row) exclusive)) (lock_of old c q) ≡ None
 other_alone old c row q exclusive apart free d differ is true at =
     let held : lock_of old d row ≡ Some true = subst (λ r. lock_of old d r ≡ Some true) (same_at q row at) is in
-    absurd (free (d, (differ, subst (λ lock. StandsAgainst lock exclusive) (sym held) tt)))
+    absurd (free (d, (differ, subst (λ lock. LocksConflict lock exclusive) (sym held) tt)))
 other_alone old c row q exclusive apart free d differ is false at = apart q d c differ is
 
 pub granted_apart : (old new : List Client) (c row : ℕ) (exclusive : Bool) → AreApart old → ¬ HasConflict old c row exclusive
-    → OnlyChanges old c (record { held = map.insert (client_of old c).held row (granted (lock_of old c row) exclusive); want = None }) new → AreApart new
+    → OnlyChanges old c (record { held = map.insert (client_of old c).held row (granted (lock_of old c row) exclusive); blocked = None }) new → AreApart new
 granted_apart old new c row exclusive apart free only q a b differ is =
     let now = now_held old new c row (granted (lock_of old c row) exclusive) only q in
     elim (cases_eq a c) [
@@ -141,13 +141,13 @@ granted_apart old new c row exclusive apart free only q a b differ is =
 
 -- ---- a request
 
-pub requested_apart : (old new : List Client) (keyed : List KeyedWant) (c : ℕ) (row : RowId) (exclusive wait : Bool) (answer : LockAnswer)
-    → AreApart old → AnswersRequest old keyed c row.0 exclusive wait answer → AfterRequest old c row exclusive answer new → AreApart new
-requested_apart old new keyed c row exclusive wait Granted apart free only = granted_apart old new c row.0 exclusive apart free only
-requested_apart old new keyed c row exclusive wait (Busy holders) apart is only = kept_apart old new c _ only refl apart
-requested_apart old new keyed c row exclusive wait (Blocked holders) apart is only = kept_apart old new c _ only refl apart
-requested_apart old new keyed c row exclusive wait (Deadlock cycle) apart is only = kept_apart old new c _ only refl apart
-requested_apart old new keyed c row exclusive wait NoMemory apart is same = same_apart old new same apart
+pub requested_apart : (old new : List Client) (key_waits : List KeyWait) (c : ℕ) (row : RowId) (exclusive wait : Bool) (answer : LockAnswer)
+    → AreApart old → AnswersRequest old key_waits c row.0 exclusive wait answer → AfterRequest old c row exclusive answer new → AreApart new
+requested_apart old new key_waits c row exclusive wait Granted apart free only = granted_apart old new c row.0 exclusive apart free only
+requested_apart old new key_waits c row exclusive wait (Busy holders) apart is only = kept_apart old new c _ only refl apart
+requested_apart old new key_waits c row exclusive wait (Blocked holders) apart is only = kept_apart old new c _ only refl apart
+requested_apart old new key_waits c row exclusive wait (Deadlock cycle) apart is only = kept_apart old new c _ only refl apart
+requested_apart old new key_waits c row exclusive wait NoMemory apart is same = same_apart old new same apart
 
 pub first_apart : (table : List Client) → ((c : ℕ) → client_of table c ≡ no_client) → AreApart table
 first_apart table none row c d differ is = ap (λ client. map.get client.held row) (none d) ∙ map.get-empty nat_cmp row

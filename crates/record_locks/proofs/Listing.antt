@@ -4,9 +4,9 @@ use Rattle.std.specs.List.{Contains}
 use Rattle.std.proofs.lemmas.Bool.{cases_lt, cases_eq}
 use Rattle.std.proofs.lemmas.List.{get_or_append_left, length_push}
 use Rattle.std.proofs.lemmas.List.Elements.{Contains-push, Contains-push_cases}
-use Rattle.database_meaning.specs.Waiting.{IsAscending, ListsAll, StandsAgainst}
+use Rattle.database_meaning.specs.Waiting.{IsAscending, ListsAll, LocksConflict}
 use Rattle.record_locks.specs.declared.locks.Client.{Client}
-use Rattle.record_locks.specs.Table.{StandsInWay}
+use Rattle.record_locks.specs.Table.{ConflictsOnLock}
 use Rattle.record_locks.proofs.Tables.{lock_past}
 
 -- an element stays when another comes to the end
@@ -61,9 +61,9 @@ skipped_more n P xs lists not = record {
 pub all_listed : (n : ℕ) (P : ℕ → Type 0) (xs : List ℕ) → ((d : ℕ) → P d → d < n) → ListsBelow n P xs → ListsAll xs P
 all_listed n P xs within lists = (lists.ascending, (λ d. (lists.each d, (λ here. lists.all d (within d here) here))))
 
--- who stands in the way is in the table
-pub stands_within : (table : List Client) (c row : ℕ) (exclusive : Bool) (d : ℕ) → StandsInWay table c row exclusive d → d < length table
+-- a client whose lock conflicts is in the table
+pub stands_within : (table : List Client) (c row : ℕ) (exclusive : Bool) (d : ℕ) → ConflictsOnLock table c row exclusive d → d < length table
 stands_within table c row exclusive d stands = elim (cases_lt d (length table)) [
   | inl within ↦ within
-  | inr past ↦ absurd (subst (λ lock. StandsAgainst lock exclusive) (lock_past table d row past) stands.1)
+  | inr past ↦ absurd (subst (λ lock. LocksConflict lock exclusive) (lock_past table d row past) stands.1)
 ]

@@ -8,7 +8,7 @@ use Rattle.std.proofs.lemmas.List.Quantifiers.{Any-push}
 use Rattle.database_meaning.specs.Waiting.{Chain, IsDistinct, IsCycleFrom}
 use Rattle.record_locks.specs.declared.search.Path.{Path}
 use Rattle.record_locks.specs.declared.locks.Client.{Client}
-use Rattle.record_locks.specs.declared.locks.KeyedWant.{KeyedWant}
+use Rattle.record_locks.specs.declared.locks.KeyWait.{KeyWait}
 use Rattle.record_locks.specs.Table.{Waits, WaitsAgainst}
 use Rattle.record_locks.specs.Paths.{Leads, IsReached, IsPath, ArePaths, Extends, IsFollowed, AreDone}
 
@@ -205,6 +205,6 @@ goes_on W c bound old new n end inside is are ext ends back followed = record {
 }
 
 -- a client that waits is below the bound, save the one that asks
-pub waits_below : (table : List Client) (keyed : List KeyedWant) (c : ℕ) (against : List ℕ) (bound : ℕ) → ((a b : ℕ) → Waits table keyed a b → a < bound)
-    → (a b : ℕ) → a ≢ c → WaitsAgainst table keyed c against a b → a < bound
-waits_below table keyed c against bound waiting a b apart waits = elim waits [ inl asks ↦ absurd (apart asks.0) | inr waits ↦ waiting a b waits.1 ]
+pub waits_below : (table : List Client) (key_waits : List KeyWait) (c : ℕ) (against : List ℕ) (bound : ℕ) → ((a b : ℕ) → Waits table key_waits a b → a < bound)
+    → (a b : ℕ) → a ≢ c → WaitsAgainst table key_waits c against a b → a < bound
+waits_below table key_waits c against bound waiting a b apart waits = elim waits [ inl asks ↦ absurd (apart asks.0) | inr waits ↦ waiting a b waits.1 ]

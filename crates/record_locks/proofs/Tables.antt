@@ -38,31 +38,31 @@ remove_none row = map.same_map nat_cmp_total map.nat_cmp-IsAntisymmetric _ _
 
 -- a client beyond the table has no lock to lose
 pub released_past : (table : List Client) (c row : ℕ) → length table ≤ c
-    → OnlyChanges table c (record { held = map.remove (client_of table c).held row; want = (client_of table c).want }) table
+    → OnlyChanges table c (record { held = map.remove (client_of table c).held row; blocked = (client_of table c).blocked }) table
 released_past table c row past =
     let none = past_table table c past in
-    same_only table c _ (none ∙ sym (ap (λ client. record { held = map.remove client.held row; want = client.want }) none ∙ ap (λ held. record { held = held; want = None }) (remove_none row)))
+    same_only table c _ (none ∙ sym (ap (λ client. record { held = map.remove client.held row; blocked = client.blocked }) none ∙ ap (λ held. record { held = held; blocked = None }) (remove_none row)))
 
-pub unwanted_past : (table : List Client) (c : ℕ) → length table ≤ c → OnlyChanges table c (record { held = (client_of table c).held; want = None }) table
-unwanted_past table c past =
+pub end_wait_past : (table : List Client) (c : ℕ) → length table ≤ c → OnlyChanges table c (record { held = (client_of table c).held; blocked = None }) table
+end_wait_past table c past =
     let none = past_table table c past in
-    same_only table c _ (none ∙ sym (ap (λ client. record { held = client.held; want = None }) none))
+    same_only table c _ (none ∙ sym (ap (λ client. record { held = client.held; blocked = None }) none))
 
 pub settled_past : (table : List Client) (c : ℕ) (keep : List RowId) → length table ≤ c → Settles table c keep table
 settled_past table c keep past = record {
   locks = λ row. lock_past table c row past ∙ sym (ap (settled (has_row keep row)) (lock_past table c row past) ∙ settled_none (has_row keep row));
-  want = refl;
+  blocked = refl;
   others = λ d apart. refl;
 }
 
 -- a write at a client's place settles that client
 pub set_settles : (old : List Client) (c : ℕ) (keep : List RowId) (client : Client) → c < length old
-    → ((row : ℕ) → map.get client.held row ≡ settled (has_row keep row) (lock_of old c row)) → client.want ≡ (client_of old c).want → Settles old c keep (set old c client)
-set_settles old c keep client within locks want =
+    → ((row : ℕ) → map.get client.held row ≡ settled (has_row keep row) (lock_of old c row)) → client.blocked ≡ (client_of old c).blocked → Settles old c keep (set old c client)
+set_settles old c keep client within locks blocked =
     let only = set_only old c client within in
     record {
       locks = λ row. ap (λ here. map.get here.held row) only.changed ∙ locks row;
-      want = ap (λ here. here.want) only.changed ∙ want;
+      blocked = ap (λ here. here.blocked) only.changed ∙ blocked;
       others = only.others;
     }
 

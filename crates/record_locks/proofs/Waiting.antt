@@ -1,30 +1,30 @@
--- A want that was answered Blocked closes no cycle.
+-- A wait after an answer Blocked closes no cycle.
 use Rattle.std.proofs.Common.{◌≡◌, ℕ, Bool, List, Option, Some, None, IsSomeAnd, inl, inr, sym, ap, subst, ◌∙◌}
 use Rattle.std.specs.List.{Any}
 use Rattle.std.specs.FinMap as map
 use Rattle.std.proofs.lemmas.Bool.{cases_eq}
 use Rattle.abl_base.specs.declared.row.RowId.{RowId}
-use Rattle.database_meaning.specs.Waiting.{Chain, HasNoCycle, StandsAgainst}
+use Rattle.database_meaning.specs.Waiting.{Chain, HasNoCycle, LocksConflict}
 use Rattle.database_meaning.proofs.Chains.{chain_map, none_closed}
-use Rattle.record_locks.specs.declared.locks.Want.{Want}
+use Rattle.record_locks.specs.declared.locks.BlockedLock.{BlockedLock}
 use Rattle.record_locks.specs.declared.locks.Client.{Client}
-use Rattle.record_locks.specs.declared.locks.KeyedWant.{KeyedWant}
-use Rattle.record_locks.specs.Table.{client_of, lock_of, OnlyChanges, StandsInWay, Waits, WaitsForLock, WaitsWith}
+use Rattle.record_locks.specs.declared.locks.KeyWait.{KeyWait}
+use Rattle.record_locks.specs.Table.{client_of, lock_of, OnlyChanges, ConflictsOnLock, Waits, WaitsForLock, WaitsWith}
 
--- a want conflicts with the same clients where the locks are the same
-same_waits : (old new : List Client) (a b : ℕ) → ((d row : ℕ) → lock_of new d row ≡ lock_of old d row) → (want : Option Want)
-    → IsSomeAnd want (λ w. StandsInWay new a w.row.0 w.exclusive b) → IsSomeAnd want (λ w. StandsInWay old a w.row.0 w.exclusive b)
+-- a blocked lock conflicts with the same clients where the locks are the same
+same_waits : (old new : List Client) (a b : ℕ) → ((d row : ℕ) → lock_of new d row ≡ lock_of old d row) → (blocked : Option BlockedLock)
+    → IsSomeAnd blocked (λ w. ConflictsOnLock new a w.row.0 w.exclusive b) → IsSomeAnd blocked (λ w. ConflictsOnLock old a w.row.0 w.exclusive b)
 same_waits old new a b same None waits = waits
-same_waits old new a b same (Some want) waits = (waits.0, subst (λ lock. StandsAgainst lock want.exclusive) (same b want.row.0) waits.1)
+same_waits old new a b same (Some blocked) waits = (waits.0, subst (λ lock. LocksConflict lock blocked.exclusive) (same b blocked.row.0) waits.1)
 
-pub no_cycle_blocked : (old new : List Client) (keyed : List KeyedWant) (c : ℕ) (row : RowId) (exclusive : Bool) → ¬ Any (λ want. want.client ≡ c) keyed → HasNoCycle (Waits old keyed)
-    → ((others : List ℕ) → ¬ Chain (WaitsWith old keyed c row.0 exclusive) c others c)
-    → OnlyChanges old c (record { held = (client_of old c).held; want = Some (record { row = row; exclusive = exclusive }) }) new → HasNoCycle (Waits new keyed)
-no_cycle_blocked old new keyed c row exclusive others_keys before none only a others chain =
-    none_closed (WaitsWith old keyed c row.0 exclusive) (Waits old keyed) c keeps none before a others
-    (chain_map (Waits new keyed) (WaitsWith old keyed c row.0 exclusive) now a others a chain)
+pub no_cycle_blocked : (old new : List Client) (key_waits : List KeyWait) (c : ℕ) (row : RowId) (exclusive : Bool) → ¬ Any (λ blocked. blocked.client ≡ c) key_waits → HasNoCycle (Waits old key_waits)
+    → ((others : List ℕ) → ¬ Chain (WaitsWith old key_waits c row.0 exclusive) c others c)
+    → OnlyChanges old c (record { held = (client_of old c).held; blocked = Some (record { row = row; exclusive = exclusive }) }) new → HasNoCycle (Waits new key_waits)
+no_cycle_blocked old new key_waits c row exclusive others_keys before none only a others chain =
+    none_closed (WaitsWith old key_waits c row.0 exclusive) (Waits old key_waits) c keeps none before a others
+    (chain_map (Waits new key_waits) (WaitsWith old key_waits c row.0 exclusive) now a others a chain)
   where
-    keeps : (a b : ℕ) → (a ≡ c → ⊥) → WaitsWith old keyed c row.0 exclusive a b → Waits old keyed a b
+    keeps : (a b : ℕ) → (a ≡ c → ⊥) → WaitsWith old key_waits c row.0 exclusive a b → Waits old key_waits a b
     keeps a b differ waits = elim waits [ inl asks ↦ absurd (differ asks.0) | inr other ↦ other.1 ]
 
     same : (d q : ℕ) → lock_of new d q ≡ lock_of old d q
@@ -33,11 +33,11 @@ no_cycle_blocked old new keyed c row exclusive others_keys before none only a ot
       | inr differ ↦ ap (λ client. map.get client.held q) (only.others d differ)
     ]
 
-    asked : (b : ℕ) → WaitsForLock new c b → StandsInWay old c row.0 exclusive b
+    asked : (b : ℕ) → WaitsForLock new c b → ConflictsOnLock old c row.0 exclusive b
     asked b waits = same_waits old new c b same (Some (record { row = row; exclusive = exclusive }))
-        (subst (λ want. IsSomeAnd want (λ w. StandsInWay new c w.row.0 w.exclusive b)) (ap (λ client. client.want) only.changed) waits)
+        (subst (λ blocked. IsSomeAnd blocked (λ w. ConflictsOnLock new c w.row.0 w.exclusive b)) (ap (λ client. client.blocked) only.changed) waits)
 
-    now : (a b : ℕ) → Waits new keyed a b → WaitsWith old keyed c row.0 exclusive a b
+    now : (a b : ℕ) → Waits new key_waits a b → WaitsWith old key_waits c row.0 exclusive a b
     now a b waits = elim (cases_eq a c) [
       | inl is ↦ inl (
         is,
@@ -49,8 +49,8 @@ no_cycle_blocked old new keyed c row exclusive others_keys before none only a ot
       | inr differ ↦ inr (
         differ,
         elim waits [
-          | inl lock ↦ inl (same_waits old new a b same (client_of old a).want
-              (subst (λ want. IsSomeAnd want (λ w. StandsInWay new a w.row.0 w.exclusive b)) (ap (λ client. client.want) (only.others a differ)) lock))
+          | inl lock ↦ inl (same_waits old new a b same (client_of old a).blocked
+              (subst (λ blocked. IsSomeAnd blocked (λ w. ConflictsOnLock new a w.row.0 w.exclusive b)) (ap (λ client. client.blocked) (only.others a differ)) lock))
           | inr key ↦ inr key
         ],
       )

@@ -1,4 +1,4 @@
--- The locks and wants of all clients, and what a request may be answered.
+-- The locks of all clients, what they wait for, and what a request may be answered.
 use Rattle.std.specs.Prelude.{◌≡◌, ◌≢◌, ◌⊎◌, ℕ, Bool, true, List, Option, Some, None, IsSomeAnd, slice_index_or}
 use Rattle.std.specs.List.{Any, Contains}
 use Rattle.std.specs.FinMap as map
@@ -6,11 +6,11 @@ use Rattle.abl_base.specs.declared.row.RowId.{RowId}
 use Rattle.database_meaning.specs.Waiting.{LockConflicts, WithAsked}
 use Rattle.record_locks.specs.Settled.{has_row, settled}
 use Rattle.record_locks.specs.declared.locks.Client.{Client}
-use Rattle.record_locks.specs.declared.locks.KeyedWant.{KeyedWant}
+use Rattle.record_locks.specs.declared.locks.KeyWait.{KeyWait}
 
 -- a client that holds nothing and waits for nothing
 abbrev pub no_client : Client
-no_client = record { held = map.empty; want = None }
+no_client = record { held = map.empty; blocked = None }
 
 -- the client with a number
 abbrev pub client_of : List Client → ℕ → Client
@@ -20,30 +20,30 @@ client_of table c = slice_index_or table c no_client
 abbrev pub lock_of : List Client → ℕ → ℕ → Option Bool
 lock_of table c row = map.get (client_of table c).held row
 
--- client d stands against the lock that client c asks for
-abbrev pub StandsInWay : List Client → ℕ → ℕ → Bool → ℕ → Type 0
-StandsInWay table c row exclusive d = LockConflicts (λ e. lock_of table e row) c exclusive d
+-- the lock of client d conflicts with the lock that client c asks for
+abbrev pub ConflictsOnLock : List Client → ℕ → ℕ → Bool → ℕ → Type 0
+ConflictsOnLock table c row exclusive d = LockConflicts (λ e. lock_of table e row) c exclusive d
 
 -- ---- waiting
 
--- client a waits for client b by the lock that it wants
+-- client a waits for client b by a lock
 abbrev pub WaitsForLock : List Client → ℕ → ℕ → Type 0
-WaitsForLock table a b = IsSomeAnd (client_of table a).want (λ want. StandsInWay table a want.row.0 want.exclusive b)
+WaitsForLock table a b = IsSomeAnd (client_of table a).blocked (λ blocked. ConflictsOnLock table a blocked.row.0 blocked.exclusive b)
 
--- client a waits for client b by a key that it wants to enter
-abbrev pub WaitsForKey : List KeyedWant → ℕ → ℕ → Type 0
-WaitsForKey keyed a b = Any (λ want. (want.client ≡ a) × Contains want.holders b) keyed
+-- client a waits for client b by a key
+abbrev pub WaitsForKey : List KeyWait → ℕ → ℕ → Type 0
+WaitsForKey key_waits a b = Any (λ blocked. (blocked.client ≡ a) × Contains blocked.holders b) key_waits
 
-abbrev pub Waits : List Client → List KeyedWant → ℕ → ℕ → Type 0
-Waits table keyed a b = WaitsForLock table a b ⊎ WaitsForKey keyed a b
+abbrev pub Waits : List Client → List KeyWait → ℕ → ℕ → Type 0
+Waits table key_waits a b = WaitsForLock table a b ⊎ WaitsForKey key_waits a b
 
--- the same, where client c counts as waiting for those that stand against the lock that it asks for
-abbrev pub WaitsWith : List Client → List KeyedWant → ℕ → ℕ → Bool → ℕ → ℕ → Type 0
-WaitsWith table keyed c row exclusive a b = WithAsked (Waits table keyed) c (StandsInWay table c row exclusive) a b
+-- the same, where client c counts as waiting for those whose locks conflict with the lock that it asks for
+abbrev pub WaitsWith : List Client → List KeyWait → ℕ → ℕ → Bool → ℕ → ℕ → Type 0
+WaitsWith table key_waits c row exclusive a b = WithAsked (Waits table key_waits) c (ConflictsOnLock table c row exclusive) a b
 
--- the same, where the clients that stand against client c are given
-abbrev pub WaitsAgainst : List Client → List KeyedWant → ℕ → List ℕ → ℕ → ℕ → Type 0
-WaitsAgainst table keyed c against a b = WithAsked (Waits table keyed) c (Contains against) a b
+-- the same, where the clients that conflict with client c are given
+abbrev pub WaitsAgainst : List Client → List KeyWait → ℕ → List ℕ → ℕ → ℕ → Type 0
+WaitsAgainst table key_waits c against a b = WithAsked (Waits table key_waits) c (Contains against) a b
 
 -- ---- changes
 
@@ -60,8 +60,8 @@ IsSame old new = (d : ℕ) → client_of new d ≡ client_of old d
 abbrev pub AreApart : List Client → Type 0
 AreApart table = (row c d : ℕ) → c ≢ d → lock_of table c row ≡ Some true → lock_of table d row ≡ None
 
--- client c keeps the rows to keep under share locks, and loses its other locks
+-- the locks of client c on the rows to keep become share locks, and its other locks go
 pub record Settles (old : List Client) (c : ℕ) (keep : List RowId) (new : List Client) : Type 0 where
   pub locks : (row : ℕ) → lock_of new c row ≡ settled (has_row keep row) (lock_of old c row)
-  pub want : (client_of new c).want ≡ (client_of old c).want
+  pub blocked : (client_of new c).blocked ≡ (client_of old c).blocked
   pub others : (d : ℕ) → d ≢ c → client_of new d ≡ client_of old d

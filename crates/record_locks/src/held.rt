@@ -46,7 +46,7 @@ impl Held {
         self.rows.get(&row).copied()
     }
 
-    /// Gives the row a lock. Want of memory is the only refusal: nothing is then changed.
+    /// Sets the lock on the row. An error means out of memory; nothing is then changed.
     pub fn set(&mut self, row: u32, exclusive: bool) -> Result<(), AllocError>
         ensures ok { OnOk result (self.new ≡ map.insert self.old row exclusive) }
         ensures err { OnErr result (self.new ≡ self.old) }
@@ -55,7 +55,7 @@ impl Held {
         Ok(())
     }
 
-    /// Takes the lock on the row away, and tells whether there was one.
+    /// Removes the lock on the row, and returns whether there was one.
     pub fn free(&mut self, row: u32) -> bool
         ensures freed { result ≡ is_some (map.get self.old row) }
         ensures left { self.new ≡ map.remove self.old row }
@@ -63,7 +63,7 @@ impl Held {
         self.rows.remove(&row).is_some()
     }
 
-    /// Takes all locks away, and tells whether there was one.
+    /// Removes all locks, and returns whether there was one.
     pub fn free_all(&mut self) -> bool
         ensures freed { IsTrue result ↔ ((row : ℕ) × IsSome (map.get self.old row)) }
         ensures left { self.new ≡ map.empty }
@@ -73,8 +73,8 @@ impl Held {
         any
     }
 
-    /// Takes the locks on other rows than these away, and makes those on these rows share locks.
-    /// Tells whether that freed a lock.
+    /// Removes the locks on other rows than these, and makes those on these rows share locks.
+    /// Returns whether that freed a lock.
     pub fn settle(&mut self, keep: &[RowId]) -> bool
         ensures freed { IsTrue result ↔ ((row : ℕ) × IsFreed (has_row keep.now row) (map.get self.old row)) }
         ensures left { (row : ℕ) → map.get self.new row ≡ settled (has_row keep.now row) (map.get self.old row) }

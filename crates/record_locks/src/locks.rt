@@ -5,18 +5,19 @@ ghost use Rattle.std.specs.FinMap as map;
 ghost use Rattle.database_meaning.specs.Waiting.{Chain, IsCycleFrom, ListsAll, WithAsked};
 ghost use Rattle.std.specs.List.{Contains};
 ghost use Rattle.record_locks.specs.Settled.{IsFreed, has_row, settled};
-ghost use Rattle.record_locks.specs.Table.{client_of, lock_of, no_client, AreApart, IsSame, OnlyChanges, Settles, StandsInWay, WaitsAgainst};
+ghost use Rattle.record_locks.specs.Table.{client_of, lock_of, no_client, AreApart, IsSame, OnlyChanges, Settles, ConflictsOnLock, WaitsAgainst};
 ghost use Rattle.record_locks.specs.Requests.{AfterRequest, AnswersRequest, granted};
 
 use crate::held::Held;
 use crate::search::{Search, find_cycle, holders};
-use abl_base::{Cycle, Holders, Items, RowId, Rows};
+use abl_base::{Items, RowId};
+use client_database::{ClientIds, RowIds};
 use std::alloc::{AllocError, Global};
 use std::marker::Model;
 
 /// The lock that a client waits for.
 #[derive(Clone, Copy, Debug, PartialEq, Eq)]
-pub struct Want {
+pub struct BlockedLock {
     pub row: RowId,
     pub exclusive: bool,
 }
@@ -25,31 +26,31 @@ pub struct Want {
 #[derive(Drop)]
 pub struct Client {
     pub held: Held,
-    pub want: Option<Want>,
+    pub blocked: Option<BlockedLock>,
 }
 
-/// The clients that stand against the key that a client waits for, ascending.
+/// The clients that have reserved the key that a client waits for, ascending.
 #[derive(Drop)]
-pub struct KeyedWant {
+pub struct KeyWait {
     pub client: u16,
-    pub holders: Holders,
+    pub holders: ClientIds,
 }
 
-/// The wants for keys of all other clients.
-pub type Keyed = Items<KeyedWant>;
+/// What all other clients wait for by keys.
+pub type KeyWaits = Items<KeyWait>;
 
 /// What a request for a lock is answered.
 #[derive(Drop)]
 pub enum LockAnswer {
     /// The client has the lock.
     Granted,
-    /// Others stand against it, and the client does not wait.
-    Busy(Holders),
-    /// Others stand against it, and the client waits.
-    Blocked(Holders),
-    /// To wait would close a cycle of waiting clients; the cycle begins with the client.
-    Deadlock(Cycle),
-    /// Memory is wanting; nothing is changed.
+    /// Locks of these others conflict with it, and the client does not wait.
+    Busy(ClientIds),
+    /// Locks of these others conflict with it, and the client waits.
+    Blocked(ClientIds),
+    /// Waiting would close a cycle of waiting clients; the cycle begins with the client.
+    Deadlock(ClientIds),
+    /// Out of memory; nothing is changed.
     NoMemory,
 }
 
@@ -95,7 +96,7 @@ impl Locks {
         }
     }
 
-    /// Takes the client's lock on the row away, and tells whether there was one.
+    /// Removes the client's lock on the row, and returns whether there was one.
     pub fn release(&mut self, client: u16, row: RowId) -> bool
         ensures freed { result ≡ is_some (lock_of self.old client row.0) }
         ensures left { OnlyChanges self.old client (record (client_of self.old client) { held = map.remove (client_of self.old client).held row.0 }) self.new }
@@ -108,9 +109,9 @@ impl Locks {
     }
 
     /// Ends the client's transaction: its locks on rows outside `keep` go, and its exclusive locks
-    /// on rows of `keep` become share locks. Tells whether that freed a lock; one that became a
+    /// on rows of `keep` become share locks. Returns whether that freed a lock; one that became a
     /// share lock counts as freed.
-    pub fn end_transaction(&mut self, client: u16, keep: &Rows) -> bool
+    pub fn end_transaction(&mut self, client: u16, keep: &RowIds) -> bool
         ensures freed { IsTrue result ↔ ((row : ℕ) × IsFreed (has_row keep.now row) (lock_of self.old client row)) }
         ensures left { Settles self.old client keep.now self.new }
     {
@@ -121,7 +122,7 @@ impl Locks {
         self.clients[at].held.settle(keep.as_slice())
     }
 
-    /// Ends the client: all its locks go, and its want. Tells whether that freed a lock.
+    /// Removes all locks of the client and what it waits for. Returns whether that freed a lock.
     pub fn end(&mut self, client: u16) -> bool
         ensures freed { IsTrue result ↔ ((row : ℕ) × IsSome (lock_of self.old client row)) }
         ensures left { OnlyChanges self.old client no_client self.new }
@@ -131,41 +132,41 @@ impl Locks {
             return false;
         }
         let ended = &mut self.clients[at];
-        ended.want = None;
+        ended.blocked = None;
         ended.held.free_all()
     }
 
-    /// Ends the client's want.
-    pub fn unwant(&mut self, client: u16)
-        ensures { OnlyChanges self.old client (record (client_of self.old client) { want = None }) self.new }
+    /// The client no longer waits.
+    pub fn end_wait(&mut self, client: u16)
+        ensures { OnlyChanges self.old client (record (client_of self.old client) { blocked = None }) self.new }
     {
         let at = usize::from(client);
         if at < self.clients.len() {
-            self.clients[at].want = None;
+            self.clients[at].blocked = None;
         }
     }
 
-    /// Asks for a share lock on the row, or an exclusive one. `wait` says that the client waits where
-    /// others stand against it; `keyed` has the wants for keys of all other clients. The lock is
-    /// granted exactly where nobody stands against it. Blocked leaves the client's want; each other
-    /// answer but NoMemory ends an earlier one. NoMemory may come at any request.
+    /// Asks for a share lock on the row, or an exclusive one. `wait` says whether the client waits
+    /// where locks of others conflict; `key_waits` lists what all other clients wait for by keys. The
+    /// lock is granted exactly where none conflicts. After Blocked the client waits for the lock; after
+    /// each other answer but NoMemory it waits for nothing. NoMemory may come at any request.
     pub fn request(
         &mut self,
         client: u16,
         row: RowId,
         exclusive: bool,
         wait: bool,
-        keyed: &Keyed,
+        key_waits: &KeyWaits,
     ) -> LockAnswer
-        ensures answer { AnswersRequest self.old keyed.now client row.0 exclusive wait result }
+        ensures answer { AnswersRequest self.old key_waits.now client row.0 exclusive wait result }
         ensures after { AfterRequest self.old client row exclusive result self.new }
     {
-        let answer = match self.decide(client, row, exclusive, wait, keyed) {
+        let answer = match self.decide(client, row, exclusive, wait, key_waits) {
             Ok(answer) => answer,
             Err(_) => return LockAnswer::NoMemory,
         };
         if self
-            .apply(keyed.allocator(), client, row, exclusive, &answer)
+            .apply(key_waits.allocator(), client, row, exclusive, &answer)
             .is_err()
         {
             return LockAnswer::NoMemory;
@@ -174,20 +175,20 @@ impl Locks {
     }
 
     /// A cycle that would close if the client waited for these, None where there is none: different
-    /// clients of which each waits for the next and the last for the first, the client first. Want
-    /// of memory is the only refusal.
+    /// clients of which each waits for the next and the last for the first, the client first. An
+    /// error means out of memory.
     pub fn would_cycle(
         &self,
         client: u16,
-        holders: &Holders,
-        keyed: &Keyed,
-    ) -> Result<Option<Cycle>, AllocError>
-        ensures { IfOk result (λ found. MatchOption found ((others : List ℕ) → ¬ Chain (WaitsAgainst self.now keyed.now client holders.now) client others client)
-            (IsCycleFrom (WaitsAgainst self.now keyed.now client holders.now) client)) }
+        holders: &ClientIds,
+        key_waits: &KeyWaits,
+    ) -> Result<Option<ClientIds>, AllocError>
+        ensures { IfOk result (λ found. MatchOption found ((others : List ℕ) → ¬ Chain (WaitsAgainst self.now key_waits.now client holders.now) client others client)
+            (IsCycleFrom (WaitsAgainst self.now key_waits.now client holders.now) client)) }
     {
         let search = Search {
             table: self.clients.as_slice(),
-            keyed: keyed.as_slice(),
+            key_waits: key_waits.as_slice(),
             client,
             against: holders.as_slice(),
         };
@@ -204,39 +205,40 @@ impl Locks {
         row: RowId,
         exclusive: bool,
         wait: bool,
-        keyed: &Keyed,
+        key_waits: &KeyWaits,
     ) -> Result<LockAnswer, AllocError>
-        ensures { IfOk result (λ answer. AnswersRequest self.now keyed.now client row.0 exclusive wait answer) }
+        ensures { IfOk result (λ answer. AnswersRequest self.now key_waits.now client row.0 exclusive wait answer) }
     {
-        let against = self.against(keyed.allocator(), client, row, exclusive)?;
+        let against = self.against(key_waits.allocator(), client, row, exclusive)?;
         if against.len() == 0 {
             return Ok(LockAnswer::Granted);
         }
         if !wait {
             return Ok(LockAnswer::Busy(against));
         }
-        let closing = self.would_cycle(client, &against, keyed)?;
+        let closing = self.would_cycle(client, &against, key_waits)?;
         match closing {
             Some(cycle) => Ok(LockAnswer::Deadlock(cycle)),
             None => Ok(LockAnswer::Blocked(against)),
         }
     }
 
-    /// The clients that stand against the lock, ascending.
-    fn against(
+    /// The clients whose locks conflict with the lock, ascending. It changes nothing; an error means
+    /// out of memory.
+    pub fn against(
         &self,
         alloc: Global,
         client: u16,
         row: RowId,
         exclusive: bool,
-    ) -> Result<Holders, AllocError>
-        ensures { IfOk result (λ against. ListsAll against (StandsInWay self.now client row.0 exclusive)) }
+    ) -> Result<ClientIds, AllocError>
+        ensures { IfOk result (λ against. ListsAll against (ConflictsOnLock self.now client row.0 exclusive)) }
     {
         let listed = holders(alloc, self.clients.as_slice(), client, row, exclusive)?;
         Ok(Items::from_vec(listed))
     }
 
-    /// Makes the change of an answer.
+    /// Applies an answer.
     fn apply(
         &mut self,
         alloc: Global,
@@ -250,45 +252,51 @@ impl Locks {
     {
         match answer {
             LockAnswer::Granted => self.grant(alloc, client, row, exclusive),
-            LockAnswer::Blocked(_) => self.block(alloc, client, Want { row, exclusive }),
+            LockAnswer::Blocked(_) => self.block(alloc, client, BlockedLock { row, exclusive }),
             LockAnswer::Busy(_) | LockAnswer::Deadlock(_) => {
-                self.unwant(client);
+                self.end_wait(client);
                 Ok(())
             }
             LockAnswer::NoMemory => Ok(()),
         }
     }
 
-    /// Gives the client the lock, and ends its want.
-    fn grant(
+    /// Grants the client the lock; it then waits for nothing. An error means out of memory; all clients
+    /// are then as before. The caller has seen that `against` is empty.
+    pub fn grant(
         &mut self,
         alloc: Global,
         client: u16,
         row: RowId,
         exclusive: bool,
     ) -> Result<(), AllocError>
-        ensures ok { OnOk result (OnlyChanges self.old client (record { held = map.insert (client_of self.old client).held row.0 (granted (lock_of self.old client row.0) exclusive); want = None }) self.new) }
+        ensures ok { OnOk result (OnlyChanges self.old client (record { held = map.insert (client_of self.old client).held row.0 (granted (lock_of self.old client row.0) exclusive); blocked = None }) self.new) }
         ensures err { OnErr result (IsSame self.old self.new) }
     {
         self.make_room(alloc, client)?;
         let asked = &mut self.clients[usize::from(client)];
         let lock = granted(asked.held.lock(row.0), exclusive);
         asked.held.set(row.0, lock)?;
-        asked.want = None;
+        asked.blocked = None;
         Ok(())
     }
 
-    /// Leaves the client's want.
-    fn block(&mut self, alloc: Global, client: u16, want: Want) -> Result<(), AllocError>
-        ensures ok { OnOk result (OnlyChanges self.old client (record { held = (client_of self.old client).held; want = Some want }) self.new) }
+    /// Lets the client wait for the lock. An error means out of memory; all clients are then as before.
+    pub fn block(
+        &mut self,
+        alloc: Global,
+        client: u16,
+        blocked: BlockedLock,
+    ) -> Result<(), AllocError>
+        ensures ok { OnOk result (OnlyChanges self.old client (record { held = (client_of self.old client).held; blocked = Some blocked }) self.new) }
         ensures err { OnErr result (IsSame self.old self.new) }
     {
         self.make_room(alloc, client)?;
-        self.clients[usize::from(client)].want = Some(want);
+        self.clients[usize::from(client)].blocked = Some(blocked);
         Ok(())
     }
 
-    /// Makes room for the client. Want of memory is the only refusal; each client stays as it was.
+    /// Makes room for the client. An error means out of memory; each client stays as it was.
     fn make_room(&mut self, alloc: Global, client: u16) -> Result<(), AllocError>
         ensures same { IsSame self.old self.new }
         ensures room { OnOk result (client < length self.new) }
@@ -297,7 +305,7 @@ impl Locks {
         while self.clients.len() < end {
             self.clients.push(Client {
                 held: Held::new(alloc),
-                want: None,
+                blocked: None,
             })?;
         }
         Ok(())

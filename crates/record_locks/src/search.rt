@@ -1,12 +1,12 @@
-//! Who stands in whose way, and the search for a cycle of waiting clients.
+//! Whose locks conflict with whose, and the search for a cycle of waiting clients.
 
 ghost use Rattle.std.specs.Prelude.{◌≡◌, ◌≢◌, ◌↔◌, ◌<◌, ◌≤◌, ◌++◌, ◌∷◌, [], ℕ, Bool, List, length, true, false, IsTrue, IsSome, slice_index_or, OnOk, IfOk, MatchOption};
 ghost use Rattle.std.specs.List.{Any, Contains};
-ghost use Rattle.database_meaning.specs.Waiting.{Chain, IsCycleFrom, ListsAll, StandsAgainst, WithAsked};
+ghost use Rattle.database_meaning.specs.Waiting.{Chain, IsCycleFrom, ListsAll, LocksConflict, WithAsked};
 ghost use Rattle.record_locks.specs.Paths.{ArePaths, AreDone, Extends, IsFollowed, IsReached};
-ghost use Rattle.record_locks.specs.Table.{lock_of, StandsInWay, Waits, WaitsAgainst, WaitsForKey, WaitsForLock};
+ghost use Rattle.record_locks.specs.Table.{lock_of, ConflictsOnLock, Waits, WaitsAgainst, WaitsForKey, WaitsForLock};
 
-use crate::locks::{Client, KeyedWant};
+use crate::locks::{Client, KeyWait};
 use abl_base::RowId;
 use std::alloc::{AllocError, Global};
 
@@ -21,9 +21,9 @@ pub(crate) fn lock(table: &[Client], client: u16, row: RowId) -> Option<bool>
     table[at].held.lock(row.0)
 }
 
-/// Whether a lock stands against one that is asked for.
-fn stands_against(lock: Option<bool>, exclusive: bool) -> bool
-    ensures { IsTrue result ↔ StandsAgainst lock exclusive }
+/// Whether a lock conflicts with a requested one.
+fn locks_conflict(lock: Option<bool>, exclusive: bool) -> bool
+    ensures { IsTrue result ↔ LocksConflict lock exclusive }
 {
     match lock {
         None => false,
@@ -32,17 +32,17 @@ fn stands_against(lock: Option<bool>, exclusive: bool) -> bool
     }
 }
 
-/// Whether another client stands against the lock that a client asks for.
-fn stands_in_way(table: &[Client], client: u16, row: RowId, exclusive: bool, other: u16) -> bool
-    ensures { IsTrue result ↔ StandsInWay table.now client row.0 exclusive other }
+/// Whether the lock of another client conflicts with the lock that a client asks for.
+fn conflicts_on_lock(table: &[Client], client: u16, row: RowId, exclusive: bool, other: u16) -> bool
+    ensures { IsTrue result ↔ ConflictsOnLock table.now client row.0 exclusive other }
 {
     if other == client {
         return false;
     }
-    stands_against(lock(table, other, row), exclusive)
+    locks_conflict(lock(table, other, row), exclusive)
 }
 
-/// The clients that stand against the lock, ascending. Want of memory is the only refusal.
+/// The clients whose locks conflict with the lock, ascending. An error means out of memory.
 pub(crate) fn holders(
     alloc: Global,
     table: &[Client],
@@ -51,19 +51,19 @@ pub(crate) fn holders(
     exclusive: bool,
 ) -> Result<Vec<u16>, AllocError>
     requires { length table.now ≤ 65536 }
-    ensures { IfOk result (λ holders. ListsAll holders.items (StandsInWay table.now client row.0 exclusive)) }
+    ensures { IfOk result (λ holders. ListsAll holders.items (ConflictsOnLock table.now client row.0 exclusive)) }
 {
     let mut holders = Vec::new(alloc);
     for number in 0..table.len() {
         let other = number as u16;
-        if stands_in_way(table, client, row, exclusive, other) {
+        if conflicts_on_lock(table, client, row, exclusive, other) {
             holders.push(other)?;
         }
     }
     Ok(holders)
 }
 
-/// Whether a client waits for another by the lock that it wants.
+/// Whether a client waits for another by a lock.
 fn waits_for_lock(table: &[Client], a: u16, b: u16) -> bool
     ensures { IsTrue result ↔ WaitsForLock table.now a b }
 {
@@ -71,8 +71,8 @@ fn waits_for_lock(table: &[Client], a: u16, b: u16) -> bool
     if at >= table.len() {
         return false;
     }
-    match table[at].want {
-        Some(want) => stands_in_way(table, a, want.row, want.exclusive, b),
+    match table[at].blocked {
+        Some(blocked) => conflicts_on_lock(table, a, blocked.row, blocked.exclusive, b),
         None => false,
     }
 }
@@ -84,50 +84,50 @@ fn contains(numbers: &[u16], number: u16) -> bool
     numbers.contains(&number)
 }
 
-/// Whether a client waits for another by a key that it wants to enter.
-fn waits_for_key(keyed: &[KeyedWant], a: u16, b: u16) -> bool
-    ensures { IsTrue result ↔ WaitsForKey keyed.now a b }
+/// Whether a client waits for another by a key.
+fn waits_for_key(key_waits: &[KeyWait], a: u16, b: u16) -> bool
+    ensures { IsTrue result ↔ WaitsForKey key_waits.now a b }
 {
-    keyed.iter().any(|want| want.client == a && contains(want.holders.as_slice(), b))
+    key_waits.iter().any(|blocked| blocked.client == a && contains(blocked.holders.as_slice(), b))
 }
 
 /// Whether a client waits for another.
-fn waits(table: &[Client], keyed: &[KeyedWant], a: u16, b: u16) -> bool
-    ensures { IsTrue result ↔ Waits table.now keyed.now a b }
+fn waits(table: &[Client], key_waits: &[KeyWait], a: u16, b: u16) -> bool
+    ensures { IsTrue result ↔ Waits table.now key_waits.now a b }
 {
-    waits_for_lock(table, a, b) || waits_for_key(keyed, a, b)
+    waits_for_lock(table, a, b) || waits_for_key(key_waits, a, b)
 }
 
-/// What a search for a cycle looks at: the clients, their wants for keys, and the client that asks
-/// with those that stand against it.
+/// What a search for a cycle looks at: the clients, what they wait for by keys, and the client that
+/// asks with those that conflict with it.
 #[derive(Clone, Copy)]
 pub(crate) struct Search<'a> {
     pub(crate) table: &'a [Client],
-    pub(crate) keyed: &'a [KeyedWant],
+    pub(crate) key_waits: &'a [KeyWait],
     pub(crate) client: u16,
     pub(crate) against: &'a [u16],
 }
 
 /// Whether a client waits for another, where the one that asks counts as waiting for those that
-/// stand against it.
+/// conflict with it.
 fn waits_with(search: Search<'_>, a: u16, b: u16) -> bool
-    ensures { IsTrue result ↔ WaitsAgainst search.entry.table.now search.entry.keyed.now search.entry.client search.entry.against.now a b }
+    ensures { IsTrue result ↔ WaitsAgainst search.entry.table.now search.entry.key_waits.now search.entry.client search.entry.against.now a b }
 {
     if a == search.client {
         return contains(search.against, b);
     }
-    waits(search.table, search.keyed, a, b)
+    waits(search.table, search.key_waits, a, b)
 }
 
 /// A number above that of each client that waits.
-fn bound(table: &[Client], keyed: &[KeyedWant]) -> usize
+fn bound(table: &[Client], key_waits: &[KeyWait]) -> usize
     requires { length table.now ≤ 65536 }
     ensures limit { result ≤ 65536 }
-    ensures waiting { (a b : ℕ) → Waits table.now keyed.now a b → a < result }
+    ensures waiting { (a b : ℕ) → Waits table.now key_waits.now a b → a < result }
 {
     let mut bound = table.len();
-    for want in keyed {
-        let next = usize::from(want.client) + 1;
+    for blocked in key_waits {
+        let next = usize::from(blocked.client) + 1;
         if next > bound {
             bound = next;
         }
@@ -185,10 +185,10 @@ fn follow(
 ) -> Result<(), AllocError>
     requires small { bound ≤ 65536 }
     requires inside { at < length paths.old.items }
-    requires are { ArePaths (WaitsAgainst search.table.now search.keyed.now search.client search.against.now) search.client paths.old.items }
-    ensures are { OnOk result (ArePaths (WaitsAgainst search.entry.table.now search.entry.keyed.now search.entry.client search.entry.against.now) search.entry.client paths.new.items) }
+    requires are { ArePaths (WaitsAgainst search.table.now search.key_waits.now search.client search.against.now) search.client paths.old.items }
+    ensures are { OnOk result (ArePaths (WaitsAgainst search.entry.table.now search.entry.key_waits.now search.entry.client search.entry.against.now) search.entry.client paths.new.items) }
     ensures longer { OnOk result (Extends paths.old.items paths.new.items) }
-    ensures followed { OnOk result ((d : Path) → IsFollowed (WaitsAgainst search.entry.table.now search.entry.keyed.now search.entry.client search.entry.against.now) bound paths.new.items (slice_index_or paths.old.items at d).end) }
+    ensures followed { OnOk result ((d : Path) → IsFollowed (WaitsAgainst search.entry.table.now search.entry.key_waits.now search.entry.client search.entry.against.now) bound paths.new.items (slice_index_or paths.old.items at d).end) }
 {
     let end = paths[at].end;
     for number in 0..bound {
@@ -202,14 +202,14 @@ fn follow(
 }
 
 /// A cycle of different clients that begins with the one that asks, each of which waits for the
-/// next and the last for the first; None where there is no such cycle. Want of memory is the only
-/// refusal. Each client is looked at once.
+/// next and the last for the first; None where there is no such cycle. An error means
+/// out of memory. Each client is looked at once.
 pub(crate) fn find_cycle(alloc: Global, search: Search<'_>) -> Result<Option<Vec<u16>>, AllocError>
     requires { length search.table.now ≤ 65536 }
-    ensures { IfOk result (λ found. MatchOption found ((others : List ℕ) → ¬ Chain (WaitsAgainst search.entry.table.now search.entry.keyed.now search.entry.client search.entry.against.now) search.entry.client others search.entry.client)
-        (λ cycle. IsCycleFrom (WaitsAgainst search.entry.table.now search.entry.keyed.now search.entry.client search.entry.against.now) search.entry.client cycle.items)) }
+    ensures { IfOk result (λ found. MatchOption found ((others : List ℕ) → ¬ Chain (WaitsAgainst search.entry.table.now search.entry.key_waits.now search.entry.client search.entry.against.now) search.entry.client others search.entry.client)
+        (λ cycle. IsCycleFrom (WaitsAgainst search.entry.table.now search.entry.key_waits.now search.entry.client search.entry.against.now) search.entry.client cycle.items)) }
 {
-    let bound = bound(search.table, search.keyed);
+    let bound = bound(search.table, search.key_waits);
     let mut paths = Vec::new(alloc);
     let first = first_path(alloc, search.client)?;
     paths.push(first)?;

@@ -1,6 +1,6 @@
 use Rattle.std.proofs.Common.{◌≡◌, ◌<◌, ◌≤◌, length, sym, ap, subst, ◌∙◌, arith}
 use Rattle.std.proofs.lemmas.List.{get_or_default}
-use Rattle.abl_base.proofs.Bools.{clash}
+use Rattle.std.proofs.lemmas.Bool.{both_ways}
 use Rattle.record_locks.specs.declared.search.Path.{Path}
 use Rattle.record_locks.specs.Table.{WaitsAgainst}
 use Rattle.record_locks.specs.Paths.{IsPath}
@@ -9,21 +9,21 @@ use Rattle.record_locks.proofs.search.find_cycle.Goals as goal
 
 pub loop-at-init : goal.loop-at-init
 loop-at-init c =
-    let waits = WaitsAgainst c.args.search.table.now c.args.search.keyed.now c.args.search.client c.args.search.against.now in
+    let waits = WaitsAgainst c.args.search.table.now c.args.search.key_waits.now c.args.search.client c.args.search.against.now in
     rw (c.in_ok-push.ensures.items, c.new-paths.ensures.items)
     (starts_search waits c.args.search.client c.bound-bound.result c.in_ok-first.first c.in_ok-first.ensures.end c.in_ok-first.ensures.way)
 
 pub returns-then-at-len : goal.returns-then-at-len
 returns-then-at-len c =
-    let waits = WaitsAgainst c.args.search.table.now c.args.search.keyed.now c.args.search.client c.args.search.against.now in
+    let waits = WaitsAgainst c.args.search.table.now c.args.search.key_waits.now c.args.search.client c.args.search.against.now in
     let end : length c.loop-at.paths.items ≤ c.loop-at.at = omega (arith, c.loop-at.paths.ok) in
     no_cycle waits c.args.search.client c.bound-bound.result c.loop-at.paths.items c.loop-at.at
-    (waits_below c.args.search.table.now c.args.search.keyed.now c.args.search.client c.args.search.against.now c.bound-bound.result c.bound-bound.ensures.waiting)
+    (waits_below c.args.search.table.now c.args.search.key_waits.now c.args.search.client c.args.search.against.now c.bound-bound.result c.bound-bound.ensures.waiting)
     c.loop-at.invariant.are c.loop-at.invariant.some end c.loop-at.invariant.done
 
 pub returns-then-waits_with : goal.returns-then-waits_with
 returns-then-waits_with c =
-    let waits = WaitsAgainst c.args.search.table.now c.args.search.keyed.now c.args.search.client c.args.search.against.now in
+    let waits = WaitsAgainst c.args.search.table.now c.args.search.key_waits.now c.args.search.client c.args.search.against.now in
     let inside : c.loop-at.at < length c.loop-at.paths.items = omega (arith, c.loop-at.paths.ok) in
     let path : Path = c.index-then-waits_with.result.now in
     let same : c.index.result.now ≡ path =
@@ -36,18 +36,18 @@ returns-then-waits_with c =
 
 pub loop-at-preserved : goal.loop-at-preserved
 loop-at-preserved c =
-    let waits = WaitsAgainst c.args.search.table.now c.args.search.keyed.now c.args.search.client c.args.search.against.now in
+    let waits = WaitsAgainst c.args.search.table.now c.args.search.key_waits.now c.args.search.client c.args.search.against.now in
     let inside : c.loop-at.at < length c.loop-at.paths.items = omega (arith, c.loop-at.paths.ok) in
     goes_on waits c.args.search.client c.bound-bound.result c.loop-at.paths.items c.follow.new.paths.items c.loop-at.at c.index.result.now.end inside c.loop-at.invariant
     c.in_ok-follow.ensures.are c.in_ok-follow.ensures.longer
     (λ (d : Path). ap (λ (p : Path). p.end) (c.index.ensures ∙ get_or_default c.loop-at.paths.items c.loop-at.at c.index.result.now d inside))
-    (λ back. clash c.waits_with.result c.if-waits_with.false (c.waits_with.ensures.1 back))
+    (λ back. both_ways c.waits_with.result c.if-waits_with.false (c.waits_with.ensures.1 back))
     c.in_ok-follow.ensures.followed
 
 pub returns : goal.returns
 returns c =
-    let waits = WaitsAgainst c.args.search.table.now c.args.search.keyed.now c.args.search.client c.args.search.against.now in
+    let waits = WaitsAgainst c.args.search.table.now c.args.search.key_waits.now c.args.search.client c.args.search.against.now in
     let end : length c.loop-at.paths.items ≤ c.loop-at.at = omega (arith, c.loop-at.paths.ok, c.loop-at.paths.small) in
     no_cycle waits c.args.search.client c.bound-bound.result c.loop-at.paths.items c.loop-at.at
-    (waits_below c.args.search.table.now c.args.search.keyed.now c.args.search.client c.args.search.against.now c.bound-bound.result c.bound-bound.ensures.waiting)
+    (waits_below c.args.search.table.now c.args.search.key_waits.now c.args.search.client c.args.search.against.now c.bound-bound.result c.bound-bound.ensures.waiting)
     c.loop-at.invariant.are c.loop-at.invariant.some end c.loop-at.invariant.done

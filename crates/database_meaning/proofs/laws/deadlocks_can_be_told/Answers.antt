@@ -1,5 +1,0 @@
-use Rattle.database_meaning.proofs.Shortest.{cycle_of}
-use Rattle.database_meaning.proofs.laws.deadlocks_can_be_told.Goals as goal
-
-pub returns : goal.returns
-returns c = cycle_of

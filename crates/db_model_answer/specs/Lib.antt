@@ -1,0 +1,5 @@
+pub mod Decide
+pub mod Graph
+pub mod SearchPlaces
+pub mod KeyDuplicates
+pub mod Stages

@@ -1,0 +1,3 @@
+pub mod Schema
+pub mod StateOf
+pub mod Counted
