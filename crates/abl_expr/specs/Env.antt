@@ -1,4 +1,4 @@
--- What an expression is told by the program around it.
+-- What an expression reads of the running program.
 use Rattle.std.specs.Prelude.{ℕ, Bool, List, Option}
 use Rattle.abl_base.specs.declared.value.Value.{Value}
 use Rattle.bound_tree.specs.declared.expression.Variable.{Variable}
@@ -6,7 +6,7 @@ use Rattle.bound_tree.specs.declared.expression.Variable.{Variable}
 -- variables, fields, AVAILABLE, LOCKED, RETRY, ERROR-STATUS:ERROR and RETURN-VALUE
 pub record Env : Type 0 where
   pub variable : Variable → Value
-  -- the field of a buffer's record, and none where the buffer is empty
+  -- the field of a buffer's record; None where the buffer is empty
   pub field : ℕ → ℕ → Option Value
   pub available : ℕ → Bool
   pub locked : ℕ → Bool

@@ -1,10 +1,10 @@
--- What an expression gives: its value, or its first fault from left to right.
+-- The value of an expression, or its first fault from left to right.
 use Rattle.std.specs.Prelude.{ℕ, Bool, true, false, not, nat_lt, length, Option, Some, None, Ok, Err}
 use Rattle.abl_base.specs.declared.value.Value.{Value}
 use Rattle.abl_base.specs.declared.value.Value.TheVariants.{Text, Logical}
 use Rattle.abl_base.specs.declared.value.Kind.{Kind}
 use Rattle.abl_base.specs.declared.value.Kind.TheVariants.{Integer, Int64, Decimal}
-use Rattle.abl_base.specs.declared.value.TheConstants.{MAX_TEXT_BYTES}
+use Rattle.abl_base.specs.declared.limits.TheConstants.{MAX_TEXT_BYTES}
 use Rattle.abl_values.specs.Arithmetic.{sum_of, difference_of, product_of, quotient_of, remainder_of}
 use Rattle.abl_values.specs.Fit.{fitted}
 use Rattle.bound_tree.specs.declared.expression.Unary.{Unary}
@@ -15,12 +15,12 @@ use Rattle.bound_tree.specs.declared.expression.Ternary.{Ternary}
 use Rattle.bound_tree.specs.declared.expression.Ternary.TheVariants as three
 use Rattle.bound_tree.specs.Tree.{Expr, Literal, TheVariable, TheField, One, Two, Three, Both, Either, IfElse, Masked, IsAvailable, IsLocked, Retry, ErrorStatus, ReturnValue}
 use Rattle.abl_expr.specs.declared.fault.RunFault.TheVariants.{EmptyBuffer, Range}
-use Rattle.abl_expr.specs.TextForms.{TextForms}
+use Rattle.text_forms.specs.TextForms.{TextForms}
 use Rattle.abl_expr.specs.Env.{Env}
 use Rattle.abl_expr.specs.Operators.{Given, in_range, equals, less, greater, at_most, at_least, begins, positive, negative, opposite, holds, and_then, or_else}
 use Rattle.abl_expr.specs.Functions.{text_in, whole_in, day_in, converted, as_text, as_masked, length_of, substring, entry, num_entries, date_of, of_date}
 
--- a value, and what is made of it
+-- continues with a value, and propagates a fault
 abbrev pub bind : Given → (Value → Given) → Given
 bind (Ok v) go = go v
 bind (Err fault) go = Err fault
@@ -40,7 +40,7 @@ abbrev pub field_or : Option Value → ℕ → Given
 field_or (Some v) b = Ok v
 field_or None b = Err (EmptyBuffer b)
 
--- what is made of one value
+-- operators and functions of one value
 abbrev pub one_of : TextForms → Unary → Value → Given
 one_of forms one.Positive v = positive v
 one_of forms one.Negative v = negative v
@@ -54,7 +54,7 @@ one_of forms one.Year v = Ok (of_date (λ d. d.year) (day_in v))
 one_of forms one.Month v = Ok (of_date (λ d. d.month) (day_in v))
 one_of forms one.Day v = Ok (of_date (λ d. d.day) (day_in v))
 
--- what is made of two values
+-- operators and functions of two values
 abbrev pub two_of : Binary → Value → Value → Given
 two_of two.Add a b = in_range (sum_of a b)
 two_of two.Subtract a b = in_range (difference_of a b)
@@ -70,13 +70,13 @@ two_of two.AtLeast a b = Ok (at_least a b)
 two_of two.Begins a b = Ok (begins a b)
 two_of two.NumEntries a b = num_entries (text_in a) (text_in b)
 
--- what is made of three values
+-- functions of three values
 abbrev pub three_of : Ternary → Value → Value → Value → Given
 three_of three.Substring a b c = substring (text_in a) (whole_in b) (whole_in c)
 three_of three.Entry a b c = entry (whole_in a) (text_in b) (text_in c)
 three_of three.DateOf a b c = date_of (whole_in a) (whole_in b) (whole_in c)
 
--- a branch of IF as a value of the kind of both
+-- the value of a branch of IF, converted to the kind of both
 abbrev pub as_kind : Option Kind → Value → Given
 as_kind (Some kind) v = in_range (fitted v kind)
 as_kind None v = Ok v
@@ -86,7 +86,7 @@ abbrev pub branch : Bool → Given → Given → Given
 branch true one other = one
 branch false one other = other
 
--- what the expression gives in these surroundings
+-- the result of an expression in these surroundings
 abbrev pub evaluate : TextForms → Env → Expr → Given
 evaluate forms env (Literal v) = literal v
 evaluate forms env (TheVariable x) = Ok (env.variable x)

@@ -1,4 +1,4 @@
--- What the functions make of values. An argument `?` gives `?`.
+-- The functions on values. An argument `?` gives `?`.
 use Rattle.std.specs.Prelude.{ℕ, zero, suc, ◌-◌, Bool, true, false, nat_lt, if◌then◌else◌, List, [], ◌∷◌, length, take, drop, slice_index_or, Option, Some, None, Ok, Err, ℤ, pos, negsuc}
 use Rattle.abl_base.specs.declared.value.Value.{Value}
 use Rattle.abl_base.specs.declared.value.Value.TheVariants.{Text, Int, Int64, Dec, Date, Unknown}
@@ -9,7 +9,7 @@ use Rattle.abl_values.specs.Texts.{plain_text}
 use Rattle.abl_expr.specs.declared.fault.RunFault.TheVariants.{Convert, Argument}
 use Rattle.abl_expr.specs.Operators.{Given, in_range, is_unknown, begins_with}
 
--- ---- what an argument is
+-- ---- arguments by kind
 
 -- a text
 abbrev pub text_in : Value → Option (List ℕ)
@@ -29,22 +29,22 @@ day_in v = None
 
 -- ---- INTEGER, INT64, DECIMAL and STRING
 
--- a number that a text stands for, as a value of the kind
+-- the number that a text denotes, as a value of the kind
 abbrev pub number_as : Option ℤ → Kind → Given
 number_as (Some n) kind = in_range (fitted (Dec n) kind)
 number_as None kind = Err Convert
 
--- a number or a text as a number of the kind, where a text stands for the number that it is read as
+-- a number or a text as a number of the kind
 abbrev pub converted : (List ℕ → Option ℤ) → Kind → Value → Given
 converted number_in kind (Text t) = number_as (number_in t) kind
 converted number_in kind v = in_range (fitted v kind)
 
--- a text, but `?` of `?`
+-- the text of a value, but `?` for `?`
 abbrev pub unless_unknown : Bool → List ℕ → Value
 unless_unknown true t = Unknown
 unless_unknown false t = Text t
 
--- the plain text of a value, and a text under a mask
+-- STRING without a mask: the plain text of a value
 abbrev pub as_text : Value → Value
 as_text v = unless_unknown (is_unknown v) (plain_text v)
 
@@ -59,7 +59,7 @@ abbrev pub length_of : Option (List ℕ) → Value
 length_of (Some t) = Int64 (pos (length t))
 length_of None = Unknown
 
--- the bytes from place `first` on, counted from 0: so many, or with -1 the rest
+-- n bytes from place `first` on, counted from 0; with n = -1 the rest
 abbrev pub cut : List ℕ → ℕ → ℤ → Given
 cut t first (pos n) = Ok (Text (take n (drop first t)))
 cut t first (negsuc zero) = Ok (Text (drop first t))
@@ -78,24 +78,24 @@ substring t i n = Ok Unknown
 
 -- ---- ENTRY and NUM-ENTRIES
 
--- a byte before the first part
+-- prepends a byte to the first part
 abbrev pub before_first : ℕ → List (List ℕ) → List (List ℕ)
 before_first b [] = (b ∷ []) ∷ []
 before_first b (p ∷ ps) = (b ∷ p) ∷ ps
 
--- the parts of a text between delimiters `d`, of whose bytes so many more are passed over
+-- the parts of a text between delimiters `d`, after k more bytes of a delimiter
 abbrev pub parts_after : List ℕ → ℕ → List ℕ → List (List ℕ)
 parts_after d k [] = [] ∷ []
 parts_after d (suc k) (b ∷ bs) = parts_after d k bs
 parts_after d zero (b ∷ bs) =
     if begins_with (b ∷ bs) d then [] ∷ parts_after d (length d - 1) bs else before_first b (parts_after d zero bs)
 
--- an empty list has none
+-- the parts of a list; an empty list has none
 abbrev pub parts_of : List ℕ → List ℕ → List (List ℕ)
 parts_of d [] = []
 parts_of d (b ∷ bs) = parts_after d zero (b ∷ bs)
 
--- the i-th part where there is one
+-- the i-th part, counted from 0, if there is one
 abbrev pub part_if : Bool → List (List ℕ) → ℕ → Given
 part_if true parts i = Ok (Text (slice_index_or parts i []))
 part_if false parts i = Err Argument
@@ -106,7 +106,7 @@ part_at (pos zero) parts = Err Argument
 part_at (pos (suc i)) parts = part_if (nat_lt i (length parts)) parts i
 part_at (negsuc i) parts = Err Argument
 
--- an empty delimiter is outside
+-- an empty delimiter is a bad argument
 abbrev pub entry_by : List ℕ → ℤ → List ℕ → Given
 entry_by [] i list = Err Argument
 entry_by (c ∷ d) i list = part_at i (parts_of (c ∷ d) list)
@@ -116,7 +116,7 @@ abbrev pub entry : Option ℤ → Option (List ℕ) → Option (List ℕ) → Gi
 entry (Some i) (Some list) (Some d) = entry_by d i list
 entry i list d = Ok Unknown
 
--- how many parts there are
+-- the number of parts
 abbrev pub count_by : List ℕ → List ℕ → Given
 count_by [] list = Err Argument
 count_by (c ∷ d) list = Ok (Int64 (pos (length (parts_of (c ∷ d) list))))
@@ -128,7 +128,7 @@ num_entries list d = Ok Unknown
 
 -- ---- dates
 
--- a date, if there is one
+-- a date; a fault where there is no such day
 abbrev pub day_or : Option ℤ → Given
 day_or (Some day) = Ok (Date day)
 day_or None = Err Argument

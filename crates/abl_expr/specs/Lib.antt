@@ -1,4 +1,3 @@
-pub mod TextForms
 pub mod Env
 pub mod Operators
 pub mod Functions

@@ -1,4 +1,4 @@
--- What the operators make of values.
+-- The operators on values.
 use Rattle.std.specs.Prelude.{ℕ, Bool, true, false, not, ◌&&◌, ◌==◌, List, [], ◌∷◌, Result, Ok, Err, pos}
 use Rattle.std.specs.declared.cmp.Ordering.{Ordering}
 use Rattle.std.specs.declared.cmp.Ordering.TheVariants.{Less, Equal, Greater}
@@ -10,7 +10,7 @@ use Rattle.abl_values.specs.Arithmetic.{sum_of, difference_of}
 use Rattle.abl_expr.specs.declared.fault.RunFault.{RunFault}
 use Rattle.abl_expr.specs.declared.fault.RunFault.TheVariants.{Range}
 
--- what an expression gives
+-- the result of an expression: its value, or its fault
 abbrev pub Given : Type 0
 Given = Result Value RunFault
 
@@ -31,19 +31,19 @@ is_unknown Unknown = true
 
 -- ---- comparisons
 
--- below
+-- less
 abbrev pub is_less : Ordering → Bool
 is_less Less = true
 is_less Equal = false
 is_less Greater = false
 
--- level
+-- equal
 abbrev pub is_level : Ordering → Bool
 is_level Less = false
 is_level Equal = true
 is_level Greater = false
 
--- above
+-- greater
 abbrev pub is_greater : Ordering → Bool
 is_greater Less = false
 is_greater Equal = false
@@ -53,7 +53,7 @@ is_greater Greater = true
 abbrev pub equals : Value → Value → Bool
 equals a b = is_level (value_order a b)
 
--- a comparison by order: as given where both sides are `?`, and `?` where one is
+-- a comparison by order: `both` where both sides are `?`, and `?` where one is
 abbrev pub compared_as : Bool → Bool → Bool → Bool → Value
 compared_as true true both holds = Logical both
 compared_as true false both holds = Unknown
@@ -113,14 +113,14 @@ abbrev pub holds : Value → Bool
 holds (Logical b) = b
 holds v = false
 
--- AND of a value and what the other side gives: no AND x is no without looking at x
+-- AND of a value and the result of the other side: no AND x is no, whatever x gives
 abbrev pub and_then : Value → Given → Given
 and_then (Logical false) other = Ok (Logical false)
 and_then (Logical true) other = other
 and_then v (Ok w) = Ok Unknown
 and_then v (Err fault) = Err fault
 
--- OR: yes OR x is yes without looking at x
+-- OR: yes OR x is yes, whatever x gives
 abbrev pub or_else : Value → Given → Given
 or_else (Logical true) other = Ok (Logical true)
 or_else (Logical false) other = other

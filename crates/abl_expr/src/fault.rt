@@ -3,12 +3,12 @@
 /// Why an expression has no value.
 #[derive(Clone, Copy, Debug, PartialEq, Eq)]
 pub enum RunFault {
-    /// A field of the record in this buffer, which is empty.
+    /// It reads a field of this buffer, which is empty.
     EmptyBuffer(u32),
-    /// A number, a date or a text leaves its range.
+    /// A number, a date or a text is out of its range.
     Range,
-    /// A text that is to be a number is none.
+    /// A text that is converted to a number is no number.
     Convert,
-    /// An argument of a function is outside of what it takes.
+    /// An argument of a function is not one that it permits.
     Argument,
 }

@@ -1,6 +1,6 @@
 -- The code that is written, statement by statement.
 use Rattle.std.proofs.Common.{◌≡◌, ℕ, ◌+◌, List, [], ◌∷◌, ◌++◌, length, refl, sym, ap, ◌∙◌, arith, rules, append_assoc, append-nil, add-zero, length-append}
-use Rattle.std.specs.Prelude.{slice_set, Vec, Option, Some, option_to_list, Result, Ok, Err, OnOk}
+use Rattle.std.specs.Prelude.{slice_set, Vec, Box, Option, Some, option_to_list, Result, Ok, Err, OnOk}
 use Rattle.std.specs.declared.alloc.Global.{Global}
 use Rattle.std.proofs.Math.Seq.{set-append_seam}
 use mathlib.Core.Former.{Count, none_left, one_more}
@@ -65,7 +65,7 @@ pub row_is : (p : ℕ) (n : Count) (k : Row_of-Stmt n) → row_code p k ≡ body
 row_is p none_left end_of-Stmt = refl
 row_is p (one_more n) (more_of-Stmt t rest) = ap (λ c. code_of p t ++ c) (row_is (p + length (code_of p t)) n rest)
 
-pub block_is : (p : ℕ) (h : Header) (v : Vec Stmt Global) → code_of p (view.Block h v) ≡ block_code p h (body_code (p + 1) v.items)
+pub block_is : (p : ℕ) (h : Box Header Global) (v : Vec Stmt Global) → code_of p (view.Block h v) ≡ block_code p h.value (body_code (p + 1) v.items)
 block_is p h v = search (rules, the_lemmas, row_is)
 
 -- a list whose last element was taken out, and from which nothing more could be taken, had that one alone
@@ -79,11 +79,11 @@ only_one all rest taken x is some none =
 
 -- the code of a block is that of the statement that it is
 pub block_stands :
-    (p : ℕ) (code new : List Instr) (h0 h : Header) (b0 b : Vec Stmt Global) (s : Stmt) →
-    h0 ≡ h → b0 ≡ b → s ≡ view.Block h b → new ≡ code ++ block_code p h0 (body_code (p + 1) b0.items) → new ≡ code ++ code_of p s
+    (p : ℕ) (code new : List Instr) (h0 h : Box Header Global) (b0 b : Vec Stmt Global) (s : Stmt) →
+    h0 ≡ h → b0 ≡ b → s ≡ view.Block h b → new ≡ code ++ block_code p h0.value (body_code (p + 1) b0.items) → new ≡ code ++ code_of p s
 block_stands p code new h0 h b0 b s same_header same_body is written =
     written
-    ∙ ap (λ (k : Header). code ++ block_code p k (body_code (p + 1) b0.items)) same_header
-    ∙ ap (λ (v : Vec Stmt Global). code ++ block_code p h (body_code (p + 1) v.items)) same_body
+    ∙ ap (λ (k : Box Header Global). code ++ block_code p k.value (body_code (p + 1) b0.items)) same_header
+    ∙ ap (λ (v : Vec Stmt Global). code ++ block_code p h.value (body_code (p + 1) v.items)) same_body
     ∙ ap (λ c. code ++ c) (sym (block_is p h b))
     ∙ ap (λ t. code ++ code_of p t) (sym is)

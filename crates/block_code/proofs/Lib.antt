@@ -1,3 +1,4 @@
 pub mod Behind
 pub mod Builds
+pub mod Empty_chains
 pub mod Trees

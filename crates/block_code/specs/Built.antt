@@ -1,6 +1,6 @@
 -- What of a bound source is built so far.
 use Rattle.std.specs.Prelude.{◌≡◌, ◌==◌, List, [], ◌∷◌, Bool, true, false, ◌&&◌, not, Option, Some, None}
-use Rattle.bound_tree.specs.declared.expression.Expr.{Expr}
+use Rattle.bound_tree.specs.declared.expression.Expr.{Expr, Row_of-Link, end_of-Link, more_of-Link}
 use Rattle.bound_tree.specs.declared.expression.Expr.TheVariants as e
 use Rattle.bound_tree.specs.declared.block.BlockKind.{BlockKind}
 use Rattle.bound_tree.specs.declared.block.BlockKind.TheVariants as kind
@@ -41,9 +41,30 @@ abbrev pub is_built_header : Header → Bool
 is_built_header h =
     is_built_kind h.kind && not h.flags.retry_seen && is_nil h.scoped.items && is_left_out h.to && is_left_out h.while_test && is_left_out h.fetch && is_left_out h.on_error && is_left_out h.on_endkey
 
+-- one of two expressions: the first where a chain has no links
+abbrev pub if_alone : {m : _} → Row_of-Link m → Expr → Expr → Expr
+if_alone end_of-Link alone chain = alone
+if_alone (more_of-Link op b rest) alone chain = chain
+
+-- the expression without chains around it that have no links: such a chain means its first operand
+abbrev pub stripped : Expr → Expr
+stripped (e.Chain' p a shape rest) = if_alone rest (stripped a) (e.Chain' p a shape rest)
+stripped a = a
+
+-- a literal
+abbrev pub is_literal : Expr → Bool
+is_literal (e.Literal v) = true
+is_literal a = false
+
+-- a literal, or a variable
+abbrev pub is_simple : Expr → Bool
+is_simple (e.Literal v) = true
+is_simple (e.Variable x) = true
+is_simple a = false
+
 -- what a target gets: a literal to a variable
 abbrev pub is_built_pair : Target → Right → Bool
-is_built_pair (target.Variable x) (right.Value (e.Literal v)) = true
+is_built_pair (target.Variable x) (right.Value a) = is_literal (stripped a)
 is_built_pair t r = false
 
 -- an assignment
@@ -57,9 +78,7 @@ are_built_assignments (x ∷ xs) = is_built_assignment x && are_built_assignment
 
 -- what is shown: a literal, or a variable
 abbrev pub is_built_shown : Expr → Bool
-is_built_shown (e.Literal v) = true
-is_built_shown (e.Variable x) = true
-is_built_shown other = false
+is_built_shown a = is_simple (stripped a)
 
 -- an item of PUT: a literal or a variable without a mask, SKIP, and SPACE
 abbrev pub is_built_item : PutItem → Bool
@@ -80,7 +99,7 @@ is_built_action action = false
 abbrev mutual
   -- a statement: a block, an assignment without NO-ERROR, PUT to the unnamed stream, and UNDO with LEAVE
   pub is_built_stmt : Stmt → Bool
-  is_built_stmt (stmt.Block' h shape body) = is_built_header h && is_built_row body
+  is_built_stmt (stmt.Block' h shape body) = is_built_header h.value && is_built_row body
   is_built_stmt (stmt.Assign pairs quiet) = not quiet && are_built_assignments pairs.items
   is_built_stmt (stmt.Put stream items) = (stream == 0) && are_built_items items.items
   is_built_stmt (stmt.Undo block action) = is_built_action action
@@ -98,7 +117,7 @@ is_built_body (t ∷ ts) = is_built_stmt t && is_built_body ts
 
 -- the external procedure, without buffers
 abbrev pub is_built_procedure : Procedure → Bool
-is_built_procedure q = is_nil q.buffers.items && is_built_header q.header && is_built_body q.body.items
+is_built_procedure q = is_nil q.buffers.items && is_built_header q.header.value && is_built_body q.body.items
 
 -- it is the only one
 abbrev pub are_built_procedures : List Procedure → Bool

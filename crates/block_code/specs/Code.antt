@@ -16,7 +16,7 @@ block_code p header body = Open header (p + 1 + length body + 1) ∷ (body ++ Cl
 abbrev mutual
   -- the code of a statement that is built, from the place on. Statements that are not built have none
   pub code_of : ℕ → Stmt → List Instr
-  code_of p (stmt.Block' header shape body) = block_code p header (row_code (p + 1) body)
+  code_of p (stmt.Block' header shape body) = block_code p header.value (row_code (p + 1) body)
   code_of p (stmt.Assign pairs quiet) = Assign pairs quiet ∷ []
   code_of p (stmt.Put stream items) = Put stream items ∷ []
   code_of p (stmt.Undo block action) = Undo block action ∷ []
@@ -36,7 +36,7 @@ body_code p (t ∷ ts) = code_of p t ++ body_code (p + length (code_of p t)) ts
 pub record StandsFor (code : Code) (bound : Bound) : Type 0 where
   pub main : Procedure
   pub only : bound.procedures.items ≡ main ∷ []
-  pub instrs : code.instrs.items ≡ block_code 0 main.header (body_code 1 main.body.items)
+  pub instrs : code.instrs.items ≡ block_code 0 main.header.value (body_code 1 main.body.items)
   pub undoable : code.undoable ≡ main.undoable
-  pub kept : code.kept ≡ main.kept
+  pub no_undo : code.no_undo ≡ main.no_undo
   pub inputs : code.inputs ≡ bound.inputs

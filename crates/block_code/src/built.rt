@@ -1,10 +1,11 @@
 //! What of a bound tree is built so far.
 
 ghost use Rattle.std.specs.Prelude.{◌≡◌};
-ghost use Rattle.block_code.specs.Built.{is_built_header, is_built_assignment, are_built_assignments, is_built_action, is_built_item, are_built_items, is_built_stmt, is_built_body, is_built_procedure, is_built};
+ghost use Rattle.block_code.specs.Built.{is_built_header, is_built_assignment, are_built_assignments, is_built_action, is_built_item, are_built_items, is_literal, is_nil, is_simple, stripped, is_built_stmt, is_built_body, is_built_procedure, is_built};
 
 use bound_tree::{
-    Action, Assignment, BlockKind, Bound, Expr, Header, Procedure, PutItem, Right, Stmt, Target,
+    Action, Assignment, BlockKind, Bound, Expr, Header, Link, Procedure, PutItem, Right, Stmt,
+    Target,
 };
 
 /// Whether the source is built: it has the external procedure alone.
@@ -44,7 +45,7 @@ fn is_built_stmt(stmt: &Stmt) -> bool
     ensures { result ≡ is_built_stmt stmt.now }
 {
     match stmt {
-        Stmt::Block { header, body } => is_built_header(header) && is_built_body(body),
+        Stmt::Block { header, body } => is_built_header(header) && is_built_body(body.as_slice()),
         Stmt::Assign { pairs, no_error } => !*no_error && are_built_assignments(pairs),
         Stmt::Put { stream, items } => *stream == 0 && are_built_items(items),
         Stmt::Undo { action, .. } => is_built_action(action),
@@ -93,10 +94,47 @@ fn are_built_assignments(pairs: &[Assignment]) -> bool
 fn is_built_assignment(pair: &Assignment) -> bool
     ensures { result ≡ is_built_assignment pair.now }
 {
-    matches!(
-        (&pair.target, &pair.right),
-        (Target::Variable(_), Right::Value(Expr::Literal(_)))
-    )
+    match (&pair.target, &pair.right) {
+        (Target::Variable(_), Right::Value(value)) => is_literal(stripped(value)),
+        _ => false,
+    }
+}
+
+/// Whether it is a literal.
+fn is_literal(value: &Expr) -> bool
+    ensures { result ≡ is_literal value.now }
+{
+    matches!(value, Expr::Literal(_))
+}
+
+/// Whether it is a literal or a variable.
+fn is_simple(value: &Expr) -> bool
+    ensures { result ≡ is_simple value.now }
+{
+    matches!(value, Expr::Literal(_) | Expr::Variable(_))
+}
+
+/// The expression without chains around it that have no links.
+pub fn stripped(value: &Expr) -> &Expr
+    ensures { result.now ≡ stripped value.now }
+{
+    match value {
+        Expr::Chain { first, rest } => {
+            if is_alone(rest.as_slice()) {
+                stripped(first)
+            } else {
+                value
+            }
+        }
+        _ => value,
+    }
+}
+
+/// Whether a chain has no links.
+fn is_alone(rest: &[Link]) -> bool
+    ensures { result ≡ is_nil rest.now }
+{
+    rest.is_empty()
 }
 
 /// Whether the items are built.
@@ -116,9 +154,7 @@ fn is_built_item(item: &PutItem) -> bool
     ensures { result ≡ is_built_item item.now }
 {
     match item {
-        PutItem::Shows { value, mask: None } => {
-            matches!(value, Expr::Literal(_) | Expr::Variable(_))
-        }
+        PutItem::Shows { value, mask: None } => is_simple(stripped(value)),
         PutItem::Shows { .. } => false,
         PutItem::Skip(_) | PutItem::Space(_) => true,
     }

@@ -38,7 +38,7 @@ pub struct Code {
     /// The initial values of the external procedure's undoable variables.
     pub undoable: Row,
     /// The initial values of its NO-UNDO variables.
-    pub kept: Row,
+    pub no_undo: Row,
     /// The names after INPUT FROM, each once, in text order.
     pub inputs: Vec<Bytes>,
 }

@@ -72,7 +72,7 @@ fn emit_bound(alloc: Global, bound: Bound) -> Result<Code, CompileFault>
     };
     let Procedure {
         undoable,
-        kept,
+        no_undo,
         header,
         body,
         ..
@@ -82,15 +82,19 @@ fn emit_bound(alloc: Global, bound: Bound) -> Result<Code, CompileFault>
     Ok(Code {
         instrs,
         undoable,
-        kept,
+        no_undo,
         inputs,
     })
 }
 
 /// The code of a block, behind the code that is there.
 #[cycle(emit)]
-fn emit_block(code: &mut Vec<Instr>, header: Header, body: Vec<Stmt>) -> Result<(), CompileFault>
-    ensures { OnOk result (code.new.items ≡ code.old.items ++ block_code (length code.old.items) header (body_code (length code.old.items + 1) body.items)) }
+fn emit_block(
+    code: &mut Vec<Instr>,
+    header: Box<Header>,
+    body: Vec<Stmt>,
+) -> Result<(), CompileFault>
+    ensures { OnOk result (code.new.items ≡ code.old.items ++ block_code (length code.old.items) header.value (body_code (length code.old.items + 1) body.items)) }
 {
     let at = code.len();
     // Its place is kept for the Open, which knows the place behind the Close.
@@ -100,13 +104,13 @@ fn emit_block(code: &mut Vec<Instr>, header: Header, body: Vec<Stmt>) -> Result<
 }
 
 /// A Close behind the code that is there, and the Open of its block at the place.
-fn close_block(code: &mut Vec<Instr>, at: usize, header: Header) -> Result<(), CompileFault>
+fn close_block(code: &mut Vec<Instr>, at: usize, header: Box<Header>) -> Result<(), CompileFault>
     requires { at < vec_len code.old }
-    ensures { OnOk result (code.new.items ≡ slice_set (code.old.items ++ Close ∷ []) at (Open header (length code.old.items + 1))) }
+    ensures { OnOk result (code.new.items ≡ slice_set (code.old.items ++ Close ∷ []) at (Open header.value (length code.old.items + 1))) }
 {
     code.push(Instr::Close)?;
     code[at] = Instr::Open {
-        header,
+        header: Box::into_inner(header),
         after: code.len(),
     };
     Ok(())

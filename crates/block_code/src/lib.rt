@@ -10,5 +10,6 @@ pub mod code;
 pub mod compiler;
 pub mod laws;
 
+pub use built::stripped;
 pub use code::{Code, Instr};
 pub use compiler::{CompileFault, compile};

@@ -1,6 +1,7 @@
-pub mod Goes_on
+pub mod Continues
 pub mod Levels
 pub mod Parts
+pub mod Part_changes
 pub mod Level_parts
 pub mod Whole
 pub mod Runs
@@ -9,4 +10,5 @@ pub mod Pending
 pub mod Older
 pub mod Level_undo
 pub mod Level_blocks
+pub mod Level_statements
 pub mod Level_runs

@@ -3,12 +3,13 @@ use Rattle.std.proofs.Common.{◌≡◌, refl, sym, ap, subst, ℕ, zero, suc, �
 use Rattle.std.specs.Prelude.{slice_index_or, slice_set}
 use Rattle.std.proofs.lemmas.Bool.Decides.{eqb_tells}
 use Rattle.abl_base.specs.declared.value.Value.{Value}
-use Rattle.database_meaning.specs.declared.operation.Op.TheVariants as op
-use Rattle.database_meaning.specs.declared.operation.Answer.{Answer}
-use Rattle.block_meaning.specs.State.{State, Frame, Buffer, Saved, Copy, Content, Empty, Record, Pending, NoLock, Share, Exclusive, Ran, Course, Goes, Stands, Part, goes, where_so, first_with, asks, and_then, no_frame, no_buffer, emptied, all_emptied, all_again, frames_back, put_back}
+use Rattle.client_database.specs.declared.operation.Op.TheVariants as op
+use Rattle.client_database.specs.declared.answer.Answer.{Answer}
+use Rattle.block_meaning.specs.State.{State, CallFrame, Buffer, Saved, Copy, Content, Empty, Record, Pending, NoLock, Share, Exclusive, Normal, Outcome, Done, Suspended, Continuation, completes, if_else, update_then, asks, and_then}
+use Rattle.block_meaning.specs.Frames.{no_frame, no_buffer, emptied, all_emptied, contents_restored, frames_restored, put_back}
 use Rattle.block_meaning.specs.Views.{values_in}
 use Rattle.block_meaning.specs.Buffers.{Place, places_from, places_out, all_places, buffer_in, holding_in, frame_out, as_share, keep_of, left_if, left, was_left, leaves, got_content, was_got, made_later, updates_content, updates, is_left_out, updates_places}
-use Rattle.block_meaning.specs.Blocks.{comes_back, goes_back}
+use Rattle.block_meaning.specs.Blocks.{after_back, goes_back}
 use Rattle.block_meaning.specs.Undone.{content_in, IsOlder}
 use Rattle.block_meaning.proofs.Undone.{MayBecome, AllowsUpdates, Preserves, HoldsRan, holds_ran, preserves_goes, preserves_first, preserves_from, preserves_asks, preserves_updates_places, undo_ends}
 use Rattle.block_meaning.proofs.Pending.{at_numbers, put_at, put_other, shared_at, emptied_is}
@@ -20,7 +21,7 @@ set_gives [] n b = inr refl
 set_gives (c ∷ bs) zero b = inl refl
 set_gives (c ∷ bs) (suc n) b = set_gives bs n b
 
-put_same : (fs : List Frame) (o n : ℕ) (c : Content) → ((at_numbers (put_at fs o n c) o n).content ≡ c) ⊎ ((at_numbers (put_at fs o n c) o n).content ≡ Empty)
+put_same : (fs : List CallFrame) (o n : ℕ) (c : Content) → ((at_numbers (put_at fs o n c) o n).content ≡ c) ⊎ ((at_numbers (put_at fs o n c) o n).content ≡ Empty)
 put_same [] o n c = inr refl
 put_same (f ∷ fs) zero n c =
     elim (set_gives f.buffers n (record (slice_index_or f.buffers n no_buffer) { content = c })) [
@@ -38,14 +39,14 @@ older_of mark (Pending values since made) h = absurd h
 abbrev IsOlderAt : Place → ℕ → State → Type 0
 IsOlderAt at mark s = IsOlder mark (content_in at s)
 
-put_older : (mark : ℕ) (fs : List Frame) (o n : ℕ) (c : Content) → IsOlder mark c → IsOlder mark (at_numbers (put_at fs o n c) o n).content
+put_older : (mark : ℕ) (fs : List CallFrame) (o n : ℕ) (c : Content) → IsOlder mark c → IsOlder mark (at_numbers (put_at fs o n c) o n).content
 put_older mark fs o n c h =
     elim (put_same fs o n c) [
       | inl e ↦ subst (IsOlder mark) (sym e) h
       | inr e ↦ subst (IsOlder mark) (sym e) tt
     ]
 
-put_keeps_older : (mark : ℕ) (fs : List Frame) (o n k m : ℕ) (c : Content) → IsOlder mark c → IsOlder mark (at_numbers fs o n).content → IsOlder mark (at_numbers (put_at fs k m c) o n).content
+put_keeps_older : (mark : ℕ) (fs : List CallFrame) (o n k m : ℕ) (c : Content) → IsOlder mark c → IsOlder mark (at_numbers fs o n).content → IsOlder mark (at_numbers (put_at fs k m c) o n).content
 put_keeps_older mark fs o n k m c h x =
     elim (eqb_tells o k) [
       | inl t ↦ subst (λ j. IsOlder mark (at_numbers (put_at fs j m c) o n).content) t.1 (same_frame (eqb_tells n m))
@@ -59,9 +60,9 @@ put_keeps_older mark fs o n k m c h x =
 holding_older : (at : Place) (mark : ℕ) → AllowsUpdates (IsOlderAt at mark) mark
 holding_older at mark to c s may becomes x = put_keeps_older mark s.frames at.out at.number to.out to.number c (older_of mark c becomes) x
 
--- ---- the buffer at a place is brought up to date
+-- ---- the buffer at a place is refreshed
 
-ran_either : (P : State → Type 0) (b : Bool) (one other : Part) (s : State) (ans : List Answer) → (b ≡ true → HoldsRan P (one s ans)) → (b ≡ false → HoldsRan P (other s ans)) → HoldsRan P (where_so b one other s ans)
+ran_either : (P : State → Type 0) (b : Bool) (one other : Continuation) (s : State) (ans : List Answer) → (b ≡ true → HoldsRan P (one s ans)) → (b ≡ false → HoldsRan P (other s ans)) → HoldsRan P (if_else b one other s ans)
 ran_either P true one other s ans x y = x refl
 ran_either P false one other s ans x y = y refl
 
@@ -74,9 +75,9 @@ emptied_older at mark s = put_older mark s.frames at.out at.number Empty tt
 updates_content_older : (mark : ℕ) (at : Place) (t : ℕ) (c : Content) (s : State) (ans : List Answer) → c ≡ content_in at s → HoldsRan (IsOlderAt at mark) (updates_content mark at t c s ans)
 updates_content_older mark at t Empty s ans e = subst (IsOlder mark) e tt
 updates_content_older mark at t (Pending values since made) s ans e =
-    ran_either (IsOlderAt at mark) (nat_lt mark made) (first_with (holding_in at Empty) (goes Ran)) (goes Ran) s ans (λ l. emptied_older at mark s) (λ l. subst (IsOlder mark) e (not_below mark made l))
+    ran_either (IsOlderAt at mark) (nat_lt mark made) (update_then (holding_in at Empty) (completes Normal)) (completes Normal) s ans (λ l. emptied_older at mark s) (λ l. subst (IsOlder mark) e (not_below mark made l))
 updates_content_older mark at t (Record row values held made) s ans e =
-    ran_either (IsOlderAt at mark) (made_later mark made) (first_with (holding_in at Empty) (goes Ran)) (asks (op.Get t row) (was_got at row held made)) s ans (λ l. emptied_older at mark s)
+    ran_either (IsOlderAt at mark) (made_later mark made) (update_then (holding_in at Empty) (completes Normal)) (asks (op.Get t row) (was_got at row held made)) s ans (λ l. emptied_older at mark s)
     (λ l.
     holds_ran (IsOlderAt at mark) (asks (op.Get t row) (was_got at row held made) s ans)
     (preserves_from (IsOlderAt at mark) (λ s n h. h) s.units (op.Get t row) (was_got at row held made) s
@@ -92,29 +93,29 @@ abbrev IsAmong : Place → List Place → Type 0
 IsAmong at [] = ⊥
 IsAmong at (p ∷ ps) = (p ≡ at) ⊎ IsAmong at ps
 
-then_kept : (P : State → Type 0) (r : Course) (next : Part) → HoldsRan P r → Preserves P next → HoldsRan P (and_then r next)
-then_kept P (Goes Ran s left) next h x = holds_ran P (next s left) (x s left h)
-then_kept P (Goes way s left) next h x = tt
-then_kept P (Stands d) next h x = tt
+then_no_undo : (P : State → Type 0) (r : Outcome) (next : Continuation) → HoldsRan P r → Preserves P next → HoldsRan P (and_then r next)
+then_no_undo P (Done Normal s left) next h x = holds_ran P (next s left) (x s left h)
+then_no_undo P (Done completion s left) next h x = tt
+then_no_undo P (Suspended d) next h x = tt
 
-then_reached : (P : State → Type 0) (r : Course) (next : Part) → ((s : State) (ans : List Answer) → HoldsRan P (next s ans)) → HoldsRan P (and_then r next)
-then_reached P (Goes Ran s left) next x = x s left
-then_reached P (Goes way s left) next x = tt
-then_reached P (Stands d) next x = tt
+then_reached : (P : State → Type 0) (r : Outcome) (next : Continuation) → ((s : State) (ans : List Answer) → HoldsRan P (next s ans)) → HoldsRan P (and_then r next)
+then_reached P (Done Normal s left) next x = x s left
+then_reached P (Done completion s left) next x = tt
+then_reached P (Suspended d) next x = tt
 
-not_left_out : (P : State → Type 0) (b : Bool) (other : Part) (s : State) (ans : List Answer) → b ≡ false → HoldsRan P (other s ans) → HoldsRan P (where_so b (goes Ran) other s ans)
+not_left_out : (P : State → Type 0) (b : Bool) (other : Continuation) (s : State) (ans : List Answer) → b ≡ false → HoldsRan P (other s ans) → HoldsRan P (if_else b (completes Normal) other s ans)
 not_left_out P true other s ans e h = absurd (grind arith)
 not_left_out P false other s ans e h = h
 
 places_older : (at : Place) (mark : ℕ) (but : List ℕ) → is_left_out but at ≡ false → (places : List Place) → IsAmong at places → (s : State) (ans : List Answer) → HoldsRan (IsOlderAt at mark) (updates_places mark but places s ans)
 places_older at mark but out [] i s ans = absurd i
 places_older at mark but out (p ∷ ps) (inl e) s ans =
-    then_kept (IsOlderAt at mark) (where_so (is_left_out but p) (goes Ran) (updates mark p) s ans) (updates_places mark but ps)
-    (subst (λ q. HoldsRan (IsOlderAt at mark) (where_so (is_left_out but q) (goes Ran) (updates mark q) s ans)) (sym e)
+    then_no_undo (IsOlderAt at mark) (if_else (is_left_out but p) (completes Normal) (updates mark p) s ans) (updates_places mark but ps)
+    (subst (λ q. HoldsRan (IsOlderAt at mark) (if_else (is_left_out but q) (completes Normal) (updates mark q) s ans)) (sym e)
     (not_left_out (IsOlderAt at mark) (is_left_out but at) (updates mark at) s ans out (updates_content_older mark at (buffer_in at s).table (content_in at s) s ans refl)))
     (preserves_updates_places (IsOlderAt at mark) mark (λ s n h. h) (holding_older at mark) but ps)
 places_older at mark but out (p ∷ ps) (inr i) s ans =
-    then_reached (IsOlderAt at mark) (where_so (is_left_out but p) (goes Ran) (updates mark p) s ans) (updates_places mark but ps) (places_older at mark but out ps i)
+    then_reached (IsOlderAt at mark) (if_else (is_left_out but p) (completes Normal) (updates mark p) s ans) (updates_places mark but ps) (places_older at mark but out ps i)
 
 among_left : (at : Place) (ps qs : List Place) → IsAmong at ps → IsAmong at (ps ++ qs)
 among_left at [] qs i = absurd i
@@ -132,7 +133,7 @@ among_from k m (suc n) (b ∷ bs) l =
     let e : (m + 1) + n ≡ m + suc n = omega arith in
     inr (subst (λ (j : ℕ). IsAmong (record { out = k; number = j }) (places_from k (m + 1) bs)) e (among_from k (m + 1) n bs (omega arith)))
 
-among_out : (k : ℕ) (fs : List Frame) (o n : ℕ) → n < length (slice_index_or fs o no_frame).buffers → IsAmong (record { out = k + o; number = n }) (places_out k fs)
+among_out : (k : ℕ) (fs : List CallFrame) (o n : ℕ) → n < length (slice_index_or fs o no_frame).buffers → IsAmong (record { out = k + o; number = n }) (places_out k fs)
 among_out k [] o n l = absurd (omega arith)
 among_out k (f ∷ fs) zero n l =
     let e : k ≡ k + 0 = omega arith in
@@ -151,12 +152,12 @@ among_all at s l =
 
 -- ---- the copy keeps the number of buffers
 
-length-all_again : (cs : List Content) (bs : List Buffer) → length (all_again cs bs) ≡ length bs
+length-all_again : (cs : List Content) (bs : List Buffer) → length (contents_restored cs bs) ≡ length bs
 length-all_again [] bs = refl
 length-all_again (c ∷ cs) [] = refl
 length-all_again (c ∷ cs) (b ∷ bs) = let e = length-all_again cs bs in omega arith
 
-length-frames_back : (cs : List Saved) (fs : List Frame) (o : ℕ) → length (slice_index_or (frames_back cs fs) o no_frame).buffers ≡ length (slice_index_or fs o no_frame).buffers
+length-frames_back : (cs : List Saved) (fs : List CallFrame) (o : ℕ) → length (slice_index_or (frames_restored cs fs) o no_frame).buffers ≡ length (slice_index_or fs o no_frame).buffers
 length-frames_back [] fs o = refl
 length-frames_back (c ∷ cs) [] o = refl
 length-frames_back (c ∷ cs) (f ∷ fs) zero = length-all_again c.contents f.buffers
@@ -184,19 +185,19 @@ all_emptied_older at mark (b ∷ bs) s h =
 leaves_older : (at : Place) (mark : ℕ) (but : List ℕ) → Preserves (IsOlderAt at mark) (leaves but)
 leaves_older at mark but s ans h =
     preserves_asks (IsOlderAt at mark) (λ s n h. h) (op.Leave (keep_of but s)) was_left
-    (λ a. preserves_first (IsOlderAt at mark) left (goes Ran) (λ s. left_older at mark (s.level == 1) s) (preserves_goes (IsOlderAt at mark) Ran)) s ans h
+    (λ a. preserves_first (IsOlderAt at mark) left (completes Normal) (λ s. left_older at mark (s.level == 1) s) (preserves_goes (IsOlderAt at mark) Normal)) s ans h
 
-comes_back_older : (copy : Copy) (but : List ℕ) (at : Place) (s : State) (ans : List Answer) → at.number < length (frame_out at.out s).buffers → is_left_out but at ≡ false → HoldsRan (IsOlderAt at copy.made) (comes_back copy but s ans)
-comes_back_older copy but at s ans l out =
+after_back_older : (copy : Copy) (but : List ℕ) (at : Place) (s : State) (ans : List Answer) → at.number < length (frame_out at.out s).buffers → is_left_out but at ≡ false → HoldsRan (IsOlderAt at copy.made) (after_back copy but s ans)
+after_back_older copy but at s ans l out =
     let e : length (frame_out at.out (put_back copy s)).buffers ≡ length (frame_out at.out s).buffers = length-frames_back copy.frames s.frames at.out in
-    let r : Course = updates_places copy.made but (all_places (put_back copy s)) (put_back copy s) ans in
-    then_kept (IsOlderAt at copy.made) (and_then r (leaves but)) (first_with (all_emptied but) (goes Ran))
-    (then_kept (IsOlderAt at copy.made) r (leaves but)
+    let r : Outcome = updates_places copy.made but (all_places (put_back copy s)) (put_back copy s) ans in
+    then_no_undo (IsOlderAt at copy.made) (and_then r (leaves but)) (update_then (all_emptied but) (completes Normal))
+    (then_no_undo (IsOlderAt at copy.made) r (leaves but)
     (places_older at copy.made but out (all_places (put_back copy s)) (among_all at (put_back copy s) (omega arith)) (put_back copy s) ans)
     (leaves_older at copy.made but))
-    (preserves_first (IsOlderAt at copy.made) (all_emptied but) (goes Ran) (all_emptied_older at copy.made but) (preserves_goes (IsOlderAt at copy.made) Ran))
+    (preserves_first (IsOlderAt at copy.made) (all_emptied but) (completes Normal) (all_emptied_older at copy.made but) (preserves_goes (IsOlderAt at copy.made) Normal))
 
 pub undo_leaves_older : (copy : Copy) (but : List ℕ) (at : Place) (s s' : State) (ans left : List Answer) →
-    at.number < length (frame_out at.out s).buffers → is_left_out but at ≡ false → goes_back (Some copy) but s ans ≡ Goes Ran s' left → IsOlder copy.made (content_in at s')
+    at.number < length (frame_out at.out s).buffers → is_left_out but at ≡ false → goes_back (Some copy) but s ans ≡ Done Normal s' left → IsOlder copy.made (content_in at s')
 undo_leaves_older copy but at s s' ans left l out e =
-    undo_ends (IsOlderAt at copy.made) copy but s s' ans left (λ m ans. comes_back_older copy but at (record s { units = m }) ans l out) e
+    undo_ends (IsOlderAt at copy.made) copy but s s' ans left (λ m ans. after_back_older copy but at (record s { units = m }) ans l out) e

@@ -6,35 +6,36 @@ use Rattle.std.proofs.Math.ListN.{get_or-map}
 use Rattle.std.proofs.lemmas.Bool.Decides.{eqb_tells}
 use Rattle.std.proofs.lemmas.Bool.{eq-eqb}
 use Rattle.abl_base.specs.declared.value.Value.{Value}
-use Rattle.database_meaning.specs.declared.operation.Answer.{Answer}
-use Rattle.block_meaning.specs.State.{State, Frame, Buffer, Saved, Copy, Content, Empty, Record, Pending, Ran, Goes, no_frame, no_buffer, own_frame, with_own, emptied, all_emptied, again_pending, all_again, frames_back, is_in}
+use Rattle.client_database.specs.declared.answer.Answer.{Answer}
+use Rattle.block_meaning.specs.State.{State, CallFrame, Buffer, Saved, Copy, Content, Empty, Record, Pending, Normal, Done}
+use Rattle.block_meaning.specs.Frames.{no_frame, no_buffer, own_frame, with_own, emptied, all_emptied, content_restored, contents_restored, frames_restored, is_in}
 use Rattle.block_meaning.specs.Buffers.{Place, frame_out, as_share, buffer_shared, frame_shared, shared, left_if, is_left_out}
 use Rattle.block_meaning.specs.Blocks.{goes_back}
 use Rattle.block_meaning.specs.Undone.{no_saved, saved_content, content_in}
 use Rattle.block_meaning.proofs.Undone.{MayChange, AllowsUpdates, Survives, undo_keeps}
 
 -- a buffer by the numbers of its frame and its own, and the frames where it holds something else
-abbrev pub at_numbers : List Frame → ℕ → ℕ → Buffer
+abbrev pub at_numbers : List CallFrame → ℕ → ℕ → Buffer
 at_numbers fs o n = slice_index_or (slice_index_or fs o no_frame).buffers n no_buffer
 
-abbrev pub put_at : List Frame → ℕ → ℕ → Content → List Frame
+abbrev pub put_at : List CallFrame → ℕ → ℕ → Content → List CallFrame
 put_at fs o n c = slice_set fs o (record (slice_index_or fs o no_frame) { buffers = slice_set (slice_index_or fs o no_frame).buffers n (record (at_numbers fs o n) { content = c }) })
 
 -- what is the same of a frame that is replaced is the same of the list's
-set_keeps : {B : Type 0} (g : Frame → B) (fs : List Frame) (o : ℕ) (f : Frame) → g f ≡ g (slice_index_or fs o no_frame) → g (slice_index_or (slice_set fs o f) o no_frame) ≡ g (slice_index_or fs o no_frame)
+set_keeps : {B : Type 0} (g : CallFrame → B) (fs : List CallFrame) (o : ℕ) (f : CallFrame) → g f ≡ g (slice_index_or fs o no_frame) → g (slice_index_or (slice_set fs o f) o no_frame) ≡ g (slice_index_or fs o no_frame)
 set_keeps g [] o f e = refl
 set_keeps g (h ∷ fs) zero f e = e
 set_keeps g (h ∷ fs) (suc o) f e = set_keeps g fs o f e
 
-put_number : (fs : List Frame) (o n m : ℕ) (c : Content) → (n ≡ m → ⊥) → at_numbers (put_at fs o m c) o n ≡ at_numbers fs o n
+put_number : (fs : List CallFrame) (o n m : ℕ) (c : Content) → (n ≡ m → ⊥) → at_numbers (put_at fs o m c) o n ≡ at_numbers fs o n
 put_number fs o n m c ne =
     set_keeps (λ f. slice_index_or f.buffers n no_buffer) fs o _ (get_or-set_other (slice_index_or fs o no_frame).buffers m n (record (at_numbers fs o m) { content = c }) no_buffer ne)
 
-pub put_other : (fs : List Frame) (o n k m : ℕ) (c : Content) → (o ≡ k → n ≡ m → ⊥) → at_numbers (put_at fs k m c) o n ≡ at_numbers fs o n
+pub put_other : (fs : List CallFrame) (o n k m : ℕ) (c : Content) → (o ≡ k → n ≡ m → ⊥) → at_numbers (put_at fs k m c) o n ≡ at_numbers fs o n
 put_other fs o n k m c ne =
     elim (eqb_tells o k) [
       | inl t ↦ subst (λ j. at_numbers (put_at fs j m c) o n ≡ at_numbers fs o n) t.1 (put_number fs o n m c (ne t.1))
-      | inr t ↦ ap (λ (f : Frame). slice_index_or f.buffers n no_buffer) (get_or-set_other fs k o _ no_frame t.1)
+      | inr t ↦ ap (λ (f : CallFrame). slice_index_or f.buffers n no_buffer) (get_or-set_other fs k o _ no_frame t.1)
     ]
 
 -- ---- what keeps a pending record
@@ -43,7 +44,7 @@ put_other fs o n k m c ne =
 abbrev HasPending : Place → List Value → List ℕ → ℕ → State → Type 0
 HasPending at values since made s = content_in at s ≡ Pending values since made
 
-same_place : (fs : List Frame) (o n k m : ℕ) → o ≡ k → n ≡ m → at_numbers fs k m ≡ at_numbers fs o n
+same_place : (fs : List CallFrame) (o n k m : ℕ) → o ≡ k → n ≡ m → at_numbers fs k m ≡ at_numbers fs o n
 same_place fs o n k m e f = sym (ap (λ j. at_numbers fs j n) e ∙ ap (at_numbers fs k) f)
 
 holding_pending : (at : Place) (values : List Value) (since : List ℕ) (made mark : ℕ) → made ≤ mark → AllowsUpdates (HasPending at values since made) mark
@@ -56,9 +57,9 @@ holding_pending at values since made mark l to c s may becomes h = ap (λ (b : B
         grind arith
 
 -- sharing leaves pending records
-pub shared_at : (fs : List Frame) (o n : ℕ) → at_numbers (shared fs) o n ≡ buffer_shared (at_numbers fs o n)
+pub shared_at : (fs : List CallFrame) (o n : ℕ) → at_numbers (shared fs) o n ≡ buffer_shared (at_numbers fs o n)
 shared_at fs o n =
-    ap (λ (f : Frame). slice_index_or f.buffers n no_buffer) (get_or-map frame_shared fs o no_frame)
+    ap (λ (f : CallFrame). slice_index_or f.buffers n no_buffer) (get_or-map frame_shared fs o no_frame)
     ∙ get_or-map buffer_shared (slice_index_or fs o no_frame).buffers n no_buffer
 
 left_pending : (at : Place) (values : List Value) (since : List ℕ) (made : ℕ) (b : Bool) (s : State) → HasPending at values since made s → HasPending at values since made (left_if b s)
@@ -66,7 +67,7 @@ left_pending at values since made true s h = ap (λ (b : Buffer). b.content) (sh
 left_pending at values since made false s h = h
 
 -- emptying other buffers of the procedure leaves it
-pub emptied_is : (b : ℕ) (fs : List Frame) → with_own (record (own_frame fs) { buffers = slice_set (own_frame fs).buffers b (record (slice_index_or (own_frame fs).buffers b no_buffer) { content = Empty }) }) fs ≡ put_at fs 0 b Empty
+pub emptied_is : (b : ℕ) (fs : List CallFrame) → with_own (record (own_frame fs) { buffers = slice_set (own_frame fs).buffers b (record (slice_index_or (own_frame fs).buffers b no_buffer) { content = Empty }) }) fs ≡ put_at fs 0 b Empty
 emptied_is b [] = refl
 emptied_is b (f ∷ fs) = refl
 
@@ -101,32 +102,32 @@ pending_survives at values since made mark but l out = record {
   emptying = all_emptied_pending at values since made but (λ e. and_false (at.out == 0) (is_in at.number but) out (eq-eqb at.out 0 e));
 }
 
--- ---- the copy is put back
+-- ---- the copy is restored
 
 abbrev IsPending : Content → Type 0
 IsPending Empty = ⊥
 IsPending (Record row values held made) = ⊥
 IsPending (Pending values since made) = Unit {0}
 
-again_content : (c : Content) (b : Buffer) (values : List Value) (since : List ℕ) (made : ℕ) → c ≡ Pending values since made → (again_pending c b).content ≡ Pending values since made
+again_content : (c : Content) (b : Buffer) (values : List Value) (since : List ℕ) (made : ℕ) → c ≡ Pending values since made → (content_restored c b).content ≡ Pending values since made
 again_content Empty b values since made e = absurd (subst IsPending (sym e) tt)
 again_content (Record row vs held m) b values since made e = absurd (subst IsPending (sym e) tt)
 again_content (Pending vs s m) b values since made e = e
 
-again_at : (cs : List Content) (bs : List Buffer) (n : ℕ) (values : List Value) (since : List ℕ) (made : ℕ) → slice_index_or cs n Empty ≡ Pending values since made → n < length bs → (slice_index_or (all_again cs bs) n no_buffer).content ≡ Pending values since made
+again_at : (cs : List Content) (bs : List Buffer) (n : ℕ) (values : List Value) (since : List ℕ) (made : ℕ) → slice_index_or cs n Empty ≡ Pending values since made → n < length bs → (slice_index_or (contents_restored cs bs) n no_buffer).content ≡ Pending values since made
 again_at [] bs n values since made e l = absurd (subst IsPending (sym e) tt)
 again_at (c ∷ cs) [] n values since made e l = absurd (omega arith)
 again_at (c ∷ cs) (b ∷ bs) zero values since made e l = again_content c b values since made e
 again_at (c ∷ cs) (b ∷ bs) (suc n) values since made e l = again_at cs bs n values since made e (omega arith)
 
-back_at : (cs : List Saved) (fs : List Frame) (o n : ℕ) (values : List Value) (since : List ℕ) (made : ℕ) → slice_index_or (slice_index_or cs o no_saved).contents n Empty ≡ Pending values since made → n < length (slice_index_or fs o no_frame).buffers → (at_numbers (frames_back cs fs) o n).content ≡ Pending values since made
+back_at : (cs : List Saved) (fs : List CallFrame) (o n : ℕ) (values : List Value) (since : List ℕ) (made : ℕ) → slice_index_or (slice_index_or cs o no_saved).contents n Empty ≡ Pending values since made → n < length (slice_index_or fs o no_frame).buffers → (at_numbers (frames_restored cs fs) o n).content ≡ Pending values since made
 back_at [] fs o n values since made e l = absurd (subst IsPending (sym e) tt)
 back_at (c ∷ cs) [] o n values since made e l = absurd (omega arith)
 back_at (c ∷ cs) (f ∷ fs) zero n values since made e l = again_at c.contents f.buffers n values since made e l
 back_at (c ∷ cs) (f ∷ fs) (suc o) n values since made e l = back_at cs fs o n values since made e l
 
 pub undo_gives_pending : (copy : Copy) (but : List ℕ) (at : Place) (values : List Value) (since : List ℕ) (made : ℕ) (s s' : State) (ans left : List Answer) →
-    saved_content at copy ≡ Pending values since made → made ≤ copy.made → at.number < length (frame_out at.out s).buffers → is_left_out but at ≡ false → goes_back (Some copy) but s ans ≡ Goes Ran s' left → content_in at s' ≡ Pending values since made
+    saved_content at copy ≡ Pending values since made → made ≤ copy.made → at.number < length (frame_out at.out s).buffers → is_left_out but at ≡ false → goes_back (Some copy) but s ans ≡ Done Normal s' left → content_in at s' ≡ Pending values since made
 undo_gives_pending copy but at values since made s s' ans left e l shape out r =
     undo_keeps (HasPending at values since made) copy but (pending_survives at values since made copy.made but l out) s s' ans left
     (back_at copy.frames s.frames at.out at.number values since made e shape) r

@@ -1,7 +1,7 @@
-pub mod Ends
 pub mod Program
 pub mod Lines
 pub mod State
+pub mod Frames
 pub mod Values
 pub mod Views
 pub mod Buffers
@@ -13,3 +13,4 @@ pub mod Meaning
 pub mod GivesUp
 pub mod Undone
 pub mod Levels
+pub mod WellMade

@@ -1,11 +1,11 @@
--- What goes wrong in a statement, and the line about it.
+-- The faults of statements, and the line about each.
 use Rattle.std.specs.Prelude.{ℕ, List, [], ◌∷◌, ◌++◌, codes}
 use Rattle.std.specs.Fmt.{decimal}
 use Rattle.abl_expr.specs.declared.fault.RunFault.{RunFault}
 use Rattle.abl_expr.specs.declared.fault.RunFault.TheVariants as fault
 use Rattle.block_meaning.specs.Program.{Program, table_name, field_name, index_name, buffer_name}
 
--- what a line ** TEXT says. A buffer is one of the procedure that runs
+-- what a line `** TEXT` reports. Buffers are those of the running procedure
 pub data Complaint : Type 0 where
   NoRecordFound : (buffer : ℕ) → Complaint
   MoreThanOne : (buffer : ℕ) → Complaint
@@ -23,7 +23,7 @@ pub data Complaint : Type 0 where
   BadArgument : Complaint
   BadField : (number : ℕ) → Complaint
 
--- the fault of an expression
+-- the complaint about a fault of an expression
 abbrev pub complaint_of : RunFault → Complaint
 complaint_of (fault.EmptyBuffer b) = NoRecordIn b
 complaint_of fault.Range = OutOfRange

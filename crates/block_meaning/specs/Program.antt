@@ -1,17 +1,17 @@
--- What a client runs, and does not change: its source, its inputs, and how values stand in texts.
+-- What a client runs and does not change: the tables of its schema, its source, its inputs, and the forms of values in texts.
 use Rattle.std.specs.Prelude.{ℕ, true, false, List, [], slice_index_or, None}
-use Rattle.abl_values.specs.declared.schema.FieldDef.{FieldDef}
-use Rattle.abl_values.specs.declared.schema.IndexDef.{IndexDef}
 use Rattle.abl_values.specs.declared.schema.TableDef.{TableDef}
-use Rattle.abl_base.specs.declared.value.Value.TheVariants.{Unknown}
 use Rattle.abl_values.specs.Schema.{no_table}
 use Rattle.bound_tree.specs.declared.block.BlockKind.TheVariants as block
 use Rattle.bound_tree.specs.declared.procedure.BufferDef.{BufferDef}
 use Rattle.bound_tree.specs.Tree.{Source, Procedure, Header, Nothing}
-use Rattle.abl_expr.specs.TextForms.{TextForms}
+use Rattle.text_forms.specs.TextForms.{TextForms}
+pub use Rattle.abl_values.specs.Schema.{no_field, no_index}
 
--- the source, its inputs, and the forms of values in texts
+-- the program of a client
 pub record Program : Type 0 where
+  -- every table of the schema, by number
+  pub tables : List TableDef
   pub source : Source
   -- the client's own input, and the named ones
   pub input : List ℕ
@@ -20,9 +20,9 @@ pub record Program : Type 0 where
 
 -- a table of the schema
 abbrev pub table_at : Program → ℕ → TableDef
-table_at p t = slice_index_or p.source.tables t no_table
+table_at p t = slice_index_or p.tables t no_table
 
--- what stands where a list has no such item
+-- the defaults where a list has no such item
 abbrev pub no_header : Header
 no_header = record {
   number = 0;
@@ -36,11 +36,11 @@ no_header = record {
   on_endkey = None;
 }
 
--- likewise
+-- the default procedure
 abbrev pub no_procedure : Procedure
-no_procedure = record { undoable = []; kept = []; buffers = []; parameters = []; header = no_header; body = Nothing }
+no_procedure = record { undoable = []; no_undo = []; buffers = []; parameters = []; header = no_header; body = Nothing }
 
--- the procedure of this number: the external one is 0
+-- a procedure by its number; the external one is 0
 abbrev pub procedure_at : Program → ℕ → Procedure
 procedure_at p n = slice_index_or p.source.procedures n no_procedure
 
@@ -50,23 +50,15 @@ procedure_at p n = slice_index_or p.source.procedures n no_procedure
 abbrev pub table_name : Program → ℕ → List ℕ
 table_name p t = (table_at p t).name
 
--- what stands where a table has no such field
-abbrev pub no_field : FieldDef
-no_field = record { name = []; kind = None; initial = Unknown; mandatory = false; mask = [] }
-
 -- of a field
 abbrev pub field_name : Program → ℕ → ℕ → List ℕ
 field_name p t f = (slice_index_or (table_at p t).fields f no_field).name
-
--- what stands where a table has no such index
-abbrev pub no_index : IndexDef
-no_index = record { name = []; unique = false; parts = [] }
 
 -- of an index
 abbrev pub index_name : Program → ℕ → ℕ → List ℕ
 index_name p t i = (slice_index_or (table_at p t).indexes i no_index).name
 
--- what stands where a procedure has no such buffer
+-- the default where a procedure has no such buffer
 abbrev pub no_buffer_def : BufferDef
 no_buffer_def = record { name = []; table = 0 }
 

@@ -1,13 +1,13 @@
--- What an answer says. An answer that does not fit the operation never comes: it says what is simplest.
+-- What an answer carries. An answer that does not fit its operation never comes: these functions give it the simplest reading.
 use Rattle.std.specs.Prelude.{ℕ, Bool, true, false, List, Option, Some, None, ℤ}
 use Rattle.abl_base.specs.declared.row.RowId.{RowId}
-use Rattle.abl_base.specs.declared.row.Cursor.{Cursor}
+use Rattle.client_database.specs.declared.row_order.Cursor.{Cursor}
 use Rattle.abl_base.specs.declared.value.Value.{Value}
-use Rattle.database_meaning.specs.declared.operation.Answer.{Answer}
-use Rattle.database_meaning.specs.declared.operation.Answer.TheVariants as answer
+use Rattle.client_database.specs.declared.answer.Answer.{Answer}
+use Rattle.client_database.specs.declared.answer.Answer.TheVariants as answer
 use Rattle.block_meaning.specs.Lines.{Complaint, IsDuplicate, KeyIsTooLong, DatabaseFull, RecordIsGone}
 
--- a record that was found
+-- a record that a search found
 pub record FoundRow : Type 0 where
   pub cursor : Cursor
   pub values : List Value
@@ -32,13 +32,13 @@ abbrev pub number_in : Answer → Option ℤ
 number_in (answer.Value n) = Some n
 number_in a = None
 
--- what became of a lock
+-- the result of a request for a lock
 pub data Grant : Type 0 where
   IsGranted : Grant
   IsBusy : Grant
   IsGone : Grant
 
--- of the answer to Lock
+-- in the answer to Lock
 abbrev pub grant_in : Answer → Grant
 grant_in answer.Granted = IsGranted
 grant_in (answer.Busy holders) = IsBusy
@@ -49,7 +49,7 @@ abbrev pub is_gone : Answer → Bool
 is_gone answer.Gone = true
 is_gone a = false
 
--- why an Insert or Put of a record of table t in buffer b was refused
+-- why an Insert or Put of the record in buffer b, of table t, was refused, if it was
 abbrev pub refusal_in : ℕ → ℕ → Answer → Option Complaint
 refusal_in b t (answer.KeyTooLong i) = Some (KeyIsTooLong t i)
 refusal_in b t (answer.Duplicate i row) = Some (IsDuplicate t i)

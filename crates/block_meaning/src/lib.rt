@@ -1,13 +1,12 @@
-//! What a client does: the operations that it asks, what it writes, and how it ends, as a function
-//! of its bound tree, its inputs and the answers that it gets (in `specs/`, from `Meaning.antt`).
-//! It stands on `abl_expr` for the values of expressions and on `database_meaning` for operations
-//! and answers; a client that runs code is proved against it. `laws` says what holds of every run.
+//! The meaning of a bound tree: the operations that a client asks for, what it writes, and how it
+//! ends, as a function of its tree, its inputs and the answers that it gets
+//! (`specs/Meaning.antt`). Values of expressions are those of `abl_expr`, operations and answers
+//! those of `client_database`. A client that runs code is proved against this meaning; `laws` says
+//! what holds of every run.
 #![tactic(auto)]
 
-pub mod ends;
 pub mod laws;
 pub mod wants;
 
-pub use database_meaning::{Answer, Contents, Event, Op};
-pub use ends::{ClientEnd, StopWhy};
-pub use wants::{Piece, Wants};
+pub use client_database::{Answer, ClientEnd, Event, NextStep, Op, StopWhy};
+pub use wants::Piece;

@@ -1,11 +1,14 @@
 -- Each step takes something of what is left to do, adds to what is written, and leads to no end before End is asked.
 use Rattle.std.proofs.Common.{◌≡◌, ℕ, zero, suc, ◌+◌, ◌*◌, ◌<◌, ◌≤◌, List, [], ◌∷◌, length, Bool, true, false, Option, Some, None, refl, sym, ap, ◌∙◌, subst, arith, append-nil}
 use Rattle.std.specs.Prelude.{slice_get, nat_lt, Result, Ok, Err}
+use Rattle.abl_base.specs.declared.limits.TheConstants.{MAX_OUTPUT_BYTES}
 use Rattle.abl_base.specs.declared.value.Value.{Value}
 use Rattle.abl_values.specs.declared.arithmetic.ArithFault.{ArithFault}
 use Rattle.abl_values.specs.Fit.{fitted}
 use Rattle.bound_tree.specs.declared.expression.Variable.{Variable}
+use Rattle.bound_tree.specs.declared.expression.Expr.{Expr}
 use Rattle.bound_tree.specs.declared.expression.Expr.TheVariants as e
+use Rattle.block_code.specs.Built.{stripped}
 use Rattle.bound_tree.specs.declared.block.Action.{Action}
 use Rattle.bound_tree.specs.declared.block.Action.TheVariants as action
 use Rattle.bound_tree.specs.declared.statement.Right.{Right}
@@ -23,7 +26,7 @@ use Rattle.block_vm.specs.declared.mode.Way.{Way}
 use Rattle.block_vm.specs.declared.mode.Way.TheVariants.{Ran, Leaves, Undoes, Raises}
 use Rattle.block_vm.specs.declared.mode.Mode.{Mode}
 use Rattle.block_vm.specs.declared.mode.Mode.TheVariants.{Runs, Turns, Over, AsksEnter, AsksBack, AsksLeave, AsksEnd, Ended}
-use Rattle.block_vm.specs.Machine.{Config, this_or, paid_from, paid, set_as, set_fitted, set_right, set_all, fits, all_fit, items_text, are_short, writes_if, range_line, errs, runs_or_errs, puts, can_undo, error_comes, undo_from, act, enters_if, enters_at, turn, is_block, out_of, behind, goes, level_ends, undone, first_mark, undo_comes, iteration_ends, unwind, step_in, step}
+use Rattle.block_vm.specs.Machine.{Config, this_or, paid_from, paid, set_as, set_fitted, set_literal, set_right, set_all, fits, all_fit, items_text, are_short, writes_if, range_line, errs, runs_or_errs, puts, can_undo, error_comes, undo_from, act, enters_if, enters_at, turn, is_block, out_of, behind, goes, level_ends, undone, first_mark, undo_comes, iteration_ends, unwind, step_in, step}
 
 -- how near a mode is to the next operation
 abbrev pub rank_in : Mode → ℕ
@@ -91,22 +94,23 @@ fitted_same : (x : Variable) (r : Result Value ArithFault) (c : Config) → Same
 fitted_same x (Ok v) c = set_same x.undoable x.number v c
 fitted_same x (Err fault) c = same_itself c
 
+literal_same : (x : Variable) (a : Expr) (c : Config) → Same c (set_literal x a c)
+literal_same x (e.Literal v) c = fitted_same x (fitted v x.kind) c
+literal_same x (e.Variable y) c = same_itself c
+literal_same x (e.Field b f k) c = same_itself c
+literal_same x (e.Unary' op p a) c = same_itself c
+literal_same x (e.Chain' p a shape rest) c = same_itself c
+literal_same x (e.Ternary' op p a q b r d) c = same_itself c
+literal_same x (e.If' p a q b r d k) c = same_itself c
+literal_same x (e.Masked' p a mask) c = same_itself c
+literal_same x (e.Available b) c = same_itself c
+literal_same x (e.Locked b) c = same_itself c
+literal_same x e.Retry c = same_itself c
+literal_same x e.ErrorStatus c = same_itself c
+literal_same x e.ReturnValue c = same_itself c
+
 right_same : (t : Target) (r : Right) (c : Config) → Same c (set_right t r c)
-right_same (target.Variable x) (right.Value (e.Literal v)) c = fitted_same x (fitted v x.kind) c
-right_same (target.Variable x) (right.Value (e.Variable y)) c = same_itself c
-right_same (target.Variable x) (right.Value (e.Field b f k)) c = same_itself c
-right_same (target.Variable x) (right.Value (e.Unary' op p a)) c = same_itself c
-right_same (target.Variable x) (right.Value (e.Binary' op p a q b)) c = same_itself c
-right_same (target.Variable x) (right.Value (e.Ternary' op p a q b r d)) c = same_itself c
-right_same (target.Variable x) (right.Value (e.And' p a q b)) c = same_itself c
-right_same (target.Variable x) (right.Value (e.Or' p a q b)) c = same_itself c
-right_same (target.Variable x) (right.Value (e.If' p a q b r d k)) c = same_itself c
-right_same (target.Variable x) (right.Value (e.Masked' p a mask)) c = same_itself c
-right_same (target.Variable x) (right.Value (e.Available b)) c = same_itself c
-right_same (target.Variable x) (right.Value (e.Locked b)) c = same_itself c
-right_same (target.Variable x) (right.Value e.Retry) c = same_itself c
-right_same (target.Variable x) (right.Value e.ErrorStatus) c = same_itself c
-right_same (target.Variable x) (right.Value e.ReturnValue) c = same_itself c
+right_same (target.Variable x) (right.Value a) c = literal_same x (stripped a) c
 right_same (target.Variable x) (right.NextValue q) c = same_itself c
 right_same (target.Variable x) (right.CurrentValue q) c = same_itself c
 right_same (target.Field b f k) r c = same_itself c
@@ -124,14 +128,14 @@ writes_leads true text mode n c low u le = record { less = omega arith; more = i
 writes_leads false text mode n c low u le = record { less = omega arith; more = (_, refl); unended = u }
 
 errs_leads : (n : ℕ) (c : Config) → 3 * c.units + (2 * length c.opened + 2) < n → Leads n c.written (errs c)
-errs_leads n c le = writes_leads (nat_lt 16777216 (c.size + length range_line)) range_line (Over (Raises None)) n c (omega arith) tt le
+errs_leads n c le = writes_leads (nat_lt MAX_OUTPUT_BYTES (c.size + length range_line)) range_line (Over (Raises None)) n c (omega arith) tt le
 
 runs_or_errs_leads : (b : Bool) (p n : ℕ) (c : Config) → 3 * c.units + (2 * length c.opened + 2) < n → Leads n c.written (runs_or_errs b p c)
 runs_or_errs_leads true p n c le = record { less = omega arith; more = itself c.written; unended = tt }
 runs_or_errs_leads false p n c le = errs_leads n c le
 
 puts_leads : (b : Bool) (text : List ℕ) (p n : ℕ) (c : Config) → 3 * c.units + (2 * length c.opened + 2) < n → Leads n c.written (puts b text p c)
-puts_leads true text p n c le = writes_leads (nat_lt 16777216 (c.size + length text)) text (Runs p) n c (omega arith) tt le
+puts_leads true text p n c le = writes_leads (nat_lt MAX_OUTPUT_BYTES (c.size + length text)) text (Runs p) n c (omega arith) tt le
 puts_leads false text p n c le = errs_leads n c le
 
 stays : (p n u : ℕ) (c : Config) → c.mode ≡ Runs p → u < c.units → 3 * c.units + (2 * length c.opened + 2) ≤ n → Leads n c.written (record c { units = u })
@@ -154,7 +158,7 @@ act_leads (Some (Assign pairs quiet)) p c e = paid_leads _ _ c (omega arith) (λ
     let len : length (set_all pairs.items c1).opened ≡ length c.opened = ap length s.opened in
     let l = runs_or_errs_leads (all_fit pairs.items) (p + 1) (3 * c.units + (2 * length c.opened + 2)) (set_all pairs.items c1) (omega (arith, s.units, len)) in
     record { less = l.less; more = subst (λ ps. Begins ps (runs_or_errs (all_fit pairs.items) (p + 1) (set_all pairs.items c1)).written) s.written l.more; unended = l.unended })
-act_leads (Some (Put stream items)) p c e = paid_leads _ _ c (omega arith) (λ v lt. let c1 : Config = record c { units = v } in puts_leads (are_short items.items) (items_text items.items c1.undoable c1.kept) (p + 1) _ c1 (omega arith))
+act_leads (Some (Put stream items)) p c e = paid_leads _ _ c (omega arith) (λ v lt. let c1 : Config = record c { units = v } in puts_leads (are_short items.items) (items_text items.items c1.undoable c1.no_undo) (p + 1) _ c1 (omega arith))
 act_leads (Some (Undo block a)) p c e = paid_leads _ _ c (omega arith) (λ v lt. undo_leads block a p _ v c e lt (omega arith))
 
 enters_leads : (b : Bool) (p n : ℕ) (c : Config) → 3 * c.units + (2 * length c.opened + 4) < n → Leads n c.written (enters_if b p c)

@@ -7,8 +7,8 @@ use Rattle.block_vm.specs.declared.mode.Way.{Way}
 use Rattle.block_vm.specs.declared.mode.Way.TheVariants.{Ran, Leaves, Undoes, Raises}
 use Rattle.block_vm.specs.declared.mode.Mode.{Mode}
 use Rattle.block_vm.specs.declared.mode.Mode.TheVariants.{Runs, Turns, Over, AsksEnter, AsksBack, AsksLeave, AsksEnd, Ended}
-use Rattle.block_vm.specs.declared.machine.Heard.{Heard}
-use Rattle.block_vm.specs.declared.machine.Heard.TheVariants.{Blocked, Done, Ends}
+use Rattle.block_vm.specs.declared.machine.AnswerClass.{AnswerClass}
+use Rattle.block_vm.specs.declared.machine.AnswerClass.TheVariants.{Blocked, Done, Ends}
 use Rattle.block_vm.specs.Machine.{Config, paid_from, behind, goes, values_at, olds_at, at_level, proceeds_in, hears}
 use Rattle.block_vm.specs.Work.{AsksOwn}
 use Rattle.block_vm.proofs.Falls.{IsUnended}
@@ -63,7 +63,7 @@ own_unended (Turns p) own = tt
 own_unended (Over way) own = tt
 own_unended Ended own = absurd own
 
-pub hears_keeps : (h : Heard) (c : Config) → AsksOwn c.mode → Keeps c (hears h c)
+pub hears_keeps : (h : AnswerClass) (c : Config) → AsksOwn c.mode → Keeps c (hears h c)
 hears_keeps Blocked c own = record { written = refl; unended = own_unended c.mode own }
 hears_keeps Done c own = proceeds_keeps c.mode c own
 hears_keeps (Ends ending) c own = record { written = refl; unended = tt }

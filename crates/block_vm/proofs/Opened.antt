@@ -6,7 +6,9 @@ use Rattle.abl_base.specs.declared.value.Value.TheVariants.{Unknown}
 use Rattle.abl_values.specs.declared.arithmetic.ArithFault.{ArithFault}
 use Rattle.abl_values.specs.Fit.{fitted}
 use Rattle.bound_tree.specs.declared.expression.Variable.{Variable}
+use Rattle.bound_tree.specs.declared.expression.Expr.{Expr}
 use Rattle.bound_tree.specs.declared.expression.Expr.TheVariants as e
+use Rattle.block_code.specs.Built.{stripped}
 use Rattle.bound_tree.specs.declared.statement.Right.{Right}
 use Rattle.bound_tree.specs.declared.statement.Right.TheVariants as right
 use Rattle.bound_tree.specs.declared.statement.Target.{Target}
@@ -17,7 +19,7 @@ use Rattle.block_meaning.specs.State.{Copy}
 use Rattle.block_vm.specs.declared.mode.Mark.{Mark}
 use Rattle.block_vm.specs.declared.mode.Iteration.{Iteration}
 use Rattle.block_vm.specs.declared.state.Old.{Old}
-use Rattle.block_vm.specs.Machine.{Config, this_or, values_at, olds_at, with_old, set_as, set_fitted, set_right, set_all, fits}
+use Rattle.block_vm.specs.Machine.{Config, this_or, values_at, olds_at, with_old, set_as, set_fitted, set_literal, set_right, set_all, fits}
 use Rattle.block_vm.specs.Follows.{Outer, copy_of, IsWithin, top_after, deep_after, IsAt, AreOpen, AreOpenIn}
 use Rattle.block_vm.proofs.Restores.{values_stay, older, set_back, set_longer}
 
@@ -98,22 +100,23 @@ fitted_open : (x : Variable) (r : Result Value ArithFault) → Keeps (set_fitted
 fitted_open x (Ok v) c os h = set_open x.undoable x.number v c os h
 fitted_open x (Err fault) c os h = h
 
+literal_open : (x : Variable) (a : Expr) → Keeps (set_literal x a)
+literal_open x (e.Literal v) c os h = fitted_open x (fitted v x.kind) c os h
+literal_open x (e.Variable y) c os h = h
+literal_open x (e.Field b f k) c os h = h
+literal_open x (e.Unary' op p a) c os h = h
+literal_open x (e.Chain' p a shape rest) c os h = h
+literal_open x (e.Ternary' op p a q b r d) c os h = h
+literal_open x (e.If' p a q b r d k) c os h = h
+literal_open x (e.Masked' p a mask) c os h = h
+literal_open x (e.Available b) c os h = h
+literal_open x (e.Locked b) c os h = h
+literal_open x e.Retry c os h = h
+literal_open x e.ErrorStatus c os h = h
+literal_open x e.ReturnValue c os h = h
+
 right_open : (t : Target) (r : Right) → Keeps (set_right t r)
-right_open (target.Variable x) (right.Value (e.Literal v)) c os h = fitted_open x (fitted v x.kind) c os h
-right_open (target.Variable x) (right.Value (e.Variable y)) c os h = h
-right_open (target.Variable x) (right.Value (e.Field b f k)) c os h = h
-right_open (target.Variable x) (right.Value (e.Unary' op p a)) c os h = h
-right_open (target.Variable x) (right.Value (e.Binary' op p a q b)) c os h = h
-right_open (target.Variable x) (right.Value (e.Ternary' op p a q b r d)) c os h = h
-right_open (target.Variable x) (right.Value (e.And' p a q b)) c os h = h
-right_open (target.Variable x) (right.Value (e.Or' p a q b)) c os h = h
-right_open (target.Variable x) (right.Value (e.If' p a q b r d k)) c os h = h
-right_open (target.Variable x) (right.Value (e.Masked' p a mask)) c os h = h
-right_open (target.Variable x) (right.Value (e.Available b)) c os h = h
-right_open (target.Variable x) (right.Value (e.Locked b)) c os h = h
-right_open (target.Variable x) (right.Value e.Retry) c os h = h
-right_open (target.Variable x) (right.Value e.ErrorStatus) c os h = h
-right_open (target.Variable x) (right.Value e.ReturnValue) c os h = h
+right_open (target.Variable x) (right.Value a) c os h = literal_open x (stripped a) c os h
 right_open (target.Variable x) (right.NextValue q) c os h = h
 right_open (target.Variable x) (right.CurrentValue q) c os h = h
 right_open (target.Field b f k) r c os h = h
@@ -135,22 +138,23 @@ fitted_code : (x : Variable) (r : Result Value ArithFault) (c : Config) → (set
 fitted_code x (Ok v) c = set_code x.undoable x.number v c
 fitted_code x (Err fault) c = refl
 
+literal_code : (x : Variable) (a : Expr) (c : Config) → (set_literal x a c).code ≡ c.code
+literal_code x (e.Literal v) c = fitted_code x (fitted v x.kind) c
+literal_code x (e.Variable y) c = refl
+literal_code x (e.Field b f k) c = refl
+literal_code x (e.Unary' op p a) c = refl
+literal_code x (e.Chain' p a shape rest) c = refl
+literal_code x (e.Ternary' op p a q b r d) c = refl
+literal_code x (e.If' p a q b r d k) c = refl
+literal_code x (e.Masked' p a mask) c = refl
+literal_code x (e.Available b) c = refl
+literal_code x (e.Locked b) c = refl
+literal_code x e.Retry c = refl
+literal_code x e.ErrorStatus c = refl
+literal_code x e.ReturnValue c = refl
+
 right_code : (t : Target) (r : Right) (c : Config) → (set_right t r c).code ≡ c.code
-right_code (target.Variable x) (right.Value (e.Literal v)) c = fitted_code x (fitted v x.kind) c
-right_code (target.Variable x) (right.Value (e.Variable y)) c = refl
-right_code (target.Variable x) (right.Value (e.Field b f k)) c = refl
-right_code (target.Variable x) (right.Value (e.Unary' op p a)) c = refl
-right_code (target.Variable x) (right.Value (e.Binary' op p a q b)) c = refl
-right_code (target.Variable x) (right.Value (e.Ternary' op p a q b r d)) c = refl
-right_code (target.Variable x) (right.Value (e.And' p a q b)) c = refl
-right_code (target.Variable x) (right.Value (e.Or' p a q b)) c = refl
-right_code (target.Variable x) (right.Value (e.If' p a q b r d k)) c = refl
-right_code (target.Variable x) (right.Value (e.Masked' p a mask)) c = refl
-right_code (target.Variable x) (right.Value (e.Available b)) c = refl
-right_code (target.Variable x) (right.Value (e.Locked b)) c = refl
-right_code (target.Variable x) (right.Value e.Retry) c = refl
-right_code (target.Variable x) (right.Value e.ErrorStatus) c = refl
-right_code (target.Variable x) (right.Value e.ReturnValue) c = refl
+right_code (target.Variable x) (right.Value a) c = literal_code x (stripped a) c
 right_code (target.Variable x) (right.NextValue q) c = refl
 right_code (target.Variable x) (right.CurrentValue q) c = refl
 right_code (target.Field b f k) r c = refl

@@ -1,20 +1,20 @@
 -- A call of a client, from an answer to what it wants next.
 use Rattle.std.proofs.Common.{◌≡◌, ℕ, ◌⊎◌, inl, inr, List, [], ◌∷◌, ◌++◌, Some, refl, sym, ap, ◌∙◌, subst, append_assoc, append-nil}
-use Rattle.database_meaning.specs.declared.operation.Op.TheVariants.{End}
-use Rattle.database_meaning.specs.declared.operation.Answer.{Answer}
-use Rattle.block_meaning.specs.declared.ends.ClientEnd.TheVariants as client
+use Rattle.client_database.specs.declared.operation.Op.TheVariants.{End}
+use Rattle.client_database.specs.declared.answer.Answer.{Answer}
+use Rattle.client_database.specs.declared.ends.ClientEnd.TheVariants as client
 use Rattle.block_meaning.specs.declared.wants.Piece.{Piece}
-use Rattle.block_meaning.specs.declared.wants.Wants.{Wants}
-use Rattle.block_meaning.specs.declared.wants.Wants.TheVariants.{Ask, Ended as HasEndedAs}
-use Rattle.block_meaning.specs.State.{Doing}
+use Rattle.client_database.specs.declared.next_step.NextStep.{NextStep}
+use Rattle.client_database.specs.declared.next_step.NextStep.TheVariants.{Ask, Ended as HasEndedAs}
+use Rattle.block_meaning.specs.State.{Progress}
 use Rattle.block_meaning.specs.GivesUp.{Begins, IsAsked, before_last, written_at, GaveUp}
-use Rattle.block_meaning.proofs.Goes_on.{begins_further}
+use Rattle.block_meaning.proofs.Continues.{begins_further}
 use Rattle.block_vm.specs.declared.mode.Ending.{Ending}
 use Rattle.block_vm.specs.declared.mode.Ending.TheVariants.{NoMemory}
 use Rattle.block_vm.specs.declared.mode.Mode.{Mode}
 use Rattle.block_vm.specs.declared.mode.Mode.TheVariants.{Runs, Turns, Over, AsksEnter, AsksBack, AsksLeave, AsksEnd, Ended}
 use Rattle.block_vm.specs.declared.machine.Machine.{Machine}
-use Rattle.block_vm.specs.Machine.{Config, heard_of, hears, end_of, asked_in}
+use Rattle.block_vm.specs.Machine.{Config, class_in, hears, end_of, asked_in}
 use Rattle.block_vm.specs.Work.{AsksOwn}
 use Rattle.block_vm.specs.Follows.{Follows, FollowsIn}
 use Rattle.block_vm.specs.Client.{config_of, standing_of}
@@ -26,7 +26,7 @@ use Rattle.block_vm.proofs.Finishes.{finishes, wants_is}
 use Rattle.block_vm.proofs.Hears.{hears_keeps}
 
 -- a client in the midst of a call that began where this was written
-pub record Going (m : List Answer → Doing) (names : List (List ℕ)) (written : List Piece) (client : Machine) : Type 0 where
+pub record Going (m : List Answer → Progress) (names : List (List ℕ)) (written : List Piece) (client : Machine) : Type 0 where
   pub pieces : List Piece
   pub has : HasWritten (standing_of client) names pieces
   pub more : Begins written pieces
@@ -35,26 +35,26 @@ pub record Going (m : List Answer → Doing) (names : List (List ℕ)) (written 
 
 -- ---- runs after answers
 
-same_runs : (f g : List Answer → Doing) → ((ans : List Answer) → f ans ≡ g ans) → f ≡ g
+same_runs : (f g : List Answer → Progress) → ((ans : List Answer) → f ans ≡ g ans) → f ≡ g
 same_runs f g h = λ i ans. h ans i
 
-one_more : (heard : List Answer) (a : Answer) (m : List Answer → Doing) → (λ (ans : List Answer). after heard m (a ∷ ans)) ≡ after (heard ++ a ∷ []) m
+one_more : (heard : List Answer) (a : Answer) (m : List Answer → Progress) → (λ (ans : List Answer). after heard m (a ∷ ans)) ≡ after (heard ++ a ∷ []) m
 one_more heard a m = same_runs _ _ (λ ans. ap m (sym (append_assoc heard (a ∷ []) ans)))
 
-now : (heard : List Answer) (m : List Answer → Doing) → after heard m [] ≡ m heard
+now : (heard : List Answer) (m : List Answer → Progress) → after heard m [] ≡ m heard
 now heard m = ap m (append-nil heard)
 
 before_one : (b a : Answer) (bs : List Answer) → before_last b (bs ++ a ∷ []) ≡ b ∷ bs
 before_one b a [] = refl
 before_one b a (c ∷ bs) = ap (λ l. b ∷ l) (before_one c a bs)
 
-written_before : (m : List Answer → Doing) (heard : List Answer) (a : Answer) → written_at m (heard ++ a ∷ []) ≡ (m heard).written
+written_before : (m : List Answer → Progress) (heard : List Answer) (a : Answer) → written_at m (heard ++ a ∷ []) ≡ (m heard).written
 written_before m [] a = refl
 written_before m (b ∷ bs) a = ap (λ l. (m l).written) (before_one b a bs)
 
 -- ---- what comes of going on
 
-came_by : (m : List Answer → Doing) (names : List (List ℕ)) (heard : List Answer) (from : List Piece) (c : Machine) (w : Wants) → Begins (written_at m heard) from → (g : GoesOn (after heard m) names from (standing_of c) w) → Stands (after heard m) g.pieces (standing_of c) w ⊎ GivesUp (after heard m) g.pieces c.mode w → Came (standing_of c) names m heard w
+came_by : (m : List Answer → Progress) (names : List (List ℕ)) (heard : List Answer) (from : List Piece) (c : Machine) (w : NextStep) → Begins (written_at m heard) from → (g : GoesOn (after heard m) names from (standing_of c) w) → Stands (after heard m) g.pieces (standing_of c) w ⊎ GivesUp (after heard m) g.pieces c.mode w → Came (standing_of c) names m heard w
 came_by m names heard from c w least g (inl s) =
     inl (record {
       does = record { written = g.pieces; has = g.has; follows = s.follows };
@@ -64,13 +64,13 @@ came_by m names heard from c w least g (inl s) =
     })
 came_by m names heard from c w least g (inr u) =
     let gave : GaveUp m heard g.pieces = record {
-      asked = subst (λ (d : Doing). IsAsked d.wants) (now heard m) u.asked;
+      asked = subst (λ (d : Progress). IsAsked d.wants) (now heard m) u.asked;
       from = begins_further (written_at m heard) from g.pieces least g.more;
-      to = subst (λ (d : Doing). Begins g.pieces d.written) (now heard m) u.more;
+      to = subst (λ (d : Progress). Begins g.pieces d.written) (now heard m) u.more;
     } in
     inr (record { pieces = g.pieces; given_up = record { ends = u.ends; has = g.has; gave = gave }; asks = u.asks })
 
-pub came : (m : List Answer → Doing) (names : List (List ℕ)) (heard : List Answer) (from : List Piece) (c : Machine) (w : Wants) → Begins (written_at m heard) from → GoesOn (after heard m) names from (standing_of c) w → Came (standing_of c) names m heard w
+pub came : (m : List Answer → Progress) (names : List (List ℕ)) (heard : List Answer) (from : List Piece) (c : Machine) (w : NextStep) → Begins (written_at m heard) from → GoesOn (after heard m) names from (standing_of c) w → Came (standing_of c) names m heard w
 came m names heard from c w least g = came_by m names heard from c w least g g.stands
 
 -- ---- the first call
@@ -86,19 +86,19 @@ going_unended (AsksEnd ending) going = tt
 going_unended Ended going = going
 
 -- what `go_on` ensures
-abbrev pub WillGoOn : Machine → Machine → Wants → Type 0
-WillGoOn old new w = (names : List (List ℕ)) (m : List Answer → Doing) (written : List Piece) → IsUnendedIn old.mode → HasWritten (standing_of old) names written → Follows m (config_of written old) → GoesOn m names written (standing_of new) w
+abbrev pub WillGoOn : Machine → Machine → NextStep → Type 0
+WillGoOn old new w = (names : List (List ℕ)) (m : List Answer → Progress) (written : List Piece) → IsUnendedIn old.mode → HasWritten (standing_of old) names written → Follows m (config_of written old) → GoesOn m names written (standing_of new) w
 
-first_by : (names : List (List ℕ)) (m : List Answer → Doing) (old new : Machine) (w : Wants) → GoesOnIn old.mode → WillGoOn old new w → Does (standing_of old) names m [] → Came (standing_of new) names m [] w
+first_by : (names : List (List ℕ)) (m : List Answer → Progress) (old new : Machine) (w : NextStep) → GoesOnIn old.mode → WillGoOn old new w → Does (standing_of old) names m [] → Came (standing_of new) names m [] w
 first_by names m old new w going will d = came m names [] d.written new w (d.written, refl) (will names (after [] m) d.written (going_unended old.mode going) d.has d.follows)
 
-pub first_call : (names : List (List ℕ)) (m : List Answer → Doing) (heard : List Answer) (old new : Machine) (w : Wants) → GoesOnIn old.mode → heard ≡ [] → WillGoOn old new w → Does (standing_of old) names m heard → Came (standing_of new) names m heard w
+pub first_call : (names : List (List ℕ)) (m : List Answer → Progress) (heard : List Answer) (old new : Machine) (w : NextStep) → GoesOnIn old.mode → heard ≡ [] → WillGoOn old new w → Does (standing_of old) names m heard → Came (standing_of new) names m heard w
 first_call names m heard old new w going none will d =
     subst (λ heard. Came (standing_of new) names m heard w) (sym none) (first_by names m old new w going will (subst (λ heard. Does (standing_of old) names m heard) none d))
 
 -- ---- the answer to an operation other than End
 
-own_wants : (mode : Mode) → AsksOwn mode → (want : Wants) × (asked_in mode ≡ Some want)
+own_wants : (mode : Mode) → AsksOwn mode → (want : NextStep) × (asked_in mode ≡ Some want)
 own_wants (AsksEnter p) own = (_, refl)
 own_wants (AsksBack mark way p) own = (_, refl)
 own_wants (AsksLeave d way p) own = (_, refl)
@@ -129,32 +129,32 @@ unended_of (AsksEnd ending) u = tt
 unended_of Ended u = u
 
 -- what `hear` ensures, and then `go_on`
-pub record HearsAnd (a : Answer) (old mid new : Machine) (w : Wants) : Type 0 where
-  pub config : ((written : List Piece) → config_of written mid ≡ hears (heard_of a) (config_of written old)) ⊎ (mid.mode ≡ AsksEnd NoMemory)
+pub record HearsAnd (a : Answer) (old mid new : Machine) (w : NextStep) : Type 0 where
+  pub config : ((written : List Piece) → config_of written mid ≡ hears (class_in a) (config_of written old)) ⊎ (mid.mode ≡ AsksEnd NoMemory)
   pub sections : mid.state.sections.items ≡ old.state.sections.items
   pub goes_on : WillGoOn mid new w
   pub stays : mid.mode ≡ AsksEnd NoMemory → (new ≡ mid) × (w ≡ Ask End)
 
-hears_follows : (a : Answer) (m : List Answer → Doing) (heard : List Answer) (c : Config) → AsksOwn c.mode → Follows (after heard m) c → Follows (after (heard ++ a ∷ []) m) (hears (heard_of a) c)
+hears_follows : (a : Answer) (m : List Answer → Progress) (heard : List Answer) (c : Config) → AsksOwn c.mode → Follows (after heard m) c → Follows (after (heard ++ a ∷ []) m) (hears (class_in a) c)
 hears_follows a m heard c own f =
-    subst (λ r. Follows r (hears (heard_of a) c)) (one_more heard a m)
+    subst (λ r. Follows r (hears (class_in a) c)) (one_more heard a m)
     (record { w = f.w; streams = f.streams; unopened = f.unopened; stands = heard_follows f.w f.streams (after heard m) c c.mode a refl own f.stands })
 
-answered_by : (names : List (List ℕ)) (a : Answer) (m : List Answer → Doing) (heard : List Answer) (old mid new : Machine) (w : Wants) → AsksOwn old.mode → HearsAnd a old mid new w → (written : List Piece) → HasWritten (standing_of old) names written → Follows (after heard m) (config_of written old) → ((written : List Piece) → config_of written mid ≡ hears (heard_of a) (config_of written old)) ⊎ (mid.mode ≡ AsksEnd NoMemory) → Came (standing_of new) names m (heard ++ a ∷ []) w
+answered_by : (names : List (List ℕ)) (a : Answer) (m : List Answer → Progress) (heard : List Answer) (old mid new : Machine) (w : NextStep) → AsksOwn old.mode → HearsAnd a old mid new w → (written : List Piece) → HasWritten (standing_of old) names written → Follows (after heard m) (config_of written old) → ((written : List Piece) → config_of written mid ≡ hears (class_in a) (config_of written old)) ⊎ (mid.mode ≡ AsksEnd NoMemory) → Came (standing_of new) names m (heard ++ a ∷ []) w
 answered_by names a m heard old mid new w own h written has f (inl e) =
-    let k = hears_keeps (heard_of a) (config_of written old) own in
+    let k = hears_keeps (class_in a) (config_of written old) own in
     let want = own_wants old.mode own in
-    let at_old : (m heard).written ≡ written = ap (λ (d : Doing). d.written) (sym (now heard m) ∙ wants_is (after heard m) (config_of written old) want.0 f want.1) in
+    let at_old : (m heard).written ≡ written = ap (λ (d : Progress). d.written) (sym (now heard m) ∙ wants_is (after heard m) (config_of written old) want.0 f want.1) in
     let least : Begins (written_at m (heard ++ a ∷ [])) written = ([], append-nil (written_at m (heard ++ a ∷ [])) ∙ written_before m heard a ∙ at_old) in
     let f1 : Follows (after (heard ++ a ∷ []) m) (config_of written mid) = subst (Follows (after (heard ++ a ∷ []) m)) (sym (e written)) (hears_follows a m heard (config_of written old) own f) in
     came m names (heard ++ a ∷ []) written new w least
     (h.goes_on names (after (heard ++ a ∷ []) m) written (unended_in mid.mode (subst (λ (c : Config). IsUnended c.mode) (sym (e written)) k.unended)) (h.sections ∙ has) f1)
 answered_by names a m heard old mid new w own h written has f (inr e) =
-    let k = hears_keeps (heard_of a) (config_of written old) own in
+    let k = hears_keeps (class_in a) (config_of written old) own in
     let want = own_wants old.mode own in
-    let at_old : (m heard).written ≡ written = ap (λ (d : Doing). d.written) (sym (now heard m) ∙ wants_is (after heard m) (config_of written old) want.0 f want.1) in
+    let at_old : (m heard).written ≡ written = ap (λ (d : Progress). d.written) (sym (now heard m) ∙ wants_is (after heard m) (config_of written old) want.0 f want.1) in
     let least : Begins (written_at m (heard ++ a ∷ [])) written = ([], append-nil (written_at m (heard ++ a ∷ [])) ∙ written_before m heard a ∙ at_old) in
-    let will = finishes (after (heard ++ a ∷ []) m) (hears (heard_of a) (config_of written old)) k.unended (hears_follows a m heard (config_of written old) own f) in
+    let will = finishes (after (heard ++ a ∷ []) m) (hears (class_in a) (config_of written old)) k.unended (hears_follows a m heard (config_of written old) own f) in
     let stays = h.stays e in
     came m names (heard ++ a ∷ []) written new w least
     (record {
@@ -169,17 +169,17 @@ answered_by names a m heard old mid new w own h written has f (inr e) =
       });
     })
 
-pub own_call : (names : List (List ℕ)) (a : Answer) (m : List Answer → Doing) (heard : List Answer) (old mid new : Machine) (w : Wants) → AsksOwn old.mode → HearsAnd a old mid new w → Does (standing_of old) names m heard → Came (standing_of new) names m (heard ++ a ∷ []) w
+pub own_call : (names : List (List ℕ)) (a : Answer) (m : List Answer → Progress) (heard : List Answer) (old mid new : Machine) (w : NextStep) → AsksOwn old.mode → HearsAnd a old mid new w → Does (standing_of old) names m heard → Came (standing_of new) names m (heard ++ a ∷ []) w
 own_call names a m heard old mid new w own h d = answered_by names a m heard old mid new w own h d.written d.has d.follows h.config
 
 -- ---- the answer to End
 
-end_follows : (a : Answer) (m : List Answer → Doing) (heard : List Answer) (c : Config) (ending : Ending) → c.mode ≡ AsksEnd ending → Follows (after heard m) c → (ans : List Answer) → after (heard ++ a ∷ []) m ans ≡ record { written = c.written; wants = HasEndedAs (end_of ending) }
+end_follows : (a : Answer) (m : List Answer → Progress) (heard : List Answer) (c : Config) (ending : Ending) → c.mode ≡ AsksEnd ending → Follows (after heard m) c → (ans : List Answer) → after (heard ++ a ∷ []) m ans ≡ record { written = c.written; wants = HasEndedAs (end_of ending) }
 end_follows a m heard c ending e f ans =
     let stands : FollowsIn f.w f.streams (AsksEnd ending) (after heard m) c = subst (λ mode. FollowsIn f.w f.streams mode (after heard m) c) e f.stands in
     ap m (append_assoc heard (a ∷ []) ans) ∙ stands (a ∷ ans)
 
-pub end_call : (names : List (List ℕ)) (a : Answer) (m : List Answer → Doing) (heard : List Answer) (old new : Machine) (ending : Ending) → old.mode ≡ AsksEnd ending → ((written : List Piece) → (let c : Config = record (config_of written old) { mode = Ended } in config_of written new ≡ c)) → new.state.sections.items ≡ old.state.sections.items → Does (standing_of old) names m heard → Came (standing_of new) names m (heard ++ a ∷ []) (HasEndedAs (end_of ending))
+pub end_call : (names : List (List ℕ)) (a : Answer) (m : List Answer → Progress) (heard : List Answer) (old new : Machine) (ending : Ending) → old.mode ≡ AsksEnd ending → ((written : List Piece) → (let c : Config = record (config_of written old) { mode = Ended } in config_of written new ≡ c)) → new.state.sections.items ≡ old.state.sections.items → Does (standing_of old) names m heard → Came (standing_of new) names m (heard ++ a ∷ []) (HasEndedAs (end_of ending))
 end_call names a m heard old new ending e is same d =
     let does = end_follows a m heard (config_of d.written old) ending e d.follows in
     let c : Config = record (config_of d.written old) { mode = Ended } in

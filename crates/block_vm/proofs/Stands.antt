@@ -4,7 +4,8 @@ use Rattle.std.specs.Prelude.{◌==◌, not, slice_get}
 use Rattle.std.proofs.lemmas.Bool.{eqb-true}
 use Rattle.std.proofs.lemmas.Option.{slice_get_past, slice_get-get_or}
 use Rattle.std.proofs.Math.Seq.{get_or-append_seam}
-use Rattle.abl_base.proofs.Bools.{and_left, and_right, not_so}
+use Rattle.std.proofs.lemmas.Bool.{not-true}
+use Rattle.abl_base.proofs.Bools.{left_of_and, right_of_and}
 use Rattle.bound_tree.specs.declared.block.BlockKind.{BlockKind}
 use Rattle.bound_tree.specs.declared.block.BlockKind.TheVariants as kind
 use Rattle.bound_tree.specs.declared.block.OnPhrase.{OnPhrase as SourceOnPhrase}
@@ -55,22 +56,22 @@ header_is h scoped to test fetch error endkey =
 
 pub header_plain : (h : SourceHeader) → is_built_header h ≡ true → IsPlain h (header_of h)
 header_plain h e =
-    let e5 = and_left _ (is_left_out h.on_endkey) e in
-    let e4 = and_left _ (is_left_out h.on_error) e5 in
-    let e3 = and_left _ (is_left_out h.fetch) e4 in
-    let e2 = and_left _ (is_left_out h.while_test) e3 in
-    let e1 = and_left _ (is_left_out h.to) e2 in
-    let e0 = and_left _ (is_nil h.scoped.items) e1 in
-    let scoped : h.scoped.items ≡ [] = no_items h.scoped.items (and_right _ (is_nil h.scoped.items) e1) in
-    let to : h.to ≡ None = nothing_there h.to (and_right _ (is_left_out h.to) e2) in
-    let test : h.while_test ≡ None = nothing_there h.while_test (and_right _ (is_left_out h.while_test) e3) in
-    let fetch : h.fetch ≡ None = nothing_there h.fetch (and_right _ (is_left_out h.fetch) e4) in
-    let error : h.on_error ≡ None = nothing_there h.on_error (and_right _ (is_left_out h.on_error) e5) in
-    let endkey : h.on_endkey ≡ None = nothing_there h.on_endkey (and_right _ (is_left_out h.on_endkey) e) in
+    let e5 = left_of_and _ (is_left_out h.on_endkey) e in
+    let e4 = left_of_and _ (is_left_out h.on_error) e5 in
+    let e3 = left_of_and _ (is_left_out h.fetch) e4 in
+    let e2 = left_of_and _ (is_left_out h.while_test) e3 in
+    let e1 = left_of_and _ (is_left_out h.to) e2 in
+    let e0 = left_of_and _ (is_nil h.scoped.items) e1 in
+    let scoped : h.scoped.items ≡ [] = no_items h.scoped.items (right_of_and _ (is_nil h.scoped.items) e1) in
+    let to : h.to ≡ None = nothing_there h.to (right_of_and _ (is_left_out h.to) e2) in
+    let test : h.while_test ≡ None = nothing_there h.while_test (right_of_and _ (is_left_out h.while_test) e3) in
+    let fetch : h.fetch ≡ None = nothing_there h.fetch (right_of_and _ (is_left_out h.fetch) e4) in
+    let error : h.on_error ≡ None = nothing_there h.on_error (right_of_and _ (is_left_out h.on_error) e5) in
+    let endkey : h.on_endkey ≡ None = nothing_there h.on_endkey (right_of_and _ (is_left_out h.on_endkey) e) in
     record {
       is = header_is h scoped to test fetch error endkey;
-      once = runs_once h.kind (and_left (is_built_kind h.kind) (not h.flags.retry_seen) e0);
-      no_retry = not_so h.flags.retry_seen (and_right (is_built_kind h.kind) (not h.flags.retry_seen) e0);
+      once = runs_once h.kind (left_of_and (is_built_kind h.kind) (not h.flags.retry_seen) e0);
+      no_retry = not-true h.flags.retry_seen (right_of_and (is_built_kind h.kind) (not h.flags.retry_seen) e0);
     }
 
 -- ---- places
@@ -130,12 +131,12 @@ undo_stands code after p block (action.Return error value) t h = absurd (cc)
 mutual
   stmt_stands : (code after : List Instr) (p : ℕ) (t : SourceStmt) → IsThere code (code_of p t) after p → is_built_stmt t ≡ true → StandsAs code p (next p t) (stmt_of t)
   stmt_stands code after p (stmt.Block' h shape body) t built =
-      let b = block_there code (row_code (p + 1) body) after h p t in
-      (h, b.0, header_plain h (and_left (is_built_header h) (is_built_row body) built), row_stands code after (p + 1) body b.1 (and_right (is_built_header h) (is_built_row body) built))
+      let b = block_there code (row_code (p + 1) body) after h.value p t in
+      (h.value, b.0, header_plain h.value (left_of_and (is_built_header h.value) (is_built_row body) built), row_stands code after (p + 1) body b.1 (right_of_and (is_built_header h.value) (is_built_row body) built))
   stmt_stands code after p (stmt.Assign pairs quiet) t built =
-      (pairs, one_there code after (Assign pairs quiet) p t, refl, and_right (not quiet) (are_built_assignments pairs.items) built, not_so quiet (and_left (not quiet) (are_built_assignments pairs.items) built), refl)
+      (pairs, one_there code after (Assign pairs quiet) p t, refl, right_of_and (not quiet) (are_built_assignments pairs.items) built, not-true quiet (left_of_and (not quiet) (are_built_assignments pairs.items) built), refl)
   stmt_stands code after p (stmt.Put stream items) t built =
-      (items, one_there code after (Put stream items) p t, refl, and_right (stream == 0) (are_built_items items.items) built, eqb-true stream 0 (and_left (stream == 0) (are_built_items items.items) built), refl)
+      (items, one_there code after (Put stream items) p t, refl, right_of_and (stream == 0) (are_built_items items.items) built, eqb-true stream 0 (left_of_and (stream == 0) (are_built_items items.items) built), refl)
   stmt_stands code after p (stmt.Undo block a) t built = undo_stands code after p block a t built
   stmt_stands code after p (stmt.If' test s1 b1 s2 b2) t built = absurd (cc)
   stmt_stands code after p (stmt.Find word reading wait quiet) t built = absurd (cc)
@@ -162,16 +163,16 @@ mutual
   row_stands code after p end_of-Stmt t built = first_there code Close after p (record { before = t.before; is = t.is; length_is = t.length_is })
   row_stands code after p (more_of-Stmt s rest) t built = (
     next p s,
-    stmt_stands code (row_code (next p s) rest ++ Close ∷ after) p s (part_left code (code_of p s) (row_code (next p s) rest) (Close ∷ after) p t) (and_left (is_built_stmt s) (is_built_row rest) built),
-    row_stands code after (next p s) rest (part_right code (code_of p s) (row_code (next p s) rest) (Close ∷ after) p t) (and_right (is_built_stmt s) (is_built_row rest) built),
+    stmt_stands code (row_code (next p s) rest ++ Close ∷ after) p s (part_left code (code_of p s) (row_code (next p s) rest) (Close ∷ after) p t) (left_of_and (is_built_stmt s) (is_built_row rest) built),
+    row_stands code after (next p s) rest (part_right code (code_of p s) (row_code (next p s) rest) (Close ∷ after) p t) (right_of_and (is_built_stmt s) (is_built_row rest) built),
   )
 
 pub body_stands : (code after : List Instr) (p : ℕ) (ts : List SourceStmt) → IsThere code (body_code p ts) (Close ∷ after) p → is_built_body ts ≡ true → StandsInside code p (body_of ts)
 body_stands code after p [] t built = first_there code Close after p (record { before = t.before; is = t.is; length_is = t.length_is })
 body_stands code after p (s ∷ ts) t built = (
   next p s,
-  stmt_stands code (body_code (next p s) ts ++ Close ∷ after) p s (part_left code (code_of p s) (body_code (next p s) ts) (Close ∷ after) p t) (and_left (is_built_stmt s) (is_built_body ts) built),
-  body_stands code after (next p s) ts (part_right code (code_of p s) (body_code (next p s) ts) (Close ∷ after) p t) (and_right (is_built_stmt s) (is_built_body ts) built),
+  stmt_stands code (body_code (next p s) ts ++ Close ∷ after) p s (part_left code (code_of p s) (body_code (next p s) ts) (Close ∷ after) p t) (left_of_and (is_built_stmt s) (is_built_body ts) built),
+  body_stands code after (next p s) ts (part_right code (code_of p s) (body_code (next p s) ts) (Close ∷ after) p t) (right_of_and (is_built_stmt s) (is_built_body ts) built),
 )
 
 -- the code of the external procedure

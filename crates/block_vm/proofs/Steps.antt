@@ -2,15 +2,16 @@
 use Rattle.std.specs.Prelude.{nat_lt, slice_get}
 use Rattle.std.proofs.lemmas.Option.{slice_get-get_or, slice_get_past}
 use Rattle.std.proofs.Common.{◌≡◌, ℕ, ◌+◌, ◌<◌, ◌≤◌, inl, inr, List, [], ◌∷◌, ◌++◌, length, get_or, Bool, true, false, Option, Some, None, refl, sym, ap, ◌∙◌, subst, arith}
-use Rattle.database_meaning.specs.declared.operation.Op.TheVariants.{End}
-use Rattle.database_meaning.specs.declared.operation.Answer.{Answer}
+use Rattle.abl_base.specs.declared.limits.TheConstants.{MAX_OUTPUT_BYTES}
+use Rattle.client_database.specs.declared.operation.Op.TheVariants.{End}
+use Rattle.client_database.specs.declared.answer.Answer.{Answer}
 use Rattle.block_meaning.specs.declared.wants.Piece.{Piece}
-use Rattle.block_meaning.specs.declared.wants.Wants.{Wants}
-use Rattle.block_meaning.specs.declared.wants.Wants.TheVariants.{Ask}
-use Rattle.block_meaning.specs.State.{Doing}
-use Rattle.block_meaning.proofs.Goes_on.{begins_further}
+use Rattle.client_database.specs.declared.next_step.NextStep.{NextStep}
+use Rattle.client_database.specs.declared.next_step.NextStep.TheVariants.{Ask}
+use Rattle.block_meaning.specs.State.{Progress}
+use Rattle.block_meaning.proofs.Continues.{begins_further}
 use Rattle.block_meaning.specs.declared.wants.Piece.TheVariants.{Wrote}
-use Rattle.block_meaning.specs.declared.ends.StopWhy.TheVariants as why
+use Rattle.client_database.specs.declared.ends.StopWhy.TheVariants as why
 use Rattle.block_code.specs.declared.code.Instr.{Instr}
 use Rattle.block_vm.specs.declared.mode.Mark.{Mark}
 use Rattle.block_vm.specs.declared.mode.Ending.{Ending}
@@ -19,7 +20,7 @@ use Rattle.block_vm.specs.declared.mode.Mode.{Mode}
 use Rattle.block_vm.specs.declared.mode.Mode.TheVariants.{Runs, Turns, Over, AsksEnter, AsksBack, AsksLeave, AsksEnd, Ended}
 use Rattle.block_vm.specs.declared.machine.Kind.TheVariants as kind
 use Rattle.block_vm.specs.Work.{AsksOwn, Waits, AsksTheEnd, Shows, rank, operations_in}
-use Rattle.block_vm.specs.Wants.{IsEnded}
+use Rattle.block_vm.specs.NextStep.{IsEnded}
 use Rattle.block_vm.proofs.Written.{wrote_more}
 use Rattle.block_vm.specs.declared.machine.Machine.{Machine}
 use Rattle.block_vm.specs.Sections.{sections_of, first_longer}
@@ -67,17 +68,17 @@ spent_step i p old new k stops same =
 
 -- a text that is written
 module _ (old new : Machine) (text : List ℕ) (mode : Mode) where
-  written_by : (b : Bool) (written : List Piece) → nat_lt 16777216 (old.state.size + length text) ≡ b → writes text mode (config_of written old) ≡ writes_if b text mode (config_of written old)
+  written_by : (b : Bool) (written : List Piece) → nat_lt MAX_OUTPUT_BYTES (old.state.size + length text) ≡ b → writes text mode (config_of written old) ≡ writes_if b text mode (config_of written old)
   written_by b written e = ap (λ b. writes_if b text mode (config_of written old)) e
 
-  pub write_fits : nat_lt 16777216 (old.state.size + length text) ≡ false → new.state.sections.items ≡ first_longer text old.state.sections.items → ((written : List Piece) → (let c : Config = record (config_of written old) { mode = mode; size = old.state.size + length text } in config_of written new ≡ c)) → DoesStep (writes text mode) old new
+  pub write_fits : nat_lt MAX_OUTPUT_BYTES (old.state.size + length text) ≡ false → new.state.sections.items ≡ first_longer text old.state.sections.items → ((written : List Piece) → (let c : Config = record (config_of written old) { mode = mode; size = old.state.size + length text } in config_of written new ≡ c)) → DoesStep (writes text mode) old new
   write_fits e sections is =
       record {
         config = λ written. ap (λ (c : Config). config_of c.written new) (written_by false written e) ∙ is (written ++ Wrote None text ∷ []) ∙ sym (written_by false written e);
         sections = λ names written has. subst (λ (c : Config). HasWritten (standing_of new) names c.written) (sym (written_by false written e)) (sections ∙ ap (first_longer text) has ∙ sym (wrote_more names written text));
       }
 
-  pub write_full : nat_lt 16777216 (old.state.size + length text) ≡ true → ((written : List Piece) → config_of written new ≡ stops (Stop why.OutputFull) (config_of written old)) → new.state.sections.items ≡ old.state.sections.items → DoesStep (writes text mode) old new
+  pub write_full : nat_lt MAX_OUTPUT_BYTES (old.state.size + length text) ≡ true → ((written : List Piece) → config_of written new ≡ stops (Stop why.OutputFull) (config_of written old)) → new.state.sections.items ≡ old.state.sections.items → DoesStep (writes text mode) old new
   write_full e is sections = plain (writes text mode) old new (λ written. is written ∙ sym (written_by true written e)) sections
 
 -- the level that Enter began
@@ -88,7 +89,7 @@ enters_is c d depth n p e deep len =
     ∙ ap (λ n. let m : Mark = record { depth = c.level + 1; olds = n } in let y : Config = record (begins p (Some m) c) { level = c.level + 1 } in y) len
 
 -- what a client that wants something waits for
-pub asked_of : (mode : Mode) (want : Wants) → wants_in mode ≡ Some want → IsUnendedIn mode → asked_in mode ≡ Some want
+pub asked_of : (mode : Mode) (want : NextStep) → wants_in mode ≡ Some want → IsUnendedIn mode → asked_in mode ≡ Some want
 asked_of (AsksEnter p) want e u = e
 asked_of (AsksBack m way p) want e u = e
 asked_of (AsksLeave d way p) want e u = e
@@ -98,10 +99,10 @@ asked_of (Turns p) want e u = e
 asked_of (Over way) want e u = e
 asked_of Ended want e u = absurd u
 
-the_same : {a b : Wants} → Some a ≡ Some b → b ≡ a
+the_same : {a b : NextStep} → Some a ≡ Some b → b ≡ a
 the_same e = cc
 
-pub shows_of : (mode : Mode) (want : Wants) → wants_in mode ≡ Some want → Shows mode want
+pub shows_of : (mode : Mode) (want : NextStep) → wants_in mode ≡ Some want → Shows mode want
 shows_of (AsksEnter p) want e = the_same e
 shows_of (AsksBack m way p) want e = the_same e
 shows_of (AsksLeave d way p) want e = the_same e
@@ -164,7 +165,7 @@ own_of (Turns p) not waits = waits
 own_of (Over way) not waits = waits
 own_of Ended not waits = waits
 
-module _ (m : List Answer → Doing) (names : List (List ℕ)) (from : List Piece) where
+module _ (m : List Answer → Progress) (names : List (List ℕ)) (from : List Piece) where
   pub begin_going : (c : Machine) → IsUnendedIn c.mode → HasWritten (standing_of c) names from → Follows m (config_of from c) → Going m names from c
   begin_going c u has f = record { pieces = from; has = has; more = itself from; unended = u; follows = f }
 
@@ -180,7 +181,7 @@ module _ (m : List Answer → Doing) (names : List (List ℕ)) (from : List Piec
         follows = subst (Follows m) (sym (d.config g.pieces)) (step_keeps m c g.follows);
       }
 
-  pub stands_going : (c : Machine) (want : Wants) → Going m names from c → asked_in c.mode ≡ Some want → GoesOn m names from (standing_of c) want
+  pub stands_going : (c : Machine) (want : NextStep) → Going m names from c → asked_in c.mode ≡ Some want → GoesOn m names from (standing_of c) want
   stands_going c want g e =
       record {
         pieces = g.pieces;
@@ -189,7 +190,7 @@ module _ (m : List Answer → Doing) (names : List (List ℕ)) (from : List Piec
         stands = inl (record { follows = g.follows; does = wants_is m (config_of g.pieces c) want g.follows e });
       }
 
-  pub fails_going : (old new : Machine) (want : Wants) → Going m names from old → new.state.sections.items ≡ old.state.sections.items → new.mode ≡ AsksEnd NoMemory → want ≡ Ask End → GoesOn m names from (standing_of new) want
+  pub fails_going : (old new : Machine) (want : NextStep) → Going m names from old → new.state.sections.items ≡ old.state.sections.items → new.mode ≡ AsksEnd NoMemory → want ≡ Ask End → GoesOn m names from (standing_of new) want
   fails_going old new want g same e asks =
       let will = finishes m (config_of g.pieces old) (unended_of old.mode g.unended) g.follows in
       record {

@@ -1,11 +1,11 @@
 -- What it is that a client does as its run means.
 use Rattle.std.specs.Prelude.{◌≡◌, ◌⊎◌, ℕ, List, [], ◌∷◌, ◌++◌, Option, Some, None}
-use Rattle.database_meaning.specs.declared.operation.Answer.{Answer}
-use Rattle.database_meaning.specs.declared.operation.Op.TheVariants.{End}
+use Rattle.client_database.specs.declared.answer.Answer.{Answer}
+use Rattle.client_database.specs.declared.operation.Op.TheVariants.{End}
 use Rattle.block_meaning.specs.declared.wants.Piece.{Piece}
-use Rattle.block_meaning.specs.declared.wants.Wants.{Wants}
-use Rattle.block_meaning.specs.declared.wants.Wants.TheVariants.{Ask}
-use Rattle.block_meaning.specs.State.{Doing}
+use Rattle.client_database.specs.declared.next_step.NextStep.{NextStep}
+use Rattle.client_database.specs.declared.next_step.NextStep.TheVariants.{Ask}
+use Rattle.block_meaning.specs.State.{Progress}
 use Rattle.block_meaning.specs.GivesUp.{Begins, IsAsked, GaveUp}
 use Rattle.block_vm.specs.declared.mode.Ending.TheVariants.{NoMemory}
 use Rattle.block_vm.specs.declared.mode.Mode.{Mode}
@@ -15,36 +15,36 @@ use Rattle.block_vm.specs.Follows.{Follows}
 use Rattle.block_vm.specs.Standing.{Standing, config_with, HasWritten}
 
 -- what a run does after these answers
-abbrev pub after : List Answer → (List Answer → Doing) → List Answer → Doing
+abbrev pub after : List Answer → (List Answer → Progress) → List Answer → Progress
 after heard m more = m (heard ++ more)
 
 -- a client that has heard these answers has written what m wrote, and goes on as m says. The named outputs have these names
-pub record Does (client : Standing) (names : List (List ℕ)) (m : List Answer → Doing) (heard : List Answer) : Type 0 where
+pub record Does (client : Standing) (names : List (List ℕ)) (m : List Answer → Progress) (heard : List Answer) : Type 0 where
   pub written : List Piece
   pub has : HasWritten client names written
   pub follows : Follows (after heard m) (config_with written client)
 
 -- memory was wanting after these answers: the client has written these pieces, and asks End
-pub record HasGivenUp (client : Standing) (names : List (List ℕ)) (m : List Answer → Doing) (heard : List Answer) (pieces : List Piece) : Type 0 where
+pub record HasGivenUp (client : Standing) (names : List (List ℕ)) (m : List Answer → Progress) (heard : List Answer) (pieces : List Piece) : Type 0 where
   pub ends : client.config.mode ≡ AsksEnd NoMemory
   pub has : HasWritten client names pieces
   pub gave : GaveUp m heard pieces
 
 -- it does as m says: it has written and wants what m says after these answers
-pub record Keeps (client : Standing) (names : List (List ℕ)) (m : List Answer → Doing) (heard : List Answer) (wants : Wants) : Type 0 where
+pub record Keeps (client : Standing) (names : List (List ℕ)) (m : List Answer → Progress) (heard : List Answer) (wants : NextStep) : Type 0 where
   pub does : Does client names m heard
   pub pieces : List Piece
   pub has : HasWritten client names pieces
   pub meant : m heard ≡ record { written = pieces; wants = wants }
 
 -- it gives up, and asks End
-pub record GivesUpAt (client : Standing) (names : List (List ℕ)) (m : List Answer → Doing) (heard : List Answer) (wants : Wants) : Type 0 where
+pub record GivesUpAt (client : Standing) (names : List (List ℕ)) (m : List Answer → Progress) (heard : List Answer) (wants : NextStep) : Type 0 where
   pub pieces : List Piece
   pub given_up : HasGivenUp client names m heard pieces
   pub asks : wants ≡ Ask End
 
 -- what came of a call after these answers
-abbrev pub Came : Standing → List (List ℕ) → (List Answer → Doing) → List Answer → Wants → Type 0
+abbrev pub Came : Standing → List (List ℕ) → (List Answer → Progress) → List Answer → NextStep → Type 0
 Came client names m heard wants = Keeps client names m heard wants ⊎ GivesUpAt client names m heard wants
 
 -- it goes on by itself
@@ -86,19 +86,19 @@ IsUnendedIn (AsksEnd ending) = Unit {0}
 IsUnendedIn Ended = ⊥
 
 -- memory is wanting, and the run asks something once it has written more
-pub record GivesUp (m : List Answer → Doing) (written : List Piece) (mode : Mode) (wants : Wants) : Type 0 where
+pub record GivesUp (m : List Answer → Progress) (written : List Piece) (mode : Mode) (wants : NextStep) : Type 0 where
   pub ends : mode ≡ AsksEnd NoMemory
   pub asks : wants ≡ Ask End
   pub asked : IsAsked (m []).wants
   pub more : Begins written (m []).written
 
 -- it stands where m stands, and wants what m wants
-pub record Stands (m : List Answer → Doing) (written : List Piece) (client : Standing) (wants : Wants) : Type 0 where
+pub record Stands (m : List Answer → Progress) (written : List Piece) (client : Standing) (wants : NextStep) : Type 0 where
   pub follows : Follows m (config_with written client)
   pub does : m [] ≡ record { written = written; wants = wants }
 
 -- it went on from what was written
-pub record GoesOn (m : List Answer → Doing) (names : List (List ℕ)) (written : List Piece) (client : Standing) (wants : Wants) : Type 0 where
+pub record GoesOn (m : List Answer → Progress) (names : List (List ℕ)) (written : List Piece) (client : Standing) (wants : NextStep) : Type 0 where
   pub pieces : List Piece
   pub has : HasWritten client names pieces
   pub more : Begins written pieces

@@ -4,7 +4,6 @@ use Rattle.abl_base.specs.declared.value.Value.TheVariants.{Logical, Unknown}
 use Rattle.block_meaning.specs.declared.wants.Piece.TheVariants.{Wrote, Opened}
 use Rattle.block_vm.specs.Sections.{sections_of}
 use Rattle.block_vm.specs.Machine.{values_at}
-use Rattle.block_vm.specs.declared.output.TheConstants.{MAX_OUTPUT_BYTES}
 
 -- the default section comes first. An output that is opened again is emptied
 pub opened_again : sections_of ((97 ∷ []) ∷ []) (Opened 0 false ∷ Wrote (Some 0) (50 ∷ []) ∷ Wrote None (49 ∷ []) ∷ Opened 0 false ∷ Wrote (Some 0) (51 ∷ []) ∷ []) ≡ record { name = []; bytes = 49 ∷ [] } ∷ record { name = 97 ∷ []; bytes = 51 ∷ [] } ∷ []
@@ -17,7 +16,3 @@ appended = refl
 -- old values go back as far as the mark, the last one first
 pub back_to_the_mark : values_at 1 (record { number = 0; value = Logical true } ∷ record { number = 0; value = Logical false } ∷ record { number = 1; value = Unknown } ∷ []) (Unknown ∷ Logical true ∷ []) ≡ Logical false ∷ Logical true ∷ []
 back_to_the_mark = refl
-
--- 16 MiB
-pub limit_is : MAX_OUTPUT_BYTES ≡ 16777216
-limit_is = refl

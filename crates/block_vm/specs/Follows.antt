@@ -4,8 +4,8 @@ use Rattle.std.specs.Prelude.{Vec}
 use Rattle.std.specs.declared.alloc.Global.{Global}
 use Rattle.abl_base.specs.declared.value.Value.{Value}
 use Rattle.abl_base.specs.declared.value.Value.TheVariants.{Unknown}
-use Rattle.database_meaning.specs.declared.operation.Op.TheVariants as op
-use Rattle.database_meaning.specs.declared.operation.Answer.{Answer}
+use Rattle.client_database.specs.declared.operation.Op.TheVariants as op
+use Rattle.client_database.specs.declared.answer.Answer.{Answer}
 use Rattle.bound_tree.specs.declared.block.BlockKind.{BlockKind}
 use Rattle.bound_tree.specs.declared.block.Flags.{Flags}
 use Rattle.bound_tree.specs.declared.block.Header.{Header as SourceHeader}
@@ -17,13 +17,14 @@ use Rattle.bound_tree.specs.Bound.{assignment_of, item_of}
 use Rattle.block_code.specs.declared.code.Instr.{Instr}
 use Rattle.block_code.specs.declared.code.Instr.TheVariants as instr
 use Rattle.block_code.specs.Built.{are_built_assignments, are_built_items}
-use Rattle.block_meaning.specs.declared.ends.ClientEnd.{ClientEnd}
-use Rattle.block_meaning.specs.declared.wants.Wants.TheVariants as wants
+use Rattle.client_database.specs.declared.ends.ClientEnd.{ClientEnd}
+use Rattle.client_database.specs.declared.next_step.NextStep.TheVariants as wants
 use Rattle.block_meaning.specs.State as state
-use Rattle.block_meaning.specs.State.{State, Frame, Stream, Copy, Doing, Course, Goes, Stands, Part, asks, and_then}
+use Rattle.block_meaning.specs.Frames as call
+use Rattle.block_meaning.specs.State.{State, Stream, Copy, Progress, Outcome as Course, Done as Goes, Suspended as Stands, Continuation as Part, and_then}
 use Rattle.block_meaning.specs.Buffers as buffers
 use Rattle.block_meaning.specs.Blocks as blocks
-use Rattle.block_meaning.specs.Meaning.{Around, retrying, heard, meaning_all, ends_in, finished}
+use Rattle.block_meaning.specs.Meaning.{Context as Around, retrying, handled as heard, meaning_all, ends_in, finished}
 use Rattle.block_meaning.specs.Streams.{no_stream}
 use Rattle.block_vm.specs.declared.mode.Mark.{Mark}
 use Rattle.block_vm.specs.declared.mode.Iteration.{Iteration}
@@ -139,13 +140,13 @@ abbrev pub after_turn : Around → Outer → Course → Course
 after_turn w o r = behind_block w o.outer o.after (blocks.and_again r (turns_of w o o.fuel))
 
 -- what a client does that has this course inside of these blocks, the innermost first
-abbrev pub goes_on : Around → List Outer → Course → Doing
+abbrev pub goes_on : Around → List Outer → Course → Progress
 goes_on w [] r = finished r
 goes_on w (o ∷ os) r = goes_on w os (after_turn w o (blocks.ends w.program (header_in o) (iteration_in o) r))
 
 -- statements that may be those behind the external procedure's block, where there are none
 abbrev pub all_in : Around → Bool → Option Body → Part
-all_in w retry None s ans = Goes state.Ran s ans
+all_in w retry None s ans = Goes state.Normal s ans
 all_in w retry (Some left) s ans = all_of w retry left s ans
 
 -- ---- the state
@@ -153,7 +154,7 @@ all_in w retry (Some left) s ans = all_of w retry left s ans
 -- what a client's state has that no statement changes so far
 abbrev pub state_of : List Stream → Config → State
 state_of streams c = record {
-  frames = record { procedure = 0; undoable = c.undoable; kept = c.kept; buffers = [] } ∷ [];
+  frames = record { procedure = 0; undoable = c.undoable; no_undo = c.no_undo; buffers = [] } ∷ [];
   level = c.level;
   units = c.units;
   made = 0;
@@ -175,8 +176,8 @@ copy_of olds undoable None = None
 copy_of olds undoable (Some m) = Some (copy_at m olds undoable)
 
 -- the way as the meaning has it, where RETRY was so at the UNDO
-abbrev pub way_of : Bool → List Old → List Value → Way → state.Way
-way_of retry olds undoable Ran = state.Ran
+abbrev pub way_of : Bool → List Old → List Value → Way → state.Completion
+way_of retry olds undoable Ran = state.Normal
 way_of retry olds undoable (Leaves l) = state.Leaves l
 way_of retry olds undoable (Undoes block leave first) = state.Undoes block (ThenLeave leave) retry (record { first = copy_of olds undoable first; buffers = [] })
 way_of retry olds undoable (Raises first) = state.Raises (record { first = copy_of olds undoable first; buffers = [] })
@@ -247,7 +248,7 @@ AreOpenIn c top deep os = AreOpen c.code c.units c.olds c.undoable top deep os c
 -- what a client does from here on is m, for each list of answers
 module _ (w : Around) (streams : List Stream) where
   -- at an instruction
-  pub record FollowsRun (m : List Answer → Doing) (c : Config) (p : ℕ) : Type 0 where
+  pub record FollowsRun (m : List Answer → Progress) (c : Config) (p : ℕ) : Type 0 where
     pub left : Option Body
     pub retry : Bool
     pub os : List Outer
@@ -256,7 +257,7 @@ module _ (w : Around) (streams : List Stream) where
     pub does : (ans : List Answer) → m ans ≡ goes_on w os (all_in w retry left (state_of streams c) ans)
 
   -- at a turn
-  pub record FollowsTurn (m : List Answer → Doing) (c : Config) (p : ℕ) : Type 0 where
+  pub record FollowsTurn (m : List Answer → Progress) (c : Config) (p : ℕ) : Type 0 where
     pub o : Outer
     pub os : List Outer
     pub at : IsAt c.code c.units os o p
@@ -264,7 +265,7 @@ module _ (w : Around) (streams : List Stream) where
     pub does : (ans : List Answer) → m ans ≡ goes_on w os (behind_block w o.outer o.after (turns_of w o o.fuel only_turn (state_of streams c) ans))
 
   -- on a way out
-  pub record FollowsWay (m : List Answer → Doing) (c : Config) (way : Way) : Type 0 where
+  pub record FollowsWay (m : List Answer → Progress) (c : Config) (way : Way) : Type 0 where
     pub retry : Bool
     pub os : List Outer
     pub marked : IsMarked (length c.olds) c.level (mark_of way)
@@ -272,12 +273,12 @@ module _ (w : Around) (streams : List Stream) where
     pub does : (ans : List Answer) → m ans ≡ goes_on w os (Goes (way_of retry c.olds c.undoable way) (state_of streams c) ans)
 
   -- at Enter
-  pub record FollowsEnter (m : List Answer → Doing) (c : Config) (p : ℕ) : Type 0 where
+  pub record FollowsEnter (m : List Answer → Progress) (c : Config) (p : ℕ) : Type 0 where
     pub o : Outer
     pub os : List Outer
     pub at : IsAt c.code c.units os o p
     pub opened : AreOpenIn c (length c.olds) c.level os
-    pub does : (ans : List Answer) → m ans ≡ goes_on w os (after_turn w o (state.hears op.Enter (λ a s ans. blocks.begins w.program (header_in o) (Some (state.copy_of s)) only_turn (retry_in o) (all_of w (retry_in o) o.body) (blocks.deeper s) ans) (state_of streams c) ans))
+    pub does : (ans : List Answer) → m ans ≡ goes_on w os (after_turn w o (state.awaits op.Enter (λ a s ans. blocks.begins w.program (header_in o) (Some (call.copy_of s)) only_turn (retry_in o) (all_of w (retry_in o) o.body) (blocks.deeper s) ans) (state_of streams c) ans))
 
   -- a way that is no UNDO and no ERROR
   abbrev pub IsOwn : Way → Type 0
@@ -290,11 +291,11 @@ module _ (w : Around) (streams : List Stream) where
   pub record GoesAs (k : Course → Course) (way : Way) : Type 0 where
     pub own : IsOwn way
     pub ends : (end : ClientEnd) (s : State) (ans : List Answer) → k (Goes (state.Stops end) s ans) ≡ Goes (state.Stops end) s ans
-    pub stands : (d : Doing) → k (Stands d) ≡ Stands d
-    pub goes : (s : State) (ans : List Answer) → k (Goes state.Ran s ans) ≡ Goes (way_of false [] [] way) s ans
+    pub stands : (d : Progress) → k (Stands d) ≡ Stands d
+    pub goes : (s : State) (ans : List Answer) → k (Goes state.Normal s ans) ≡ Goes (way_of false [] [] way) s ans
 
   -- at Leave
-  pub record FollowsLeave (m : List Answer → Doing) (c : Config) (d : ℕ) (way : Way) (p : ℕ) : Type 0 where
+  pub record FollowsLeave (m : List Answer → Progress) (c : Config) (d : ℕ) (way : Way) (p : ℕ) : Type 0 where
     pub o : Outer
     pub os : List Outer
     pub k : Course → Course
@@ -303,20 +304,20 @@ module _ (w : Around) (streams : List Stream) where
     pub depth : d ≡ c.level
     pub deep : 0 < d
     pub opened : AreOpenIn c (length c.olds) (c.level - 1) os
-    pub does : (ans : List Answer) → m ans ≡ goes_on w os (after_turn w o (k (state.hears (op.Leave []) buffers.was_left (state_of streams c) ans)))
+    pub does : (ans : List Answer) → m ans ≡ goes_on w os (after_turn w o (k (state.awaits (op.Leave []) buffers.was_left (state_of streams c) ans)))
 
   -- at Back
-  pub record FollowsBack (m : List Answer → Doing) (c : Config) (mark : Mark) (way : Way) (p : ℕ) : Type 0 where
+  pub record FollowsBack (m : List Answer → Progress) (c : Config) (mark : Mark) (way : Way) (p : ℕ) : Type 0 where
     pub o : Outer
     pub os : List Outer
     pub own : IsOwn way
     pub at : IsAt c.code c.units os o p
     pub marked : IsMarked (length c.olds) c.level (Some mark)
     pub opened : AreOpenIn c mark.olds (mark.depth - 1) os
-    pub does : (ans : List Answer) → m ans ≡ goes_on w os (after_turn w o (and_then (state.hears (op.Back mark.depth) (λ a. blocks.comes_back (copy_at mark c.olds c.undoable) []) (state_of streams c) ans) (state.goes (way_of false [] [] way))))
+    pub does : (ans : List Answer) → m ans ≡ goes_on w os (after_turn w o (and_then (state.awaits (op.Back mark.depth) (λ a. blocks.after_back (copy_at mark c.olds c.undoable) []) (state_of streams c) ans) (state.completes (way_of false [] [] way))))
 
   -- in this mode
-  abbrev pub FollowsIn : Mode → (List Answer → Doing) → Config → Type 0
+  abbrev pub FollowsIn : Mode → (List Answer → Progress) → Config → Type 0
   FollowsIn (Runs p) m c = FollowsRun m c p
   FollowsIn (Turns p) m c = FollowsTurn m c p
   FollowsIn (Over way) m c = FollowsWay m c way
@@ -331,7 +332,7 @@ abbrev pub IsUnopened : List Stream → Type 0
 IsUnopened streams = (slice_index_or streams 0 no_stream) ≡ no_stream
 
 -- the client stands where m stands
-pub record Follows (m : List Answer → Doing) (c : Config) : Type 0 where
+pub record Follows (m : List Answer → Progress) (c : Config) : Type 0 where
   pub w : Around
   pub streams : List Stream
   pub unopened : IsUnopened streams

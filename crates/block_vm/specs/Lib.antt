@@ -1,4 +1,4 @@
-pub mod Wants
+pub mod NextStep
 pub mod Sections
 pub mod Machine
 pub mod Standing

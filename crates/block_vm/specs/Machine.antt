@@ -2,16 +2,17 @@
 use Rattle.std.specs.Prelude.{ℕ, zero, suc, ◌+◌, ◌-◌, ◌==◌, nat_lt, nat_le, ◌&&◌, codes, List, [], ◌∷◌, ◌++◌, length, Bool, true, false, Option, Some, None, Result, Ok, Err, slice_get, slice_set, slice_index_or, replicate}
 use Rattle.abl_base.specs.declared.value.Value.{Value}
 use Rattle.abl_base.specs.declared.value.Value.TheVariants.{Text, Int, Int64, Dec, Logical, Date, Unknown}
-use Rattle.abl_base.specs.declared.value.TheConstants.{MAX_TEXT_BYTES}
+use Rattle.abl_base.specs.declared.limits.TheConstants.{MAX_TEXT_BYTES, MAX_OUTPUT_BYTES}
 use Rattle.abl_values.specs.declared.arithmetic.ArithFault.{ArithFault}
 use Rattle.abl_values.specs.Fit.{fitted}
 use Rattle.abl_values.specs.Texts.{plain_text}
-use Rattle.database_meaning.specs.declared.operation.Op.TheVariants as op
-use Rattle.database_meaning.specs.declared.operation.Answer.{Answer}
-use Rattle.database_meaning.specs.declared.operation.Answer.TheVariants as answer
+use Rattle.client_database.specs.declared.operation.Op.TheVariants as op
+use Rattle.client_database.specs.declared.answer.Answer.{Answer}
+use Rattle.client_database.specs.declared.answer.Answer.TheVariants as answer
 use Rattle.bound_tree.specs.declared.expression.Variable.{Variable}
 use Rattle.bound_tree.specs.declared.expression.Expr.{Expr}
 use Rattle.bound_tree.specs.declared.expression.Expr.TheVariants as e
+use Rattle.block_code.specs.Built.{stripped}
 use Rattle.bound_tree.specs.declared.block.Action.{Action}
 use Rattle.bound_tree.specs.declared.block.Action.TheVariants as action
 use Rattle.bound_tree.specs.declared.block.Header.{Header}
@@ -24,14 +25,14 @@ use Rattle.bound_tree.specs.declared.statement.PutItem.{PutItem}
 use Rattle.bound_tree.specs.declared.statement.PutItem.TheVariants as put
 use Rattle.block_code.specs.declared.code.Instr.{Instr}
 use Rattle.block_code.specs.declared.code.Instr.TheVariants.{Open, Close, Assign, Put, Undo}
-use Rattle.block_meaning.specs.declared.ends.StopWhy.TheVariants as why
-use Rattle.block_meaning.specs.declared.ends.ClientEnd.{ClientEnd}
-use Rattle.block_meaning.specs.declared.ends.ClientEnd.TheVariants as client
+use Rattle.client_database.specs.declared.ends.StopWhy.TheVariants as why
+use Rattle.client_database.specs.declared.ends.ClientEnd.{ClientEnd}
+use Rattle.client_database.specs.declared.ends.ClientEnd.TheVariants as client
 use Rattle.block_meaning.specs.declared.wants.Piece.{Piece}
 use Rattle.block_meaning.specs.declared.wants.Piece.TheVariants.{Wrote}
-use Rattle.block_meaning.specs.declared.wants.Wants.{Wants}
-use Rattle.block_meaning.specs.declared.wants.Wants.TheVariants.{Ask}
-use Rattle.block_meaning.specs.declared.wants.Wants.TheVariants as wants
+use Rattle.client_database.specs.declared.next_step.NextStep.{NextStep}
+use Rattle.client_database.specs.declared.next_step.NextStep.TheVariants.{Ask}
+use Rattle.client_database.specs.declared.next_step.NextStep.TheVariants as wants
 use Rattle.block_vm.specs.declared.mode.Mark.{Mark}
 use Rattle.block_vm.specs.declared.mode.Iteration.{Iteration}
 use Rattle.block_vm.specs.declared.mode.Way.{Way}
@@ -43,8 +44,8 @@ use Rattle.block_vm.specs.declared.mode.Mode.TheVariants.{Runs, Turns, Over, Ask
 use Rattle.block_vm.specs.declared.state.Old.{Old}
 use Rattle.block_vm.specs.declared.machine.Kind.{Kind}
 use Rattle.block_vm.specs.declared.machine.Kind.TheVariants as kind
-use Rattle.block_vm.specs.declared.machine.Heard.{Heard}
-use Rattle.block_vm.specs.declared.machine.Heard.TheVariants.{Blocked, Done, Ends}
+use Rattle.block_vm.specs.declared.machine.AnswerClass.{AnswerClass}
+use Rattle.block_vm.specs.declared.machine.AnswerClass.TheVariants.{Blocked, Done, Ends}
 
 -- one of two, as a test says
 abbrev pub this_or : {A : Type 0} → Bool → A → A → A
@@ -57,7 +58,7 @@ pub record Config : Type 0 where
   pub mode : Mode
   pub opened : List Iteration
   pub undoable : List Value
-  pub kept : List Value
+  pub no_undo : List Value
   pub olds : List Old
   pub level : ℕ
   pub units : ℕ
@@ -91,12 +92,12 @@ paid go c = paid_from c.units go c
 
 -- a variable by its number
 abbrev pub value_as : Bool → ℕ → List Value → List Value → Value
-value_as true n undoable kept = slice_index_or undoable n Unknown
-value_as false n undoable kept = slice_index_or kept n Unknown
+value_as true n undoable no_undo = slice_index_or undoable n Unknown
+value_as false n undoable no_undo = slice_index_or no_undo n Unknown
 
 -- its value
 abbrev pub value_in : Variable → List Value → List Value → Value
-value_in x undoable kept = value_as x.undoable x.number undoable kept
+value_in x undoable no_undo = value_as x.undoable x.number undoable no_undo
 
 -- the old value is kept where a level is open
 abbrev pub with_old : ℕ → ℕ → Value → List Old → List Old
@@ -106,7 +107,7 @@ with_old (suc level) n old olds = record { number = n; value = old } ∷ olds
 -- a variable by its number has another value
 abbrev pub set_as : Bool → ℕ → Value → Config → Config
 set_as true n v c = record c { undoable = slice_set c.undoable n v; olds = with_old c.level n (slice_index_or c.undoable n Unknown) c.olds }
-set_as false n v c = record c { kept = slice_set c.kept n v }
+set_as false n v c = record c { no_undo = slice_set c.no_undo n v }
 
 -- a variable has another value
 abbrev pub set_var : Variable → Value → Config → Config
@@ -132,14 +133,24 @@ abbrev pub set_fitted : Variable → Result Value ArithFault → Config → Conf
 set_fitted x (Ok v) c = set_var x v c
 set_fitted x (Err fault) c = c
 
+-- a variable gets a literal
+abbrev pub set_literal : Variable → Expr → Config → Config
+set_literal x (e.Literal v) c = set_fitted x (fitted v x.kind) c
+set_literal x a c = c
+
 -- a target gets its right side
 abbrev pub set_right : Target → Right → Config → Config
-set_right (target.Variable x) (right.Value (e.Literal v)) c = set_fitted x (fitted v x.kind) c
+set_right (target.Variable x) (right.Value a) c = set_literal x (stripped a) c
 set_right t r c = c
+
+-- a literal is in range of its variable
+abbrev pub literal_fits : Variable → Expr → Bool
+literal_fits x (e.Literal v) = is_short v && is_value (fitted v x.kind)
+literal_fits x a = true
 
 -- the right side is in range of its target
 abbrev pub fits : Target → Right → Bool
-fits (target.Variable x) (right.Value (e.Literal v)) = is_short v && is_value (fitted v x.kind)
+fits (target.Variable x) (right.Value a) = literal_fits x (stripped a)
 fits t r = true
 
 -- that of each assignment is
@@ -154,27 +165,35 @@ set_all (x ∷ xs) c = this_or (fits x.target x.right) (set_all xs (set_right x.
 
 -- ---- texts
 
+-- the text of a literal or a variable
+abbrev pub simple_text : Expr → List Value → List Value → List ℕ
+simple_text (e.Literal v) undoable no_undo = plain_text v
+simple_text (e.Variable x) undoable no_undo = plain_text (value_in x undoable no_undo)
+simple_text a undoable no_undo = []
+
 -- the text of what is shown
 abbrev pub shown_text : Expr → List Value → List Value → List ℕ
-shown_text (e.Literal v) undoable kept = plain_text v
-shown_text (e.Variable x) undoable kept = plain_text (value_in x undoable kept)
-shown_text a undoable kept = []
+shown_text a undoable no_undo = simple_text (stripped a) undoable no_undo
 
 -- the text of an item
 abbrev pub item_text : PutItem → List Value → List Value → List ℕ
-item_text (put.Shows a mask) undoable kept = shown_text a undoable kept
-item_text (put.Skip n) undoable kept = replicate n 10
-item_text (put.Space n) undoable kept = replicate n 32
+item_text (put.Shows a mask) undoable no_undo = shown_text a undoable no_undo
+item_text (put.Skip n) undoable no_undo = replicate n 10
+item_text (put.Space n) undoable no_undo = replicate n 32
 
 -- of all items
 abbrev pub items_text : List PutItem → List Value → List Value → List ℕ
-items_text [] undoable kept = []
-items_text (x ∷ xs) undoable kept = item_text x undoable kept ++ items_text xs undoable kept
+items_text [] undoable no_undo = []
+items_text (x ∷ xs) undoable no_undo = item_text x undoable no_undo ++ items_text xs undoable no_undo
 
 -- what is shown is no text literal that is too long
+abbrev pub simple_is_short : Expr → Bool
+simple_is_short (e.Literal v) = is_short v
+simple_is_short a = true
+
+-- likewise
 abbrev pub shown_is_short : Expr → Bool
-shown_is_short (e.Literal v) = is_short v
-shown_is_short a = true
+shown_is_short a = simple_is_short (stripped a)
 
 -- in an item
 abbrev pub item_is_short : PutItem → Bool
@@ -194,7 +213,7 @@ writes_if false text mode c = record c { mode = mode; written = c.written ++ Wro
 
 -- as much as fits into the output
 abbrev pub writes : List ℕ → Mode → Config → Config
-writes text mode c = writes_if (nat_lt 16777216 (c.size + length text)) text mode c
+writes text mode c = writes_if (nat_lt MAX_OUTPUT_BYTES (c.size + length text)) text mode c
 
 -- the line about a value that is out of range
 abbrev pub range_line : List ℕ
@@ -236,7 +255,7 @@ does None p c = c
 does (Some Close) p c = c
 does (Some (Open h to)) p c = record c { mode = Turns p }
 does (Some (Assign pairs quiet)) p c = runs_or_errs (all_fit pairs.items) (p + 1) (set_all pairs.items c)
-does (Some (Put stream items)) p c = puts (are_short items.items) (items_text items.items c.undoable c.kept) (p + 1) c
+does (Some (Put stream items)) p c = puts (are_short items.items) (items_text items.items c.undoable c.no_undo) (p + 1) c
 does (Some (Undo block action)) p c = undo_from block action c
 
 -- what is done about it
@@ -401,14 +420,14 @@ taken_back m way p c =
     level_ends (Some m) way p (record c { undoable = values_at m.olds c.olds c.undoable; olds = olds_at m.olds c.olds; level = m.depth })
 
 -- what an answer makes of what was asked
-abbrev pub heard_of : Answer → Heard
-heard_of (answer.Blocked holders) = Blocked
-heard_of answer.NoMemory = Ends NoMemory
-heard_of answer.Closed = Ends (Stop why.Closed)
-heard_of (answer.Deadlock cycle) = Ends (Stop why.Deadlock)
-heard_of answer.TxFull = Ends (Stop why.TxFull)
-heard_of answer.TraceFull = Ends (Stop why.TraceFull)
-heard_of a = Done
+abbrev pub class_in : Answer → AnswerClass
+class_in (answer.Blocked holders) = Blocked
+class_in answer.NoMemory = Ends NoMemory
+class_in answer.Closed = Ends (Stop why.Closed)
+class_in (answer.Deadlock cycle) = Ends (Stop why.Deadlock)
+class_in answer.TxFull = Ends (Stop why.TxFull)
+class_in answer.TraceFull = Ends (Stop why.TraceFull)
+class_in a = Done
 
 -- what was asked is done
 abbrev pub proceeds_in : Mode → Config → Config
@@ -422,7 +441,7 @@ proceeds_in (Over way) c = c
 proceeds_in Ended c = c
 
 -- the client has heard
-abbrev pub hears : Heard → Config → Config
+abbrev pub hears : AnswerClass → Config → Config
 hears Blocked c = c
 hears Done c = proceeds_in c.mode c
 hears (Ends ending) c = stops ending c
@@ -434,7 +453,7 @@ end_of (Stop why) = client.Stop why
 end_of NoMemory = client.NoMemory
 
 -- what a client asks that waits
-abbrev pub asked_in : Mode → Option Wants
+abbrev pub asked_in : Mode → Option NextStep
 asked_in (AsksEnter p) = Some (Ask op.Enter)
 asked_in (AsksBack m way p) = Some (Ask (op.Back m.depth))
 asked_in (AsksLeave d way p) = Some (Ask (op.Leave []))
@@ -445,7 +464,7 @@ asked_in (Over way) = None
 asked_in Ended = None
 
 -- or has ended, which is asked no more
-abbrev pub wants_in : Mode → Option Wants
+abbrev pub wants_in : Mode → Option NextStep
 wants_in (AsksEnter p) = Some (Ask op.Enter)
 wants_in (AsksBack m way p) = Some (Ask (op.Back m.depth))
 wants_in (AsksLeave d way p) = Some (Ask (op.Leave []))

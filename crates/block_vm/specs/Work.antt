@@ -4,10 +4,10 @@ use Rattle.block_vm.specs.declared.mode.Mode.{Mode}
 use Rattle.block_vm.specs.declared.mode.Mode.TheVariants.{Runs, Turns, Over, AsksEnter, AsksBack, AsksLeave, AsksEnd, Ended}
 use Rattle.block_vm.specs.declared.machine.Machine.{Machine}
 use Rattle.block_vm.specs.Standing.{Standing}
-use Rattle.block_meaning.specs.declared.wants.Wants.{Wants}
-use Rattle.block_meaning.specs.declared.wants.Wants.TheVariants.{Ask}
-use Rattle.block_vm.specs.Wants.{IsEnded}
-use Rattle.database_meaning.specs.declared.operation.Op.TheVariants.{Enter, Back, Leave, End}
+use Rattle.client_database.specs.declared.next_step.NextStep.{NextStep}
+use Rattle.client_database.specs.declared.next_step.NextStep.TheVariants.{Ask}
+use Rattle.block_vm.specs.NextStep.{IsEnded}
+use Rattle.client_database.specs.declared.operation.Op.TheVariants.{Enter, Back, Leave, End}
 
 -- a mode that goes on by itself, by how near it is to the next operation
 abbrev pub rank : Mode → ℕ
@@ -66,7 +66,7 @@ abbrev pub IsEnding : Standing → Type 0
 IsEnding s = AsksTheEnd s.config.mode
 
 -- what a client in this mode wants
-abbrev pub Shows : Mode → Wants → Type 0
+abbrev pub Shows : Mode → NextStep → Type 0
 Shows (Runs place) wants = ⊥
 Shows (Turns place) wants = ⊥
 Shows (Over way) wants = ⊥
@@ -76,5 +76,5 @@ Shows (AsksLeave depth way place) wants = wants ≡ Ask (Leave [])
 Shows (AsksEnd ending) wants = wants ≡ Ask End
 Shows Ended wants = IsEnded wants
 
-abbrev pub ShowsWants : Standing → Wants → Type 0
+abbrev pub ShowsWants : Standing → NextStep → Type 0
 ShowsWants s wants = Shows s.config.mode wants

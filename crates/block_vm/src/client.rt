@@ -1,18 +1,18 @@
 //! The client: a machine that its callers see as where it stands and what it has written.
 
 ghost use Rattle.std.specs.Prelude.{◌≡◌, ◌<◌, ℕ, List, [], ◌⊎◌, Some, IfOk, IfSome};
-ghost use Rattle.database_meaning.specs.declared.operation.Answer.{Answer};
+ghost use Rattle.client_database.specs.declared.answer.Answer.{Answer};
 ghost use Rattle.bound_tree.specs.declared.procedure.Bound.{Bound};
 ghost use Rattle.bound_tree.specs.Bound.{source_of};
 ghost use Rattle.block_code.specs.Code.{StandsFor};
 ghost use Rattle.block_code.specs.Built.{IsBuilt};
-ghost use Rattle.block_meaning.specs.declared.ends.ClientEnd.{ClientEnd};
+ghost use Rattle.client_database.specs.declared.ends.ClientEnd.{ClientEnd};
 ghost use Rattle.block_meaning.specs.declared.wants.Piece.{Piece};
-ghost use Rattle.block_meaning.specs.declared.wants.Wants.{Wants};
+ghost use Rattle.client_database.specs.declared.next_step.NextStep.{NextStep};
 ghost use Rattle.block_meaning.specs.Program.{Program};
-ghost use Rattle.block_meaning.specs.State.{Doing};
+ghost use Rattle.block_meaning.specs.State.{Progress};
 ghost use Rattle.block_meaning.specs.Meaning.{run as run_of};
-ghost use Rattle.block_vm.specs.Wants.{IsAsking, IsEnded, IsPlain, IsLevelOp};
+ghost use Rattle.block_vm.specs.NextStep.{IsAsking, IsEnded, IsPlain, IsLevelOp};
 ghost use Rattle.block_vm.specs.Sections.{sections_of};
 ghost use Rattle.block_vm.specs.Standing.{HasWritten};
 ghost use Rattle.block_vm.specs.Work.{most_operations, IsWaiting, IsEnding, ShowsWants};
@@ -21,8 +21,8 @@ ghost use Rattle.block_vm.specs.Does.{Does, HasGivenUp, Came, HasNotBegun, IsExp
 use crate::machine::Machine;
 use crate::output::Section;
 use block_code::Code;
-use block_meaning::Wants;
-use database_meaning::Answer;
+use block_meaning::NextStep;
+use client_database::Answer;
 use std::alloc::{AllocError, Global};
 use std::marker::Model;
 
@@ -48,19 +48,19 @@ impl Model for Client {
 
 impl Client {
     /// A client that has not begun, with so many units. Want of memory is the only refusal.
-    pub fn new(alloc: Global, code: Code, budget: u64) -> Result<Client, AllocError>
-        ensures does { IfOk result (λ client. (bound : Bound) (p : Program) → StandsFor code bound → IsBuilt bound → p.source ≡ source_of bound → Does client bound.outputs.items (run_of p budget) []) }
+    pub fn new(alloc: Global, code: Code, units: u64) -> Result<Client, AllocError>
+        ensures does { IfOk result (λ client. (bound : Bound) (p : Program) → StandsFor code bound → IsBuilt bound → p.source ≡ source_of bound → Does client bound.outputs.items (run_of p units) []) }
         ensures begins { IfOk result (λ client. HasNotBegun client) }
     {
-        let machine = Machine::new(alloc, code, budget)?;
+        let machine = Machine::new(alloc, code, units)?;
         Ok(Client { machine })
     }
 
     /// The answer to what was asked last, none at the first call; then what the client asks next,
     /// or how it has ended. Blocked makes it ask the same operation again.
-    pub fn resume(&mut self, answer: Option<Answer>) -> Wants
-        ensures does { (names : List (List ℕ)) (m : List Answer → Doing) (heard : List Answer) → IsExpected answer self.old heard → Does self.old names m heard → Came self.new names m (heard_too heard answer) result }
-        ensures given_up { (names : List (List ℕ)) (m : List Answer → Doing) (heard : List Answer) (pieces : List Piece) → HasGivenUp self.old names m heard pieces → IfSome answer (λ _. (result ≡ Wants.Ended ClientEnd.NoMemory) × HasWritten self.new names pieces) }
+    pub fn resume(&mut self, answer: Option<Answer>) -> NextStep
+        ensures does { (names : List (List ℕ)) (m : List Answer → Progress) (heard : List Answer) → IsExpected answer self.old heard → Does self.old names m heard → Came self.new names m (heard_too heard answer) result }
+        ensures given_up { (names : List (List ℕ)) (m : List Answer → Progress) (heard : List Answer) (pieces : List Piece) → HasGivenUp self.old names m heard pieces → IfSome answer (λ _. (result ≡ NextStep.Ended ClientEnd.NoMemory) × HasWritten self.new names pieces) }
         ensures waits { IsAsking result → IsWaiting self.new }
         ensures level { IsLevelOp result }
         ensures fewer { IfSome answer (λ a. IsPlain a → IsWaiting self.old → most_operations self.new < most_operations self.old) }

@@ -12,6 +12,6 @@ pub mod output;
 mod plain_text;
 pub mod state;
 
-pub use block_meaning::Wants;
+pub use block_meaning::NextStep;
 pub use client::Client;
-pub use output::{MAX_OUTPUT_BYTES, Section};
+pub use output::Section;

@@ -1,22 +1,22 @@
 //! The machine of a client: what it does step by step, and from one answer to the next operation.
 
 ghost use Rattle.std.specs.Prelude.{◌≡◌, ◌≢◌, ◌+◌, ◌-◌, ◌<◌, ◌≤◌, ◌++◌, ◌∷◌, ℕ, List, [], true, false, ◌⊎◌, Some, None, OnOk, OnErr, IfOk, IfSome, length, slice_get};
-ghost use Rattle.database_meaning.specs.declared.operation.Answer.{Answer};
+ghost use Rattle.client_database.specs.declared.answer.Answer.{Answer};
 ghost use Rattle.bound_tree.specs.declared.procedure.Bound.{Bound};
 ghost use Rattle.bound_tree.specs.Bound.{source_of};
 ghost use Rattle.block_code.specs.Code.{StandsFor};
 ghost use Rattle.block_code.specs.Built.{IsBuilt};
 ghost use Rattle.block_meaning.specs.declared.wants.Piece.{Piece};
-ghost use Rattle.block_meaning.specs.declared.wants.Wants.{Wants};
+ghost use Rattle.client_database.specs.declared.next_step.NextStep.{NextStep};
 ghost use Rattle.block_meaning.specs.Program.{Program};
-ghost use Rattle.block_meaning.specs.State.{Doing};
+ghost use Rattle.block_meaning.specs.State.{Progress};
 ghost use Rattle.block_meaning.specs.Meaning.{run as run_of};
 ghost use Rattle.block_vm.specs.declared.mode.Mode.{Mode};
 ghost use Rattle.block_vm.specs.declared.mode.Ending.{Ending};
-ghost use Rattle.block_vm.specs.declared.machine.Heard.{Heard};
-ghost use Rattle.block_vm.specs.Wants.{IsAsking, IsEnded, IsPlain, IsLevelOp};
+ghost use Rattle.block_vm.specs.declared.machine.AnswerClass.{AnswerClass};
+ghost use Rattle.block_vm.specs.NextStep.{IsAsking, IsEnded, IsPlain, IsLevelOp};
 ghost use Rattle.block_vm.specs.Sections.{sections_of};
-ghost use Rattle.block_vm.specs.Machine.{Config, paid, act, does, turn, enters_if, enters_at as enters_in, begins as begins_at, out_of as out_at, goes, level_ends, undone, undo_comes, first_mark, iteration_ends, unwind, step as step_of, heard_of, hears, proceeds_in, end_of as ended_as, kind_of, undo_way as way_undone, over_mode, wants_in, stops, is_block as is_block_at, can_undo as can_undo_at, error_comes, errs, writes};
+ghost use Rattle.block_vm.specs.Machine.{Config, paid, act, does, turn, enters_if, enters_at as enters_in, begins as begins_at, out_of as out_at, goes, level_ends, undone, undo_comes, first_mark, iteration_ends, unwind, step as step_of, class_in, hears, proceeds_in, end_of as ended_as, kind_of, undo_way as way_undone, over_mode, wants_in, stops, is_block as is_block_at, can_undo as can_undo_at, error_comes, errs, writes};
 ghost use Rattle.block_vm.specs.Standing.{HasWritten};
 ghost use Rattle.block_vm.specs.Client.{config_of, standing_of, DoesStep};
 ghost use Rattle.block_vm.specs.Follows.{Follows};
@@ -25,11 +25,10 @@ ghost use Rattle.block_vm.specs.Does.{Does, HasGivenUp, Came, GoesOn, IsUnendedI
 use crate::mode::{Ending, Iteration, Mark, Mode, Way};
 use crate::output::Section;
 use crate::state::{State, are_short};
-use abl_base::Rows;
 use block_code::{Code, Instr};
-use block_meaning::{ClientEnd, StopWhy, Wants};
+use block_meaning::{ClientEnd, NextStep, StopWhy};
 use bound_tree::{Action, Header};
-use database_meaning::{Answer, Op};
+use client_database::{Answer, Op, RowIds};
 use std::alloc::{AllocError, Global};
 
 /// The line about a value that is out of range.
@@ -50,14 +49,14 @@ impl Machine {
     ghost use Rattle.block_vm.specs.Work.{rank, weight, weight_in, most_operations, operations_in, AsksOwn, IsWaiting, IsEnding, ShowsWants};
 
     /// The machine of a client that has not begun.
-    pub fn new(alloc: Global, code: Code, budget: u64) -> Result<Machine, AllocError>
-        ensures does { IfOk result (λ machine. (bound : Bound) (p : Program) → StandsFor code bound → IsBuilt bound → p.source ≡ source_of bound → Does (standing_of machine) bound.outputs.items (run_of p budget) []) }
+    pub fn new(alloc: Global, code: Code, units: u64) -> Result<Machine, AllocError>
+        ensures does { IfOk result (λ machine. (bound : Bound) (p : Program) → StandsFor code bound → IsBuilt bound → p.source ≡ source_of bound → Does (standing_of machine) bound.outputs.items (run_of p units) []) }
         ensures begins { IfOk result (λ machine. HasNotBegun (standing_of machine)) }
     {
         let Code {
             instrs,
             undoable,
-            kept,
+            no_undo,
             inputs: _,
         } = code;
         Ok(Machine {
@@ -65,7 +64,7 @@ impl Machine {
             code: instrs,
             mode: Mode::Turns(0),
             opened: Vec::new(alloc),
-            state: State::new(alloc, undoable, kept, budget)?,
+            state: State::new(alloc, undoable, no_undo, units)?,
         })
     }
 
@@ -78,9 +77,9 @@ impl Machine {
 
     /// The answer to what was asked last, none at the first call; then what the client asks next,
     /// or how it has ended.
-    pub fn resume(&mut self, answer: Option<Answer>) -> Wants
-        ensures does { (names : List (List ℕ)) (m : List Answer → Doing) (heard : List Answer) → IsExpected answer (standing_of self.old) heard → Does (standing_of self.old) names m heard → Came (standing_of self.new) names m (heard_too heard answer) result }
-        ensures given_up { (names : List (List ℕ)) (m : List Answer → Doing) (heard : List Answer) (pieces : List Piece) → HasGivenUp (standing_of self.old) names m heard pieces → IfSome answer (λ _. (result ≡ Wants.Ended ClientEnd.NoMemory) × HasWritten (standing_of self.new) names pieces) }
+    pub fn resume(&mut self, answer: Option<Answer>) -> NextStep
+        ensures does { (names : List (List ℕ)) (m : List Answer → Progress) (heard : List Answer) → IsExpected answer (standing_of self.old) heard → Does (standing_of self.old) names m heard → Came (standing_of self.new) names m (heard_too heard answer) result }
+        ensures given_up { (names : List (List ℕ)) (m : List Answer → Progress) (heard : List Answer) (pieces : List Piece) → HasGivenUp (standing_of self.old) names m heard pieces → IfSome answer (λ _. (result ≡ NextStep.Ended ClientEnd.NoMemory) × HasWritten (standing_of self.new) names pieces) }
         ensures fewer { IfSome answer (λ a. IsPlain a → IsWaiting (standing_of self.old) → most_operations (standing_of self.new) < most_operations (standing_of self.old)) }
         ensures wants { ShowsWants (standing_of self.new) result }
         ensures gives_up { answer ≡ Some Answer.NoMemory → IsWaiting (standing_of self.old) → IsEnding (standing_of self.new) ⊎ IsEnded result }
@@ -93,9 +92,9 @@ impl Machine {
     }
 
     /// The answer to what was asked last, and what comes after it.
-    fn resume_with(&mut self, answer: Answer) -> Wants
-        ensures does { (names : List (List ℕ)) (m : List Answer → Doing) (heard : List Answer) → IsWaiting (standing_of self.old) → Does (standing_of self.old) names m heard → Came (standing_of self.new) names m (heard ++ answer ∷ []) result }
-        ensures given_up { (names : List (List ℕ)) (m : List Answer → Doing) (heard : List Answer) (pieces : List Piece) → HasGivenUp (standing_of self.old) names m heard pieces → (result ≡ Wants.Ended ClientEnd.NoMemory) × HasWritten (standing_of self.new) names pieces }
+    fn resume_with(&mut self, answer: Answer) -> NextStep
+        ensures does { (names : List (List ℕ)) (m : List Answer → Progress) (heard : List Answer) → IsWaiting (standing_of self.old) → Does (standing_of self.old) names m heard → Came (standing_of self.new) names m (heard ++ answer ∷ []) result }
+        ensures given_up { (names : List (List ℕ)) (m : List Answer → Progress) (heard : List Answer) (pieces : List Piece) → HasGivenUp (standing_of self.old) names m heard pieces → (result ≡ NextStep.Ended ClientEnd.NoMemory) × HasWritten (standing_of self.new) names pieces }
         ensures fewer { IsPlain answer → IsWaiting (standing_of self.old) → most_operations (standing_of self.new) < most_operations (standing_of self.old) }
         ensures wants { ShowsWants (standing_of self.new) result }
         ensures gives_up { answer ≡ Answer.NoMemory → IsWaiting (standing_of self.old) → IsEnding (standing_of self.new) ⊎ IsEnded result }
@@ -104,7 +103,7 @@ impl Machine {
         match self.mode {
             Mode::AsksEnd(ending) => {
                 self.mode = Mode::Ended;
-                Wants::Ended(end_of(ending))
+                NextStep::Ended(end_of(ending))
             }
             _ => {
                 self.hear(answer);
@@ -114,8 +113,8 @@ impl Machine {
     }
 
     /// Steps until there is something to ask, or the client has ended.
-    fn go_on(&mut self) -> Wants
-        ensures follows { (names : List (List ℕ)) (m : List Answer → Doing) (written : List Piece) → IsUnendedIn self.old.mode → HasWritten (standing_of self.old) names written → Follows m (config_of written self.old) → GoesOn m names written (standing_of self.new) result }
+    fn go_on(&mut self) -> NextStep
+        ensures follows { (names : List (List ℕ)) (m : List Answer → Progress) (written : List Piece) → IsUnendedIn self.old.mode → HasWritten (standing_of self.old) names written → Follows m (config_of written self.old) → GoesOn m names written (standing_of self.new) result }
         ensures most { most_operations (standing_of self.new) ≤ most_operations (standing_of self.old) }
         ensures wants { ShowsWants (standing_of self.new) result }
         ensures ending { IsEnding (standing_of self.old) → self.new ≡ self.old }
@@ -127,7 +126,7 @@ impl Machine {
                     Ok(()) => {}
                     Err(_) => {
                         self.mode = Mode::AsksEnd(Ending::NoMemory);
-                        return Wants::Ask(Op::End);
+                        return NextStep::Ask(Op::End);
                     }
                 },
             }
@@ -477,15 +476,15 @@ impl Machine {
 
     /// The answer to what was asked; after those that stop a client End is asked.
     fn hear(&mut self, answer: Answer)
-        ensures config { ((written : List Piece) → config_of written self.new ≡ hears (heard_of answer) (config_of written self.old)) ⊎ (self.new.mode ≡ Mode.AsksEnd Ending.NoMemory) }
+        ensures config { ((written : List Piece) → config_of written self.new ≡ hears (class_in answer) (config_of written self.old)) ⊎ (self.new.mode ≡ Mode.AsksEnd Ending.NoMemory) }
         ensures sections { self.new.state.sections.items ≡ self.old.state.sections.items }
         ensures gives_up { answer ≡ Answer.NoMemory → IsEnding (standing_of self.new) }
         ensures most { IsPlain answer → AsksOwn self.old.mode → most_operations (standing_of self.new) ≤ self.old.state.units + 1 }
     {
-        match heard_in(&answer) {
-            Heard::Blocked => {}
-            Heard::Ends(ending) => self.mode = Mode::AsksEnd(ending),
-            Heard::Done => {
+        match class_of(&answer) {
+            AnswerClass::Blocked => {}
+            AnswerClass::Ends(ending) => self.mode = Mode::AsksEnd(ending),
+            AnswerClass::Done => {
                 if self.proceed().is_err() {
                     self.mode = Mode::AsksEnd(Ending::NoMemory);
                 }
@@ -532,17 +531,17 @@ impl Machine {
 }
 
 /// What a client wants that waits, or has ended.
-fn wanted(alloc: Global, mode: Mode) -> Option<Wants>
+fn wanted(alloc: Global, mode: Mode) -> Option<NextStep>
     ensures { result ≡ wants_in mode }
 {
     match mode {
-        Mode::AsksEnter(_) => Some(Wants::Ask(Op::Enter)),
-        Mode::AsksBack { mark, .. } => Some(Wants::Ask(Op::Back { depth: mark.depth })),
-        Mode::AsksLeave { .. } => Some(Wants::Ask(Op::Leave {
-            keep: Rows::empty(alloc),
+        Mode::AsksEnter(_) => Some(NextStep::Ask(Op::Enter)),
+        Mode::AsksBack { mark, .. } => Some(NextStep::Ask(Op::Back { depth: mark.depth })),
+        Mode::AsksLeave { .. } => Some(NextStep::Ask(Op::Leave {
+            keep: RowIds::empty(alloc),
         })),
-        Mode::AsksEnd(_) => Some(Wants::Ask(Op::End)),
-        Mode::Ended => Some(Wants::Ended(ClientEnd::NoMemory)),
+        Mode::AsksEnd(_) => Some(NextStep::Ask(Op::End)),
+        Mode::Ended => Some(NextStep::Ended(ClientEnd::NoMemory)),
         Mode::Runs(_) | Mode::Turns(_) | Mode::Over(_) => None,
     }
 }
@@ -607,7 +606,7 @@ fn first_of(mark: Option<Mark>, inner: Option<Mark>) -> Option<Mark>
 
 /// What an answer makes of what was asked.
 #[derive(Clone, Copy, Debug)]
-enum Heard {
+enum AnswerClass {
     /// It is asked again.
     Blocked,
     /// It is done.
@@ -616,19 +615,19 @@ enum Heard {
     Ends(Ending),
 }
 
-fn heard_in(answer: &Answer) -> Heard
-    ensures heard { result ≡ heard_of answer.now }
-    ensures plain { IsPlain answer.now → result ≢ Heard.Blocked }
-    ensures no_memory { answer.now ≡ Answer.NoMemory → result ≡ Heard.Ends Ending.NoMemory }
+fn class_of(answer: &Answer) -> AnswerClass
+    ensures heard { result ≡ class_in answer.now }
+    ensures plain { IsPlain answer.now → result ≢ AnswerClass.Blocked }
+    ensures no_memory { answer.now ≡ Answer.NoMemory → result ≡ AnswerClass.Ends Ending.NoMemory }
 {
     match answer {
-        Answer::Blocked { .. } => Heard::Blocked,
-        Answer::NoMemory => Heard::Ends(Ending::NoMemory),
-        Answer::Closed => Heard::Ends(Ending::Stop(StopWhy::Closed)),
-        Answer::Deadlock { .. } => Heard::Ends(Ending::Stop(StopWhy::Deadlock)),
-        Answer::TxFull => Heard::Ends(Ending::Stop(StopWhy::TxFull)),
-        Answer::TraceFull => Heard::Ends(Ending::Stop(StopWhy::TraceFull)),
-        _ => Heard::Done,
+        Answer::Blocked { .. } => AnswerClass::Blocked,
+        Answer::NoMemory => AnswerClass::Ends(Ending::NoMemory),
+        Answer::Closed => AnswerClass::Ends(Ending::Stop(StopWhy::Closed)),
+        Answer::Deadlock { .. } => AnswerClass::Ends(Ending::Stop(StopWhy::Deadlock)),
+        Answer::TxFull => AnswerClass::Ends(Ending::Stop(StopWhy::TxFull)),
+        Answer::TraceFull => AnswerClass::Ends(Ending::Stop(StopWhy::TraceFull)),
+        _ => AnswerClass::Done,
     }
 }
 

@@ -1,6 +1,7 @@
 //! What a client has: its variables, its level, its units and its output.
 
 ghost use Rattle.std.specs.Prelude.{◌≡◌, ◌+◌, ◌++◌, ◌∷◌, [], ◌-◌, ◌≤◌, List, length, reverse, true, false, nat_lt, replicate, slice_index_or, slice_set, Ok, IfOk, OnOk, OnErr};
+ghost use Rattle.abl_base.specs.declared.limits.TheConstants.{MAX_OUTPUT_BYTES};
 ghost use Rattle.abl_base.specs.declared.value.Value.{Value};
 ghost use Rattle.abl_values.specs.Texts.{plain_text};
 ghost use Rattle.block_code.specs.declared.code.Instr.{Instr};
@@ -8,14 +9,16 @@ ghost use Rattle.block_meaning.specs.declared.wants.Piece.{Piece};
 ghost use Rattle.block_vm.specs.declared.mode.Mode.{Mode};
 ghost use Rattle.block_vm.specs.declared.mode.Iteration.{Iteration};
 ghost use Rattle.block_vm.specs.Sections.{first_longer};
-ghost use Rattle.block_vm.specs.Machine.{is_short, are_short, item_is_short, fits, all_fit, set_var, set_right, set_all, value_in, item_text, items_text, values_at, olds_at, at_level};
+ghost use Rattle.block_vm.specs.Machine.{is_short, are_short, item_is_short, literal_fits, fits, all_fit, set_var, set_literal, set_right, set_all, value_in, simple_is_short, simple_text, item_text, items_text, values_at, olds_at, at_level};
 ghost use Rattle.block_vm.specs.Client.{config_at};
 
 use crate::mode::Mark;
-use crate::output::{MAX_OUTPUT_BYTES, Section};
+use crate::output::Section;
 use crate::plain_text::write_plain;
-use abl_base::{Bytes, MAX_TEXT_BYTES, Row, Value};
+use abl_base::limits::{MAX_OUTPUT_BYTES, MAX_TEXT_BYTES};
+use abl_base::{Bytes, Row, Value};
 use abl_values::{ArithFault, fit};
+use block_code::stripped;
 use bound_tree::{Assignment, Expr, PutItem, Right, Target, Variable};
 use std::alloc::{AllocError, Global};
 use std::mem;
@@ -32,7 +35,7 @@ pub struct Old {
 pub struct State {
     /// The undoable variables, and the NO-UNDO ones.
     pub undoable: Vec<Value>,
-    pub kept: Vec<Value>,
+    pub no_undo: Vec<Value>,
     /// The old values of undoable variables since the transaction began, the oldest first.
     pub olds: Vec<Old>,
     /// How many levels are open.
@@ -45,8 +48,8 @@ pub struct State {
 
 impl State {
     /// The state in which a client begins.
-    pub fn new(alloc: Global, undoable: Row, kept: Row, units: u64) -> Result<State, AllocError>
-        ensures config { IfOk result (λ state. (code : List Instr) (mode : Mode) (opened : List Iteration) (written : List Piece) → config_at code mode opened written state ≡ record { code = code; mode = mode; opened = opened; undoable = undoable; kept = kept; olds = []; level = 0; units = units; written = written; size = 0 }) }
+    pub fn new(alloc: Global, undoable: Row, no_undo: Row, units: u64) -> Result<State, AllocError>
+        ensures config { IfOk result (λ state. (code : List Instr) (mode : Mode) (opened : List Iteration) (written : List Piece) → config_at code mode opened written state ≡ record { code = code; mode = mode; opened = opened; undoable = undoable; no_undo = no_undo; olds = []; level = 0; units = units; written = written; size = 0 }) }
         ensures sections { IfOk result (λ state. state.sections.items ≡ record { name = []; bytes = [] } ∷ []) }
     {
         let mut sections = Vec::with_capacity(alloc, 1)?;
@@ -56,7 +59,7 @@ impl State {
         })?;
         Ok(State {
             undoable: undoable.into_vec(),
-            kept: kept.into_vec(),
+            no_undo: no_undo.into_vec(),
             olds: Vec::new(alloc),
             level: 0,
             units,
@@ -81,7 +84,7 @@ impl State {
                 self.olds.push_reserved(Old { number, value });
             }
         } else {
-            let _ = set_value(&mut self.kept, number, value);
+            let _ = set_value(&mut self.no_undo, number, value);
         }
         Ok(())
     }
@@ -95,10 +98,26 @@ impl State {
         ensures units { self.new.units ≡ self.old.units }
         ensures sections { self.new.sections.items ≡ self.old.sections.items }
     {
-        let (Target::Variable(variable), Right::Value(Expr::Literal(value))) = (
-            &pair.target,
-            &pair.right,
-        ) else {
+        let (Target::Variable(variable), Right::Value(value)) = (&pair.target, &pair.right) else {
+            return Ok(true);
+        };
+        self.assign_literal(alloc, *variable, stripped(value))
+    }
+
+    /// The same of a literal to a variable; nothing is changed where it is no literal.
+    fn assign_literal(
+        &mut self,
+        alloc: Global,
+        variable: Variable,
+        value: &Expr,
+    ) -> Result<bool, AllocError>
+        ensures fits { IfOk result (λ fitting. fitting ≡ literal_fits variable value.now) }
+        ensures ok { result ≡ Ok true → (code : List Instr) (mode : Mode) (opened : List Iteration) (written : List Piece) → config_at code mode opened written self.new ≡ set_literal variable value.now (config_at code mode opened written self.old) }
+        ensures out { result ≡ Ok false → self.new ≡ self.old }
+        ensures units { self.new.units ≡ self.old.units }
+        ensures sections { self.new.sections.items ≡ self.old.sections.items }
+    {
+        let Expr::Literal(value) = value else {
             return Ok(true);
         };
         if !is_short(value) {
@@ -106,7 +125,7 @@ impl State {
         }
         match fit(alloc, value, variable.kind) {
             Ok(value) => {
-                self.set(*variable, value)?;
+                self.set(variable, value)?;
                 Ok(true)
             }
             Err(ArithFault::Overflow) => Ok(false),
@@ -154,16 +173,16 @@ impl State {
 
     /// The text of the items of a PUT.
     pub fn text_of(&self, alloc: Global, items: &[PutItem]) -> Result<Vec<u8>, AllocError>
-        ensures { IfOk result (λ text. text.items ≡ items_text items.now self.now.undoable.items self.now.kept.items) }
+        ensures { IfOk result (λ text. text.items ≡ items_text items.now self.now.undoable.items self.now.no_undo.items) }
     {
-        text_of(alloc, &self.undoable, &self.kept, items)
+        text_of(alloc, &self.undoable, &self.no_undo, items)
     }
 
     /// Writes a piece to the default output. False, and nothing is written, where the output would
     /// pass its limit.
     pub fn write(&mut self, piece: &[u8]) -> Result<bool, AllocError>
-        ensures full { result ≡ Ok false → (nat_lt 16777216 (self.old.size + length piece.now) ≡ true) × (self.new ≡ self.old) }
-        ensures fits { result ≡ Ok true → (nat_lt 16777216 (self.old.size + length piece.now) ≡ false) × (self.new.sections.items ≡ first_longer piece.now self.old.sections.items) × (self.new ≡ record self.old { sections = self.new.sections; size = self.old.size + length piece.now }) }
+        ensures full { result ≡ Ok false → (nat_lt MAX_OUTPUT_BYTES (self.old.size + length piece.now) ≡ true) × (self.new ≡ self.old) }
+        ensures fits { result ≡ Ok true → (nat_lt MAX_OUTPUT_BYTES (self.old.size + length piece.now) ≡ false) × (self.new.sections.items ≡ first_longer piece.now self.old.sections.items) × (self.new ≡ record self.old { sections = self.new.sections; size = self.old.size + length piece.now }) }
         ensures err { OnErr result (self.new.sections.items ≡ self.old.sections.items) }
         ensures units { self.new.units ≡ self.old.units }
     {
@@ -226,10 +245,17 @@ fn is_short_item(item: &PutItem) -> bool
     ensures { result ≡ item_is_short item.now }
 {
     match item {
-        PutItem::Shows {
-            value: Expr::Literal(value),
-            ..
-        } => is_short(value),
+        PutItem::Shows { value, .. } => is_short_simple(stripped(value)),
+        _ => true,
+    }
+}
+
+/// Whether it is no text literal that is out of range.
+fn is_short_simple(value: &Expr) -> bool
+    ensures { result ≡ simple_is_short value.now }
+{
+    match value {
+        Expr::Literal(value) => is_short(value),
         _ => true,
     }
 }
@@ -249,14 +275,14 @@ fn write_first(sections: &mut [Section], piece: &[u8]) -> Result<(), AllocError>
 fn text_of(
     alloc: Global,
     undoable: &[Value],
-    kept: &[Value],
+    no_undo: &[Value],
     items: &[PutItem],
 ) -> Result<Vec<u8>, AllocError>
-    ensures { IfOk result (λ text. text.items ≡ items_text items.now undoable.now kept.now) }
+    ensures { IfOk result (λ text. text.items ≡ items_text items.now undoable.now no_undo.now) }
 {
     let mut text = Vec::new(alloc);
     for item in items {
-        write_item(alloc, &mut text, undoable, kept, item)?;
+        write_item(alloc, &mut text, undoable, no_undo, item)?;
     }
     Ok(text)
 }
@@ -266,22 +292,37 @@ fn write_item(
     alloc: Global,
     text: &mut Vec<u8>,
     undoable: &[Value],
-    kept: &[Value],
+    no_undo: &[Value],
     item: &PutItem,
 ) -> Result<(), AllocError>
-    ensures { OnOk result (text.new.items ≡ text.old.items ++ item_text item.now undoable.now kept.now) }
+    ensures { OnOk result (text.new.items ≡ text.old.items ++ item_text item.now undoable.now no_undo.now) }
 {
     match item {
-        PutItem::Shows { value, .. } => match value {
-            Expr::Literal(value) => write_plain(alloc, text, value),
-            Expr::Variable(variable) => {
-                let values = if variable.undoable { undoable } else { kept };
-                write_value(alloc, text, values, variable.number as usize)
-            }
-            _ => Ok(()),
-        },
+        PutItem::Shows { value, .. } => {
+            write_simple(alloc, text, undoable, no_undo, stripped(value))
+        }
         PutItem::Skip(count) => write_bytes(text, b'\n', *count),
         PutItem::Space(count) => write_bytes(text, b' ', *count),
+    }
+}
+
+/// Adds the text of a literal or a variable.
+fn write_simple(
+    alloc: Global,
+    text: &mut Vec<u8>,
+    undoable: &[Value],
+    no_undo: &[Value],
+    value: &Expr,
+) -> Result<(), AllocError>
+    ensures { OnOk result (text.new.items ≡ text.old.items ++ simple_text value.now undoable.now no_undo.now) }
+{
+    match value {
+        Expr::Literal(value) => write_plain(alloc, text, value),
+        Expr::Variable(variable) => {
+            let values = if variable.undoable { undoable } else { no_undo };
+            write_value(alloc, text, values, variable.number as usize)
+        }
+        _ => Ok(()),
     }
 }
 

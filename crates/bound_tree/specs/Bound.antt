@@ -1,11 +1,14 @@
--- The tree that a bound source is.
+-- The tree of the definitions that a bound source denotes.
 use Rattle.std.specs.Prelude.{List, [], ◌∷◌, Option, Some, None, map}
-use Rattle.bound_tree.specs.declared.expression.Expr.{Expr as SourceExpr}
+use Rattle.bound_tree.specs.declared.expression.Operator.{Operator}
+use Rattle.bound_tree.specs.declared.expression.Operator.TheVariants as op
+use Rattle.bound_tree.specs.declared.expression.Expr.{Expr as SourceExpr, Row_of-Link, end_of-Link, more_of-Link}
 use Rattle.bound_tree.specs.declared.expression.Expr.TheVariants as e
+use Rattle.bound_tree.specs.declared.expression.Link.{Link}
 use Rattle.bound_tree.specs.declared.block.Action.{Action as SourceAction}
 use Rattle.bound_tree.specs.declared.block.Action.TheVariants as act
 use Rattle.bound_tree.specs.declared.block.OnPhrase.{OnPhrase as SourceOnPhrase}
-use Rattle.bound_tree.specs.declared.block.BracketPart.{BracketPart as SourceBracketPart}
+use Rattle.bound_tree.specs.declared.block.BracketValue.{BracketValue as SourceBracketValue}
 use Rattle.bound_tree.specs.declared.block.Reading.{Reading as SourceReading}
 use Rattle.bound_tree.specs.declared.block.Fetch.{Fetch as SourceFetch}
 use Rattle.bound_tree.specs.declared.block.ToPhrase.{ToPhrase as SourceToPhrase}
@@ -21,32 +24,47 @@ use Rattle.bound_tree.specs.declared.statement.Stmt.{Stmt as SourceStmt, Row_of-
 use Rattle.bound_tree.specs.declared.statement.Stmt.TheVariants as stmt
 use Rattle.bound_tree.specs.declared.procedure.Procedure.{Procedure as SourceProcedure}
 use Rattle.bound_tree.specs.declared.procedure.Bound.{Bound}
-use Rattle.bound_tree.specs.Tree.{Expr, Literal, TheVariable, TheField, One, Two, Three, Both, Either, IfElse, Masked, IsAvailable, IsLocked, Retry, ErrorStatus, ReturnValue, Action, ThenRetry, ThenLeave, ThenNext, ThenReturn, OnPhrase, BracketPart, Reading, Fetch, ToPhrase, Header, Right, ValueOf, NextOf, CurrentOf, Assignment, Argument, In, Out, InOut, Item, Shows, Skips, Spaces, Stmt, Inner, Choose, Assign, Find, FindCurrent, Create, Remove, Release, UndoBlock, LeaveBlock, NextBlock, Return, ReturnError, Stop, Run, Import, Export, ExportRecord, PutItems, Message, OutputTo, OutputClose, InputFrom, InputClose, Body, Nothing, Then, Procedure, Source}
+use Rattle.bound_tree.specs.Tree.{Expr, Literal, TheVariable, TheField, One, Two, Three, Both, Either, IfElse, Masked, IsAvailable, IsLocked, Retry, ErrorStatus, ReturnValue, Action, ThenRetry, ThenLeave, ThenNext, ThenReturn, OnPhrase, BracketValue, Reading, Fetch, ToPhrase, Header, Right, ValueOf, NextOf, CurrentOf, Assignment, Argument, In, Out, InOut, Item, Shows, Skips, Spaces, Stmt, Inner, Choose, Assign, Find, FindCurrent, Create, Remove, Release, UndoBlock, LeaveBlock, NextBlock, Return, ReturnError, Stop, Run, Import, Export, ExportRecord, PutItems, Message, OutputTo, OutputClose, InputFrom, InputClose, Body, Nothing, Then, Procedure, Source}
 
--- the expression
-abbrev pub expr_of : SourceExpr → Expr
-expr_of (e.Literal v) = Literal v
-expr_of (e.Variable x) = TheVariable x
-expr_of (e.Field b f k) = TheField b f k
-expr_of (e.Unary' op p a) = One op (expr_of a)
-expr_of (e.Binary' op p a q b) = Two op (expr_of a) (expr_of b)
-expr_of (e.Ternary' op p a q b r c) = Three op (expr_of a) (expr_of b) (expr_of c)
-expr_of (e.And' p a q b) = Both (expr_of a) (expr_of b)
-expr_of (e.Or' p a q b) = Either (expr_of a) (expr_of b)
-expr_of (e.If' p a q b r c k) = IfElse (expr_of a) (expr_of b) (expr_of c) k
-expr_of (e.Masked' p a mask) = Masked (expr_of a) mask
-expr_of (e.Available b) = IsAvailable b
-expr_of (e.Locked b) = IsLocked b
-expr_of e.Retry = Retry
-expr_of e.ErrorStatus = ErrorStatus
-expr_of e.ReturnValue = ReturnValue
+-- a chain, with one more operator and operand
+abbrev pub joined : Operator → Expr → Expr → Expr
+joined (op.Binary two) a b = Two two a b
+joined op.And a b = Both a b
+joined op.Or a b = Either a b
+
+abbrev mutual
+  -- the expression
+  pub expr_of : SourceExpr → Expr
+  expr_of (e.Literal v) = Literal v
+  expr_of (e.Variable x) = TheVariable x
+  expr_of (e.Field b f k) = TheField b f k
+  expr_of (e.Unary' operator p a) = One operator (expr_of a)
+  expr_of (e.Chain' p a shape rest) = chained (expr_of a) rest
+  expr_of (e.Ternary' operator p a q b r c) = Three operator (expr_of a) (expr_of b) (expr_of c)
+  expr_of (e.If' p a q b r c k) = IfElse (expr_of a) (expr_of b) (expr_of c) k
+  expr_of (e.Masked' p a mask) = Masked (expr_of a) mask
+  expr_of (e.Available b) = IsAvailable b
+  expr_of (e.Locked b) = IsLocked b
+  expr_of e.Retry = Retry
+  expr_of e.ErrorStatus = ErrorStatus
+  expr_of e.ReturnValue = ReturnValue
+
+  -- a chain: its links are folded to the left
+  pub chained : {m : _} → Expr → Row_of-Link m → Expr
+  chained a end_of-Link = a
+  chained a (more_of-Link operator b rest) = chained (joined operator a (expr_of b)) rest
+
+-- the same fold over a list of links
+abbrev pub chain_of : Expr → List Link → Expr
+chain_of a [] = a
+chain_of a (x ∷ xs) = chain_of (joined x.operator a (expr_of x.operand)) xs
 
 -- the expression that may be left out
 abbrev pub maybe_expr_of : Option SourceExpr → Option Expr
 maybe_expr_of None = None
 maybe_expr_of (Some a) = Some (expr_of a)
 
--- what becomes of an undone block
+-- what happens after a block was undone
 abbrev pub action_of : SourceAction → Action
 action_of act.Retry = ThenRetry
 action_of (act.Leave l) = ThenLeave l
@@ -59,12 +77,12 @@ on_of None = None
 on_of (Some on) = Some (record { target = on.target; action = action_of on.action })
 
 -- a value of the bracket
-abbrev pub part_of : SourceBracketPart → BracketPart
-part_of x = record { kind = x.kind; value = expr_of x.value }
+abbrev pub bracket_value_of : SourceBracketValue → BracketValue
+bracket_value_of x = record { kind = x.kind; value = expr_of x.value }
 
--- how records are looked for
+-- which records are read
 abbrev pub reading_of : SourceReading → Reading
-reading_of r = record { buffer = r.buffer; index = r.index; bracket = map part_of r.bracket.items; test = maybe_expr_of r.test; lock = r.lock }
+reading_of r = record { buffer = r.buffer; index = r.index; bracket = map bracket_value_of r.bracket.items; test = maybe_expr_of r.test; lock = r.lock }
 
 -- the record phrase of a FOR
 abbrev pub fetch_of : Option SourceFetch → Option Fetch
@@ -90,7 +108,7 @@ header_of h = record {
   on_endkey = on_of h.on_endkey;
 }
 
--- what is assigned
+-- the right side of an assignment
 abbrev pub right_of : SourceRight → Right
 right_of (right.Value a) = ValueOf (expr_of a)
 right_of (right.NextValue q) = NextOf q
@@ -115,11 +133,11 @@ item_of (put.Space n) = Spaces n
 abbrev mutual
   -- the statement
   pub stmt_of : SourceStmt → Stmt
-  stmt_of (stmt.Block' h shape body) = Inner (header_of h) (row_of body)
+  stmt_of (stmt.Block' h shape body) = Inner (header_of h.value) (row_of body)
   stmt_of (stmt.If' test shape then_it shape' else_it) = Choose (expr_of test) (row_of then_it) (row_of else_it)
   stmt_of (stmt.Assign pairs quiet) = Assign (map assignment_of pairs.items) quiet
-  stmt_of (stmt.Find word reading wait quiet) = Find word (reading_of reading) wait quiet
-  stmt_of (stmt.FindCurrent reading wait quiet) = FindCurrent (reading_of reading) wait quiet
+  stmt_of (stmt.Find word reading wait quiet) = Find word (reading_of reading.value) wait quiet
+  stmt_of (stmt.FindCurrent reading wait quiet) = FindCurrent (reading_of reading.value) wait quiet
   stmt_of (stmt.Create b quiet) = Create b quiet
   stmt_of (stmt.Delete b quiet) = Remove b quiet
   stmt_of (stmt.Release b quiet) = Release b quiet
@@ -154,13 +172,13 @@ body_of (t ∷ ts) = Then (stmt_of t) (body_of ts)
 abbrev pub procedure_of : SourceProcedure → Procedure
 procedure_of q = record {
   undoable = q.undoable;
-  kept = q.kept;
+  no_undo = q.no_undo;
   buffers = q.buffers.items;
   parameters = q.parameters.items;
-  header = header_of q.header;
+  header = header_of q.header.value;
   body = body_of q.body.items;
 }
 
 -- the source
 abbrev pub source_of : Bound → Source
-source_of b = record { tables = b.tables.items; procedures = map procedure_of b.procedures.items; streams = b.streams }
+source_of b = record { procedures = map procedure_of b.procedures.items; streams = b.streams }

@@ -13,7 +13,6 @@ use Rattle.bound_tree.specs.declared.block.Flags.{Flags}
 use Rattle.bound_tree.specs.declared.statement.FindWord.{FindWord}
 use Rattle.bound_tree.specs.declared.statement.Target.{Target}
 use Rattle.bound_tree.specs.declared.procedure.BufferDef.{BufferDef}
-use Rattle.abl_values.specs.declared.schema.TableDef.{TableDef}
 
 -- an expression
 pub data Expr : Type 0 where
@@ -33,7 +32,7 @@ pub data Expr : Type 0 where
   ErrorStatus : Expr
   ReturnValue : Expr
 
--- what becomes of an undone block. The last is that of the statement RETURN ERROR, whose value was evaluated before
+-- what happens after a block was undone. The last is that of the statement RETURN ERROR, whose value was evaluated before
 pub data Action : Type 0 where
   ThenRetry : Action
   ThenLeave : (block : ℕ) → Action
@@ -41,21 +40,21 @@ pub data Action : Type 0 where
   ThenReturn : (error : Bool) (value : Option Expr) → Action
   ThenError : Action
 
--- ON ERROR or ON ENDKEY: the block that it undoes, and what then comes
+-- ON ERROR or ON ENDKEY: the block that it undoes, and what happens then
 pub record OnPhrase : Type 0 where
   pub target : ℕ
   pub action : Action
 
 -- a value of the bracket, with the kind of the index component
-pub record BracketPart : Type 0 where
+pub record BracketValue : Type 0 where
   pub kind : Kind
   pub value : Expr
 
--- how records are looked for: the index, the values of the bracket, WHERE, and the lock
+-- which records are read: by which index (None: by row identity), the values of the bracket, WHERE, and the lock
 pub record Reading : Type 0 where
   pub buffer : ℕ
   pub index : Option ℕ
-  pub bracket : List BracketPart
+  pub bracket : List BracketValue
   pub test : Option Expr
   pub lock : LockWanted
 
@@ -83,7 +82,7 @@ pub record Header : Type 0 where
   pub on_error : Option OnPhrase
   pub on_endkey : Option OnPhrase
 
--- what is assigned. The last is an element that IMPORT read
+-- the right side of an assignment. The last is a value that IMPORT has read
 pub data Right : Type 0 where
   ValueOf : (e : Expr) → Right
   NextOf : (sequence : ℕ) → Right
@@ -143,14 +142,13 @@ mutual
 -- a procedure: the initial values of its variables, its buffers, and the variables that are its parameters
 pub record Procedure : Type 0 where
   pub undoable : List Value
-  pub kept : List Value
+  pub no_undo : List Value
   pub buffers : List BufferDef
   pub parameters : List Variable
   pub header : Header
   pub body : Body
 
--- a source: the tables of its schema, its procedures, the external one first, and the streams beside the unnamed one
+-- a source: its procedures, the external one first, and the number of streams beside the unnamed one
 pub record Source : Type 0 where
-  pub tables : List TableDef
   pub procedures : List Procedure
   pub streams : ℕ

@@ -4,7 +4,7 @@
 use crate::expression::{Expr, Variable};
 use abl_base::Kind;
 
-/// What becomes of an undone block.
+/// What happens after a block was undone.
 #[derive(Drop)]
 pub enum Action {
     /// Its iteration begins again.
@@ -17,43 +17,43 @@ pub enum Action {
     Return { error: bool, value: Option<Expr> },
 }
 
-/// ON ERROR or ON ENDKEY: the block that it undoes, and what then comes.
+/// ON ERROR or ON ENDKEY: the number of the block that it undoes, and what happens then.
 #[derive(Drop)]
 pub struct OnPhrase {
     pub target: u32,
     pub action: Action,
 }
 
-/// NO-LOCK, SHARE-LOCK or EXCLUSIVE-LOCK; without a word it is SHARE-LOCK.
-#[derive(Clone, Copy, Debug, PartialEq, Eq)]
+/// NO-LOCK, SHARE-LOCK or EXCLUSIVE-LOCK; SHARE-LOCK where the source has none of them.
+#[derive(Clone, Copy, PartialEq, Eq)]
 pub enum LockWanted {
     NoLock,
     Share,
     Exclusive,
 }
 
-/// A value of the bracket, with the kind of the index component that it is compared with.
+/// A value of the bracket, and the kind of the index component that it is compared with.
 #[derive(Drop)]
-pub struct BracketPart {
+pub struct BracketValue {
     pub kind: Kind,
     pub value: Expr,
 }
 
-/// How records are looked for.
+/// Which records are read, and how they are locked.
 #[derive(Drop)]
 pub struct Reading {
     pub buffer: u32,
-    /// The index of the buffer's table; none means the order of row identities.
+    /// The number of the index of the buffer's table; None means the order of row identities.
     pub index: Option<u16>,
     /// The values of the leading components of the index.
-    pub bracket: Vec<BracketPart>,
+    pub bracket: Vec<BracketValue>,
     /// WHERE.
     pub test: Option<Expr>,
     pub lock: LockWanted,
 }
 
 /// EACH, FIRST or LAST of a FOR.
-#[derive(Clone, Copy, Debug, PartialEq, Eq)]
+#[derive(Clone, Copy, PartialEq, Eq)]
 pub enum FetchWord {
     Each,
     First,
@@ -77,7 +77,7 @@ pub struct ToPhrase {
 }
 
 /// What a block is.
-#[derive(Clone, Copy, Debug, PartialEq, Eq)]
+#[derive(Clone, Copy, PartialEq, Eq)]
 pub enum BlockKind {
     /// The block of a procedure, internal or external.
     Procedure,
@@ -86,9 +86,9 @@ pub enum BlockKind {
     For,
 }
 
-/// The properties of a block that are inferred from the text. The binder leaves each of them
-/// false.
-#[derive(Clone, Copy, Debug, PartialEq, Eq)]
+/// The properties of a block that its text implies. The binder leaves each of them false; the
+/// pass over block properties sets them.
+#[derive(Clone, Copy, PartialEq, Eq)]
 pub struct Flags {
     /// It starts a transaction where none is open.
     pub starts: bool,
@@ -101,16 +101,17 @@ pub struct Flags {
 /// The header of a block.
 #[derive(Drop)]
 pub struct Header {
-    /// Its number among all blocks of the source, from 0 in text order; the external procedure's
-    /// block is 0.
+    /// Its number among all blocks of the source, from 0, in the order in which they begin; the
+    /// external procedure's block is 0.
     pub number: u32,
     pub kind: BlockKind,
     /// The line of its first word, and 1 for the external procedure's block.
     pub line: u32,
-    /// The word TRANSACTION stands in it.
+    /// It has the word TRANSACTION.
     pub transaction: bool,
     pub flags: Flags,
-    /// The buffers scoped to it, ascending. The binder leaves it empty.
+    /// The numbers of the buffers scoped to it, ascending. The binder leaves it empty; the pass over
+    /// record scopes fills it.
     pub scoped: Vec<u32>,
     pub to: Option<ToPhrase>,
     /// WHILE.

@@ -2,12 +2,12 @@
 
 use abl_base::{Bytes, Kind, Value};
 
-/// A variable or parameter: of the procedure that the expression stands in, or of the external one.
-#[derive(Clone, Copy, Debug, PartialEq, Eq)]
+/// A variable or parameter: of the procedure that contains the expression, or of the external one.
+#[derive(Clone, Copy, PartialEq, Eq)]
 pub struct Variable {
     /// Whether it is the external procedure's, named in an internal one.
     pub external: bool,
-    /// Whether an UNDO takes it back: it is defined without NO-UNDO.
+    /// Whether an UNDO restores it: it is defined without NO-UNDO.
     pub undoable: bool,
     /// Its number from 0 among the undoable ones, or among the others, of its procedure, in the
     /// order of their definitions.
@@ -15,8 +15,8 @@ pub struct Variable {
     pub kind: Kind,
 }
 
-/// What is made of one value.
-#[derive(Clone, Copy, Debug, PartialEq, Eq)]
+/// An operator or function of one value.
+#[derive(Clone, Copy, PartialEq, Eq)]
 pub enum Unary {
     /// The sign `+`.
     Positive,
@@ -42,8 +42,8 @@ pub enum Unary {
     Day,
 }
 
-/// What is made of two values.
-#[derive(Clone, Copy, Debug, PartialEq, Eq)]
+/// An operator or function of two values.
+#[derive(Clone, Copy, PartialEq, Eq)]
 pub enum Binary {
     /// `+`, of numbers, of texts, or of a date and a whole number.
     Add,
@@ -73,8 +73,18 @@ pub enum Binary {
     NumEntries,
 }
 
-/// What is made of three values.
-#[derive(Clone, Copy, Debug, PartialEq, Eq)]
+/// The operator of a link: one of two values, or AND or OR, which may skip its right operand.
+#[derive(Clone, Copy, PartialEq, Eq)]
+pub enum Operator {
+    Binary(Binary),
+    /// AND.
+    And,
+    /// OR.
+    Or,
+}
+
+/// A function of three values.
+#[derive(Clone, Copy, PartialEq, Eq)]
 pub enum Ternary {
     /// SUBSTRING(text, first, count); a count that is left out is -1 here, the rest of the text.
     Substring,
@@ -84,8 +94,17 @@ pub enum Ternary {
     DateOf,
 }
 
+/// An operator of a chain, and its right operand. Its left one is the chain before it.
+#[derive(Drop)]
+#[cycle(expression)]
+pub struct Link {
+    pub operator: Operator,
+    pub operand: Expr,
+}
+
 /// An expression.
 #[derive(Drop)]
+#[cycle(expression)]
 pub enum Expr {
     Literal(Value),
     Variable(Variable),
@@ -96,10 +115,15 @@ pub enum Expr {
         kind: Kind,
     },
     Unary(Unary, Box<Expr>),
-    Binary(Binary, Box<Expr>, Box<Expr>),
+    /// `first op operand op operand ..`, evaluated from the left: the operators of a source that
+    /// have one precedence. NUM-ENTRIES is a chain with one link. A chain is a list, not a nest of
+    /// pairs, since a source may have half a million operators in a row: its depth is that of its
+    /// deepest operand, plus one.
+    Chain {
+        first: Box<Expr>,
+        rest: Vec<Link>,
+    },
     Ternary(Ternary, Box<Expr>, Box<Expr>, Box<Expr>),
-    And(Box<Expr>, Box<Expr>),
-    Or(Box<Expr>, Box<Expr>),
     /// IF test THEN one ELSE other, with the kind of both branches: DECIMAL where both are numbers
     /// and one is DECIMAL, and none where both are the literal `?`.
     If {

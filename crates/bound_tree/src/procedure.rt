@@ -4,7 +4,6 @@ use crate::block::Header;
 use crate::expression::Variable;
 use crate::statement::Stmt;
 use abl_base::{Bytes, Place, Row};
-use abl_values::TableDef;
 
 /// A buffer of a procedure. They are numbered by their first naming, DEFINE BUFFER included.
 #[derive(Drop)]
@@ -16,7 +15,7 @@ pub struct BufferDef {
 }
 
 /// How a buffer is named.
-#[derive(Clone, Copy, Debug, PartialEq, Eq)]
+#[derive(Clone, Copy, PartialEq, Eq)]
 pub enum ReferenceKind {
     /// In the list of a DO FOR or REPEAT FOR.
     Strong,
@@ -28,12 +27,12 @@ pub enum ReferenceKind {
 
 /// A naming of a buffer or of a field of it (OpenEdge ABL Reference, Record scope). The scopes of
 /// buffers are found from these.
-#[derive(Clone, Copy, Debug, PartialEq, Eq)]
+#[derive(Clone, Copy, PartialEq, Eq)]
 pub struct Reference {
     pub buffer: u32,
     pub kind: ReferenceKind,
-    /// The number of the innermost block that it stands in; for a strong or weak one the block
-    /// whose header it stands in.
+    /// The number of the innermost block that contains it; for a strong or weak one the block
+    /// whose header it is in.
     pub block: u32,
     pub place: Place,
 }
@@ -46,11 +45,11 @@ pub struct Procedure {
     /// The initial values of its undoable variables.
     pub undoable: Row,
     /// The initial values of its NO-UNDO variables.
-    pub kept: Row,
+    pub no_undo: Row,
     pub buffers: Vec<BufferDef>,
     /// The variables that are its parameters, in order.
     pub parameters: Vec<Variable>,
-    pub header: Header,
+    pub header: Box<Header>,
     pub body: Vec<Stmt>,
     /// In text order.
     pub references: Vec<Reference>,
@@ -59,11 +58,9 @@ pub struct Procedure {
 /// A bound source.
 #[derive(Drop)]
 pub struct Bound {
-    /// Every table of the schema.
-    pub tables: Vec<TableDef>,
     /// The external procedure first, then the internal ones in text order.
     pub procedures: Vec<Procedure>,
-    /// How many streams there are beside the unnamed one. Streams of all procedures are numbered
+    /// The number of streams beside the unnamed one. Streams of all procedures are numbered
     /// from 1 in text order.
     pub streams: u32,
     /// The names after OUTPUT TO, each once, in text order.

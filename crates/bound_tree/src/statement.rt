@@ -4,15 +4,15 @@ use crate::block::{Action, Header, Reading};
 use crate::expression::{Expr, Variable};
 use abl_base::{Bytes, Kind};
 
-/// Where a value is assigned.
-#[derive(Clone, Copy, Debug, PartialEq, Eq)]
+/// What is assigned to.
+#[derive(Clone, Copy, PartialEq, Eq)]
 pub enum Target {
     Variable(Variable),
     /// A field of the record in a buffer of the procedure.
     Field { buffer: u32, field: u16, kind: Kind },
 }
 
-/// What is assigned.
+/// The right side of an assignment.
 #[derive(Drop)]
 pub enum Right {
     Value(Expr),
@@ -30,7 +30,7 @@ pub struct Assignment {
 }
 
 /// FIND without a word, FIRST, LAST, NEXT or PREV.
-#[derive(Clone, Copy, Debug, PartialEq, Eq)]
+#[derive(Clone, Copy, PartialEq, Eq)]
 pub enum FindWord {
     Only,
     First,
@@ -53,18 +53,18 @@ pub enum PutItem {
     /// A value under a mask that fits its kind: that of FORMAT, else of the variable or field, else
     /// of the kind. None under UNFORMATTED, the plain text.
     Shows { value: Expr, mask: Option<Bytes> },
-    /// SKIP, so many line feeds, 1 to 99.
+    /// SKIP: the number of line feeds, 1 to 99.
     Skip(u32),
-    /// SPACE, so many blanks, 1 to 99.
+    /// SPACE: the number of blanks, 1 to 99.
     Space(u32),
 }
 
-/// A statement. `no_error` says that NO-ERROR stands in it. Stream 0 is the unnamed one.
+/// A statement. `no_error`: it has NO-ERROR. Stream 0 is the unnamed one.
 #[derive(Drop)]
 pub enum Stmt {
     /// DO, REPEAT or FOR.
     Block {
-        header: Header,
+        header: Box<Header>,
         body: Vec<Stmt>,
     },
     /// IF; each branch has one statement or none.
@@ -78,16 +78,16 @@ pub enum Stmt {
         pairs: Vec<Assignment>,
         no_error: bool,
     },
-    /// FIND; `wait` says that NO-WAIT does not stand in it.
+    /// FIND; `wait`: it has no NO-WAIT.
     Find {
         word: FindWord,
-        reading: Reading,
+        reading: Box<Reading>,
         wait: bool,
         no_error: bool,
     },
     /// FIND CURRENT, which has neither bracket nor test.
     FindCurrent {
-        reading: Reading,
+        reading: Box<Reading>,
         wait: bool,
         no_error: bool,
     },
@@ -103,7 +103,7 @@ pub enum Stmt {
         buffer: u32,
         no_error: bool,
     },
-    /// UNDO of the block of this number, and what then comes.
+    /// UNDO of the block of this number, and what happens then.
     Undo {
         block: u32,
         action: Action,
@@ -127,7 +127,7 @@ pub enum Stmt {
         arguments: Vec<Argument>,
         no_error: bool,
     },
-    /// IMPORT; None is `^`. A buffer stands for its fields in order.
+    /// IMPORT; None is `^`. A buffer means its fields in order.
     Import {
         stream: u32,
         targets: Vec<Option<Target>>,

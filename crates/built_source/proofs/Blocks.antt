@@ -1,6 +1,6 @@
 -- A block stands for the statements that its Vec has.
 use Rattle.std.proofs.Common.{◌≡◌, List, [], ◌∷◌, ◌++◌, refl, ap, rules}
-use Rattle.std.specs.Prelude.{Vec}
+use Rattle.std.specs.Prelude.{Vec, Box}
 use Rattle.std.specs.declared.alloc.Global.{Global}
 use mathlib.Core.Former.{Count, none_left, one_more}
 use Rattle.bound_tree.specs.declared.block.Header.{Header as SourceHeader}
@@ -14,7 +14,7 @@ row_is : (n : Count) (k : Row_of-Stmt n) → row_of k ≡ body_of (items-the_row
 row_is none_left end_of-Stmt = refl
 row_is (one_more n) (more_of-Stmt t rest) = ap (λ b. Then (stmt_of t) b) (row_is n rest)
 
-pub block_is : (h : SourceHeader) (v : Vec SourceStmt Global) → stmt_of (view.Block h v) ≡ Inner (header_of h) (body_of v.items)
+pub block_is : (h : Box SourceHeader Global) (v : Vec SourceStmt Global) → stmt_of (view.Block h v) ≡ Inner (header_of h.value) (body_of v.items)
 block_is h v = search (rules, the_lemmas, row_is)
 
 -- the statements in front of a body

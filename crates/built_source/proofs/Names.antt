@@ -45,9 +45,9 @@ named_some names name k d e =
 -- one more variable, by its parts
 pub with_variable_is : (undoable : Bool) (name : List ℕ) (kind : Kind) (initial : Value) (d : Defined) →
     with_variable undoable name kind initial d ≡ record {
-      names = d.names ++ (record { name = name; variable = variable undoable (cond undoable (length d.undoable) (length d.kept)) kind }) ∷ [];
+      names = d.names ++ (record { name = name; variable = variable undoable (cond undoable (length d.undoable) (length d.no_undo)) kind }) ∷ [];
       undoable = cond undoable (d.undoable ++ initial ∷ []) d.undoable;
-      kept = cond undoable d.kept (d.kept ++ initial ∷ []);
+      no_undo = cond undoable d.no_undo (d.no_undo ++ initial ∷ []);
     }
 with_variable_is true name kind initial d = refl
 with_variable_is false name kind initial d = refl

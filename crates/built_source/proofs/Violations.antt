@@ -8,7 +8,7 @@ use Rattle.abl_base.specs.declared.rule.Rule.TheVariants.{L1, L2, L3, L4, L5, G1
 use Rattle.abl_tree.specs.declared.token.Token.{Token}
 use Rattle.abl_tree.specs.declared.token.TokenKind.{TokenKind}
 use Rattle.abl_lex.specs.declared.form.Form.{Form}
-use Rattle.abl_lex.specs.Texts.{BreaksFrom, here, later, Broken, no_token, open_comment, open_text, misfit, Misfit, long_name, long_first, long_second, long_whole, long_before, long_behind, no_date, IsRefused, place_of, number}
+use Rattle.abl_lex.specs.Texts.{BreaksFrom, here, later, Broken, no_token, open_comment, open_text, misfit, Misfit, long_name, long_first, long_second, long_whole, long_before, long_fraction, no_date, IsRefused, place_of, number}
 use Rattle.abl_lex.proofs.Runs.{tokens_one}
 use Rattle.abl_parse.specs.Grammar.{kinds}
 use Rattle.abl_parse.specs.Violations.{Breaks as BreaksGrammar, IsFirst as IsFirstOfGrammar}
@@ -32,7 +32,7 @@ misfit_rule (long_first h) = l4
 misfit_rule (long_second h) = l4
 misfit_rule (long_whole h) = l5
 misfit_rule (long_before h) = l5
-misfit_rule (long_behind h) = l5
+misfit_rule (long_fraction h) = l5
 misfit_rule (no_date h) = l5
 
 broken_rule : {text : List ℕ} {at spot : ℕ} {rule : Rule} → Broken text at rule spot → IsTokenRule rule

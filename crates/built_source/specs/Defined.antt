@@ -13,11 +13,11 @@ use Rattle.built_source.specs.declared.defined.TheConstants.{MAX_VARIABLES}
 pub record Defined : Type 0 where
   pub names : List NamedVariable
   pub undoable : List Value
-  pub kept : List Value
+  pub no_undo : List Value
 
 -- before the first definition
 abbrev pub nothing : Defined
-nothing = record { names = []; undoable = []; kept = [] }
+nothing = record { names = []; undoable = []; no_undo = [] }
 
 -- the variable of this name, in any case
 abbrev pub named : List NamedVariable → List ℕ → Option Variable
@@ -37,12 +37,12 @@ abbrev pub with_variable : Bool → List ℕ → Kind → Value → Defined → 
 with_variable true name kind initial d = record {
   names = d.names ++ (record { name = name; variable = variable true (length d.undoable) kind }) ∷ [];
   undoable = d.undoable ++ initial ∷ [];
-  kept = d.kept;
+  no_undo = d.no_undo;
 }
 with_variable false name kind initial d = record {
-  names = d.names ++ (record { name = name; variable = variable false (length d.kept) kind }) ∷ [];
+  names = d.names ++ (record { name = name; variable = variable false (length d.no_undo) kind }) ∷ [];
   undoable = d.undoable;
-  kept = d.kept ++ initial ∷ [];
+  no_undo = d.no_undo ++ initial ∷ [];
 }
 
 -- with this definition
@@ -51,4 +51,4 @@ define d new = with_variable new.undoable new.name new.kind new.initial d
 
 -- what is defined, as the reader holds it
 abbrev pub defined_of : Scope → Defined
-defined_of scope = record { names = scope.names; undoable = scope.undoable; kept = scope.kept }
+defined_of scope = record { names = scope.names; undoable = scope.undoable; no_undo = scope.no_undo }

@@ -46,8 +46,7 @@ header number what transaction = record {
 -- the tree of a source without schema, procedures and streams
 abbrev pub source_with : Defined → Body → Source
 source_with d body = record {
-  tables = [];
-  procedures = (record { undoable = d.undoable; kept = d.kept; buffers = []; parameters = []; header = header 0 block_kind.Procedure false; body = body }) ∷ [];
+  procedures = (record { undoable = d.undoable; no_undo = d.no_undo; buffers = []; parameters = []; header = header 0 block_kind.Procedure false; body = body }) ∷ [];
   streams = 0;
 }
 

@@ -1,6 +1,6 @@
 //! The parts of the bound tree.
 
-ghost use Rattle.std.specs.Prelude.{◌≡◌, None, false, map, true};
+ghost use Rattle.std.specs.Prelude.{◌≡◌, IfOk, None, false, map, true};
 ghost use Rattle.bound_tree.specs.Tree.{Assign, Inner, Shows, ThenLeave, UndoBlock};
 ghost use Rattle.bound_tree.specs.Bound.{assignment_of, body_of, expr_of, header_of, item_of, stmt_of};
 ghost use Rattle.bound_tree.specs.declared.block.BlockKind.TheVariants.{Do};
@@ -10,7 +10,7 @@ use abl_base::Value;
 use bound_tree::{
     Action, Assignment, BlockKind, Expr, Flags, Header, PutItem, Right, Stmt, Target, Variable,
 };
-use std::alloc::Global;
+use std::alloc::{AllocFailed, Global};
 
 /// The assignment of a literal to a variable.
 pub(crate) fn assigned(variable: Variable, literal: Value) -> Assignment
@@ -50,13 +50,16 @@ pub(crate) fn undo_of(block: u32) -> Stmt
 }
 
 /// The block DO TRANSACTION with this number, line and body.
-pub(crate) fn block_of(alloc: Global, number: u32, line: u32, body: Vec<Stmt>) -> Stmt
-    ensures { stmt_of result ≡ Inner (header number Do true) (body_of body.items) }
+pub(crate) fn block_of(
+    alloc: Global,
+    number: u32,
+    line: u32,
+    body: Vec<Stmt>,
+) -> Result<Stmt, AllocFailed<Header>>
+    ensures { IfOk result (λ stmt. stmt_of stmt ≡ Inner (header number Do true) (body_of body.items)) }
 {
-    Stmt::Block {
-        header: header_with(alloc, number, BlockKind::Do, line, true),
-        body,
-    }
+    let header = header_with(alloc, number, BlockKind::Do, line, true)?;
+    Ok(Stmt::Block { header, body })
 }
 
 /// The header of the external procedure's block, or of DO TRANSACTION.
@@ -66,10 +69,10 @@ pub(crate) fn header_with(
     kind: BlockKind,
     line: u32,
     transaction: bool,
-) -> Header
-    ensures { header_of result ≡ header number kind transaction }
+) -> Result<Box<Header>, AllocFailed<Header>>
+    ensures { IfOk result (λ boxed. header_of boxed.value ≡ header number kind transaction) }
 {
-    Header {
+    let header = Header {
         number,
         kind,
         line,
@@ -85,5 +88,6 @@ pub(crate) fn header_with(
         fetch: None,
         on_error: None,
         on_endkey: None,
-    }
+    };
+    Box::new(alloc, header)
 }

@@ -37,7 +37,7 @@ pub struct Scope {
     /// The initial values of those that an UNDO takes back.
     pub undoable: Row,
     /// The initial values of the others.
-    pub kept: Row,
+    pub no_undo: Row,
 }
 
 impl Scope {
@@ -48,7 +48,7 @@ impl Scope {
         Scope {
             names: Named::empty(alloc),
             undoable: Row::empty(alloc),
-            kept: Row::empty(alloc),
+            no_undo: Row::empty(alloc),
         }
     }
 
@@ -86,15 +86,15 @@ impl Scope {
     /// Adds the initial value of one more variable, and says how many of its sort there were.
     fn add_value(&mut self, undoable: bool, value: Value) -> Result<u32, PartFault>
         ensures names { OnOk result (self.new.names ≡ self.old.names) }
-        ensures number { IfOk result (λ number. number ≡ (if undoable then length self.old.undoable else length self.old.kept)) }
+        ensures number { IfOk result (λ number. number ≡ (if undoable then length self.old.undoable else length self.old.no_undo)) }
         ensures undoable { OnOk result (self.new.undoable ≡ (if undoable then self.old.undoable ++ value ∷ [] else self.old.undoable)) }
-        ensures kept { OnOk result (self.new.kept ≡ (if undoable then self.old.kept else self.old.kept ++ value ∷ [])) }
+        ensures no_undo { OnOk result (self.new.no_undo ≡ (if undoable then self.old.no_undo else self.old.no_undo ++ value ∷ [])) }
         ensures never { result ≡ Err PartFault.NotBuilt → ⊥ }
     {
         if undoable {
             added(&mut self.undoable, value)
         } else {
-            added(&mut self.kept, value)
+            added(&mut self.no_undo, value)
         }
     }
 }

@@ -22,7 +22,7 @@ use abl_lex::{LexRefusal, lex};
 use abl_parse::{SyntaxRefusal, parse};
 use abl_tree::{Token, Tokens};
 use bound_tree::{BlockKind, Bound, Procedure, Stmt};
-use std::alloc::{AllocFailed, Global};
+use std::alloc::{AllocError, Global};
 
 /// The bound tree of a source of the form that is built, or the first rule that the text breaks
 /// and its place: a rule of tokens, else one of the grammar, else N1 at 1:1 exactly where some form
@@ -115,25 +115,25 @@ fn definitions(alloc: Global, tokens: &[Token]) -> Result<(Scope, &[Token]), Par
 }
 
 /// The bound tree with these variables and statements.
-fn bound(alloc: Global, scope: Scope, body: Vec<Stmt>) -> Result<Bound, AllocFailed<Procedure>>
+fn bound(alloc: Global, scope: Scope, body: Vec<Stmt>) -> Result<Bound, AllocError>
     ensures tree { IfOk result (λ bound. source_of bound ≡ source_with (defined_of scope) (body_of body.items)) }
     ensures one { IfOk result (λ bound. length bound.procedures.items ≡ 1) }
     ensures inputs { IfOk result (λ bound. bound.inputs.items ≡ []) }
     ensures outputs { IfOk result (λ bound. bound.outputs.items ≡ []) }
 {
+    let header = header_with(alloc, 0, BlockKind::Procedure, 1, false)?;
     let mut procedures = Vec::new(alloc);
     procedures.push(Procedure {
         name: Bytes::empty(alloc),
         undoable: scope.undoable,
-        kept: scope.kept,
+        no_undo: scope.no_undo,
         buffers: Vec::new(alloc),
         parameters: Vec::new(alloc),
-        header: header_with(alloc, 0, BlockKind::Procedure, 1, false),
+        header,
         body,
         references: Vec::new(alloc),
     })?;
     Ok(Bound {
-        tables: Vec::new(alloc),
         procedures,
         streams: 0,
         outputs: Vec::new(alloc),

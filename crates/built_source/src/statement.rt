@@ -75,7 +75,7 @@ fn statement<'a>(
         Some(inside) => {
             let (body, after, rest) = inner(alloc, names, number, inside)?;
             let line = line_of(tokens);
-            Ok((block_of(alloc, number, line, body), after, rest))
+            Ok((block_of(alloc, number, line, body)?, after, rest))
         }
         None => {
             let (stmt, rest) = set(alloc, names, tokens)?;

@@ -1,4 +1,4 @@
--- What operators and functions give.
+-- Operators and functions.
 use Rattle.std.specs.Prelude.{◌≡◌, ℕ, List, [], codes, true, false, Some, None, Ok, Err, refl, pos, negsuc}
 use Rattle.std.specs.Fmt.{digits}
 use Rattle.abl_base.specs.declared.value.Value.TheVariants.{Text, Int, Int64, Dec, Logical, Unknown}

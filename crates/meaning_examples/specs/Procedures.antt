@@ -6,17 +6,17 @@ use Rattle.abl_values.specs.Fit.{fitted}
 use Rattle.abl_values.specs.Order.{value_order}
 use Rattle.abl_values.specs.Rows.{bytes_of_row}
 use Rattle.abl_values.specs.Texts.{plain_text, export_text}
-use Rattle.database_meaning.specs.declared.operation.Op.TheVariants.{Enter, Leave, Back, End}
-use Rattle.database_meaning.specs.declared.operation.Answer.TheVariants.{Done, Committed, Blocked, NoMemory, Closed, Deadlock, Found, AtEnd, Row, Granted, Inserted, Gone, Busy, Duplicate, SequenceEnd}
-use Rattle.database_meaning.specs.declared.operation.Answer.TheVariants as answer
+use Rattle.client_database.specs.declared.operation.Op.TheVariants.{Enter, Leave, Back, End}
+use Rattle.client_database.specs.declared.answer.Answer.TheVariants.{Done, Committed, SequenceEnd}
+use Rattle.client_database.specs.declared.answer.Answer.TheVariants as answer
 use Rattle.bound_tree.specs.declared.expression.Binary.TheVariants as two
 use Rattle.bound_tree.specs.declared.block.BlockKind.TheVariants as block
 use Rattle.bound_tree.specs.declared.statement.Target.TheVariants as target
 use Rattle.bound_tree.specs.Tree.{Two, ErrorStatus, ReturnValue, ThenLeave, ThenReturn, NextOf, In, Out, Stmt, Inner, Assign, Return, ReturnError, Run, Import, Nothing}
-use Rattle.block_meaning.specs.declared.ends.StopWhy.TheVariants as why
-use Rattle.block_meaning.specs.declared.ends.ClientEnd.TheVariants as client
+use Rattle.client_database.specs.declared.ends.StopWhy.TheVariants as why
+use Rattle.client_database.specs.declared.ends.ClientEnd.TheVariants as client
 use Rattle.block_meaning.specs.declared.wants.Piece.TheVariants.{Wrote}
-use Rattle.block_meaning.specs.declared.wants.Wants.TheVariants.{Ended}
+use Rattle.client_database.specs.declared.next_step.NextStep.TheVariants.{Ended}
 use Rattle.block_meaning.specs.Program.{Program}
 use Rattle.block_meaning.specs.Meaning.{run, asked}
 use Rattle.meaning_examples.specs.Small.{◌⨾◌, one_more, only, no_flags, sub, transaction, header, undoable, whole, text, the, sets, puts, procedure, program, plain_source}
@@ -63,7 +63,7 @@ return_error_raises_without_a_line : run (returns_error false) 1000 (Done ∷ Do
 unfolding sum_of fitted value_order plain_text export_text bytes_of_row digits
 return_error_raises_without_a_line = refl
 
--- ---- DO ON ENDKEY UNDO, LEAVE: IMPORT i. END. PUT UNFORMATTED "on" SKIP.  ENDKEY does what the nearest block that has it says
+-- ---- DO ON ENDKEY UNDO, LEAVE: IMPORT i. END. PUT UNFORMATTED "on" SKIP.  ENDKEY is handled by the nearest block with ON ENDKEY
 
 abbrev import_i : Stmt
 import_i = Import 0 (Some (target.Variable (undoable 0)) ∷ []) false
@@ -76,7 +76,7 @@ endkey_passes_a_plain_do : run (plain_source 1 0 (Inner (header block.Do 1 no_fl
 unfolding sum_of fitted value_order plain_text export_text bytes_of_row digits
 endkey_passes_a_plain_do = refl
 
--- ---- DO TRANSACTION: i = 1. DO ON ERROR UNDO, RETURN "r": i = 3000000000. END. END.  The action's RETURN ends every block
+-- ---- DO TRANSACTION: i = 1. DO ON ERROR UNDO, RETURN "r": i = 3000000000. END. END.  RETURN in an action ends every block
 
 abbrev on_error_returns : Program
 on_error_returns = plain_source 1 0
@@ -114,7 +114,7 @@ a_bad_line_counts_as_read : run imports_bad 1000 (Done ∷ []) ≡ record { writ
 unfolding sum_of fitted value_order plain_text export_text bytes_of_row digits
 a_bad_line_counts_as_read = refl
 
--- ---- DO WHILE i < 2: i = i + 1. END. PUT UNFORMATTED i SKIP.  Procedure, DO, three turns, two assignments, PUT
+-- ---- DO WHILE i < 2: i = i + 1. END. PUT UNFORMATTED i SKIP.  Procedure, DO, three iterations, two assignments, PUT
 
 abbrev counts_while : Program
 counts_while = plain_source 1 0 (Inner (record (header block.Do 1 no_flags []) { while_test = Some (Two two.Less (the (undoable 0)) (whole 2)) }) (only (one_more (undoable 0))) ⨾ puts (the (undoable 0) ∷ []) ⨾ Nothing)

@@ -1,4 +1,4 @@
--- Records: entering, release, locks, reading, and what an undo does to buffers.
+-- Records: inserting, release, locks, reading, and what an undo does to buffers.
 use Rattle.std.specs.Prelude.{◌≡◌, ℕ, List, [], ◌∷◌, codes, Bool, true, false, Some, None, refl, pos}
 use Rattle.std.specs.Fmt.{digits}
 use Rattle.abl_base.specs.declared.value.Value.{Value}
@@ -9,9 +9,9 @@ use Rattle.abl_values.specs.Fit.{fitted}
 use Rattle.abl_values.specs.Order.{value_order}
 use Rattle.abl_values.specs.Rows.{bytes_of_row, number_bytes}
 use Rattle.abl_values.specs.Texts.{plain_text, export_text}
-use Rattle.database_meaning.specs.declared.operation.Op.TheVariants.{Enter, Leave, Back, Next, Get, Lock, Insert, Put, Drop, End}
-use Rattle.database_meaning.specs.declared.operation.Answer.{Answer}
-use Rattle.database_meaning.specs.declared.operation.Answer.TheVariants.{Done, Committed, Deadlock, Found, AtEnd, Row, Granted, Inserted, Gone, Busy, Duplicate}
+use Rattle.client_database.specs.declared.operation.Op.TheVariants.{Enter, Leave, Back, Next, Get, Lock, Insert, Put, Drop, End}
+use Rattle.client_database.specs.declared.answer.Answer.{Answer}
+use Rattle.client_database.specs.declared.answer.Answer.TheVariants.{Done, Committed, Deadlock, Found, AtEnd, Row, Granted, Inserted, Gone, Busy, Duplicate}
 use Rattle.bound_tree.specs.declared.expression.Binary.TheVariants as two
 use Rattle.bound_tree.specs.declared.block.BlockKind.TheVariants as block
 use Rattle.bound_tree.specs.declared.block.LockWanted.TheVariants as wanted
@@ -19,10 +19,10 @@ use Rattle.bound_tree.specs.declared.block.FetchWord.TheVariants as fetch
 use Rattle.bound_tree.specs.declared.statement.FindWord.TheVariants as find
 use Rattle.bound_tree.specs.declared.statement.Target.TheVariants as target
 use Rattle.bound_tree.specs.Tree.{FindCurrent, TheField, Two, IsAvailable, IsLocked, Retry, ErrorStatus, ThenRetry, ThenLeave, ValueOf, Stmt, Inner, Assign, Find, Create, Remove, Release, UndoBlock, LeaveBlock, Import, ExportRecord, Nothing}
-use Rattle.block_meaning.specs.declared.ends.StopWhy.TheVariants as why
-use Rattle.block_meaning.specs.declared.ends.ClientEnd.TheVariants as client
+use Rattle.client_database.specs.declared.ends.StopWhy.TheVariants as why
+use Rattle.client_database.specs.declared.ends.ClientEnd.TheVariants as client
 use Rattle.block_meaning.specs.declared.wants.Piece.TheVariants.{Wrote}
-use Rattle.block_meaning.specs.declared.wants.Wants.TheVariants.{Ended}
+use Rattle.client_database.specs.declared.next_step.NextStep.TheVariants.{Ended}
 use Rattle.block_meaning.specs.Program.{Program}
 use Rattle.block_meaning.specs.Meaning.{run, asked}
 use Rattle.meaning_examples.specs.Small.{◌⨾◌, only, ann, bob, row_id, at_row, sub, transaction, retried, header, reading, for_of, undoable, whole, text, the, num, name, sets_num, sets_name, puts, when, customer_source, two_buffers}
@@ -190,7 +190,7 @@ unfolding sum_of fitted value_order plain_text export_text bytes_of_row number_b
 a_record_created_after_the_copy_is_not_read = refl
 
 -- ---- DO TRANSACTION: CREATE customer. DO ON ERROR UNDO, LEAVE: num = 1. UNDO, LEAVE. END. PUT UNFORMATTED num SKIP. END.
--- Created before the copy and entered after it: pending again, and entered at the end of the transaction
+-- Created before the copy and inserted after it: pending again, and inserted at the end of the transaction
 
 abbrev entered_after_the_copy : Program
 entered_after_the_copy = customer_source [] 0 0 sub (0 ∷ [])
@@ -279,7 +279,7 @@ a_deadlock_stops_the_client : run (customer_source [] 0 0 transaction (0 ∷ [])
 unfolding sum_of fitted value_order plain_text export_text bytes_of_row number_bytes digits
 a_deadlock_stops_the_client = refl
 
--- ---- FOR FIRST customer NO-LOCK: END.  In its second turn there is none, and Next is not asked
+-- ---- FOR FIRST customer NO-LOCK: END.  In its second iteration there is none, and Next is not asked
 
 for_first_asks_next_once : asked (run (customer_source [] 0 0 sub [] (Inner (for_of fetch.First 1 sub (0 ∷ []) (reading wanted.NoLock)) Nothing ⨾ Nothing)) 1000) (Found (row_id 1) (1 ∷ []) ann ∷ Done ∷ []) ≡ Next 0 (Some 0) [] None true ∷ End ∷ []
 unfolding sum_of fitted value_order plain_text export_text bytes_of_row number_bytes digits
@@ -297,7 +297,7 @@ a_changed_record_that_is_gone : run (customer_source [] 0 0 sub [] (Inner (heade
 unfolding sum_of fitted value_order plain_text export_text bytes_of_row number_bytes digits
 a_changed_record_that_is_gone = refl
 
--- ---- FIND FIRST customer.  The row found is gone at Lock: the search goes on behind it
+-- ---- FIND FIRST customer.  The row found is gone at Lock: the search continues after it
 
 a_lost_record_is_passed : asked (run (customer_source [] 0 0 sub (0 ∷ []) (only (Find find.First (reading wanted.Share) true false))) 1000) (Found (row_id 1) (1 ∷ []) ann ∷ Gone ∷ Found (row_id 2) (2 ∷ []) bob ∷ Granted ∷ Row bob ∷ Done ∷ Done ∷ []) ≡ Next 0 (Some 0) [] None true ∷ Lock 0 (row_id 1) false true ∷ Next 0 (Some 0) [] (at_row 1) true ∷ Lock 0 (row_id 2) false true ∷ Get 0 (row_id 2) ∷ Drop (row_id 2) ∷ End ∷ []
 unfolding sum_of fitted value_order plain_text export_text bytes_of_row number_bytes digits

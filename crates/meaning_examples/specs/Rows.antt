@@ -7,26 +7,26 @@ use Rattle.abl_values.specs.Fit.{fitted}
 use Rattle.abl_values.specs.Order.{value_order}
 use Rattle.abl_values.specs.Rows.{bytes_of_row}
 use Rattle.abl_values.specs.Texts.{plain_text, export_text}
-use Rattle.database_meaning.specs.declared.operation.Op.TheVariants.{Enter, Leave, Back, End}
-use Rattle.database_meaning.specs.declared.operation.Answer.{Answer}
-use Rattle.database_meaning.specs.declared.operation.Answer.TheVariants.{Done, Committed, Blocked, NoMemory, Closed}
+use Rattle.client_database.specs.declared.operation.Op.TheVariants.{Enter, Leave, Back, End}
+use Rattle.client_database.specs.declared.answer.Answer.{Answer}
+use Rattle.client_database.specs.declared.answer.Answer.TheVariants.{Done, Committed, Blocked, NoMemory, Closed}
 use Rattle.bound_tree.specs.declared.expression.Binary.TheVariants as two
 use Rattle.bound_tree.specs.declared.block.BlockKind.TheVariants as block
 use Rattle.bound_tree.specs.Tree.{Expr, Literal, Two, Retry, Header, ThenRetry, ThenLeave, ThenNext, Stmt, Inner, UndoBlock, LeaveBlock, OutputTo, OutputClose, Nothing}
-use Rattle.block_meaning.specs.declared.ends.StopWhy.TheVariants as why
-use Rattle.block_meaning.specs.declared.ends.ClientEnd.TheVariants as client
+use Rattle.client_database.specs.declared.ends.StopWhy.TheVariants as why
+use Rattle.client_database.specs.declared.ends.ClientEnd.TheVariants as client
 use Rattle.block_meaning.specs.declared.wants.Piece.TheVariants.{Wrote, Opened}
-use Rattle.block_meaning.specs.declared.wants.Wants.TheVariants.{Ask, Ended}
+use Rattle.client_database.specs.declared.next_step.NextStep.TheVariants.{Ask, Ended}
 use Rattle.block_meaning.specs.Program.{Program}
 use Rattle.block_meaning.specs.Meaning.{run, asked}
-use Rattle.meaning_examples.specs.Small.{◌⨾◌, no_flags, sub, transaction, retried, header, undoable, kept, whole, text, the, sets, one_more, puts, when, plain_source}
+use Rattle.meaning_examples.specs.Small.{◌⨾◌, no_flags, sub, transaction, retried, header, undoable, no_undo, whole, text, the, sets, one_more, puts, when, plain_source}
 
 -- ---- DO TRANSACTION: i = 1. n = 1. UNDO, LEAVE. END. PUT UNFORMATTED i " " n SKIP.  n is NO-UNDO
 
 abbrev pub undo_once : Program
 undo_once = plain_source 1 1
-    (Inner (header block.Do 1 transaction []) (sets (undoable 0) (whole 1) ⨾ sets (kept 0) (whole 1) ⨾ UndoBlock 1 (ThenLeave 1) ⨾ Nothing)
-    ⨾ puts (the (undoable 0) ∷ text (codes " ") ∷ the (kept 0) ∷ []) ⨾ Nothing)
+    (Inner (header block.Do 1 transaction []) (sets (undoable 0) (whole 1) ⨾ sets (no_undo 0) (whole 1) ⨾ UndoBlock 1 (ThenLeave 1) ⨾ Nothing)
+    ⨾ puts (the (undoable 0) ∷ text (codes " ") ∷ the (no_undo 0) ∷ []) ⨾ Nothing)
 
 abbrev undo_once_answers : List Answer
 undo_once_answers = Done ∷ Done ∷ Committed 1 ∷ Done ∷ []
@@ -140,7 +140,7 @@ by_minus_one_counts_down : run (plain_source 1 0 (Inner (counting (whole 3) (who
 unfolding sum_of fitted value_order plain_text export_text bytes_of_row digits
 by_minus_one_counts_down = refl
 
--- the turn in which it ends costs a unit too: procedure, DO, three turns, two PUTs
+-- the iteration in which it ends costs a unit too: procedure, DO, three iterations, two PUTs
 
 the_last_turn_costs_a_unit : run (plain_source 1 0 (Inner (counting (whole 1) (whole 2) None) (puts (the (undoable 0) ∷ []) ⨾ Nothing) ⨾ Nothing)) 7 (Done ∷ []) ≡ record { written = Wrote None (codes "1\n") ∷ Wrote None (codes "2\n") ∷ []; wants = Ended client.Normal }
 unfolding sum_of fitted value_order plain_text export_text bytes_of_row digits
@@ -150,7 +150,7 @@ the_last_turn_lacks_its_unit : run (plain_source 1 0 (Inner (counting (whole 1) 
 unfolding sum_of fitted value_order plain_text export_text bytes_of_row digits
 the_last_turn_lacks_its_unit = refl
 
--- the end value is evaluated each time after the variable is set: TO i never ends
+-- the end value is evaluated after each change of the variable: TO i never ends
 
 the_end_value_is_evaluated_each_time : run (plain_source 1 0 (Inner (counting (whole 1) (the (undoable 0)) None) Nothing ⨾ Nothing)) 20 (Done ∷ []) ≡ record { written = []; wants = Ended (client.Stop why.Budget) }
 unfolding sum_of fitted value_order plain_text export_text bytes_of_row digits

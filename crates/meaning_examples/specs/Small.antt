@@ -1,7 +1,7 @@
 -- Small sources: how the examples write them down.
 use Rattle.std.specs.Prelude.{ℕ, zero, suc, ◌+◌, ◌==◌, List, [], ◌∷◌, codes, slice_index_or, Bool, true, false, Option, Some, None, pos}
 use Rattle.abl_base.specs.declared.row.RowId.{RowId}
-use Rattle.abl_base.specs.declared.row.Cursor.{Cursor}
+use Rattle.client_database.specs.declared.row_order.Cursor.{Cursor}
 use Rattle.abl_values.specs.declared.schema.TableDef.{TableDef}
 use Rattle.abl_base.specs.declared.value.Value.{Value}
 use Rattle.abl_base.specs.declared.value.Value.TheVariants.{Text, Int, Int64}
@@ -18,10 +18,10 @@ use Rattle.bound_tree.specs.declared.block.Flags.{Flags}
 use Rattle.bound_tree.specs.declared.statement.Target.TheVariants as target
 use Rattle.bound_tree.specs.declared.procedure.BufferDef.{BufferDef}
 use Rattle.bound_tree.specs.Tree.{Expr, Literal, TheVariable, TheField, Two, Header, Reading, ValueOf, Item, Shows, Skips, Stmt, Choose, Assign, PutItems, Body, Nothing, Then, Procedure}
-use Rattle.abl_expr.specs.TextForms.{TextForms, Imported, AtInputEnd, BadElement, Elements}
+use Rattle.text_forms.specs.TextForms.{TextForms, Imported, AtInputEnd, BadElement, Elements}
 use Rattle.block_meaning.specs.Program.{Program}
 
--- ---- statements one after the other
+-- ---- lists of statements
 
 infixr 5 ◌⨾◌
 abbrev pub ◌⨾◌ : Stmt → Body → Body
@@ -50,7 +50,7 @@ bob = Int (pos 2) ∷ Text (codes "Bob") ∷ []
 abbrev pub row_id : ℕ → RowId
 row_id n = record { 0 = n }
 
--- the cursor at a row, whose key is taken to be its number
+-- the cursor at a row; its key is its number
 abbrev pub at_row : ℕ → Option Cursor
 at_row n = Some (record { key = n ∷ []; row = row_id n })
 
@@ -97,8 +97,8 @@ for_of word n flags scoped r = record (header block.For n flags scoped) { fetch 
 abbrev pub undoable : ℕ → Variable
 undoable n = record { external = false; undoable = true; number = n; kind = Integer }
 
-abbrev pub kept : ℕ → Variable
-kept n = record { external = false; undoable = false; number = n; kind = Integer }
+abbrev pub no_undo : ℕ → Variable
+no_undo n = record { external = false; undoable = false; number = n; kind = Integer }
 
 abbrev pub whole : ℕ → Expr
 whole n = Literal (Int64 (pos n))
@@ -142,13 +142,13 @@ when e t = Choose e (only t) Nothing
 
 -- ---- programs
 
--- a procedure of these variables, all zero at first, and buffers of the table customer
+-- a procedure with these numbers of variables, all zero at first, and these buffers of the table customer
 abbrev pub zeros : ℕ → List Value
 zeros zero = []
 zeros (suc n) = Int (pos 0) ∷ zeros n
 
 abbrev pub procedure : ℕ → ℕ → List BufferDef → Header → Body → Procedure
-procedure undo keep buffers head body = record { undoable = zeros undo; kept = zeros keep; buffers = buffers; parameters = []; header = head; body = body }
+procedure undo keep buffers head body = record { undoable = zeros undo; no_undo = zeros keep; buffers = buffers; parameters = []; header = head; body = body }
 
 -- each byte of an input is a line here: 0 ends it, 255 is a bad first element, another one is that number and then
 -- the text "x"
@@ -165,13 +165,14 @@ toy_forms = record { masked = λ mask v. plain_text v; number_in = λ t. None; l
 
 abbrev pub program : List ℕ → List Procedure → Program
 program input procedures = record {
-  source = record { tables = customer ∷ []; procedures = procedures; streams = 0 };
+  tables = customer ∷ [];
+  source = record { procedures = procedures; streams = 0 };
   input = input;
   inputs = [];
   forms = toy_forms;
 }
 
--- the source of one procedure without records: so many undoable variables, and so many that are kept
+-- the source of one procedure without records: the number of its undoable variables, and of its NO-UNDO ones
 abbrev pub plain_source : ℕ → ℕ → Body → Program
 plain_source undo keep body = program [] (procedure undo keep [] (header block.Procedure 0 sub []) body ∷ [])
 
@@ -179,6 +180,6 @@ plain_source undo keep body = program [] (procedure undo keep [] (header block.P
 abbrev pub customer_source : List ℕ → ℕ → ℕ → Flags → List ℕ → Body → Program
 customer_source input undo keep flags scoped body = program input (procedure undo keep (named (codes "customer") ∷ []) (header block.Procedure 0 flags scoped) body ∷ [])
 
--- the same with buffer 1, b, beside it
+-- the same with a second buffer, b
 abbrev pub two_buffers : List ℕ → Flags → List ℕ → Body → Program
 two_buffers input flags scoped body = program input (procedure 1 0 (named (codes "customer") ∷ named (codes "b") ∷ []) (header block.Procedure 0 flags scoped) body ∷ [])

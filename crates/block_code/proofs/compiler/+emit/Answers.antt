@@ -14,5 +14,5 @@ emit_all-loop-stmt-preserved t c =
 
 pub emit_block-returns : goal.emit_block-returns
 emit_block-returns t c =
-    block_closed c.close_block.result c.args.code.now.items c.push.new.self.items c.emit_all.new.code.items c.close_block.new.code.items Close c.args.header c.len-at.result c.args.body.items
+    block_closed c.close_block.result c.args.code.now.items c.push.new.self.items c.emit_all.new.code.items c.close_block.new.code.items Close c.args.header.value c.len-at.result c.args.body.items
     c.close_block.ensures (c.len-at.ensures ∙ c.args.code.now.ok.0) c.in_ok-push.ensures.items c.in_ok-emit_all.ensures

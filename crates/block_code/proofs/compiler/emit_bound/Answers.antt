@@ -10,8 +10,8 @@ returns c =
       only = only_one c.args.bound.procedures.items c.pop.new.self.items c.pop.result c.in-Some-None.main c.pop.ensures.items c.in-Some-None.is-0 (sym c.pop.new.self.ok.0 ∙ c.in-Some-None.ensures'.cases.0);
       instrs =
           c.in_ok-emit_block.ensures
-          ∙ ap (λ code. code ++ block_code (length code) c.in-Some-None.main.header (body_code (length code + 1) c.in-Some-None.main.body.items)) c.new-instrs.ensures.items;
+          ∙ ap (λ code. code ++ block_code (length code) c.in-Some-None.main.header.value (body_code (length code + 1) c.in-Some-None.main.body.items)) c.new-instrs.ensures.items;
       undoable = refl;
-      kept = refl;
+      no_undo = refl;
       inputs = refl;
     }

@@ -4,4 +4,4 @@ use Rattle.block_vm.proofs.state.text_of.Given as goal
 
 abbrev pub invariant-loop-item : goal.invariant-loop-item
 invariant-loop-item l =
-    l.text.items ++ items_text (drop l.item-index l.items) l.undoable l.kept ≡ items_text l.items l.undoable l.kept
+    l.text.items ++ items_text (drop l.item-index l.items) l.undoable l.no_undo ≡ items_text l.items l.undoable l.no_undo

@@ -29,8 +29,8 @@ inner_statement-returns-in-None-clause-found t c =
     IfOk-weaker c.statement.result (λ found. IsStatement c.args.names.now c.args.number (signs_of c.args.tokens.now) (stmt_of found.0) found.1 (signs_of found.2.now))
     (λ found. IsInner c.args.names.now c.args.block c.args.number (signs_of c.args.tokens.now) (stmt_of found.0) found.1 (signs_of found.2.now)) (λ found s. inner_statement s) c.statement.ensures.found
 
-pub statement-returns-in_ok-body-in-Some-clause-found : goal.statement-returns-in_ok-body-in-Some-clause-found
-statement-returns-in_ok-body-in-Some-clause-found t c = rw (c.in-Some.ensures.found, c.block_of.ensures) (statement_block c.in_ok-body-in-Some.ensures.found)
+pub statement-returns-in_ok-block_of-in-Some-clause-found : goal.statement-returns-in_ok-block_of-in-Some-clause-found
+statement-returns-in_ok-block_of-in-Some-clause-found t c = rw (c.in-Some.ensures.found, c.in_ok-block_of-in-Some.ensures) (statement_block c.in_ok-body-in-Some.ensures.found)
 
 pub statement-returns-in_ok-stmt-in-None-clause-found : goal.statement-returns-in_ok-stmt-in-None-clause-found
 statement-returns-in_ok-stmt-in-None-clause-found t c = statement_set c.in_ok-stmt-in-None.ensures.found

@@ -1,7 +1,7 @@
 use Rattle.std.proofs.Common.{◌≡◌, ◌≤◌, ℕ, List}
-use Rattle.database_meaning.specs.declared.operation.Answer.{Answer}
+use Rattle.client_database.specs.declared.answer.Answer.{Answer}
 use Rattle.block_meaning.specs.declared.wants.Piece.{Piece}
-use Rattle.block_meaning.specs.State.{Doing}
+use Rattle.block_meaning.specs.State.{Progress}
 use Rattle.block_vm.specs.Work.{weight, most_operations, IsEnding}
 use Rattle.block_vm.specs.Client.{config_of, standing_of}
 use Rattle.block_vm.specs.Standing.{HasWritten}
@@ -13,7 +13,7 @@ use Rattle.block_vm.proofs.machine.Machine.go_on.Given as goal
 abbrev pub invariant-loop-wants : goal.invariant-loop-wants
 invariant-loop-wants l =
     record {
-      going : (names : List (List ℕ)) (m : List Answer → Doing) (written : List Piece) → IsUnendedIn l.initial.self.mode → HasWritten (standing_of l.initial.self) names written → Follows m (config_of written l.initial.self) → Going m names written l.self;
+      going : (names : List (List ℕ)) (m : List Answer → Progress) (written : List Piece) → IsUnendedIn l.initial.self.mode → HasWritten (standing_of l.initial.self) names written → Follows m (config_of written l.initial.self) → Going m names written l.self;
       most : most_operations (standing_of l.self) ≤ most_operations (standing_of l.initial.self);
       ending : IsEnding (standing_of l.initial.self) → l.self ≡ l.initial.self;
     }

@@ -9,5 +9,5 @@ returns-clause-does c =
     record {
       written = [];
       has = c.in_ok-new.ensures.sections;
-      follows = (starts_at c.args.code bound p c.args.budget (reverse c.new.result.items) _ stands built source (ap reverse c.new.ensures.items) (c.in_ok-new.ensures.config c.args.code.instrs.items (Turns 0) (reverse c.new.result.items) []));
+      follows = (starts_at c.args.code bound p c.args.units (reverse c.new.result.items) _ stands built source (ap reverse c.new.ensures.items) (c.in_ok-new.ensures.config c.args.code.instrs.items (Turns 0) (reverse c.new.result.items) []));
     }

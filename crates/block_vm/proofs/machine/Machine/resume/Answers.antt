@@ -1,10 +1,10 @@
 use Rattle.std.proofs.Common.{◌≡◌, Option, sym, subst}
 use Rattle.std.specs.Prelude.{IfSome}
-use Rattle.block_meaning.specs.declared.ends.ClientEnd.TheVariants.{NoMemory}
-use Rattle.block_meaning.specs.declared.wants.Wants.TheVariants.{Ended}
+use Rattle.client_database.specs.declared.ends.ClientEnd.TheVariants.{NoMemory}
+use Rattle.client_database.specs.declared.next_step.NextStep.TheVariants.{Ended}
 use Rattle.block_vm.specs.Client.{standing_of}
 use Rattle.block_vm.specs.Standing.{HasWritten}
-use Rattle.database_meaning.specs.declared.operation.Answer.{Answer}
+use Rattle.client_database.specs.declared.answer.Answer.{Answer}
 use Rattle.block_vm.specs.Does.{Does, Came, IsExpected, heard_too}
 use Rattle.block_vm.proofs.Resumes.{first_call}
 use Rattle.block_vm.proofs.machine.Machine.resume.Goals as goal

@@ -1,6 +1,6 @@
 use Rattle.std.proofs.Common.{◌∷◌, ◌++◌, [], refl, sym, ap, ◌∙◌, subst, arith}
-use Rattle.block_meaning.specs.declared.ends.ClientEnd.{ClientEnd}
-use Rattle.block_meaning.specs.declared.wants.Wants.TheVariants.{Ended}
+use Rattle.client_database.specs.declared.ends.ClientEnd.{ClientEnd}
+use Rattle.client_database.specs.declared.next_step.NextStep.TheVariants.{Ended}
 use Rattle.block_vm.specs.declared.machine.Machine.{Machine}
 use Rattle.block_vm.specs.declared.mode.Mode.{Mode}
 use Rattle.block_vm.specs.declared.mode.Mode.TheVariants.{Ended as HasEnded}

@@ -1,7 +1,7 @@
 use Rattle.block_meaning.proofs.Undone.{undo_gives_variables, undo_leaves_alone}
 use Rattle.block_meaning.proofs.Pending.{undo_gives_pending}
 use Rattle.block_meaning.proofs.Older.{undo_leaves_older}
-use Rattle.block_meaning.proofs.laws.undo_gives_back_the_copy.Goals as goal
+use Rattle.block_meaning.proofs.laws.undo_restores_the_copy.Goals as goal
 
 pub returns-clause-variables : goal.returns-clause-variables
 returns-clause-variables c = undo_gives_variables

@@ -1,19 +1,19 @@
 -- What a client wants, and what it hears.
-use Rattle.database_meaning.specs.declared.operation.Op.{Op}
-use Rattle.database_meaning.specs.declared.operation.Op.TheVariants as op
-use Rattle.database_meaning.specs.declared.operation.Answer.{Answer}
-use Rattle.database_meaning.specs.declared.operation.Answer.TheVariants.{Blocked}
-use Rattle.block_meaning.specs.declared.wants.Wants.{Wants}
-use Rattle.block_meaning.specs.declared.wants.Wants.TheVariants.{Ask, Ended}
+use Rattle.client_database.specs.declared.operation.Op.{Op}
+use Rattle.client_database.specs.declared.operation.Op.TheVariants as op
+use Rattle.client_database.specs.declared.answer.Answer.{Answer}
+use Rattle.client_database.specs.declared.answer.Answer.TheVariants.{Blocked}
+use Rattle.client_database.specs.declared.next_step.NextStep.{NextStep}
+use Rattle.client_database.specs.declared.next_step.NextStep.TheVariants.{Ask, Ended}
 use Rattle.std.specs.Prelude.{[], ◌≡◌}
 
 -- it asks an operation
-abbrev pub IsAsking : Wants → Type 0
+abbrev pub IsAsking : NextStep → Type 0
 IsAsking (Ask op) = Unit {0}
 IsAsking (Ended end) = ⊥
 
 -- it has ended
-abbrev pub IsEnded : Wants → Type 0
+abbrev pub IsEnded : NextStep → Type 0
 IsEnded (Ask op) = ⊥
 IsEnded (Ended end) = Unit {0}
 
@@ -31,6 +31,6 @@ IsOfLevels op.End = Unit {0}
 IsOfLevels other = ⊥
 
 -- it asks such an operation, or has ended
-abbrev pub IsLevelOp : Wants → Type 0
+abbrev pub IsLevelOp : NextStep → Type 0
 IsLevelOp (Ask o) = IsOfLevels o
 IsLevelOp (Ended end) = Unit {0}
