@@ -26,7 +26,7 @@ delimited c d b bs h =
 undelimited : (d : List ℕ) (b : ℕ) (bs : List ℕ) → begins_with (b ∷ bs) d ≡ false → parts_after d 0 (b ∷ bs) ≡ before_first b (parts_after d 0 bs)
 undelimited d b bs h = rw h refl
 
--- the first delimiter stands behind n bytes
+-- the first delimiter comes after n bytes
 pub split_at : (d list : List ℕ) (n : ℕ) → 0 < length d → n < length list → ((k : ℕ) → k < n → begins_with (drop k list) d ≡ false) → begins_with (drop n list) d ≡ true → parts_after d 0 list ≡ take n list ∷ parts_after d 0 (drop (n + length d) list)
 split_at [] list n h w none here = absurd (omega arith)
 split_at (c ∷ d) [] n h w none here = absurd (omega arith)
@@ -38,7 +38,7 @@ split_at (c ∷ d) (b ∷ bs) (suc n) h w none here =
     let rest = split_at (c ∷ d) bs n h (omega arith) (λ k l. none (suc k) (omega arith)) here in
     rw e (undelimited (c ∷ d) b bs first ∙ ap (before_first b) rest)
 
--- no delimiter stands in the list
+-- the list has no delimiter
 pub no_split : (d list : List ℕ) → ((k : ℕ) → k < length list → begins_with (drop k list) d ≡ false) → parts_after d 0 list ≡ list ∷ []
 no_split d [] none = refl
 no_split d (b ∷ bs) none =
@@ -62,12 +62,12 @@ same_part false false p ps n h = refl
 same_part true false p ps n h = absurd (cc)
 same_part false true p ps n h = absurd (cc)
 
--- a part is found behind one part less
+-- a part is found after one part less
 pub part_more : (p : List ℕ) (ps all : List (List ℕ)) (i n : ℕ) → all ≡ p ∷ ps → i ≡ n + 1 → part_from all i ≡ part_from ps n
 part_more p ps all i n e s =
     rw (e, s) (same_part (nat_lt (n + 1) (length (p ∷ ps))) (nat_lt n (length ps)) p ps n (grind (arith, nat_tests)))
 
--- no part stands behind the only one
+-- no part comes after the only one
 pub part_none : (p : List ℕ) (all : List (List ℕ)) (i : ℕ) → all ≡ p ∷ [] → 0 < i → part_from all i ≡ Err Argument
 part_none p all i e h = rw e (part_no _ (p ∷ []) i (grind (arith, nat_tests)))
 
@@ -76,7 +76,7 @@ part_at_none (pos zero) = refl
 part_at_none (pos (suc i)) = part_no _ [] i (grind (arith, nat_tests))
 part_at_none (negsuc i) = refl
 
--- what is in front of the first delimiter, and what is behind it
+-- what comes before the first delimiter, and what after it
 pub split_here : (d list : List ℕ) (n : ℕ) → 0 < length d → n < length list → ((k : ℕ) → k < n → begins_with (drop k list) d ≡ false) → begins_with (drop n list) d ≡ true → IsSplit d list (take n list) (take (length list - (n + length d)) (drop (n + length d) list))
 split_here d list n h w none here = record {
   parts = rw (take_rest list (n + length d)) (split_at d list n h w none here);

@@ -8,8 +8,10 @@ use Rattle.abl_expr.specs.declared.fault.RunFault.TheVariants.{Range}
 use Rattle.abl_expr.specs.Operators.{Given}
 use Rattle.abl_eval.specs.declared.fault.EvalFault.{EvalFault}
 use Rattle.abl_eval.specs.declared.fault.EvalFault.TheVariants.{Fault, NoMemory}
+use Rattle.abl_eval.specs.declared.held.Held.{Held}
+use Rattle.abl_eval.specs.declared.held.Held.TheVariants.{Own, Lent}
 
--- the call answers what is given, or memory is wanting
+-- the call answers what is given, or there is no memory
 abbrev pub Gives : Result Value EvalFault → Given → Type 0
 Gives (Ok v) given = given ≡ Ok v
 Gives (Err (Fault fault)) given = given ≡ Err fault
@@ -25,3 +27,16 @@ ranged (Err arith.NoMemory) = Err NoMemory
 abbrev pub is_no : Value → Bool
 is_no (Logical false) = true
 is_no v = false
+
+-- ---- values that are not copied
+
+-- the value
+abbrev pub held_value : Held → Value
+held_value (Own v) = v
+held_value (Lent v) = v.now
+
+-- the call answers what is given, or there is no memory
+abbrev pub Holds : Result Held EvalFault → Given → Type 0
+Holds (Ok h) given = given ≡ Ok (held_value h)
+Holds (Err (Fault fault)) given = given ≡ Err fault
+Holds (Err NoMemory) given = Unit {0}

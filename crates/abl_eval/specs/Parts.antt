@@ -8,6 +8,6 @@ pub record IsSplit (delimiter list first rest : List ℕ) : Type 0 where
   pub parts : parts_after delimiter 0 list ≡ first ∷ parts_after delimiter 0 rest
   pub shorter : length rest < length list
 
--- the part behind so many others
+-- the part after i others
 abbrev pub part_from : List (List ℕ) → ℕ → Given
 part_from parts i = part_if (nat_lt i (length parts)) parts i

@@ -1,4 +1,4 @@
-//! What an argument of a function is.
+//! An argument of a function, by its kind.
 
 ghost use Rattle.std.specs.Prelude.{◌≡◌, MatchOption, Some, None};
 ghost use Rattle.abl_expr.specs.Functions.{day_in, text_in, whole_in};

@@ -1,5 +1,5 @@
 //! ENTRY and NUM-ENTRIES (OpenEdge ABL Reference, each by its name). A list is read from its front,
-//! delimiter by delimiter; none of its entries is copied but the one that is wanted.
+//! delimiter by delimiter; of its entries only the requested one is copied.
 
 ghost use Rattle.std.specs.Prelude.{◌≡◌, ◌<◌, ◌∷◌, [], length, MatchOption, Ok, Err};
 ghost use Rattle.abl_expr.specs.declared.fault.RunFault.TheVariants.{Argument};
@@ -21,7 +21,7 @@ pub(crate) fn num_entries(list: &Value, delimiter: &Value) -> Result<Value, Eval
         (Some(_), Some([])) => Err(EvalFault::Fault(RunFault::Argument)),
         (Some(list), Some(delimiter)) => match i64::try_from(count(list, delimiter)) {
             Ok(entries) => Ok(Value::Int64(entries)),
-            // No memory holds such a list.
+            // No memory holds so long a list.
             Err(_) => Err(EvalFault::NoMemory),
         },
         _ => Ok(Value::Unknown),
@@ -57,9 +57,9 @@ fn count(list: &[u8], delimiter: &[u8]) -> usize
     }
     let mut entries = 1;
     let mut rest = list;
-    while let Some(behind) = split_first(rest, delimiter).1 {
+    while let Some(after) = split_first(rest, delimiter).1 {
         entries += 1;
-        rest = behind;
+        rest = after;
     }
     entries
 }
@@ -74,12 +74,12 @@ fn entry_at<'a>(list: &'a [u8], delimiter: &[u8], number: i64) -> Option<&'a [u8
     if list.is_empty() || number < 1 {
         return None;
     }
-    entry_behind(list, delimiter, (number - 1) as usize)
+    entry_after(list, delimiter, (number - 1) as usize)
 }
 
-/// The entry behind so many others of a list that is not empty.
+/// The entry after `others` other ones of a list that is not empty.
 #[tactic(auto, using(crate::proofs::Splits::part_more, crate::proofs::Splits::part_none))]
-fn entry_behind<'a>(list: &'a [u8], delimiter: &[u8], others: usize) -> Option<&'a [u8]>
+fn entry_after<'a>(list: &'a [u8], delimiter: &[u8], others: usize) -> Option<&'a [u8]>
     requires { 0 < length delimiter.now }
     ensures { MatchOption result (part_from (parts_after delimiter.now 0 list.now) others ≡ Err Argument)
         (λ entry. part_from (parts_after delimiter.now 0 list.now) others ≡ Ok (Value.Text entry.now)) }
@@ -93,7 +93,7 @@ fn entry_behind<'a>(list: &'a [u8], delimiter: &[u8], others: usize) -> Option<&
     Some(split_first(rest, delimiter).0)
 }
 
-/// The first entry of a list, and what is behind its delimiter where there is one.
+/// The first entry of a list, and what follows its delimiter where there is one.
 fn split_first<'a>(list: &'a [u8], delimiter: &[u8]) -> (&'a [u8], Option<&'a [u8]>)
     requires { 0 < length delimiter.now }
     ensures first { part_from (parts_after delimiter.now 0 list.now) 0 ≡ Ok (Value.Text result.0.now) }

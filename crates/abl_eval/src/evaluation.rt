@@ -3,15 +3,19 @@
 ghost use Rattle.std.specs.Prelude.{◌≡◌, IfOk, Ok, Err};
 ghost use Rattle.bound_tree.specs.Bound.{expr_of};
 ghost use Rattle.abl_expr.specs.declared.fault.RunFault.{RunFault};
-ghost use Rattle.abl_expr.specs.TextForms.{TextForms};
+ghost use Rattle.text_forms.specs.TextForms.{TextForms};
 ghost use Rattle.abl_expr.specs.Evaluate.{as_kind, evaluate, field_or, literal, one_of, three_of, two_of};
-ghost use Rattle.abl_eval.specs.Forms.{AreForms, IsChoice, MasksFit, the_forms};
-ghost use Rattle.abl_eval.specs.Gives.{Gives};
+ghost use Rattle.abl_base.specs.declared.value.Value.TheVariants.{Logical, Text};
+ghost use Rattle.abl_expr.specs.Operators.{Given};
+ghost use Rattle.abl_eval.specs.Chains.{chain_from, linked};
+ghost use Rattle.abl_eval.specs.Forms.{AreForms, the_forms};
+ghost use Rattle.abl_eval.specs.Gives.{Gives, Holds, held_value};
 
 use crate::conversions::{as_masked, as_text, converted};
 use crate::dates::{date_of, day_of_month, month_of, year_of};
 use crate::entries::{entry, num_entries};
 use crate::fault::{EvalFault, ranged};
+use crate::held::Held;
 use crate::operators::{
     at_least, at_most, conjunction, disjunction, equals, greater, holds, is_no, is_yes, less,
     negative, opposite, positive,
@@ -21,18 +25,16 @@ use crate::texts::{begins, length, substring};
 use abl_base::{Items, Kind, MAX_TEXT_BYTES, Value};
 use abl_expr::RunFault;
 use abl_values::{add, divide, fit, modulo, multiply, subtract};
-use bound_tree::{Binary, Expr, Ternary, Unary};
+use bound_tree::{Binary, Expr, Link, Operator, Ternary, Unary};
 use std::alloc::Global;
 
 /// What the expression gives in these surroundings: its value, or the fault that comes first from
-/// left to right. Want of memory may come instead. Each mask has to fit the value that it is
-/// applied to.
+/// left to right. Out of memory may come instead.
 pub fn evaluate<S: Surroundings>(
     alloc: Global,
     surroundings: &S,
     expression: &Expr,
 ) -> Result<Value, EvalFault>
-    requires { MasksFit (S.env surroundings.now) (expr_of expression.now) }
     ensures value { IfOk result (λ v. (forms : TextForms) → AreForms forms
         → evaluate forms (S.env surroundings.now) (expr_of expression.now) ≡ Ok v) }
     ensures fault { (fault : RunFault) → result ≡ Err (EvalFault.Fault fault) → (forms : TextForms) → AreForms forms
@@ -41,72 +43,43 @@ pub fn evaluate<S: Surroundings>(
     value_of(alloc, surroundings, expression)
 }
 
-/// What the expression gives.
-#[cycle(evaluation)]
+/// What the expression gives, as a value of its own.
 fn value_of<S: Surroundings>(
     alloc: Global,
     surroundings: &S,
     expression: &Expr,
 ) -> Result<Value, EvalFault>
-    requires { MasksFit (S.env surroundings.now) (expr_of expression.now) }
     ensures { Gives result (evaluate the_forms (S.env surroundings.now) (expr_of expression.now)) }
+{
+    Ok(held(alloc, surroundings, expression)?.into_value()?)
+}
+
+/// What the expression gives. A value that is only read is not copied.
+#[cycle(evaluation)]
+fn held<'a, S: Surroundings>(
+    alloc: Global,
+    surroundings: &'a S,
+    expression: &'a Expr,
+) -> Result<Held<'a>, EvalFault>
+    ensures { Holds result (evaluate the_forms (S.env surroundings.now) (expr_of expression.now)) }
 {
     match expression {
         Expr::Literal(value) => literal(value),
-        Expr::Variable(variable) => Ok(surroundings.variable(*variable).copy()?),
+        Expr::Variable(variable) => Ok(Held::Lent(surroundings.variable(*variable))),
         Expr::Field { buffer, field, .. } => field_of(surroundings, *buffer, *field),
-        Expr::Unary(operator, a) => one_of(alloc, *operator, &value_of(alloc, surroundings, a)?),
-        Expr::Binary(operator, a, b) => {
-            let a = value_of(alloc, surroundings, a)?;
-            let b = value_of(alloc, surroundings, b)?;
-            two_of(alloc, *operator, &a, &b)
+        Expr::Unary(operator, a) => {
+            let a = held(alloc, surroundings, a)?;
+            own(one_of(alloc, *operator, a.value()))
+        }
+        Expr::Chain { first, rest } => {
+            let start = held(alloc, surroundings, first)?;
+            links(alloc, surroundings, start, rest)
         }
         Expr::Ternary(operator, a, b, c) => {
-            let a = value_of(alloc, surroundings, a)?;
-            let b = value_of(alloc, surroundings, b)?;
-            let c = value_of(alloc, surroundings, c)?;
-            three_of(alloc, *operator, &a, &b, &c)
-        }
-        Expr::And(_, _) | Expr::Or(_, _) | Expr::If { .. } => {
-            chosen(alloc, surroundings, expression)
-        }
-        Expr::Masked { value, mask } => {
-            let value = value_of(alloc, surroundings, value)?;
-            as_masked(alloc, &value, mask.as_slice())
-        }
-        Expr::Available(buffer) => Ok(Value::Logical(surroundings.available(*buffer))),
-        Expr::Locked(buffer) => Ok(Value::Logical(surroundings.locked(*buffer))),
-        Expr::Retry => Ok(Value::Logical(surroundings.retry())),
-        Expr::ErrorStatus => Ok(Value::Logical(surroundings.error_status())),
-        Expr::ReturnValue => Ok(Value::Text(Items::of(alloc, surroundings.return_value())?)),
-    }
-}
-
-/// What the expression gives, where some of its parts may be left out.
-#[cycle(evaluation)]
-fn chosen<S: Surroundings>(
-    alloc: Global,
-    surroundings: &S,
-    expression: &Expr,
-) -> Result<Value, EvalFault>
-    requires fit { MasksFit (S.env surroundings.now) (expr_of expression.now) }
-    requires choice { IsChoice (expr_of expression.now) }
-    ensures { Gives result (evaluate the_forms (S.env surroundings.now) (expr_of expression.now)) }
-{
-    match expression {
-        Expr::And(a, b) => {
-            let a = value_of(alloc, surroundings, a)?;
-            if is_no(&a) {
-                return Ok(a);
-            }
-            Ok(conjunction(&a, value_of(alloc, surroundings, b)?))
-        }
-        Expr::Or(a, b) => {
-            let a = value_of(alloc, surroundings, a)?;
-            if is_yes(&a) {
-                return Ok(a);
-            }
-            Ok(disjunction(&a, value_of(alloc, surroundings, b)?))
+            let a = held(alloc, surroundings, a)?;
+            let b = held(alloc, surroundings, b)?;
+            let c = held(alloc, surroundings, c)?;
+            own(three_of(alloc, *operator, a.value(), b.value(), c.value()))
         }
         Expr::If {
             test,
@@ -114,39 +87,124 @@ fn chosen<S: Surroundings>(
             else_value,
             kind,
         } => {
-            if holds(&value_of(alloc, surroundings, test)?) {
-                as_kind(alloc, *kind, value_of(alloc, surroundings, then_value)?)
+            let test = held(alloc, surroundings, test)?;
+            if holds(test.value()) {
+                as_kind(alloc, *kind, held(alloc, surroundings, then_value)?)
             } else {
-                as_kind(alloc, *kind, value_of(alloc, surroundings, else_value)?)
+                as_kind(alloc, *kind, held(alloc, surroundings, else_value)?)
             }
         }
-        _ => unreachable!(),
+        Expr::Masked { value, mask } => {
+            let value = held(alloc, surroundings, value)?;
+            own(as_masked(alloc, value.value(), mask.as_slice()))
+        }
+        Expr::Available(buffer) => Ok(truth(surroundings.available(*buffer))),
+        Expr::Locked(buffer) => Ok(truth(surroundings.locked(*buffer))),
+        Expr::Retry => Ok(truth(surroundings.retry())),
+        Expr::ErrorStatus => Ok(truth(surroundings.error_status())),
+        Expr::ReturnValue => own(text(alloc, surroundings.return_value())),
     }
 }
 
+/// What the links of a chain make of its first value, from the left.
+#[cycle(evaluation)]
+fn links<'a, S: Surroundings>(
+    alloc: Global,
+    surroundings: &'a S,
+    first: Held<'a>,
+    rest: &'a [Link],
+) -> Result<Held<'a>, EvalFault>
+    ensures { Holds result (chain_from (S.env surroundings.now) (Ok (held_value first.entry)) rest.now) }
+{
+    let mut value = first;
+    for link in rest {
+        value = linked(alloc, surroundings, value, link)?;
+    }
+    Ok(value)
+}
+
+/// What a link makes of its left value and its right operand, which AND and OR skip where the left
+/// value decides.
+#[cycle(evaluation)]
+fn linked<'a, S: Surroundings>(
+    alloc: Global,
+    surroundings: &'a S,
+    left: Held<'a>,
+    link: &'a Link,
+) -> Result<Held<'a>, EvalFault>
+    ensures { Holds result (linked link.now.operator (held_value left.entry) (evaluate the_forms (S.env surroundings.now) (expr_of link.now.operand))) }
+{
+    match link.operator {
+        Operator::Binary(operator) => {
+            let right = held(alloc, surroundings, &link.operand)?;
+            own(two_of(alloc, operator, left.value(), right.value()))
+        }
+        Operator::And => {
+            if is_no(left.value()) {
+                return Ok(left);
+            }
+            Ok(conjunction(left.value(), held(alloc, surroundings, &link.operand)?))
+        }
+        Operator::Or => {
+            if is_yes(left.value()) {
+                return Ok(left);
+            }
+            Ok(disjunction(left.value(), held(alloc, surroundings, &link.operand)?))
+        }
+    }
+}
+
+/// A new value.
+fn own<'a>(made: Result<Value, EvalFault>) -> Result<Held<'a>, EvalFault>
+    ensures { (given : Given) → Gives made given → Holds result given }
+{
+    match made {
+        Ok(value) => Ok(Held::Own(value)),
+        Err(fault) => Err(fault),
+    }
+}
+
+/// A LOGICAL.
+fn truth<'a>(yes: bool) -> Held<'a>
+    ensures { held_value result ≡ Logical yes }
+{
+    Held::Own(Value::Logical(yes))
+}
+
+/// A text.
+fn text(alloc: Global, bytes: &[u8]) -> Result<Value, EvalFault>
+    ensures { Gives result (Ok (Text bytes.now)) }
+{
+    Ok(Value::Text(Items::of(alloc, bytes)?))
+}
+
 /// A literal. A text above the longest one is out of range.
-fn literal(value: &Value) -> Result<Value, EvalFault>
-    ensures { Gives result (literal value.now) }
+fn literal(value: &Value) -> Result<Held<'_>, EvalFault>
+    ensures { Holds result (literal value.now) }
 {
     match value {
         Value::Text(text) if text.len() > MAX_TEXT_BYTES => {
             Err(EvalFault::Fault(RunFault::Range))
         }
-        _ => Ok(value.copy()?),
+        _ => Ok(Held::Lent(value)),
     }
 }
 
 /// A field of the record in a buffer, which may be empty.
-fn field_of<S: Surroundings>(surroundings: &S, buffer: u32, field: u16) -> Result<Value, EvalFault>
-    ensures { Gives result (field_or ((S.env surroundings.now).field buffer field) buffer) }
+fn field_of<S: Surroundings>(
+    surroundings: &S,
+    buffer: u32,
+    field: u16,
+) -> Result<Held<'_>, EvalFault>
+    ensures { Holds result (field_or ((S.env surroundings.now).field buffer field) buffer) }
 {
     match surroundings.field(buffer, field) {
-        Some(value) => Ok(value.copy()?),
+        Some(value) => Ok(Held::Lent(value)),
         None => Err(EvalFault::Fault(RunFault::EmptyBuffer(buffer))),
     }
 }
 
-/// What is made of one value.
+/// What an operator or function makes of one value.
 fn one_of(alloc: Global, operator: Unary, v: &Value) -> Result<Value, EvalFault>
     ensures { Gives result (one_of the_forms operator v.now) }
 {
@@ -165,7 +223,7 @@ fn one_of(alloc: Global, operator: Unary, v: &Value) -> Result<Value, EvalFault>
     }
 }
 
-/// What is made of two values.
+/// What an operator or function makes of two values.
 fn two_of(alloc: Global, operator: Binary, a: &Value, b: &Value) -> Result<Value, EvalFault>
     ensures { Gives result (two_of operator a.now b.now) }
 {
@@ -186,7 +244,7 @@ fn two_of(alloc: Global, operator: Binary, a: &Value, b: &Value) -> Result<Value
     }
 }
 
-/// What is made of three values.
+/// What a function makes of three values.
 fn three_of(
     alloc: Global,
     operator: Ternary,
@@ -204,11 +262,11 @@ fn three_of(
 }
 
 /// A branch of IF as a value of the kind of both.
-fn as_kind(alloc: Global, kind: Option<Kind>, value: Value) -> Result<Value, EvalFault>
-    ensures { Gives result (as_kind kind value) }
+fn as_kind<'a>(alloc: Global, kind: Option<Kind>, value: Held<'a>) -> Result<Held<'a>, EvalFault>
+    ensures { Holds result (as_kind kind (held_value value.entry)) }
 {
     match kind {
-        Some(kind) => ranged(fit(alloc, &value, kind)),
+        Some(kind) => own(ranged(fit(alloc, value.value(), kind))),
         None => Ok(value),
     }
 }

@@ -1,8 +1,10 @@
 //! What an expression gives, computed: its value, or the fault that comes first from left to right.
-//! It stands on the bound tree and on the calls on values, texts and masks. What the program around
-//! an expression tells it comes by the trait `Surroundings`. The layer above may rely on `evaluate`,
-//! which gives what `evaluate` of `abl_expr` says of the tree, whatever text forms it is told that
-//! are those of `text_values` and `abl_masks` (`specs/Forms.antt`).
+//! It depends on the bound tree and on the calls on values, texts and masks. What an expression
+//! reads of the program around it comes by the trait `Surroundings`. The layer above may rely on
+//! `evaluate`, which gives what `evaluate` of `abl_expr` says of the tree over any text forms that
+//! read numbers and write masks as `abl_format` does (`specs/Forms.antt`), and on `holds`,
+//! `at_most` and `at_least`, with which IF, WHILE, TO and WHERE test values. Its rows are those of
+//! `expression_tables`.
 #![tactic(auto)]
 
 mod arguments;
@@ -11,12 +13,12 @@ mod dates;
 mod entries;
 pub mod evaluation;
 pub mod fault;
-mod operators;
+mod held;
+pub mod operators;
 pub mod surroundings;
-#[cfg(test)]
-mod tests;
 mod texts;
 
 pub use evaluation::evaluate;
 pub use fault::EvalFault;
+pub use operators::{at_least, at_most, holds};
 pub use surroundings::Surroundings;

@@ -1,12 +1,13 @@
-//! Comparisons, signs, NOT, and what the operators make of two values (OpenEdge ABL Reference, each
-//! operator by its name).
+//! Comparisons, signs, NOT, AND, OR and conditions (OpenEdge ABL Reference, each operator by its
+//! name).
 
 ghost use Rattle.std.specs.Prelude.{◌≡◌, Ok, false};
 ghost use Rattle.abl_expr.specs.Operators.{and_then, at_least, at_most, compared_as, equals, greater, holds, is_unknown, less, negative, opposite, or_else, positive};
-ghost use Rattle.abl_eval.specs.Gives.{Gives, is_no};
+ghost use Rattle.abl_eval.specs.Gives.{Gives, held_value, is_no};
 
 use crate::arguments::is_unknown;
 use crate::fault::{EvalFault, ranged};
+use crate::held::Held;
 use abl_base::Value;
 use abl_values::{add, compare, subtract};
 use std::alloc::Global;
@@ -33,8 +34,8 @@ pub(crate) fn greater(a: &Value, b: &Value) -> Value
     compared(a, b, false, matches!(compare(a, b), Ordering::Greater))
 }
 
-/// `<=`. Between `?` and `?` it is yes.
-pub(crate) fn at_most(a: &Value, b: &Value) -> Value
+/// `<=`: yes between `?` and `?`, and `?` where one side alone is `?`.
+pub fn at_most(a: &Value, b: &Value) -> Value
     ensures { result ≡ at_most a.now b.now }
 {
     compared(
@@ -45,8 +46,8 @@ pub(crate) fn at_most(a: &Value, b: &Value) -> Value
     )
 }
 
-/// `>=`. Between `?` and `?` it is yes.
-pub(crate) fn at_least(a: &Value, b: &Value) -> Value
+/// `>=`: yes between `?` and `?`, and `?` where one side alone is `?`.
+pub fn at_least(a: &Value, b: &Value) -> Value
     ensures { result ≡ at_least a.now b.now }
 {
     compared(
@@ -92,8 +93,8 @@ pub(crate) fn opposite(value: &Value) -> Value
     }
 }
 
-/// Whether a condition holds; `?` counts as no.
-pub(crate) fn holds(value: &Value) -> bool
+/// Whether a condition holds, as of IF, WHILE and WHERE: it is yes. `?` counts as no.
+pub fn holds(value: &Value) -> bool
     ensures { result ≡ holds value.now }
 {
     match value {
@@ -117,21 +118,21 @@ pub(crate) fn is_yes(value: &Value) -> bool
 }
 
 /// AND of two values of which the first is not no.
-pub(crate) fn conjunction(a: &Value, b: Value) -> Value
-    ensures { is_no a.now ≡ false → and_then a.now (Ok b) ≡ Ok result }
+pub(crate) fn conjunction<'a>(a: &Value, b: Held<'a>) -> Held<'a>
+    ensures { is_no a.now ≡ false → and_then a.now (Ok (held_value b.entry)) ≡ Ok (held_value result) }
 {
     match a {
         Value::Logical(_) => b,
-        _ => Value::Unknown,
+        _ => Held::Own(Value::Unknown),
     }
 }
 
 /// OR of two values of which the first is not yes.
-pub(crate) fn disjunction(a: &Value, b: Value) -> Value
-    ensures { holds a.now ≡ false → or_else a.now (Ok b) ≡ Ok result }
+pub(crate) fn disjunction<'a>(a: &Value, b: Held<'a>) -> Held<'a>
+    ensures { holds a.now ≡ false → or_else a.now (Ok (held_value b.entry)) ≡ Ok (held_value result) }
 {
     match a {
         Value::Logical(_) => b,
-        _ => Value::Unknown,
+        _ => Held::Own(Value::Unknown),
     }
 }

@@ -1,4 +1,4 @@
-//! What an expression is told by the program around it.
+//! What an expression reads of the program around it.
 
 ghost use Rattle.std.specs.Prelude.{◌≡◌, MatchOption, Some, None};
 ghost use Rattle.abl_expr.specs.Env.{Env};
@@ -6,7 +6,7 @@ ghost use Rattle.abl_expr.specs.Env.{Env};
 use abl_base::Value;
 use bound_tree::Variable;
 
-/// What an expression is told by the program around it.
+/// What an expression reads of the program around it.
 pub trait Surroundings {
     /// All of it.
     ghost env: { Self → Env };

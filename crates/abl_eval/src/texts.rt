@@ -71,24 +71,24 @@ pub(crate) fn substring(
     }
 }
 
-/// So many bytes of a text, or with -1 the rest of it, from a place on that is counted from 1.
+/// `count` bytes of a text, or with -1 the rest of it, from the place `first` on, counted from 1.
 fn cut_from(alloc: Global, text: &[u8], first: i64, count: i64) -> Result<Value, EvalFault>
     ensures { Gives result (cut_from text.now first count) }
 {
     if first < 1 || count < -1 {
         return Err(EvalFault::Fault(RunFault::Argument));
     }
-    let rest = behind(text, (first - 1) as usize);
+    let rest = without_first(text, (first - 1) as usize);
     let kept = if count == -1 {
         rest
     } else {
-        front(rest, count as usize)
+        first_of(rest, count as usize)
     };
     Ok(Value::Text(Items::of(alloc, kept)?))
 }
 
-/// The text without so many bytes at its front.
-fn behind(text: &[u8], count: usize) -> &[u8]
+/// The text without its first `count` bytes.
+fn without_first(text: &[u8], count: usize) -> &[u8]
     ensures { result.now ≡ drop count text.now }
 {
     if count < text.len() {
@@ -98,8 +98,8 @@ fn behind(text: &[u8], count: usize) -> &[u8]
     }
 }
 
-/// So many bytes at the front of a text, or all of it where it has fewer.
-fn front(text: &[u8], count: usize) -> &[u8]
+/// The first `count` bytes of a text, or all of it where it has fewer.
+fn first_of(text: &[u8], count: usize) -> &[u8]
     ensures { result.now ≡ take count text.now }
 {
     if count < text.len() {

@@ -3,7 +3,7 @@ use Rattle.std.proofs.Common.{◌≡◌, ℕ, Bool, true, false, ◌&&◌, ◌||
 use Rattle.std.proofs.lemmas.Bool.{false≢true, eqb-true, and_from, and_parts, or_parts}
 use Rattle.abl_format.specs.declared.element.Element.{Element}
 use Rattle.abl_format.specs.declared.element.Element.TheVariants.{Bare, Quoted}
-use Rattle.abl_format.specs.Lines.{is_blank, starts, starts_end, behind_end, Begins, Spells}
+use Rattle.abl_format.specs.Lines.{is_blank, starts, starts_end, after_end, Begins, Spells}
 
 -- a byte in front
 abbrev pub before : ℕ → List ℕ → List ℕ
@@ -44,7 +44,7 @@ feed_of [] h = absurd (false≢true h)
 feed_of (c ∷ cs) h = ap (λ (x : ℕ). x ∷ cs) (eqb-true c 10 h)
 
 -- the end of the line is in front
-pub begins_at_end : (b : ℕ) (bs : List ℕ) → starts_end (b ∷ bs) ≡ true → Begins true (b ∷ bs) [] (behind_end (b ∷ bs))
+pub begins_at_end : (b : ℕ) (bs : List ℕ) → starts_end (b ∷ bs) ≡ true → Begins true (b ∷ bs) [] (after_end (b ∷ bs))
 begins_at_end b bs h = by_feed (b == 10) refl
   where
     by_feed : (t : Bool) → (b == 10) ≡ t → Begins true (b ∷ bs) [] (if t then bs else drop 1 bs)
@@ -54,11 +54,11 @@ begins_at_end b bs h = by_feed (b == 10) refl
         inr (inl (ap (λ (x : ℕ). x ∷ bs) (eqb-true b 13 both.0) ∙ ap (before 13) (feed_of bs both.1)))
 
 -- what is left is at the end of the input
-pub rest_behind : (closed : Bool) (input line rest : List ℕ) → Begins closed input line rest → (front : List ℕ) × (input ≡ front ++ rest)
-rest_behind true input line rest (inl h) = (line ++ 10 ∷ [], h.0 ∙ sym (append_assoc line (10 ∷ []) rest))
-rest_behind true input line rest (inr (inl h)) = (line ++ 13 ∷ 10 ∷ [], h ∙ sym (append_assoc line (13 ∷ 10 ∷ []) rest))
-rest_behind true input line rest (inr (inr h)) = (line, h.0 ∙ sym (append-nil line) ∙ ap (λ (xs : List ℕ). line ++ xs) (sym h.1))
-rest_behind false input line rest h = (line, h.0 ∙ sym (append-nil line) ∙ ap (λ (xs : List ℕ). line ++ xs) (sym h.1))
+pub rest_after : (closed : Bool) (input line rest : List ℕ) → Begins closed input line rest → (front : List ℕ) × (input ≡ front ++ rest)
+rest_after true input line rest (inl h) = (line ++ 10 ∷ [], h.0 ∙ sym (append_assoc line (10 ∷ []) rest))
+rest_after true input line rest (inr (inl h)) = (line ++ 13 ∷ 10 ∷ [], h ∙ sym (append_assoc line (13 ∷ 10 ∷ []) rest))
+rest_after true input line rest (inr (inr h)) = (line, h.0 ∙ sym (append-nil line) ∙ ap (λ (xs : List ℕ). line ++ xs) (sym h.1))
+rest_after false input line rest h = (line, h.0 ∙ sym (append-nil line) ∙ ap (λ (xs : List ℕ). line ++ xs) (sym h.1))
 
 -- ---- blanks before elements
 

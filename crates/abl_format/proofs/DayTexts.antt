@@ -1,4 +1,4 @@
--- The text of a day's date stands for the day.
+-- The text of a day's date denotes the day.
 use Rattle.std.proofs.Common.{◌≡◌, ℕ, ◌+◌, ◌-◌, ◌%◌, ◌^◌, ◌<◌, ◌≤◌, Bool, true, false, ◌&&◌, nat_le, nat_lt, if◌then◌else◌, List, ◌∷◌, ◌++◌, Some, None, ℤ, pos, refl, ap, ◌∙◌, arith}
 use Rattle.std.specs.List.{list_all}
 use Rattle.std.proofs.lemmas.Bool.{and_parts}
@@ -9,7 +9,7 @@ use Rattle.abl_values.specs.Digits.{from_first_not, number_of}
 use Rattle.abl_values.specs.Texts.{date_text, last_digits, year_text}
 use Rattle.abl_values.proofs.DateLaws.{parts_of}
 use Rattle.abl_values.proofs.DayDates.{has_date, month_short}
-use Rattle.text_values.specs.TextValues.{behind_slash, date_in, dated, with_day, with_year, year_of}
+use Rattle.text_values.specs.TextValues.{after_slash, date_in, dated, with_day, with_year, year_of}
 use Rattle.abl_format.proofs.Spelled.{behind_digits, digits_before, last_are, last_number}
 
 -- ---- the text of a date
@@ -31,7 +31,7 @@ year_digits year = by_age (nat_le 1950 year && nat_le year 2049)
     by_age true = last_are 2 year
     by_age false = last_are 4 year
 
-century : (y r : ℕ) → 1950 ≤ y → y ≤ 2049 → r ≡ y % 100 → (if nat_lt r 50 then 2000 + r else 1900 + r) ≡ y
+century : (y r : ℕ) → 1950 ≤ y → y ≤ 2049 → r ≡ y % 100 → (if nat_lt (1900 + r) 1950 then 2000 + r else 1900 + r) ≡ y
 century y r low high e = grind (arith, nat_tests)
 
 two_digits : (n : ℕ) → number_of (last_digits 2 n) ≡ n % 100
@@ -56,10 +56,10 @@ with_year_back m d year h =
 parts_back : (m d year : ℕ) → year ≤ 9999 → date_in (date_text (record { year = year; month = m; day = d })) ≡ dated (last_digits 2 m) (last_digits 2 d) (Some year)
 parts_back m d year h =
     let text_2 : List ℕ = last_digits 2 d ++ 47 ∷ year_text year in
-    ap (λ (x : List ℕ). with_day x (behind_slash (from_first_not is_digit (last_digits 2 m ++ 47 ∷ text_2)))) (digits_before (last_digits 2 m) (47 ∷ text_2) (last_are 2 m) refl)
-    ∙ ap (λ (x : List ℕ). with_day (last_digits 2 m) (behind_slash x)) (behind_digits (last_digits 2 m) (47 ∷ text_2) (last_are 2 m) refl)
-    ∙ ap (λ (x : List ℕ). with_year (last_digits 2 m) x (behind_slash (from_first_not is_digit text_2))) (digits_before (last_digits 2 d) (47 ∷ year_text year) (last_are 2 d) refl)
-    ∙ ap (λ (x : List ℕ). with_year (last_digits 2 m) (last_digits 2 d) (behind_slash x)) (behind_digits (last_digits 2 d) (47 ∷ year_text year) (last_are 2 d) refl)
+    ap (λ (x : List ℕ). with_day x (after_slash (from_first_not is_digit (last_digits 2 m ++ 47 ∷ text_2)))) (digits_before (last_digits 2 m) (47 ∷ text_2) (last_are 2 m) refl)
+    ∙ ap (λ (x : List ℕ). with_day (last_digits 2 m) (after_slash x)) (behind_digits (last_digits 2 m) (47 ∷ text_2) (last_are 2 m) refl)
+    ∙ ap (λ (x : List ℕ). with_year (last_digits 2 m) x (after_slash (from_first_not is_digit text_2))) (digits_before (last_digits 2 d) (47 ∷ year_text year) (last_are 2 d) refl)
+    ∙ ap (λ (x : List ℕ). with_year (last_digits 2 m) (last_digits 2 d) (after_slash x)) (behind_digits (last_digits 2 d) (47 ∷ year_text year) (last_are 2 d) refl)
     ∙ with_year_back m d year h
 
 date_back : (d : CivilDate) → is_civil d ≡ true → date_in (date_text d) ≡ Some (day_number d)
@@ -71,7 +71,7 @@ date_back d h =
     ∙ ap (λ (n : ℕ). date_from (pos d.month) (pos n) (pos d.year)) (number_2 d.day (omega (arith, p.day_high, month_short d.year (d.month - 1))))
     ∙ ap (λ (t : Bool). if t then Some (day_number d) else None) h
 
--- the text of a day's date stands for the day
+-- the text of a day's date denotes the day
 pub day_back : (day : ℤ) → is_day day ≡ true → date_in (date_text (date_of_day day)) ≡ Some day
 day_back day h =
     let d = has_date day h in

@@ -8,7 +8,7 @@ use Rattle.abl_base.specs.declared.value.Value.{Value}
 use Rattle.abl_base.specs.declared.value.Value.TheVariants.{Text, Int, Int64, Dec, Logical, Date, Unknown}
 use Rattle.abl_base.specs.declared.value.Kind.{Kind}
 use Rattle.abl_base.specs.declared.value.Kind.TheVariants.{Character, Integer, Int64 as Whole64, Decimal, Logical as Truth, Date as Day}
-use Rattle.abl_base.specs.declared.value.TheConstants.{MAX_TEXT_BYTES}
+use Rattle.abl_base.specs.declared.limits.TheConstants.{MAX_TEXT_BYTES}
 use Rattle.abl_values.specs.Fit.{IsOfKind}
 use Rattle.abl_values.specs.Masks.{is_digit, same_bytes}
 use Rattle.abl_values.specs.Digits.{are_digits}
@@ -18,14 +18,14 @@ use Rattle.abl_values.specs.Order.{without_trailing}
 use Rattle.abl_values.specs.Texts.{after_point, date_text, decimal_text, doubled, export_text, last_digits, plain_text, year_text}
 use Rattle.abl_masks.specs.Export.{export}
 use Rattle.text_values.specs.TextValues.{value_in}
-use Rattle.abl_expr.specs.TextForms.{Elements}
+use Rattle.text_forms.specs.TextForms.{Elements}
 use Rattle.abl_format.specs.declared.element.Element.{Element}
 use Rattle.abl_format.specs.declared.element.Element.TheVariants.{Bare, Quoted}
 use Rattle.abl_format.specs.Lines.{is_blank, is_bare, is_bare_byte, starts, starts_bare, starts_end, ends_in_return, Spells, IsLine, is_input_end}
 use Rattle.abl_format.specs.Imports.{given, taken, AreTaken, line_at}
 use Rattle.abl_format.specs.Laws.{AreOfKinds}
 use Rattle.abl_format.proofs.Begun.{spells_blank}
-use Rattle.abl_format.proofs.Told.{is_input_end_of}
+use Rattle.abl_format.proofs.LineAnswers.{is_input_end_of}
 use Rattle.abl_format.proofs.OneImport.{import_is}
 use Rattle.abl_format.proofs.Spelled.{all_append, all_weaker, are_all_digits, decimal_spells, digit_high, digit_low, last_are, trimmed_are}
 use Rattle.abl_format.proofs.NumberTexts.{decimal_back, negative_text, positive_text, small_of, whole_back}
@@ -160,7 +160,7 @@ wider k (negsuc n) room h =
     let lower : n < 2 ^ 127 = omega arith in
     lt-ltb n (2 ^ 127) lower
 
--- ---- the element that stands for a value
+-- ---- the element that denotes a value
 
 -- the word of a value gives the value to a target of the kind
 record WordOf (kind : Kind) (v : Value) (word : List ℕ) : Type 0 where
@@ -264,25 +264,25 @@ spells_value kind (Logical b) after es s e q h = spells_word (export_text (Logic
 spells_value kind (Date d) after es s e q h = spells_word (export_text (Date d)) after es s.is_one e h
 spells_value kind Unknown after es s e q h = spells_word (export_text Unknown) after es s.is_one e h
 
--- the values behind the first
-abbrev behind_first : List Value → List ℕ
-behind_first vs = flat_map (λ y. (32 ∷ []) ++ export_text y) vs
+-- the values after the first
+abbrev after_first : List Value → List ℕ
+after_first vs = flat_map (λ y. (32 ∷ []) ++ export_text y) vs
 
-behind_no_bare : (vs : List Value) → starts_bare (behind_first vs) ≡ false
-behind_no_bare [] = refl
-behind_no_bare (v ∷ vs) = refl
+after_no_bare : (vs : List Value) → starts_bare (after_first vs) ≡ false
+after_no_bare [] = refl
+after_no_bare (v ∷ vs) = refl
 
-behind_no_mark : (vs : List Value) → starts 34 (behind_first vs) ≡ false
-behind_no_mark [] = refl
-behind_no_mark (v ∷ vs) = refl
+after_no_mark : (vs : List Value) → starts 34 (after_first vs) ≡ false
+after_no_mark [] = refl
+after_no_mark (v ∷ vs) = refl
 
-spells_behind : (kinds : List Kind) (vs : List Value) → AreOfKinds kinds vs → Spells true (behind_first vs) (map element_of vs)
-spells_behind [] [] h = refl
-spells_behind [] (v ∷ vs) h = absurd h
-spells_behind (k ∷ ks) [] h = absurd h
-spells_behind (k ∷ ks) (v ∷ vs) h =
-    spells_blank true 32 (export_text v ++ behind_first vs) (element_of v ∷ map element_of vs) refl
-    (spells_value k v (behind_first vs) (map element_of vs) (stands k v h.0) (behind_no_bare vs) (behind_no_mark vs) (spells_behind ks vs h.1))
+spells_after : (kinds : List Kind) (vs : List Value) → AreOfKinds kinds vs → Spells true (after_first vs) (map element_of vs)
+spells_after [] [] h = refl
+spells_after [] (v ∷ vs) h = absurd h
+spells_after (k ∷ ks) [] h = absurd h
+spells_after (k ∷ ks) (v ∷ vs) h =
+    spells_blank true 32 (export_text v ++ after_first vs) (element_of v ∷ map element_of vs) refl
+    (spells_value k v (after_first vs) (map element_of vs) (stands k v h.0) (after_no_bare vs) (after_no_mark vs) (spells_after ks vs h.1))
 
 -- the line without its line feed
 abbrev line_of : List Value → List ℕ
@@ -293,7 +293,7 @@ spells_row [] [] h = refl
 spells_row [] (v ∷ vs) h = absurd h
 spells_row (k ∷ ks) [] h = absurd h
 spells_row (k ∷ ks) (v ∷ vs) h =
-    spells_value k v (behind_first vs) (map element_of vs) (stands k v h.0) (behind_no_bare vs) (behind_no_mark vs) (spells_behind ks vs h.1)
+    spells_value k v (after_first vs) (map element_of vs) (stands k v h.0) (after_no_bare vs) (after_no_mark vs) (spells_after ks vs h.1)
 
 row_taken : (kinds : List Kind) (row : List Value) → AreOfKinds kinds row → AreTaken (map (λ k. Some k) kinds) (map element_of row) (map (λ v. Some v) row)
 row_taken [] [] h = tt
@@ -336,18 +336,18 @@ no_return_value kind (Logical b) s = no_return_word (export_text (Logical b)) s.
 no_return_value kind (Date d) s = no_return_word (export_text (Date d)) s.is_one
 no_return_value kind Unknown s = no_return_word (export_text Unknown) s.is_one
 
-no_return_behind : (kinds : List Kind) (vs : List Value) → AreOfKinds kinds vs → ends_in_return (behind_first vs) ≡ false
-no_return_behind [] [] h = refl
-no_return_behind [] (v ∷ vs) h = absurd h
-no_return_behind (k ∷ ks) [] h = absurd h
-no_return_behind (k ∷ ks) (v ∷ vs) h =
-    no_return_append (32 ∷ export_text v) (behind_first vs) (no_return_append (32 ∷ []) (export_text v) refl (no_return_value k v (stands k v h.0))) (no_return_behind ks vs h.1)
+no_return_after : (kinds : List Kind) (vs : List Value) → AreOfKinds kinds vs → ends_in_return (after_first vs) ≡ false
+no_return_after [] [] h = refl
+no_return_after [] (v ∷ vs) h = absurd h
+no_return_after (k ∷ ks) [] h = absurd h
+no_return_after (k ∷ ks) (v ∷ vs) h =
+    no_return_append (32 ∷ export_text v) (after_first vs) (no_return_append (32 ∷ []) (export_text v) refl (no_return_value k v (stands k v h.0))) (no_return_after ks vs h.1)
 
 no_return_row : (kinds : List Kind) (row : List Value) → AreOfKinds kinds row → ends_in_return (line_of row) ≡ false
 no_return_row [] [] h = refl
 no_return_row [] (v ∷ vs) h = absurd h
 no_return_row (k ∷ ks) [] h = absurd h
-no_return_row (k ∷ ks) (v ∷ vs) h = no_return_append (export_text v) (behind_first vs) (no_return_value k v (stands k v h.0)) (no_return_behind ks vs h.1)
+no_return_row (k ∷ ks) (v ∷ vs) h = no_return_append (export_text v) (after_first vs) (no_return_value k v (stands k v h.0)) (no_return_after ks vs h.1)
 
 -- ---- the line is not the end of the input
 
@@ -376,7 +376,7 @@ row_no_end : (kinds : List Kind) (row : List Value) (more : List ℕ) → AreOfK
 row_no_end [] [] more h = not_end 10 more refl
 row_no_end [] (v ∷ vs) more h = absurd h
 row_no_end (k ∷ ks) [] more h = absurd h
-row_no_end (k ∷ ks) (v ∷ vs) more h = value_no_end k v (behind_first vs) (10 ∷ []) more (stands k v h.0)
+row_no_end (k ∷ ks) (v ∷ vs) more h = value_no_end k v (after_first vs) (10 ∷ []) more (stands k v h.0)
 
 -- ---- the row is read back
 

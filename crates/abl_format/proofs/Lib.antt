@@ -1,7 +1,7 @@
 pub mod Taken
 pub mod Begun
 pub mod Sound
-pub mod Told
+pub mod LineAnswers
 pub mod Once
 pub mod OneImport
 pub mod Spelled

@@ -1,4 +1,4 @@
--- The plain text of a number stands for it.
+-- The plain text of a number denotes it.
 use Rattle.std.proofs.Common.{◌≡◌, ℕ, suc, ◌+◌, ◌-◌, ◌*◌, ◌/◌, ◌%◌, ◌^◌, ◌<◌, ◌≤◌, Bool, true, false, ◌&&◌, ◌==◌, nat_le, nat_lt, if◌then◌else◌, List, [], ◌∷◌, ◌++◌, length, drop, Some, None, ℤ, pos, negsuc, refl, sym, ap, ◌∙◌, arith, lit≤}
 use Rattle.std.specs.List.{list_all}
 use Rattle.std.specs.Fmt.{decimal, signed_decimal}
@@ -8,7 +8,7 @@ use Rattle.abl_values.specs.Masks.{is_digit, without_minus}
 use Rattle.abl_values.specs.Digits.{are_digits, from_first_not, has_minus, number_of}
 use Rattle.abl_values.specs.Order.{without_trailing}
 use Rattle.abl_values.specs.Texts.{after_point, decimal_text, last_digits, magnitude_text}
-use Rattle.text_values.specs.TextValues.{is_behind, magnitude_in, number_in, number_in_bits, scaled_of, signed_in_bits, whole_in}
+use Rattle.text_values.specs.TextValues.{is_point_and_decimals, magnitude_in, number_in, number_in_bits, scaled_of, signed_in_bits, whole_in}
 use Rattle.abl_format.proofs.Spelled.{SpellsNumber, behind_digits, decimal_spells, digit_low, digits_before, are_all_digits, last_are, last_number, length_last, no_digit, trimmed_are, trimmed_number, trimmed_shorter}
 
 -- ---- sizes
@@ -64,9 +64,9 @@ no_digit_point : (fs : List ℕ) → no_digit (after_point fs) ≡ true
 no_digit_point [] = refl
 no_digit_point (f ∷ fs) = refl
 
-behind_is : (fs : List ℕ) → list_all is_digit fs ≡ true → length fs ≤ 10 → is_behind (after_point fs) ≡ true
-behind_is [] h k = refl
-behind_is (f ∷ fs) h k = and_from (list_all is_digit (f ∷ fs)) (nat_le (length (f ∷ fs)) 10) h (le-leb (length (f ∷ fs)) 10 k)
+after_is : (fs : List ℕ) → list_all is_digit fs ≡ true → length fs ≤ 10 → is_point_and_decimals (after_point fs) ≡ true
+after_is [] h k = refl
+after_is (f ∷ fs) h k = and_from (list_all is_digit (f ∷ fs)) (nat_le (length (f ∷ fs)) 10) h (le-leb (length (f ∷ fs)) 10 k)
 
 without_point : (fs : List ℕ) → drop 1 (after_point fs) ≡ fs
 without_point [] = refl
@@ -77,10 +77,10 @@ magnitude_of : (w f : ℕ) (ds fs : List ℕ) → SpellsNumber w ds → list_all
 magnitude_of w f ds fs s h k e =
     let more : List ℕ = after_point fs in
     let all = are_all_digits ds s.are in
-    ap (λ (x : List ℕ). if are_digits x && is_behind (from_first_not is_digit (ds ++ more)) then Some (scaled_of x (drop 1 (from_first_not is_digit (ds ++ more)))) else None)
+    ap (λ (x : List ℕ). if are_digits x && is_point_and_decimals (from_first_not is_digit (ds ++ more)) then Some (scaled_of x (drop 1 (from_first_not is_digit (ds ++ more)))) else None)
     (digits_before ds more all (no_digit_point fs))
-    ∙ ap (λ (y : List ℕ). if are_digits ds && is_behind y then Some (scaled_of ds (drop 1 y)) else None) (behind_digits ds more all (no_digit_point fs))
-    ∙ ap (λ (t : Bool). if t then Some (scaled_of ds (drop 1 more)) else None) (and_from (are_digits ds) (is_behind more) s.are (behind_is fs h k))
+    ∙ ap (λ (y : List ℕ). if are_digits ds && is_point_and_decimals y then Some (scaled_of ds (drop 1 y)) else None) (behind_digits ds more all (no_digit_point fs))
+    ∙ ap (λ (t : Bool). if t then Some (scaled_of ds (drop 1 more)) else None) (and_from (are_digits ds) (is_point_and_decimals more) s.are (after_is fs h k))
     ∙ ap (λ (y : List ℕ). Some (scaled_of ds y)) (without_point fs)
     ∙ ap (λ (m : ℕ). Some (m * 10000000000 + number_of fs * 10 ^ (10 - length fs))) s.number
     ∙ ap (λ (m : ℕ). Some (w * 10000000000 + m)) e

@@ -5,12 +5,12 @@ use Rattle.std.proofs.lemmas.Bool.{true≢false, false≢true, eqb-true, and_par
 use Rattle.abl_values.specs.Texts.{doubled}
 use Rattle.abl_format.specs.declared.element.Element.{Element}
 use Rattle.abl_format.specs.declared.element.Element.TheVariants.{Bare, Quoted}
-use Rattle.abl_format.specs.Lines.{is_blank, is_bare, is_bare_byte, starts, starts_bare, starts_end, behind_end, ends_in_return, Begins, BareAt, QuotedAt, Spells, IsLine, Reading, Readings, closing, byte_before, opened, line_ending, between_at, in_bare_at, in_quotes_at, behind_mark_at, readings, first_line}
+use Rattle.abl_format.specs.Lines.{is_blank, is_bare, is_bare_byte, starts, starts_bare, starts_end, after_end, ends_in_return, Begins, BareAt, QuotedAt, Spells, IsLine, Reading, Readings, closing, byte_before, opened, line_ending, between_at, in_bare_at, in_quotes_at, after_mark_at, readings, first_line}
 use Rattle.abl_format.proofs.Begun.{before}
 
--- ---- what is behind a line
+-- ---- what follows a line
 
--- the line ends with these bytes, and this is left behind them
+-- the line ends with these bytes, and this follows
 abbrev IsEndOf : Bool → List ℕ → List ℕ → List ℕ → Type 0
 IsEndOf true line end rest = ((end ≡ 10 ∷ rest) × (ends_in_return line ≡ false)) ⊎ ((end ≡ 13 ∷ 10 ∷ rest) ⊎ ((end ≡ []) × (rest ≡ [])))
 IsEndOf false line end rest = (end ≡ []) × (rest ≡ [])
@@ -21,15 +21,15 @@ end_of true input line rest (inr (inl h)) = (13 ∷ 10 ∷ rest, h, inr (inl ref
 end_of true input line rest (inr (inr h)) = ([], h.0 ∙ sym (append-nil line), inr (inr (refl, h.1)))
 end_of false input line rest h = ([], h.0 ∙ sym (append-nil line), (refl, h.1))
 
-end_behind_byte : (closed : Bool) (b : ℕ) (line end rest : List ℕ) → IsEndOf closed (b ∷ line) end rest → IsEndOf closed line end rest
-end_behind_byte true b [] end rest (inl h) = inl (h.0, refl)
-end_behind_byte true b (c ∷ cs) end rest (inl h) = inl h
-end_behind_byte true b line end rest (inr h) = inr h
-end_behind_byte false b line end rest h = h
+end_after_byte : (closed : Bool) (b : ℕ) (line end rest : List ℕ) → IsEndOf closed (b ∷ line) end rest → IsEndOf closed line end rest
+end_after_byte true b [] end rest (inl h) = inl (h.0, refl)
+end_after_byte true b (c ∷ cs) end rest (inl h) = inl h
+end_after_byte true b line end rest (inr h) = inr h
+end_after_byte false b line end rest h = h
 
-end_behind : (closed : Bool) (front line end rest : List ℕ) → IsEndOf closed (front ++ line) end rest → IsEndOf closed line end rest
-end_behind closed [] line end rest h = h
-end_behind closed (b ∷ front) line end rest h = end_behind closed front line end rest (end_behind_byte closed b (front ++ line) end rest h)
+end_after : (closed : Bool) (front line end rest : List ℕ) → IsEndOf closed (front ++ line) end rest → IsEndOf closed line end rest
+end_after closed [] line end rest h = h
+end_after closed (b ∷ front) line end rest h = end_after closed front line end rest (end_after_byte closed b (front ++ line) end rest h)
 
 -- ---- bytes
 
@@ -55,34 +55,34 @@ blank_of b h f =
 
 between_blank : (b : ℕ) (bs : List ℕ) (after : Readings) → is_blank b ≡ true → between_at b bs after ≡ after.between
 between_blank b bs after h =
-    ap (λ (t : Bool). if t then line_ending (behind_end (b ∷ bs)) else if is_blank b then after.between else if b == 34 then opened Quoted after.in_quotes else opened Bare (byte_before b after.in_bare)) (blank_no_end b bs h)
+    ap (λ (t : Bool). if t then line_ending (after_end (b ∷ bs)) else if is_blank b then after.between else if b == 34 then opened Quoted after.in_quotes else opened Bare (byte_before b after.in_bare)) (blank_no_end b bs h)
     ∙ ap (λ (t : Bool). if t then after.between else if b == 34 then opened Quoted after.in_quotes else opened Bare (byte_before b after.in_bare)) h
 
 between_bare : (b : ℕ) (bs : List ℕ) (after : Readings) → starts_end (b ∷ bs) ≡ false → is_blank b ≡ false → (b == 34) ≡ false → between_at b bs after ≡ opened Bare (byte_before b after.in_bare)
 between_bare b bs after t u q =
-    ap (λ (x : Bool). if x then line_ending (behind_end (b ∷ bs)) else if is_blank b then after.between else if b == 34 then opened Quoted after.in_quotes else opened Bare (byte_before b after.in_bare)) t
+    ap (λ (x : Bool). if x then line_ending (after_end (b ∷ bs)) else if is_blank b then after.between else if b == 34 then opened Quoted after.in_quotes else opened Bare (byte_before b after.in_bare)) t
     ∙ ap (λ (x : Bool). if x then after.between else if b == 34 then opened Quoted after.in_quotes else opened Bare (byte_before b after.in_bare)) u
     ∙ ap (λ (x : Bool). if x then opened Quoted after.in_quotes else opened Bare (byte_before b after.in_bare)) q
 
 in_bare_blank : (b : ℕ) (bs : List ℕ) (after : Readings) → is_blank b ≡ true → in_bare_at b bs after ≡ closing after.between
 in_bare_blank b bs after h =
-    ap (λ (t : Bool). if t then line_ending (behind_end (b ∷ bs)) else if is_blank b then closing after.between else byte_before b after.in_bare) (blank_no_end b bs h)
+    ap (λ (t : Bool). if t then line_ending (after_end (b ∷ bs)) else if is_blank b then closing after.between else byte_before b after.in_bare) (blank_no_end b bs h)
     ∙ ap (λ (t : Bool). if t then closing after.between else byte_before b after.in_bare) h
 
 in_bare_byte : (b : ℕ) (bs : List ℕ) (after : Readings) → starts_end (b ∷ bs) ≡ false → is_blank b ≡ false → in_bare_at b bs after ≡ byte_before b after.in_bare
 in_bare_byte b bs after t u =
-    ap (λ (x : Bool). if x then line_ending (behind_end (b ∷ bs)) else if is_blank b then closing after.between else byte_before b after.in_bare) t
+    ap (λ (x : Bool). if x then line_ending (after_end (b ∷ bs)) else if is_blank b then closing after.between else byte_before b after.in_bare) t
     ∙ ap (λ (x : Bool). if x then closing after.between else byte_before b after.in_bare) u
 
 in_quotes_byte : (b : ℕ) (after : Readings) → (b == 34) ≡ false → in_quotes_at b after ≡ byte_before b after.in_quotes
-in_quotes_byte b after q = ap (λ (x : Bool). if x then after.behind_mark else byte_before b after.in_quotes) q
+in_quotes_byte b after q = ap (λ (x : Bool). if x then after.after_mark else byte_before b after.in_quotes) q
 
-behind_mark_byte : (b : ℕ) (bs : List ℕ) (after : Readings) → (b == 34) ≡ false → behind_mark_at b bs after ≡ closing (between_at b bs after)
-behind_mark_byte b bs after q = ap (λ (x : Bool). if x then byte_before 34 after.in_quotes else closing (between_at b bs after)) q
+after_mark_byte : (b : ℕ) (bs : List ℕ) (after : Readings) → (b == 34) ≡ false → after_mark_at b bs after ≡ closing (between_at b bs after)
+after_mark_byte b bs after q = ap (λ (x : Bool). if x then byte_before 34 after.in_quotes else closing (between_at b bs after)) q
 
 -- ---- blanks
 
--- the bytes read as these elements, and this is left behind the line
+-- the bytes read as these elements, and this follows the line
 abbrev ReadsAs : List ℕ → List Element → List ℕ → Type 0
 ReadsAs input es rest = ((readings input).between.elements ≡ es) × ((readings input).between.rest ≡ rest)
 
@@ -92,8 +92,8 @@ skip_gap (b ∷ gap) bs h =
     let both = and_parts (is_blank b) (list_all is_blank gap) h in
     between_blank b (gap ++ bs) (readings (gap ++ bs)) both.0 ∙ skip_gap gap bs both.1
 
-reads_behind_gap : (gap bs : List ℕ) (es : List Element) (rest : List ℕ) → list_all is_blank gap ≡ true → ReadsAs bs es rest → ReadsAs (gap ++ bs) es rest
-reads_behind_gap gap bs es rest h r =
+reads_after_gap : (gap bs : List ℕ) (es : List Element) (rest : List ℕ) → list_all is_blank gap ≡ true → ReadsAs bs es rest → ReadsAs (gap ++ bs) es rest
+reads_after_gap gap bs es rest h r =
     (ap (λ (x : Reading). x.elements) (skip_gap gap bs h) ∙ r.0, ap (λ (x : Reading). x.rest) (skip_gap gap bs h) ∙ r.1)
 
 end_reads : (line end rest : List ℕ) → IsEndOf true line end rest → ReadsAs end [] rest
@@ -142,11 +142,11 @@ no_end closed b (c ∷ cs) after end rest h w f e =
     or_from (b == 10) ((b == 13) && (c == 10)) (bare_parts b h).1
     (and_right (b == 13) (c == 10) (bare_parts c (and_parts (is_bare_byte c) (list_all is_bare_byte cs) w).0).1)
 
--- from these bytes on, the element that is open has this word, and behind it these bytes are read
-record WordReads (bytes word behind : List ℕ) : Type 0 where
+-- from these bytes on, the element that is open has this word, and after it these bytes are read
+record WordReads (bytes word tail : List ℕ) : Type 0 where
   word_is : (readings bytes).in_bare.open_bytes ≡ word
-  elements : (readings bytes).in_bare.elements ≡ (readings behind).between.elements
-  rest : (readings bytes).in_bare.rest ≡ (readings behind).between.rest
+  elements : (readings bytes).in_bare.elements ≡ (readings tail).between.elements
+  rest : (readings bytes).in_bare.rest ≡ (readings tail).between.rest
 
 end_word : (closed : Bool) (line end rest : List ℕ) → IsEndOf closed line end rest → WordReads end [] end
 end_word true line end rest (inl h) = subst (λ (xs : List ℕ). WordReads xs [] xs) (sym h.0) (record { word_is = refl; elements = refl; rest = refl })
@@ -168,12 +168,12 @@ word_reads closed [] (c ∷ cs) end rest w s f e =
     }
 word_reads closed (b ∷ word) after end rest w s f e =
     let both = and_parts (is_bare_byte b) (list_all is_bare_byte word) w in
-    let behind = word_reads closed word after end rest both.1 s f (end_behind_byte closed b (word ++ after) end rest e) in
+    let tail = word_reads closed word after end rest both.1 s f (end_after_byte closed b (word ++ after) end rest e) in
     let here = in_bare_byte b (word ++ (after ++ end)) (readings (word ++ (after ++ end))) (no_end closed b word after end rest both.0 both.1 f e) (bare_parts b both.0).0 in
     record {
-      word_is = ap (λ (x : Reading). x.open_bytes) here ∙ ap (before b) behind.word_is;
-      elements = ap (λ (x : Reading). x.elements) here ∙ behind.elements;
-      rest = ap (λ (x : Reading). x.rest) here ∙ behind.rest;
+      word_is = ap (λ (x : Reading). x.open_bytes) here ∙ ap (before b) tail.word_is;
+      elements = ap (λ (x : Reading). x.elements) here ∙ tail.elements;
+      rest = ap (λ (x : Reading). x.rest) here ∙ tail.rest;
     }
 
 -- one more element
@@ -186,26 +186,26 @@ bare_reads closed [] after end rest es w s f e r = absurd (false≢true w)
 bare_reads closed (b ∷ word) after end rest es w s f e r =
     let whole = and_parts (not (b == 34)) (list_all is_bare_byte (b ∷ word)) w in
     let both = and_parts (is_bare_byte b) (list_all is_bare_byte word) whole.1 in
-    let behind = word_reads closed word after end rest both.1 s f (end_behind_byte closed b (word ++ after) end rest e) in
+    let tail = word_reads closed word after end rest both.1 s f (end_after_byte closed b (word ++ after) end rest e) in
     let here = between_bare b (word ++ (after ++ end)) (readings (word ++ (after ++ end))) (no_end closed b word after end rest both.0 both.1 f e) (bare_parts b both.0).0 (not-true (b == 34) whole.0) in (
       ap (λ (x : Reading). x.elements) here
           ∙ more_elements (Bare (b ∷ (readings (word ++ (after ++ end))).in_bare.open_bytes)) (Bare (b ∷ word)) (readings (word ++ (after ++ end))).in_bare.elements es
-          (ap (λ (xs : List ℕ). Bare (b ∷ xs)) behind.word_is) (behind.elements ∙ r.0),
-      ap (λ (x : Reading). x.rest) here ∙ behind.rest ∙ r.1,
+          (ap (λ (xs : List ℕ). Bare (b ∷ xs)) tail.word_is) (tail.elements ∙ r.0),
+      ap (λ (x : Reading). x.rest) here ∙ tail.rest ∙ r.1,
     )
 
 -- ---- a quoted element
 
--- from these bytes on, the text in quotes is this, and behind its mark these bytes are read
-record TextReads (bytes text behind : List ℕ) : Type 0 where
+-- from these bytes on, the text in quotes is this, and after its mark these bytes are read
+record TextReads (bytes text tail : List ℕ) : Type 0 where
   text_is : (readings bytes).in_quotes.open_bytes ≡ text
-  elements : (readings bytes).in_quotes.elements ≡ (readings behind).between.elements
-  rest : (readings bytes).in_quotes.rest ≡ (readings behind).between.rest
+  elements : (readings bytes).in_quotes.elements ≡ (readings tail).between.elements
+  rest : (readings bytes).in_quotes.rest ≡ (readings tail).between.rest
 
 mark_ends : (bs : List ℕ) → starts 34 bs ≡ false → TextReads (34 ∷ bs) [] bs
 mark_ends [] h = record { text_is = refl; elements = refl; rest = refl }
 mark_ends (c ∷ cs) h =
-    let here = behind_mark_byte c cs (readings cs) h in
+    let here = after_mark_byte c cs (readings cs) h in
     record {
       text_is = ap (λ (x : Reading). x.open_bytes) here;
       elements = ap (λ (x : Reading). x.elements) here;
@@ -233,11 +233,11 @@ one_more b text more = by_mark (b == 34) refl
           rest = ap (λ (x : Reading). x.rest) here;
         }
 
-text_reads : (text behind : List ℕ) → starts 34 behind ≡ false → TextReads (doubled text ++ 34 ∷ behind) text behind
-text_reads [] behind h = mark_ends behind h
-text_reads (b ∷ text) behind h =
-    let here = one_more b text (34 ∷ behind) in
-    let more = text_reads text behind h in
+text_reads : (text tail : List ℕ) → starts 34 tail ≡ false → TextReads (doubled text ++ 34 ∷ tail) text tail
+text_reads [] tail h = mark_ends tail h
+text_reads (b ∷ text) tail h =
+    let here = one_more b text (34 ∷ tail) in
+    let more = text_reads text tail h in
     record {
       text_is = here.open_is ∙ ap (before b) more.text_is;
       elements = here.elements ∙ more.elements;
@@ -251,10 +251,10 @@ no_mark true [] end rest h (inr (inl e)) = ap (starts 34) e
 no_mark true [] end rest h (inr (inr e)) = ap (starts 34) e.0
 no_mark false [] end rest h e = ap (starts 34) e.0
 
-quoted_reads : (text behind : List ℕ) (es : List Element) (rest : List ℕ) → starts 34 behind ≡ false → ReadsAs behind es rest → ReadsAs (34 ∷ (doubled text ++ 34 ∷ behind)) (Quoted text ∷ es) rest
-quoted_reads text behind es rest h r =
-    let t = text_reads text behind h in (
-      more_elements (Quoted (readings (doubled text ++ 34 ∷ behind)).in_quotes.open_bytes) (Quoted text) (readings (doubled text ++ 34 ∷ behind)).in_quotes.elements es
+quoted_reads : (text tail : List ℕ) (es : List Element) (rest : List ℕ) → starts 34 tail ≡ false → ReadsAs tail es rest → ReadsAs (34 ∷ (doubled text ++ 34 ∷ tail)) (Quoted text ∷ es) rest
+quoted_reads text tail es rest h r =
+    let t = text_reads text tail h in (
+      more_elements (Quoted (readings (doubled text ++ 34 ∷ tail)).in_quotes.open_bytes) (Quoted text) (readings (doubled text ++ 34 ∷ tail)).in_quotes.elements es
           (ap (λ (xs : List ℕ). Quoted xs) t.text_is) (t.elements ∙ r.0),
       t.rest ∙ r.1,
     )
@@ -289,11 +289,11 @@ open_at_end text end rest e r =
 
 reads_at : (line end gap more : List ℕ) (es : List Element) (rest : List ℕ) → line ≡ gap ++ more → list_all is_blank gap ≡ true → ReadsAs (more ++ end) es rest → ReadsAs (line ++ end) es rest
 reads_at line end gap more es rest e g r =
-    subst (λ (xs : List ℕ). ReadsAs xs es rest) (sym (ap (λ (xs : List ℕ). xs ++ end) e ∙ append_assoc gap more end)) (reads_behind_gap gap (more ++ end) es rest g r)
+    subst (λ (xs : List ℕ). ReadsAs xs es rest) (sym (ap (λ (xs : List ℕ). xs ++ end) e ∙ append_assoc gap more end)) (reads_after_gap gap (more ++ end) es rest g r)
 
--- what is behind a gap has the line's end
+-- what follows a gap has the line's end
 end_at : (closed : Bool) (line gap more end rest : List ℕ) → line ≡ gap ++ more → IsEndOf closed line end rest → IsEndOf closed more end rest
-end_at closed line gap more end rest e h = end_behind closed gap more end rest (subst (λ (xs : List ℕ). IsEndOf closed xs end rest) e h)
+end_at closed line gap more end rest e h = end_after closed gap more end rest (subst (λ (xs : List ℕ). IsEndOf closed xs end rest) e h)
 
 bare_line : (closed : Bool) (line word after end rest : List ℕ) (es : List Element) → BareAt line word after → starts 10 after ≡ false → IsEndOf closed line end rest
     → (IsEndOf closed after end rest → ReadsAs (after ++ end) es rest) → ReadsAs (line ++ end) (Bare word ∷ es) rest
@@ -301,7 +301,7 @@ bare_line closed line word after end rest es b f e r =
     let here = end_at closed line b.gap (word ++ after) end rest b.bytes e in
     reads_at line end b.gap (word ++ after) (Bare word ∷ es) rest b.bytes b.blank
     (subst (λ (xs : List ℕ). ReadsAs xs (Bare word ∷ es) rest) (sym (append_assoc word after end))
-    (bare_reads closed word after end rest es b.bare b.ends f here (r (end_behind closed word after end rest here))))
+    (bare_reads closed word after end rest es b.bare b.ends f here (r (end_after closed word after end rest here))))
 
 mark_in : (text after end : List ℕ) → (34 ∷ (doubled text ++ 34 ∷ after)) ++ end ≡ 34 ∷ (doubled text ++ 34 ∷ (after ++ end))
 mark_in text after end = ap (before 34) (append_assoc (doubled text) (34 ∷ after) end)
@@ -310,14 +310,14 @@ quoted_line : (closed : Bool) (line text after end rest : List ℕ) (es : List E
     → (IsEndOf closed after end rest → ReadsAs (after ++ end) es rest) → ReadsAs (line ++ end) (Quoted text ∷ es) rest
 quoted_line closed line text after end rest es q e r =
     let here = end_at closed line q.gap (34 ∷ (doubled text ++ 34 ∷ after)) end rest q.bytes e in
-    let inside = end_behind_byte closed 34 (doubled text ++ 34 ∷ after) end rest here in
-    let behind = end_behind_byte closed 34 after end rest (end_behind closed (doubled text) (34 ∷ after) end rest inside) in
+    let inside = end_after_byte closed 34 (doubled text ++ 34 ∷ after) end rest here in
+    let tail = end_after_byte closed 34 after end rest (end_after closed (doubled text) (34 ∷ after) end rest inside) in
     reads_at line end q.gap (34 ∷ (doubled text ++ 34 ∷ after)) (Quoted text ∷ es) rest q.bytes q.blank
     (subst (λ (xs : List ℕ). ReadsAs xs (Quoted text ∷ es) rest) (sym (mark_in text after end))
-    (quoted_reads text (after ++ end) es rest (no_mark closed after end rest q.ends behind) (r behind)))
+    (quoted_reads text (after ++ end) es rest (no_mark closed after end rest q.ends tail) (r tail)))
 
 spelled_reads : (closed : Bool) (line : List ℕ) (es : List Element) (end rest : List ℕ) → Spells closed line es → IsEndOf closed line end rest → ReadsAs (line ++ end) es rest
-spelled_reads true line [] end rest s e = reads_behind_gap line end [] rest s (end_reads line end rest e)
+spelled_reads true line [] end rest s e = reads_after_gap line end [] rest s (end_reads line end rest e)
 spelled_reads false line [] end rest s e = absurd s
 spelled_reads true line (Bare word ∷ es) end rest s e =
     bare_line true line word s.0 end rest es s.1 (no_feed true s.0 es s.2) e (spelled_reads true s.0 es end rest s.2)
@@ -330,7 +330,7 @@ spelled_reads false line (Quoted text ∷ []) end rest s e =
 spelled_reads false line (Quoted text ∷ f ∷ es) end rest s e =
     quoted_line false line text s.0 end rest (f ∷ es) s.1 e (spelled_reads false s.0 (f ∷ es) end rest s.2)
 
--- the elements of a line and what is left behind it are those that its bytes read as
+-- the elements of a line and what follows it are those that its bytes read as
 pub line_reads : (input : List ℕ) (es : List Element) (rest : List ℕ) → IsLine input es rest → ((first_line input).elements ≡ es) × ((first_line input).rest ≡ rest)
 unfolding first_line
 line_reads input es rest h =

@@ -5,7 +5,7 @@ use Rattle.std.proofs.lemmas.Bool.{eqb-true, and_from, or_parts, or_from, not_fr
 use Rattle.abl_values.specs.Texts.{doubled}
 use Rattle.abl_format.specs.declared.element.Element.{Element}
 use Rattle.abl_format.specs.declared.element.Element.TheVariants.{Bare, Quoted}
-use Rattle.abl_format.specs.Lines.{is_blank, is_bare, is_bare_byte, starts, starts_bare, starts_end, behind_end, Begins, Spells, IsLine, Reading, Readings, closing, byte_before, opened, line_ending, between_at, in_bare_at, in_quotes_at, behind_mark_at, readings, first_line}
+use Rattle.abl_format.specs.Lines.{is_blank, is_bare, is_bare_byte, starts, starts_bare, starts_end, after_end, Begins, Spells, IsLine, Reading, Readings, closing, byte_before, opened, line_ending, between_at, in_bare_at, in_quotes_at, after_mark_at, readings, first_line}
 use Rattle.abl_format.proofs.Begun.{before, begins_inside, begins_before, begins_at_end, spells_blank}
 
 -- ---- what each of the four readings says of the bytes
@@ -44,7 +44,7 @@ record AllFrom (bs : List ℕ) (r : Readings) : Type 0 where
   between : LineFrom bs r.between
   in_bare : BareFrom bs r.in_bare
   in_quotes : QuotedFrom bs r.in_quotes
-  behind_mark : QuotedFrom (34 ∷ bs) r.behind_mark
+  after_mark : QuotedFrom (34 ∷ bs) r.after_mark
 
 -- ---- between elements
 
@@ -119,7 +119,7 @@ between_from b bs after h = by_end (starts_end (b ∷ bs)) refl
     by_blank t true e = line_after b bs after.between t e h.between
     by_blank t false e = by_quote t e (b == 34) refl
 
-    by_end : (t : Bool) → starts_end (b ∷ bs) ≡ t → LineFrom (b ∷ bs) (if t then line_ending (behind_end (b ∷ bs)) else if is_blank b then after.between else if b == 34 then opened Quoted after.in_quotes else opened Bare (byte_before b after.in_bare))
+    by_end : (t : Bool) → starts_end (b ∷ bs) ≡ t → LineFrom (b ∷ bs) (if t then line_ending (after_end (b ∷ bs)) else if is_blank b then after.between else if b == 34 then opened Quoted after.in_quotes else opened Bare (byte_before b after.in_bare))
     by_end true e = record { closed = true; line = []; begins = begins_at_end b bs e; spells = refl }
     by_end false e = by_blank e (is_blank b) refl
 
@@ -146,7 +146,7 @@ in_bare_from b bs after h = by_end (starts_end (b ∷ bs)) refl
       spells = h.in_bare.spells;
     }
 
-    by_end : (t : Bool) → starts_end (b ∷ bs) ≡ t → BareFrom (b ∷ bs) (if t then line_ending (behind_end (b ∷ bs)) else if is_blank b then closing after.between else byte_before b after.in_bare)
+    by_end : (t : Bool) → starts_end (b ∷ bs) ≡ t → BareFrom (b ∷ bs) (if t then line_ending (after_end (b ∷ bs)) else if is_blank b then closing after.between else byte_before b after.in_bare)
     by_end true e = record { closed = true; after = []; begins = begins_at_end b bs e; bare = refl; ends = refl; spells = refl }
     by_end false e = by_blank e (is_blank b) refl
 
@@ -193,11 +193,11 @@ mark_in_quotes bs r (inr q) = inr (record {
 in_quotes_from : (b : ℕ) (bs : List ℕ) (after : Readings) → AllFrom bs after → QuotedFrom (b ∷ bs) (in_quotes_at b after)
 in_quotes_from b bs after h = by_mark (b == 34) refl
   where
-    by_mark : (q : Bool) → (b == 34) ≡ q → QuotedFrom (b ∷ bs) (if q then after.behind_mark else byte_before b after.in_quotes)
-    by_mark true e = subst (λ (x : ℕ). QuotedFrom (x ∷ bs) after.behind_mark) (sym (eqb-true b 34 e)) h.behind_mark
+    by_mark : (q : Bool) → (b == 34) ≡ q → QuotedFrom (b ∷ bs) (if q then after.after_mark else byte_before b after.in_quotes)
+    by_mark true e = subst (λ (x : ℕ). QuotedFrom (x ∷ bs) after.after_mark) (sym (eqb-true b 34 e)) h.after_mark
     by_mark false e = byte_in_quotes b bs after.in_quotes e h.in_quotes
 
--- ---- behind a mark
+-- ---- after a mark
 
 no_mark : (b c : ℕ) → (b == 34) ≡ false → b ≡ c → (c == 34) ≡ false
 no_mark b c h e = ap (λ (x : ℕ). x == 34) (sym e) ∙ h
@@ -209,8 +209,8 @@ first_of_line true b bs (c ∷ cs) rest e (inr (inl h)) = let k : b ∷ bs ≡ c
 first_of_line true b bs (c ∷ cs) rest e (inr (inr h)) = let k : b ∷ bs ≡ c ∷ cs = h.0 in no_mark b c e (cc)
 first_of_line false b bs (c ∷ cs) rest e h = let k : b ∷ bs ≡ c ∷ cs = h.0 in no_mark b c e (cc)
 
-behind_mark_from : (b : ℕ) (bs : List ℕ) (after : Readings) → AllFrom bs after → QuotedFrom (34 ∷ b ∷ bs) (behind_mark_at b bs after)
-behind_mark_from b bs after h = by_mark (b == 34) refl
+after_mark_from : (b : ℕ) (bs : List ℕ) (after : Readings) → AllFrom bs after → QuotedFrom (34 ∷ b ∷ bs) (after_mark_at b bs after)
+after_mark_from b bs after h = by_mark (b == 34) refl
   where
     by_mark : (q : Bool) → (b == 34) ≡ q → QuotedFrom (34 ∷ b ∷ bs) (if q then byte_before 34 after.in_quotes else closing (between_at b bs after))
     by_mark true e = subst (λ (x : ℕ). QuotedFrom (34 ∷ x ∷ bs) (byte_before 34 after.in_quotes)) (sym (eqb-true b 34 e)) (mark_in_quotes bs after.in_quotes h.in_quotes)
@@ -231,7 +231,7 @@ all_from [] = record {
   between = record { closed = true; line = []; begins = inr (inr (refl, refl)); spells = refl };
   in_bare = record { closed = true; after = []; begins = inr (inr (refl, refl)); bare = refl; ends = refl; spells = refl };
   in_quotes = inr (record { bytes = refl; elements = refl; rest = refl });
-  behind_mark = inl (record { closed = true; after = []; begins = inr (inr (refl, refl)); ends = refl; spells = refl });
+  after_mark = inl (record { closed = true; after = []; begins = inr (inr (refl, refl)); ends = refl; spells = refl });
 }
 all_from (b ∷ bs) =
     let h = all_from bs in
@@ -239,7 +239,7 @@ all_from (b ∷ bs) =
       between = between_from b bs (readings bs) h;
       in_bare = in_bare_from b bs (readings bs) h;
       in_quotes = in_quotes_from b bs (readings bs) h;
-      behind_mark = behind_mark_from b bs (readings bs) h;
+      after_mark = after_mark_from b bs (readings bs) h;
     }
 
 -- the elements that are read of the first line, and what is left, are those of the line

@@ -36,7 +36,7 @@ digit_low b h = leb-true 48 b (and_parts (nat_le 48 b) (nat_le b 57) h).0
 pub digit_high : (b : ℕ) → is_digit b ≡ true → b ≤ 57
 digit_high b h = leb-true b 57 (and_parts (nat_le 48 b) (nat_le b 57) h).1
 
--- the number that digits spell behind others
+-- the number that digits spell after others
 abbrev pub number_after : ℕ → List ℕ → ℕ
 number_after n ds = fold (λ k b. k * 10 + (b - 48)) n ds
 
@@ -85,7 +85,7 @@ pub length_last : (k n : ℕ) → length (last_digits k n) ≡ k
 length_last zero n = refl
 length_last (suc k) n = omega (arith, length-append (last_digits k (n / 10)) ((48 + n % 10) ∷ []), length_last k (n / 10))
 
--- ---- zeros at the end, of digits behind a point
+-- ---- zeros at the end, of digits after a point
 
 pub trimmed_are : (ds : List ℕ) → list_all is_digit ds ≡ true → list_all is_digit (without_trailing 48 ds) ≡ true
 trimmed_are [] h = refl

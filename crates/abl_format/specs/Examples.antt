@@ -2,7 +2,7 @@
 use Rattle.std.specs.Prelude.{◌≡◌, refl, [], ◌∷◌, codes, Some, None, pos}
 use Rattle.abl_base.specs.declared.value.Value.TheVariants.{Text, Int, Unknown}
 use Rattle.abl_base.specs.declared.value.Kind.TheVariants.{Character, Integer, Decimal, Date as Day}
-use Rattle.abl_expr.specs.TextForms.{AtInputEnd, BadElement, Elements}
+use Rattle.text_forms.specs.TextForms.{AtInputEnd, BadElement, Elements}
 use Rattle.abl_format.specs.declared.element.Element.TheVariants.{Bare, Quoted}
 use Rattle.text_values.specs.TextValues.{value_in}
 use Rattle.abl_format.specs.Lines.{first_line}

@@ -3,14 +3,14 @@ use Rattle.std.specs.Prelude.{◌≡◌, ◌≢◌, ◌≤◌, ℕ, zero, suc, �
 use Rattle.abl_base.specs.declared.value.Value.{Value}
 use Rattle.abl_base.specs.declared.value.Value.TheVariants.{Unknown}
 use Rattle.abl_base.specs.declared.value.Kind.{Kind}
-use Rattle.abl_expr.specs.TextForms.{TextForms, Imported, AtInputEnd, BadElement, Elements}
+use Rattle.text_forms.specs.TextForms.{TextForms, Imported, AtInputEnd, BadElement, Elements}
 use Rattle.abl_format.specs.declared.element.Element.{Element}
 use Rattle.abl_format.specs.declared.element.Element.TheVariants.{Bare, Quoted}
 use Rattle.abl_format.specs.declared.answer.Imported.{Imported as Values}
 use Rattle.abl_format.specs.declared.answer.ImportFault.{ImportFault}
 use Rattle.abl_format.specs.declared.answer.ImportFault.TheVariants.{AtEnd, BadField, NoMemory}
 use Rattle.abl_values.specs.Masks.{same_bytes}
-use Rattle.abl_masks.specs.Put.{put}
+use Rattle.abl_format.specs.Masked.{masked}
 use Rattle.text_values.specs.TextValues.{number_in, value_in}
 use Rattle.abl_format.specs.Lines.{IsInputEnd, IsLine, first_line, is_input_end, Reading}
 
@@ -69,10 +69,10 @@ abbrev pub value_before : Option Value → Result (List (Option Value)) ℕ → 
 value_before v (Ok vs) = Ok (v ∷ vs)
 value_before v (Err number) = Err number
 
--- what a target gets, and what those behind it get
+-- what a target gets, and what those after it get
 abbrev pub next_value : ℕ → Option (Option Value) → Result (List (Option Value)) ℕ → Result (List (Option Value)) ℕ
-next_value number None behind = Err number
-next_value number (Some v) behind = value_before v behind
+next_value number None tail = Err number
+next_value number (Some v) tail = value_before v tail
 
 -- the values that the targets get, or the number of the first bad element, when the first has this number
 abbrev pub values_from : ℕ → List (Option Kind) → List Element → Result (List (Option Value)) ℕ
@@ -80,27 +80,27 @@ values_from number [] es = Ok []
 values_from number (k ∷ ks) [] = value_before None (values_from (number + 1) ks [])
 values_from number (k ∷ ks) (e ∷ es) = next_value number (taken k e) (values_from (number + 1) ks es)
 
--- what is told of a line, when the next one begins at this place
-abbrev pub told : ℕ → Result (List (Option Value)) ℕ → Imported
-told next (Ok values) = Elements values next
-told next (Err number) = BadElement number next
+-- the answer for a line, when the next one begins at this place
+abbrev pub line_answer : ℕ → Result (List (Option Value)) ℕ → Imported
+line_answer next (Ok values) = Elements values next
+line_answer next (Err number) = BadElement number next
 
-abbrev pub told_of : List ℕ → List (Option Kind) → Reading → Imported
-told_of input kinds line = told (length input - length line.rest) (values_from 1 kinds line.elements)
+abbrev pub answer_of_line : List ℕ → List (Option Kind) → Reading → Imported
+answer_of_line input kinds line = line_answer (length input - length line.rest) (values_from 1 kinds line.elements)
 
 -- what IMPORT reads at a place of an input, for targets of these kinds
 unfoldable pub line_at : List ℕ → ℕ → List (Option Kind) → Imported
 line_at input from kinds =
-    if is_input_end (drop from input) then AtInputEnd else told_of input kinds (first_line (drop from input))
+    if is_input_end (drop from input) then AtInputEnd else answer_of_line input kinds (first_line (drop from input))
 
 -- ---- what expressions and statements take as a parameter
 
 abbrev pub text_forms : TextForms
-text_forms = record { masked = put; number_in = number_in; line_at = line_at }
+text_forms = record { masked = masked; number_in = number_in; line_at = line_at }
 
 -- ---- the answer of a call
 
--- the call answered so. Memory is wanting at no end of an input
+-- the call answered so. Out of memory is never answered at the end of an input
 abbrev pub Answers : Result Values ImportFault → Imported → Type 0
 Answers (Ok read) wanted = Elements read.values read.next ≡ wanted
 Answers (Err AtEnd) wanted = AtInputEnd ≡ wanted

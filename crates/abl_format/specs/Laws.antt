@@ -3,7 +3,7 @@ use Rattle.std.specs.Prelude.{◌≡◌, ◌≤◌, ◌+◌, ℕ, List, [], ◌�
 use Rattle.abl_base.specs.declared.value.Value.{Value}
 use Rattle.abl_base.specs.declared.value.Kind.{Kind}
 use Rattle.abl_values.specs.Fit.{IsOfKind}
-use Rattle.abl_expr.specs.TextForms.{Imported, Elements}
+use Rattle.text_forms.specs.TextForms.{Imported, Elements}
 use Rattle.abl_masks.specs.Export.{export}
 use Rattle.abl_format.specs.Imports.{IsImport, line_at}
 

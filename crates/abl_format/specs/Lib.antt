@@ -1,3 +1,4 @@
+pub mod Masked
 pub mod Lines
 pub mod Imports
 pub mod Laws

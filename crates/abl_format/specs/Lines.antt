@@ -30,7 +30,7 @@ abbrev pub starts_bare : List ℕ → Bool
 starts_bare [] = false
 starts_bare (b ∷ bs) = is_bare_byte b
 
--- a bare element, behind blanks, reaches as far as it can
+-- a bare element, after blanks, reaches as far as it can
 pub record BareAt (line word after : List ℕ) : Type 0 where
   pub gap : List ℕ
   pub blank : list_all is_blank gap ≡ true
@@ -38,7 +38,7 @@ pub record BareAt (line word after : List ℕ) : Type 0 where
   pub bare : is_bare word ≡ true
   pub ends : starts_bare after ≡ false
 
--- an element in quotation marks, behind blanks, with the inner marks doubled. It ends at a mark that is not doubled
+-- an element in quotation marks, after blanks, with the inner marks doubled. It ends at a mark that is not doubled
 pub record QuotedAt (line text after : List ℕ) : Type 0 where
   pub gap : List ℕ
   pub blank : list_all is_blank gap ≡ true
@@ -66,7 +66,7 @@ ends_in_return [] = false
 ends_in_return (b ∷ []) = b == 13
 ends_in_return (b ∷ c ∷ bs) = ends_in_return (c ∷ bs)
 
--- The input begins with the line, and this is left behind it: a closed line ends at a line feed, which takes a
+-- The input begins with the line, and this follows: a closed line ends at a line feed, which takes a
 -- carriage return before it along, and any line at the end of the input.
 abbrev pub Begins : Bool → List ℕ → List ℕ → List ℕ → Type 0
 Begins true input line rest =
@@ -74,7 +74,7 @@ Begins true input line rest =
     ⊎ ((input ≡ line ++ 13 ∷ 10 ∷ rest) ⊎ ((input ≡ line) × (rest ≡ [])))
 Begins false input line rest = (input ≡ line) × (rest ≡ [])
 
--- the first line of the input has these elements, and this is left behind the line
+-- the first line of the input has these elements, and this follows the line
 pub record IsLine (input : List ℕ) (elements : List Element) (rest : List ℕ) : Type 0 where
   pub closed : Bool
   pub line : List ℕ
@@ -87,7 +87,7 @@ IsInputEnd input = (input ≡ []) ⊎ ((rest : List ℕ) × Begins true input (4
 
 -- ---- the same read off the bytes, from the right
 
--- what bytes give: those up to the end of the element that is open, the elements behind it, and what is left behind the line
+-- what bytes give: those up to the end of the element that is open, the elements after it, and what follows the line
 pub record Reading : Type 0 where
   pub open_bytes : List ℕ
   pub elements : List Element
@@ -109,32 +109,32 @@ opened as_element r = record { open_bytes = []; elements = as_element r.open_byt
 abbrev pub line_ending : List ℕ → Reading
 line_ending rest = record { open_bytes = []; elements = []; rest = rest }
 
--- the four readings of the bytes from a place on: between elements, in a bare one, in quotes, and behind a mark in quotes
+-- the four readings of the bytes from a place on: between elements, in a bare one, in quotes, and after a mark in quotes
 pub record Readings : Type 0 where
   pub between : Reading
   pub in_bare : Reading
   pub in_quotes : Reading
-  pub behind_mark : Reading
+  pub after_mark : Reading
 
 -- a line feed, or a carriage return and a line feed, is in front
 abbrev pub starts_end : List ℕ → Bool
 starts_end [] = false
 starts_end (b ∷ bs) = (b == 10) || ((b == 13) && starts 10 bs)
 
--- what is behind it
-abbrev pub behind_end : List ℕ → List ℕ
-behind_end [] = []
-behind_end (b ∷ bs) = if b == 10 then bs else drop 1 bs
+-- what follows it
+abbrev pub after_end : List ℕ → List ℕ
+after_end [] = []
+after_end (b ∷ bs) = if b == 10 then bs else drop 1 bs
 
 -- an element begins here
 abbrev pub starts_element : List ℕ → Bool
 starts_element [] = false
 starts_element (b ∷ bs) = not (starts_end (b ∷ bs) || is_blank b)
 
--- a byte between elements, and the readings of those behind it
+-- a byte between elements, and the readings of those after it
 abbrev pub between_at : ℕ → List ℕ → Readings → Reading
 between_at b bs after =
-    if starts_end (b ∷ bs) then line_ending (behind_end (b ∷ bs))
+    if starts_end (b ∷ bs) then line_ending (after_end (b ∷ bs))
     else if is_blank b then after.between
     else if b == 34 then opened Quoted after.in_quotes
     else opened Bare (byte_before b after.in_bare)
@@ -142,17 +142,17 @@ between_at b bs after =
 -- a byte in a bare element
 abbrev pub in_bare_at : ℕ → List ℕ → Readings → Reading
 in_bare_at b bs after =
-    if starts_end (b ∷ bs) then line_ending (behind_end (b ∷ bs))
+    if starts_end (b ∷ bs) then line_ending (after_end (b ∷ bs))
     else if is_blank b then closing after.between
     else byte_before b after.in_bare
 
 -- a byte in quotes
 abbrev pub in_quotes_at : ℕ → Readings → Reading
-in_quotes_at b after = if b == 34 then after.behind_mark else byte_before b after.in_quotes
+in_quotes_at b after = if b == 34 then after.after_mark else byte_before b after.in_quotes
 
--- a byte behind a mark in quotes: a second mark stands for one, else the element has ended before the byte
-abbrev pub behind_mark_at : ℕ → List ℕ → Readings → Reading
-behind_mark_at b bs after =
+-- a byte after a mark in quotes: a second mark denotes one, else the element has ended before the byte
+abbrev pub after_mark_at : ℕ → List ℕ → Readings → Reading
+after_mark_at b bs after =
     if b == 34 then byte_before 34 after.in_quotes else closing (between_at b bs after)
 
 abbrev pub readings_at : ℕ → List ℕ → Readings → Readings
@@ -160,7 +160,7 @@ readings_at b bs after = record {
   between = between_at b bs after;
   in_bare = in_bare_at b bs after;
   in_quotes = in_quotes_at b after;
-  behind_mark = behind_mark_at b bs after;
+  after_mark = after_mark_at b bs after;
 }
 
 abbrev pub no_bytes : Readings
@@ -168,18 +168,18 @@ no_bytes = record {
   between = line_ending [];
   in_bare = line_ending [];
   in_quotes = line_ending [];
-  behind_mark = line_ending [];
+  after_mark = line_ending [];
 }
 
 abbrev pub readings : List ℕ → Readings
 readings [] = no_bytes
 readings (b ∷ bs) = readings_at b bs (readings bs)
 
--- the elements of the first line of an input, and what is left behind it
+-- the elements of the first line of an input, and what follows it
 unfoldable pub first_line : List ℕ → Reading
 first_line input = (readings input).between
 
--- a point is in front, and the line or the input ends behind it
+-- a point is in front, and the line or the input ends after it
 abbrev pub is_input_end : List ℕ → Bool
 is_input_end [] = true
 is_input_end (b ∷ []) = b == 46

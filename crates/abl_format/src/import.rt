@@ -18,7 +18,7 @@ use text_values::value_in;
 /// and a bare `-` leaves the target; elements beyond the targets are passed over.
 ///
 /// Refusals: `AtEnd` exactly where no byte is left or the line is a `.` alone; `BadField` exactly
-/// at the first element that is no text of its target's kind; else want of memory. (OpenEdge ABL
+/// at the first element that is no text of its target's kind; else out of memory. (OpenEdge ABL
 /// Reference, IMPORT; which texts are of which kind is this project's choice.)
 #[tactic(auto, unfolding(crate::specs::Imports::line_at))]
 pub fn import_line(

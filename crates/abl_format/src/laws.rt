@@ -13,7 +13,7 @@ pub fn one_import()
 {}
 
 /// A row that EXPORT writes is read back by IMPORT to targets of its kinds, at the beginning of an
-/// input and behind other bytes.
+/// input and after other bytes.
 pub fn rows_are_read_back()
     ensures first { RowsAreReadBack }
     ensures anywhere { RowsAreReadBackAnywhere }

@@ -1,8 +1,9 @@
-//! Text forms: what IMPORT reads of a line, beside what PUT, STRING and EXPORT write (given out again
-//! from `abl_masks`) and the texts that stand for values (from `text_values`). It stands on these
-//! two. The layer above may rely on `specs/Imports.antt`, which `import_line` computes and which has
-//! the text forms that statements and expressions take; on `Lines.antt`, which says what a line is
-//! by its elements; and on `laws`.
+//! Text forms: what IMPORT reads of a line and what PUT and STRING write under any mask, beside what
+//! EXPORT writes (given out again from `abl_masks`) and the texts that denote values (from
+//! `text_values`). It depends on these two and on `text_forms`. The layer above may rely on
+//! `specs/Masked.antt` and `Imports.antt`, which `masked` and `import_line` compute; on `text_forms`
+//! there, the forms that expressions and statements take as a parameter; on `Lines.antt`, which says
+//! what a line is by its elements; and on `laws`. Its rows are those of `format_tables`.
 #![tactic(auto)]
 
 pub mod answer;
@@ -10,11 +11,10 @@ mod element;
 pub mod import;
 pub mod laws;
 mod line;
+pub mod mask;
 
-pub use abl_masks::{export_line, mask_fits, plain, put_item};
+pub use abl_masks::{export_line, mask_fits, plain};
 pub use answer::{ImportFault, Imported};
 pub use import::import_line;
+pub use mask::{is_mask_for, masked};
 pub use text_values::number_in;
-
-#[cfg(test)]
-mod tests;

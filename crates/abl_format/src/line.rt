@@ -1,7 +1,7 @@
 //! The elements of a line of input.
 
 ghost use Rattle.std.specs.Prelude.{◌≡◌, ◌≤◌, ◌<◌, ◌∷◌, IfOk, IsTrue, length};
-ghost use Rattle.abl_format.specs.Lines.{behind_end, first_line, is_blank, is_input_end, readings, starts_element, starts_end};
+ghost use Rattle.abl_format.specs.Lines.{after_end, first_line, is_blank, is_input_end, readings, starts_element, starts_end};
 
 use crate::element::Element;
 use abl_base::Items;
@@ -26,9 +26,9 @@ fn starts_end(bytes: &[u8]) -> bool
     }
 }
 
-/// What is behind the end of the line that is in front.
-fn behind_end(bytes: &[u8]) -> &[u8]
-    ensures { result.now ≡ behind_end bytes.now }
+/// What follows the end of the line that is in front.
+fn after_end(bytes: &[u8]) -> &[u8]
+    ensures { result.now ≡ after_end bytes.now }
 {
     match bytes {
         [] => bytes,
@@ -49,7 +49,7 @@ pub fn is_input_end(input: &[u8]) -> bool
     }
 }
 
-/// The elements of the first line of an input, and what is left behind the line. Want of memory is
+/// The elements of the first line of an input, and what follows the line. Out of memory is
 /// the only refusal.
 #[tactic(auto, unfolding(crate::specs::Lines::first_line))]
 pub fn first_line(alloc: Global, input: &[u8]) -> Result<(Vec<Element>, &[u8]), AllocError>
@@ -59,12 +59,12 @@ pub fn first_line(alloc: Global, input: &[u8]) -> Result<(Vec<Element>, &[u8]), 
 {
     let mut elements = Vec::new(alloc);
     let mut rest = input;
-    while let [first, behind @ ..] = rest {
+    while let [first, tail @ ..] = rest {
         if starts_end(rest) {
-            return Ok((elements, behind_end(rest)));
+            return Ok((elements, after_end(rest)));
         }
         if is_blank(*first) {
-            rest = behind;
+            rest = tail;
         } else {
             let (element, after) = element_at(alloc, rest)?;
             elements.push(element)?;
@@ -74,7 +74,7 @@ pub fn first_line(alloc: Global, input: &[u8]) -> Result<(Vec<Element>, &[u8]), 
     Ok((elements, rest))
 }
 
-/// The element that begins here, and what is behind it.
+/// The element that begins here, and what follows it.
 fn element_at(alloc: Global, bytes: &[u8]) -> Result<(Element, &[u8]), AllocError>
     requires { IsTrue (starts_element bytes.now) }
     ensures elements { IfOk result (λ read. (readings bytes.now).between.elements ≡ read.0 ∷ (readings read.1.now).between.elements) }
@@ -82,8 +82,8 @@ fn element_at(alloc: Global, bytes: &[u8]) -> Result<(Element, &[u8]), AllocErro
     ensures shorter { IfOk result (λ read. length read.1.now < length bytes.now) }
 {
     match bytes {
-        [b'"', behind @ ..] => {
-            let (text, after) = quoted(alloc, behind)?;
+        [b'"', tail @ ..] => {
+            let (text, after) = quoted(alloc, tail)?;
             Ok((Element::Quoted(Items::from_vec(text)), after))
         }
         _ => {
@@ -93,7 +93,7 @@ fn element_at(alloc: Global, bytes: &[u8]) -> Result<(Element, &[u8]), AllocErro
     }
 }
 
-/// The bytes of a bare element, and what is behind it.
+/// The bytes of a bare element, and what follows it.
 fn bare(alloc: Global, bytes: &[u8]) -> Result<(Vec<u8>, &[u8]), AllocError>
     ensures word { IfOk result (λ read. read.0.items ≡ (readings bytes.now).in_bare.open_bytes) }
     ensures elements { IfOk result (λ read. (readings read.1.now).between.elements ≡ (readings bytes.now).in_bare.elements) }
@@ -103,17 +103,17 @@ fn bare(alloc: Global, bytes: &[u8]) -> Result<(Vec<u8>, &[u8]), AllocError>
 {
     let mut word = Vec::new(alloc);
     let mut rest = bytes;
-    while let [first, behind @ ..] = rest {
+    while let [first, tail @ ..] = rest {
         if starts_end(rest) || is_blank(*first) {
             break;
         }
         word.push(*first)?;
-        rest = behind;
+        rest = tail;
     }
     Ok((word, rest))
 }
 
-/// The text of an element behind its opening mark, and what is behind its closing one.
+/// The text of an element after its opening mark, and what follows its closing one.
 fn quoted(alloc: Global, bytes: &[u8]) -> Result<(Vec<u8>, &[u8]), AllocError>
     ensures text { IfOk result (λ read. read.0.items ≡ (readings bytes.now).in_quotes.open_bytes) }
     ensures elements { IfOk result (λ read. (readings read.1.now).between.elements ≡ (readings bytes.now).in_quotes.elements) }
@@ -122,17 +122,17 @@ fn quoted(alloc: Global, bytes: &[u8]) -> Result<(Vec<u8>, &[u8]), AllocError>
 {
     let mut text = Vec::new(alloc);
     let mut rest = bytes;
-    while let [first, behind @ ..] = rest {
+    while let [first, tail @ ..] = rest {
         if *first != b'"' {
             text.push(*first)?;
-            rest = behind;
+            rest = tail;
         } else {
-            match behind {
+            match tail {
                 [b'"', beyond @ ..] => {
                     text.push(b'"')?;
                     rest = beyond;
                 }
-                _ => return Ok((text, behind)),
+                _ => return Ok((text, tail)),
             }
         }
     }

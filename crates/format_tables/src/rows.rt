@@ -1,11 +1,10 @@
 //! The answers of rows.
 
-ghost use Rattle.std.specs.Prelude.{◌≡◌, ◌≤◌, length};
-ghost use Rattle.abl_masks.specs.Put.{is_mask_for};
+ghost use Rattle.std.specs.Prelude.{◌≤◌, length};
 
 use crate::shown;
-use abl_base::{Items, Kind, Value};
-use abl_format::{ImportFault, export_line, import_line, mask_fits, number_in, plain, put_item};
+use abl_base::{Items, Kind};
+use abl_format::{ImportFault, export_line, import_line, masked, number_in, plain};
 use row_words::{bytes_of, kind_of, push_bytes, value_of};
 use std::alloc::{AllocError, Global};
 
@@ -22,7 +21,7 @@ pub fn answer(alloc: Global, row: &str) -> Result<String, AllocError> {
 /// The answer of a call.
 fn answer_of(alloc: Global, call: &str, arguments: &str) -> Result<Option<String>, AllocError> {
     match call {
-        "put" => masked(alloc, arguments),
+        "put" => under(alloc, arguments),
         "plain" => plain_text(alloc, arguments),
         "number" => number(alloc, arguments),
         "export" => exported(alloc, arguments),
@@ -31,43 +30,15 @@ fn answer_of(alloc: Global, call: &str, arguments: &str) -> Result<Option<String
     }
 }
 
-/// What is written of a value under a mask, and nothing under a mask for another kind.
-fn masked(alloc: Global, arguments: &str) -> Result<Option<String>, AllocError> {
+/// What is written of a value under a mask.
+fn under(alloc: Global, arguments: &str) -> Result<Option<String>, AllocError> {
     let Some((mask, word)) = arguments.split_once(' ') else {
         return Ok(None);
     };
     let mask = bytes_of(alloc, mask.as_bytes())?;
     match value_of(alloc, word)? {
-        Some(value) => under(alloc, &value, mask.as_slice()),
+        Some(value) => Ok(Some(text(alloc, masked(alloc, mask.as_slice(), &value)?.as_slice())?)),
         None => Ok(None),
-    }
-}
-
-/// What is written of a value under a mask.
-fn under(alloc: Global, value: &Value, mask: &[u8]) -> Result<Option<String>, AllocError> {
-    if !is_mask_for(value, mask) {
-        return Ok(Some(String::from_str(alloc, "no mask for it")?));
-    }
-    Ok(Some(text(alloc, put_item(alloc, value, mask)?.as_slice())?))
-}
-
-/// Whether a mask is one for a value, and for `?` one for any kind.
-fn is_mask_for(value: &Value, mask: &[u8]) -> bool
-    ensures { result ≡ is_mask_for mask.now value.now }
-{
-    match value {
-        Value::Text(_) => mask_fits(mask, Kind::Character),
-        Value::Int(_) => mask_fits(mask, Kind::Integer),
-        Value::Int64(_) => mask_fits(mask, Kind::Int64),
-        Value::Dec(_) => mask_fits(mask, Kind::Decimal),
-        Value::Logical(_) => mask_fits(mask, Kind::Logical),
-        Value::Date(_) => mask_fits(mask, Kind::Date),
-        Value::Unknown => {
-            mask_fits(mask, Kind::Character)
-                || mask_fits(mask, Kind::Decimal)
-                || mask_fits(mask, Kind::Logical)
-                || mask_fits(mask, Kind::Date)
-        }
     }
 }
 
@@ -79,7 +50,7 @@ fn plain_text(alloc: Global, word: &str) -> Result<Option<String>, AllocError> {
     }
 }
 
-/// The number that a text stands for, in units of 10^-10.
+/// The number that a text denotes, in units of 10^-10.
 fn number(alloc: Global, word: &str) -> Result<Option<String>, AllocError> {
     match number_in(bytes_of(alloc, word.as_bytes())?.as_slice()) {
         Some(n) => Ok(Some(format!(in alloc; "{n}")?)),
@@ -157,8 +128,11 @@ fn line(
     }
 }
 
-/// Bytes as a word.
+/// Bytes as a word, and of more than 999 their number.
 fn text(alloc: Global, bytes: &[u8]) -> Result<String, AllocError> {
+    if bytes.len() > 999 {
+        return format!(in alloc; "{} bytes", bytes.len());
+    }
     let mut word = String::new(alloc);
     push_bytes(&mut word, bytes)?;
     Ok(word)

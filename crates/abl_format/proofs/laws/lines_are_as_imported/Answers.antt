@@ -1,4 +1,4 @@
-use Rattle.abl_format.proofs.Told.{line_at_is}
+use Rattle.abl_format.proofs.LineAnswers.{line_at_is}
 use Rattle.abl_format.proofs.laws.lines_are_as_imported.Goals as goal
 
 pub returns : goal.returns

@@ -7,7 +7,7 @@ abbrev pub invariant-loop-rest : goal.invariant-loop-rest
 invariant-loop-rest l = record {
   word : l.word.items ++ (readings l.rest).in_bare.open_bytes ≡ (readings l.bytes).in_bare.open_bytes;
   elements : (readings l.rest).in_bare.elements ≡ (readings l.bytes).in_bare.elements;
-  behind : (readings l.rest).in_bare.rest ≡ (readings l.bytes).in_bare.rest;
+  tail : (readings l.rest).in_bare.rest ≡ (readings l.bytes).in_bare.rest;
   moved : (l.rest ≡ l.bytes) ⊎ (length l.rest < length l.bytes);
 }
 

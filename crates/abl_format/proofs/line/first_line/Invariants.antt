@@ -6,7 +6,7 @@ use Rattle.abl_format.proofs.line.first_line.Given as goal
 abbrev pub invariant-loop-rest : goal.invariant-loop-rest
 invariant-loop-rest l = record {
   elements : l.elements.items ++ (readings l.rest).between.elements ≡ (readings l.input).between.elements;
-  behind : (readings l.rest).between.rest ≡ (readings l.input).between.rest;
+  tail : (readings l.rest).between.rest ≡ (readings l.input).between.rest;
   shorter : length l.rest ≤ length l.input;
 }
 

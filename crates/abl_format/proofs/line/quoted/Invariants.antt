@@ -7,7 +7,7 @@ abbrev pub invariant-loop-rest : goal.invariant-loop-rest
 invariant-loop-rest l = record {
   text : l.text.items ++ (readings l.rest).in_quotes.open_bytes ≡ (readings l.bytes).in_quotes.open_bytes;
   elements : (readings l.rest).in_quotes.elements ≡ (readings l.bytes).in_quotes.elements;
-  behind : (readings l.rest).in_quotes.rest ≡ (readings l.bytes).in_quotes.rest;
+  tail : (readings l.rest).in_quotes.rest ≡ (readings l.bytes).in_quotes.rest;
   shorter : length l.rest ≤ length l.bytes;
 }
 

@@ -1,7 +1,7 @@
 use Rattle.std.proofs.Common.{◌≡◌}
 use Rattle.abl_expr.specs.Functions.{parts_after}
 use Rattle.abl_eval.specs.Parts.{part_from}
-use Rattle.abl_eval.proofs.entries.entry_behind.Given as goal
+use Rattle.abl_eval.proofs.entries.entry_after.Given as goal
 
 abbrev pub invariant-loop-left : goal.invariant-loop-left
 invariant-loop-left l =

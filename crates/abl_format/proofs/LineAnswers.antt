@@ -1,14 +1,14 @@
--- What is told of a line is what its elements give.
+-- The answer for a line is what its elements give.
 use Rattle.std.proofs.Common.{◌≡◌, ◌⊎◌, inl, inr, ℕ, zero, suc, ◌+◌, ◌-◌, ◌≤◌, Bool, true, false, ◌==◌, if◌then◌else◌, List, [], ◌∷◌, ◌++◌, length, take, drop, refl, sym, ap, ◌∙◌, subst, arith, append_assoc, length-append, Option, Some, None, IsSome, Result, Ok, Err}
 use Rattle.std.proofs.lemmas.List.{take-append-drop, drop_at}
 use Rattle.std.proofs.lemmas.Bool.{false≢true, both_ways, eqb-true, and_parts}
 use Rattle.abl_base.specs.declared.value.Value.{Value}
 use Rattle.abl_base.specs.declared.value.Kind.{Kind}
-use Rattle.abl_expr.specs.TextForms.{AtInputEnd}
+use Rattle.text_forms.specs.TextForms.{AtInputEnd}
 use Rattle.abl_format.specs.declared.element.Element.{Element}
-use Rattle.abl_format.specs.Lines.{IsLine, IsInputEnd, Begins, starts_end, behind_end, is_input_end, first_line, Reading}
-use Rattle.abl_format.specs.Imports.{taken, AreTaken, IsFirstBad, ReadsLine, IsImport, value_before, next_value, values_from, told, told_of, line_at}
-use Rattle.abl_format.proofs.Begun.{begins_before, begins_at_end, rest_behind}
+use Rattle.abl_format.specs.Lines.{IsLine, IsInputEnd, Begins, starts_end, after_end, is_input_end, first_line, Reading}
+use Rattle.abl_format.specs.Imports.{taken, AreTaken, IsFirstBad, ReadsLine, IsImport, value_before, next_value, values_from, line_answer, answer_of_line, line_at}
+use Rattle.abl_format.proofs.Begun.{begins_before, begins_at_end, rest_after}
 use Rattle.abl_format.proofs.Sound.{first_line_is}
 
 abbrev Given : Type 0
@@ -83,7 +83,7 @@ some_is : (got : Option (Option Value)) → IsSome got → (v : Option Value) ×
 some_is None h = absurd (false≢true h)
 some_is (Some v) h = (v, refl)
 
--- the number of the first bad element is the one that is told
+-- the number of the first bad element is the one that is answered
 pub bad_first : (ks : List (Option Kind)) (es : List Element) (n m : ℕ) → IsFirstBad ks es (suc m) → values_from n ks es ≡ Err (n + m)
 bad_first [] es n m h = absurd h
 bad_first (k ∷ ks) [] n m h = absurd h
@@ -105,9 +105,9 @@ input_end_is (b ∷ []) h = inr ([], inr (inr (ap (λ (x : ℕ). x ∷ []) (eqb-
 input_end_is (b ∷ c ∷ cs) h =
     let both = and_parts (b == 46) (starts_end (c ∷ cs)) h in
     inr (
-      behind_end (c ∷ cs),
-      subst (λ (x : ℕ). Begins true (x ∷ c ∷ cs) (46 ∷ []) (behind_end (c ∷ cs))) (sym (eqb-true b 46 both.0))
-          (begins_before true 46 (c ∷ cs) [] (behind_end (c ∷ cs)) refl (begins_at_end c cs both.1)),
+      after_end (c ∷ cs),
+      subst (λ (x : ℕ). Begins true (x ∷ c ∷ cs) (46 ∷ []) (after_end (c ∷ cs))) (sym (eqb-true b 46 both.0))
+          (begins_before true 46 (c ∷ cs) [] (after_end (c ∷ cs)) refl (begins_at_end c cs both.1)),
     )
 
 pub is_input_end_of : (input : List ℕ) → IsInputEnd input → is_input_end input ≡ true
@@ -120,7 +120,7 @@ is_input_end_of input (inr (rest, inr (inr h))) = ap is_input_end h.0
 
 pub next_is : (input : List ℕ) (from : ℕ) (es : List Element) (rest : List ℕ) → from ≤ length input → IsLine (drop from input) es rest → drop (length input - length rest) input ≡ rest
 next_is input from es rest room h =
-    let s = rest_behind h.closed (drop from input) h.line rest h.begins in
+    let s = rest_after h.closed (drop from input) h.line rest h.begins in
     let front : List ℕ = take from input ++ s.0 in
     let whole : input ≡ front ++ rest = sym (take-append-drop from input) ∙ ap (λ (xs : List ℕ). take from input ++ xs) s.1 ∙ sym (append_assoc (take from input) s.0 rest) in
     let long : length front ≡ length input - length rest = omega (arith, ap length whole, length-append front rest) in
@@ -141,12 +141,12 @@ reads input from holds room on so =
       so = so;
     }
 
-told_is : (input : List ℕ) (from : ℕ) (kinds : List (Option Kind)) → from ≤ length input → (IsInputEnd (drop from input) → ⊥)
-    → IsImport input from kinds (told_of input kinds (first_line (drop from input)))
-told_is input from kinds room on = by_values (values_from 1 kinds (first_line (drop from input)).elements) refl
+line_answer_is : (input : List ℕ) (from : ℕ) (kinds : List (Option Kind)) → from ≤ length input → (IsInputEnd (drop from input) → ⊥)
+    → IsImport input from kinds (answer_of_line input kinds (first_line (drop from input)))
+line_answer_is input from kinds room on = by_values (values_from 1 kinds (first_line (drop from input)).elements) refl
   where
     by_values : (found : Found) → values_from 1 kinds (first_line (drop from input)).elements ≡ found
-        → IsImport input from kinds (told (length input - length (first_line (drop from input)).rest) found)
+        → IsImport input from kinds (line_answer (length input - length (first_line (drop from input)).rest) found)
     by_values (Ok vs) e = reads input from (λ es. AreTaken kinds es vs) room on (all_taken kinds (first_line (drop from input)).elements 1 vs e)
     by_values (Err number) e =
         let b = first_bad kinds (first_line (drop from input)).elements 1 number e in
@@ -159,6 +159,6 @@ pub line_at_is : (input : List ℕ) (from : ℕ) (kinds : List (Option Kind)) �
 unfolding line_at
 line_at_is input from kinds room = by_end (is_input_end (drop from input)) refl
   where
-    by_end : (t : Bool) → is_input_end (drop from input) ≡ t → IsImport input from kinds (if t then AtInputEnd else told_of input kinds (first_line (drop from input)))
+    by_end : (t : Bool) → is_input_end (drop from input) ≡ t → IsImport input from kinds (if t then AtInputEnd else answer_of_line input kinds (first_line (drop from input)))
     by_end true e = input_end_is (drop from input) e
-    by_end false e = told_is input from kinds room (λ h. both_ways (is_input_end (drop from input)) e (is_input_end_of (drop from input) h))
+    by_end false e = line_answer_is input from kinds room (λ h. both_ways (is_input_end (drop from input)) e (is_input_end_of (drop from input) h))

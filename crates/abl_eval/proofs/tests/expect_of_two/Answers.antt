@@ -1,4 +1,0 @@
-use Rattle.abl_eval.proofs.tests.expect_of_two.Goals as goal
-
-pub expect-requires : goal.expect-requires
-expect-requires g c = λ env. (c.in_ok-a.ensures env, c.in_ok-b.ensures env)
