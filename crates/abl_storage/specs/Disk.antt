@@ -27,9 +27,9 @@ pub record TornIn (area at n : ℕ) (old new : ℕ → List ℕ) : Type 0 where
   pub others : Others area old new
 
 -- a call that makes no moment
-pub record Stays (was_told told : Bool) (was_seen seen : ℕ → List ℕ) (was now : ℕ) (before after : ℕ → (ℕ → List ℕ) → Type 0) : Type 0 where
-  pub tells : told ≡ was_told
-  pub same : IsTrue was_told → seen ≡ was_seen
+pub record Stays (was_observable observable : Bool) (was_seen seen : ℕ → List ℕ) (was now : ℕ) (before after : ℕ → (ℕ → List ℕ) → Type 0) : Type 0 where
+  pub same_observable : observable ≡ was_observable
+  pub same : IsTrue was_observable → seen ≡ was_seen
   pub moment : now ≡ was
   pub nothing_else : (m : ℕ) (image : ℕ → List ℕ) → after m image → before m image
   pub stays : (m : ℕ) (image : ℕ → List ℕ) → before m image → after m image
@@ -48,8 +48,8 @@ pub record HasCause (was now : ℕ) (ok : Bool) : Type 0 where
   pub rose : ok ≡ false → Rose was now
   pub stays : ok ≡ true → now ≡ was
 
--- an image is told only where the rest is, of no moment to come, and with areas of at most 2^40 bytes
-pub record IsToldImage (told : Bool) (time m : ℕ) (image : ℕ → List ℕ) : Type 0 where
-  pub tells : IsTrue told
+-- an image is known only where the areas are observable, of no later moment, and with areas of at most 2^40 bytes
+pub record IsImage (observable : Bool) (time m : ℕ) (image : ℕ → List ℕ) : Type 0 where
+  pub same_observable : IsTrue observable
   pub past : m ≤ time
   pub small : (area : ℕ) → length (image area) ≤ 2 ^ 40

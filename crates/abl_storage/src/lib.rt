@@ -1,7 +1,7 @@
 //! What the database is stored on: slots with transactions, and the disk below them, each as a
-//! trait with its meaning (`specs/Slots.antt`, `specs/Disk.antt`). It stands on `fault_count`. The
-//! layers above rely on the traits' clauses alone; `mem_slots` and `mem_disk` have the forms in
-//! memory.
+//! trait with its meaning (`specs/Slots.antt`, `specs/Disk.antt`). It depends on `fault_count`. The
+//! layers above rely on the traits' clauses alone; `mem_slots` and `mem_disk` are the
+//! implementations in memory.
 #![tactic(auto)]
 
 pub mod disk;

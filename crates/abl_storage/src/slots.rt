@@ -1,7 +1,7 @@
 //! The array of 256-byte slots with transactions.
 
 ghost use Rattle.std.specs.Prelude.{◌≡◌, ◌<◌, ◌≤◌, ◌^◌, ◌↔◌, ℕ, List, length, true, false, IsTrue, IfOk, OnOk, OnErr, IsErrOf};
-ghost use Rattle.abl_storage.specs.Slots.{SlotState, Speaks, Rests, Begins, Writes, GoesBack, Ends, Commits, Fails, Grows, Goes, HasCause, OnlyDisk, NeverFull, IsAlone, IsFull, IsToldStop, is_low};
+ghost use Rattle.abl_storage.specs.Slots.{SlotState, IsReadable, Rests, Begins, Writes, GoesBack, Ends, Commits, Fails, Grows, Goes, HasCause, OnlyDisk, NeverFull, IsAlone, IsFull, IsStop, is_low};
 
 /// Why a call on the slots was refused.
 #[derive(Clone, Copy, Debug, PartialEq, Eq)]
@@ -14,13 +14,13 @@ pub enum SlotFault {
     NoMemory,
 }
 
-/// A place in a transaction: so many of its writes stand.
+/// A place in a transaction: the number of its writes that stand there.
 #[derive(Clone, Copy)]
 pub struct Mark {
     pub at: usize,
 }
 
-/// A write that can be taken back: its slot, and the bytes before it.
+/// A write that can be undone: its slot, and the bytes before it.
 #[derive(Clone, Copy)]
 pub struct Undo {
     pub slot: u32,
@@ -31,28 +31,28 @@ pub struct Undo {
 /// to 15. Each slot is written by one begun transaction at most. That writes of the slots 5,000 to
 /// 5,099 do not count, and the numbers 16, 7,989 and ten, are this project's choice.
 pub trait Slots {
-    /// What reads give, what commits have kept, which transactions are begun, and the moment.
+    /// What reads give, what is committed, which transactions are begun, and the moment.
     ghost state: { Self → SlotState };
 
-    /// The slots that reopening after a stop at that moment may give. It is told for no moment but
-    /// those from since to now, and for none where the object does not tell its stops.
+    /// The slots that reopening after a stop at that moment may give. It is empty outside the moments
+    /// from `since` to now, and everywhere where stops are not observable.
     ghost stop: { Self → ℕ → (ℕ → List ℕ) → Type 0 };
 
     /// How often the disk has failed, at most 2^64 - 1.
     fn faults(&self) -> u64
         ensures { result ≡ (state self.now).faults };
 
-    /// The bytes of the slot. It takes no memory.
+    /// Reads the slot's bytes. It takes no memory.
     fn read(&mut self, slot: u32, into: &mut [u8; 256]) -> Result<(), SlotFault>
         requires { slot < 2 ^ 20 }
-        ensures bytes { OnOk result (Speaks (state self.old) → into.new ≡ (state self.old).reads slot) }
+        ensures bytes { OnOk result (IsReadable (state self.old) → into.new ≡ (state self.old).reads slot) }
         ensures rest { Rests (state self.old) (state self.new) }
         ensures time { Goes (state self.old) (state self.new) (stop self.old) (stop self.new) }
         ensures cause { HasCause (state self.old) (state self.new) result }
         ensures only { OnlyDisk result };
 
-    /// Begins the client's transaction. Ten writes of low slots find memory in it. After an error
-    /// none is begun.
+    /// Begins the client's transaction, with memory for ten writes of low slots. After an error none
+    /// is begun.
     fn begin(&mut self, client: u16) -> Result<(), SlotFault>
         requires client { client < 16 }
         requires idle { ((state self.old).transaction client).begun ≡ false }
@@ -73,9 +73,10 @@ pub trait Slots {
         ensures cause { HasCause (state self.old) (state self.new) result }
         ensures only { NeverFull result };
 
-    /// Writes the slot, which no other begun transaction wrote. A transaction writes low slots ten
-    /// times at most, and such a write never wants memory. `TxFull` comes exactly where the
-    /// transaction has 7,989 writes that count and the slot is not low.
+    /// Writes the slot, which no other begun transaction wrote, writes that `back` undid included. A
+    /// transaction writes low slots at most ten times, and such a write never answers NoMemory.
+    /// `TxFull` comes exactly where the transaction has 7,989 writes that count and the slot is not
+    /// low. The undo list grows by this write alone, and undoing it restores the slots as they were.
     fn write(&mut self, client: u16, slot: u32, bytes: &[u8; 256]) -> Result<(), SlotFault>
         requires client { client < 16 }
         requires slot { slot < 2 ^ 20 }
@@ -90,14 +91,14 @@ pub trait Slots {
         ensures time { Goes (state self.old) (state self.new) (stop self.old) (stop self.new) }
         ensures cause { HasCause (state self.old) (state self.new) result };
 
-    /// The place that the transaction has come to.
+    /// The transaction's present place.
     fn mark(&self, client: u16) -> Mark
         requires client { client < 16 }
         requires begun { ((state self.now).transaction client).begun ≡ true }
         ensures { result.at ≡ length ((state self.now).transaction client).undo };
 
-    /// Takes back the writes since the mark, which go on counting. The mark is of this transaction,
-    /// and no `back` to an earlier one came since it was made. It takes no memory.
+    /// Undoes the writes since the mark, which go on counting. The mark is of this transaction, and no
+    /// `back` to an earlier one came since it was made. It takes no memory.
     fn back(&mut self, client: u16, mark: Mark) -> Result<(), SlotFault>
         requires client { client < 16 }
         requires begun { ((state self.old).transaction client).begun ≡ true }
@@ -108,31 +109,32 @@ pub trait Slots {
         ensures cause { HasCause (state self.old) (state self.new) result }
         ensures only { OnlyDisk result };
 
-    /// Keeps the transaction's writes and ends it. It gives the moment as it returns, from which on
-    /// each stop leaves them. After an error the transaction is still begun, and a stop may leave
-    /// its writes or not. It takes no memory.
+    /// Commits the transaction's writes and ends it. It returns the moment from which on each stop
+    /// leaves them. After an error the transaction is still begun, and a stop may leave its writes or
+    /// not. It takes no memory.
     fn commit(&mut self, client: u16) -> Result<u64, SlotFault>
         requires client { client < 16 }
         requires begun { ((state self.old).transaction client).begun ≡ true }
         ensures moment { IfOk result (λ moment. moment ≡ (state self.new).moment) }
         ensures ok { OnOk result (Commits (state self.old) (state self.new) client) }
-        ensures acknowledged { OnOk result ((slots : ℕ → List ℕ) → stop self.new (state self.new).moment slots → slots ≡ (state self.new).kept) }
+        ensures acknowledged { OnOk result ((slots : ℕ → List ℕ) → stop self.new (state self.new).moment slots → slots ≡ (state self.new).committed) }
         ensures err { OnErr result (Fails (state self.old) (state self.new) client) }
         ensures time { Goes (state self.old) (state self.new) (stop self.old) (stop self.new) }
         ensures cause { HasCause (state self.old) (state self.new) result }
         ensures only { OnlyDisk result };
 
-    /// Goes back to the begin and ends the transaction. It has no refusal and takes no memory;
-    /// where the disk fails on the way, its count rises and each later read may answer Disk.
+    /// Undoes all of the transaction's writes and ends it. It has no refusal and takes no memory.
+    /// Where the disk fails on the way, its count rises and the next call finishes the undoing: that
+    /// call answers Disk only where the disk fails again, or where a call had answered Disk before.
     fn abandon(&mut self, client: u16)
         requires client { client < 16 }
         requires begun { ((state self.old).transaction client).begun ≡ true }
         ensures ended { Ends (state self.old) (state self.new) client }
         ensures time { Goes (state self.old) (state self.new) (stop self.old) (stop self.new) };
 
-    /// A stop is told only where the rest is, and of no moment to come or before since.
-    ghost stop_told: { (s : Self) (m : ℕ) (slots : ℕ → List ℕ) → stop s m slots → IsToldStop (state s) m };
+    /// A stop is known only where the slots are observable, and of moments from `since` to now.
+    ghost stop_known: { (s : Self) (m : ℕ) (slots : ℕ → List ℕ) → stop s m slots → IsStop (state s) m };
 
-    /// The moment since is past.
+    /// The moment `since` is past.
     ghost since_past: { (s : Self) → (state s).since ≤ (state s).moment };
 }

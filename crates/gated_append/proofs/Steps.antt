@@ -19,9 +19,9 @@ splits (suc a) (suc b) = ⊎_elim (λ h. inl (omega (arith, h))) (λ h. inr (ome
 pub started : (was : ℕ) (before : ℕ → Image → Type 0) (P : Image → Type 0) → ((m : ℕ) (image : Image) → before m image → m ≤ was) → Kept was was before before P
 started was before P top = record {
   later = omega arith;
-  nothing_else = λ m image le told. told;
-  stays = λ m image le told. told;
-  here = λ m image later told. let no = top m image told in absurd (omega (arith, no, later));
+  nothing_else = λ m image le observable. observable;
+  stays = λ m image le observable. observable;
+  here = λ m image later observable. let no = top m image observable in absurd (omega (arith, no, later));
 }
 
 -- one call more
@@ -29,12 +29,12 @@ pub goes_on : (ok : Bool) (was mid now : ℕ) (before between after : ℕ → Im
     → ((m : ℕ) (image : Image) → after m image → m ≤ now) → ((d image : Image) → between mid d → step d image → P image) → Kept was now before after P
 goes_on ok was mid now before between after step P so_far pass top each = record {
   later = omega (arith, so_far.later, up);
-  nothing_else = λ m image le told. so_far.nothing_else m image le (pass.nothing_else m image (omega (arith, le, so_far.later)) told);
-  stays = λ m image le told. pass.stays m image (omega (arith, le, so_far.later)) (so_far.stays m image le told);
-  here = λ m image later told. ⊎_elim
-      (λ (past : m ≤ mid). so_far.here m image later (pass.nothing_else m image past told))
-      (λ (new : mid < m). let is_now : m ≡ now = (let t = top m image told in let s = small in omega (arith, t, new, s)) in
-      let from = pass.here image (subst (λ (n : ℕ). after n image) is_now told) in each from.0 image from.1 from.2)
+  nothing_else = λ m image le observable. so_far.nothing_else m image le (pass.nothing_else m image (omega (arith, le, so_far.later)) observable);
+  stays = λ m image le observable. pass.stays m image (omega (arith, le, so_far.later)) (so_far.stays m image le observable);
+  here = λ m image later observable. ⊎_elim
+      (λ (past : m ≤ mid). so_far.here m image later (pass.nothing_else m image past observable))
+      (λ (new : mid < m). let is_now : m ≡ now = (let t = top m image observable in let s = small in omega (arith, t, new, s)) in
+      let from = pass.here image (subst (λ (n : ℕ). after n image) is_now observable) in each from.0 image from.1 from.2)
       (splits m mid);
 }
   where
@@ -49,16 +49,16 @@ pub after_that : (was mid now : ℕ) (before between after : ℕ → Image → T
     → ((image : Image) → P image → R image) → ((image : Image) → Q image → R image) → Kept was now before after R
 after_that was mid now before between after P Q R one two p q = record {
   later = omega (arith, one.later, two.later);
-  nothing_else = λ m image le told. one.nothing_else m image le (two.nothing_else m image (omega (arith, le, one.later)) told);
-  stays = λ m image le told. two.stays m image (omega (arith, le, one.later)) (one.stays m image le told);
-  here = λ m image later told. ⊎_elim
-      (λ (past : m ≤ mid). p image (one.here m image later (two.nothing_else m image past told)))
-      (λ (new : mid < m). q image (two.here m image new told))
+  nothing_else = λ m image le observable. one.nothing_else m image le (two.nothing_else m image (omega (arith, le, one.later)) observable);
+  stays = λ m image le observable. two.stays m image (omega (arith, le, one.later)) (one.stays m image le observable);
+  here = λ m image later observable. ⊎_elim
+      (λ (past : m ≤ mid). p image (one.here m image later (two.nothing_else m image past observable)))
+      (λ (new : mid < m). q image (two.here m image new observable))
       (splits m mid);
 }
 
 pub weaker : (was now : ℕ) (before after : ℕ → Image → Type 0) (P Q : Image → Type 0) → Kept was now before after P → ((image : Image) → P image → Q image) → Kept was now before after Q
-weaker was now before after P Q k p = record { later = k.later; nothing_else = k.nothing_else; stays = k.stays; here = λ m image later told. p image (k.here m image later told) }
+weaker was now before after P Q k p = record { later = k.later; nothing_else = k.nothing_else; stays = k.stays; here = λ m image later observable. p image (k.here m image later observable) }
 
 -- a write within the area or at its end, by parts
 pub torn_parts : (at n : ℕ) (old new : List ℕ) → at ≤ length old → TornBytes at n old new → Torn at n old new
@@ -79,9 +79,9 @@ wrote_parts at bytes old new within wrote =
 
 -- what has held at each moment since holds of what a crash now may leave
 pub holds_now : (was now : ℕ) (before after : ℕ → Image → Type 0) (P : Image → Type 0) → Kept was now before after P → ((image : Image) → before was image → P image) → (image : Image) → after now image → P image
-holds_now was now before after P k start image told = ⊎_elim
-    (λ (past : now ≤ was). let same : now ≡ was = (let l = k.later in omega (arith, past, l)) in start image (subst (λ (m : ℕ). before m image) same (k.nothing_else now image past told)))
-    (λ (new : was < now). k.here now image new told)
+holds_now was now before after P k start image observable = ⊎_elim
+    (λ (past : now ≤ was). let same : now ≡ was = (let l = k.later in omega (arith, past, l)) in start image (subst (λ (m : ℕ). before m image) same (k.nothing_else now image past observable)))
+    (λ (new : was < now). k.here now image new observable)
     (splits now was)
 
 -- after a write, where whatever it may leave of what lies there has P
@@ -95,9 +95,9 @@ pub synced : (ok : Bool) (was mid now : ℕ) (before between after : ℕ → Ima
     → Kept was mid before between (λ image. P (image 1)) → Passes ok mid now between after (λ old new. new ≡ old) → ((m : ℕ) (image : Image) → after m image → m ≤ now) → Kept was now before after (λ image. P (image 1))
 synced ok was mid now before between after seen bytes P lies here so_far pass top =
     goes_on ok was mid now before between after _ (λ image. P (image 1)) so_far pass top
-    (λ d image left same. subst (λ (x : Image). P (x 1)) (sym same) (holds_now was mid before between (λ image. P (image 1)) so_far (λ x told. subst P (sym (lies.only x told ∙ lies.is)) here) d left))
+    (λ d image left same. subst (λ (x : Image). P (x 1)) (sym same) (holds_now was mid before between (λ image. P (image 1)) so_far (λ x observable. subst P (sym (lies.only x observable ∙ lies.is)) here) d left))
 
 -- a sync that is answered Ok leaves what a read gives
-pub lies_synced : (r : Result (Unit {0}) DiskFailed) (told : Bool) (seen : Image) (left : Image → Type 0) (bytes : List ℕ) → OnOk r ((image : Image) → left image → image 1 ≡ seen 1) → (IsTrue told → seen 1 ≡ bytes) → OnOk r (IsTrue told → Lies seen left bytes)
-lies_synced (Err e) told seen left bytes durable is = tt
-lies_synced (Ok u) told seen left bytes durable is = λ t. record { is = is t; only = durable }
+pub lies_synced : (r : Result (Unit {0}) DiskFailed) (observable : Bool) (seen : Image) (left : Image → Type 0) (bytes : List ℕ) → OnOk r ((image : Image) → left image → image 1 ≡ seen 1) → (IsTrue observable → seen 1 ≡ bytes) → OnOk r (IsTrue observable → Lies seen left bytes)
+lies_synced (Err e) observable seen left bytes durable is = tt
+lies_synced (Ok u) observable seen left bytes durable is = λ t. record { is = is t; only = durable }

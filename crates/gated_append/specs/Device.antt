@@ -17,7 +17,7 @@ pub record Torn (at n : ℕ) (old new : List ℕ) : Type 0 where
   pub no_shorter : length old ≤ length new
   pub no_longer : length new ≤ max (length old) (at + n)
 
--- what is told of the moments before stays, and a crash at each moment since leaves what has P
+-- what is observable of the moments before stays, and a crash at each moment since leaves what has P
 pub record Kept (was now : ℕ) (before after : ℕ → (ℕ → List ℕ) → Type 0) (P : (ℕ → List ℕ) → Type 0) : Type 0 where
   pub later : was ≤ now
   pub nothing_else : (m : ℕ) (image : ℕ → List ℕ) → m ≤ was → after m image → before m image

@@ -11,12 +11,12 @@ use abl_storage::{Disk, DiskFailed};
 fn stage<D: Disk>(disk: &mut D, gate: u64, key: u8, value: u8) -> Result<(), DiskFailed>
     ghost pairs: { List (ℕ × ℕ) }
     requires small { gate < 2 ^ 39 }
-    requires gate { IsTrue (D.told disk.old) → gate ≡ 3 * length pairs }
-    requires lies { IsTrue (D.told disk.old) → Lies (D.seen disk.old) (D.left disk.old (D.time disk.old)) (at_rest pairs) }
-    ensures tells { D.told disk.new ≡ D.told disk.old }
+    requires gate { IsTrue (D.observable disk.old) → gate ≡ 3 * length pairs }
+    requires lies { IsTrue (D.observable disk.old) → Lies (D.seen disk.old) (D.left disk.old (D.time disk.old)) (at_rest pairs) }
+    ensures same_observable { D.observable disk.new ≡ D.observable disk.old }
     ensures later { D.time disk.old ≤ D.time disk.new }
-    ensures time { IsTrue (D.told disk.old) → Kept (D.time disk.old) (D.time disk.new) (D.left disk.old) (D.left disk.new) (λ image. recovered (image 1) ≡ pairs) }
-    ensures ok { OnOk result (IsTrue (D.told disk.old) → Lies (D.seen disk.new) (D.left disk.new (D.time disk.new)) (staged pairs key value)) }
+    ensures time { IsTrue (D.observable disk.old) → Kept (D.time disk.old) (D.time disk.new) (D.left disk.old) (D.left disk.new) (λ image. recovered (image 1) ≡ pairs) }
+    ensures ok { OnOk result (IsTrue (D.observable disk.old) → Lies (D.seen disk.new) (D.left disk.new (D.time disk.new)) (staged pairs key value)) }
 {
     disk.write(1, gate + 1, &[key, value, 0])?;
     disk.sync(1)
@@ -26,12 +26,12 @@ fn stage<D: Disk>(disk: &mut D, gate: u64, key: u8, value: u8) -> Result<(), Dis
 fn open_gate<D: Disk>(disk: &mut D, gate: u64, key: u8, value: u8) -> Result<(), DiskFailed>
     ghost pairs: { List (ℕ × ℕ) }
     requires small { gate < 2 ^ 39 }
-    requires gate { IsTrue (D.told disk.old) → gate ≡ 3 * length pairs }
-    requires lies { IsTrue (D.told disk.old) → Lies (D.seen disk.old) (D.left disk.old (D.time disk.old)) (staged pairs key value) }
-    ensures tells { D.told disk.new ≡ D.told disk.old }
+    requires gate { IsTrue (D.observable disk.old) → gate ≡ 3 * length pairs }
+    requires lies { IsTrue (D.observable disk.old) → Lies (D.seen disk.old) (D.left disk.old (D.time disk.old)) (staged pairs key value) }
+    ensures same_observable { D.observable disk.new ≡ D.observable disk.old }
     ensures later { D.time disk.old ≤ D.time disk.new }
-    ensures time { IsTrue (D.told disk.old) → Kept (D.time disk.old) (D.time disk.new) (D.left disk.old) (D.left disk.new) (λ image. IsBeforeOrAfter pairs (key, value) (image 1)) }
-    ensures ok { OnOk result (IsTrue (D.told disk.old) → Lies (D.seen disk.new) (D.left disk.new (D.time disk.new)) (at_rest (pairs ++ (key, value) ∷ []))) }
+    ensures time { IsTrue (D.observable disk.old) → Kept (D.time disk.old) (D.time disk.new) (D.left disk.old) (D.left disk.new) (λ image. IsBeforeOrAfter pairs (key, value) (image 1)) }
+    ensures ok { OnOk result (IsTrue (D.observable disk.old) → Lies (D.seen disk.new) (D.left disk.new (D.time disk.new)) (at_rest (pairs ++ (key, value) ∷ []))) }
 {
     disk.write(1, gate, &[1])?;
     disk.sync(1)
@@ -41,12 +41,12 @@ fn open_gate<D: Disk>(disk: &mut D, gate: u64, key: u8, value: u8) -> Result<(),
 pub fn put<D: Disk>(disk: &mut D, gate: u64, key: u8, value: u8) -> Result<(), DiskFailed>
     ghost pairs: { List (ℕ × ℕ) }
     requires small { gate < 2 ^ 39 }
-    requires gate { IsTrue (D.told disk.old) → gate ≡ 3 * length pairs }
-    requires lies { IsTrue (D.told disk.old) → Lies (D.seen disk.old) (D.left disk.old (D.time disk.old)) (at_rest pairs) }
-    ensures tells { D.told disk.new ≡ D.told disk.old }
+    requires gate { IsTrue (D.observable disk.old) → gate ≡ 3 * length pairs }
+    requires lies { IsTrue (D.observable disk.old) → Lies (D.seen disk.old) (D.left disk.old (D.time disk.old)) (at_rest pairs) }
+    ensures same_observable { D.observable disk.new ≡ D.observable disk.old }
     ensures later { D.time disk.old ≤ D.time disk.new }
-    ensures time { IsTrue (D.told disk.old) → Kept (D.time disk.old) (D.time disk.new) (D.left disk.old) (D.left disk.new) (λ image. IsBeforeOrAfter pairs (key, value) (image 1)) }
-    ensures ok { OnOk result (IsTrue (D.told disk.old) → Lies (D.seen disk.new) (D.left disk.new (D.time disk.new)) (at_rest (pairs ++ (key, value) ∷ []))) }
+    ensures time { IsTrue (D.observable disk.old) → Kept (D.time disk.old) (D.time disk.new) (D.left disk.old) (D.left disk.new) (λ image. IsBeforeOrAfter pairs (key, value) (image 1)) }
+    ensures ok { OnOk result (IsTrue (D.observable disk.old) → Lies (D.seen disk.new) (D.left disk.new (D.time disk.new)) (at_rest (pairs ++ (key, value) ∷ []))) }
 {
     stage(disk, gate, key, value)?;
     open_gate(disk, gate, key, value)

@@ -20,7 +20,7 @@ take_push zero xs ys le = refl
 take_push (suc m) [] ys le = absurd (omega arith)
 take_push (suc m) (x ∷ xs) ys le = ap (λ (l : List _). x ∷ l) (take_push m xs ys (omega arith))
 
--- a call that is recorded: what is told of the moments before stays
+-- a call that is recorded: what is observable of the moments before stays
 module _ (first : ℕ → List ℕ) (notes new : List Note) (time : ℕ) (counts : time ≡ length notes) (n : Note) (more : new ≡ notes ++ n ∷ []) where
   same_past : (m : ℕ) → m ≤ time → take m new ≡ take m notes
   same_past m le = ap (λ (l : List Note). take m l) more ∙ take_push m notes (n ∷ []) (omega arith)

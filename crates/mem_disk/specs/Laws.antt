@@ -5,7 +5,7 @@ use Rattle.std.proofs.lemmas.List.{get_or_append_left, get_or-append_right, get_
 use Rattle.mem_disk.specs.declared.call.Call.{Call}
 use Rattle.mem_disk.specs.declared.call.Effect.{Effect}
 use Rattle.mem_disk.specs.declared.call.Effect.TheVariants.{Written, Cut, Synced, Nothing}
-use Rattle.abl_storage.specs.Disk.{Torn, overlaid, IsToldImage}
+use Rattle.abl_storage.specs.Disk.{Torn, overlaid, IsImage}
 use Rattle.mem_disk.specs.Notes.{Note, Held, notes_of, done_by, done, after_note, after_notes, held, fresh, Reaches, Left}
 use Rattle.mem_disk.specs.Sound.{AllInside}
 
@@ -98,12 +98,12 @@ ends_inside pool size (call ∷ calls) all =
     let long = length-take call.length (drop call.from pool) in
     (omega (arith, one.small, long), ends_inside pool size calls (λ i lt. all (suc i) (omega arith)))
 
-pub left_told : (first : ℕ → List ℕ) (pool : List ℕ) (size : ℕ) (calls : List Call) (time m : ℕ) (image : ℕ → List ℕ) → ((k : ℕ) → length (first k) ≤ 2 ^ 40) → AllInside size calls
-    → Left first (notes_of pool calls) time m image → IsToldImage true time m image
-left_told first pool size calls time m image small all left =
+pub image_known : (first : ℕ → List ℕ) (pool : List ℕ) (size : ℕ) (calls : List Call) (time m : ℕ) (image : ℕ → List ℕ) → ((k : ℕ) → length (first k) ≤ 2 ^ 40) → AllInside size calls
+    → Left first (notes_of pool calls) time m image → IsImage true time m image
+image_known first pool size calls time m image small all left =
     let ends = ends_take m (notes_of pool calls) (ends_inside pool size calls all) in
     record {
-      tells = refl;
+      same_observable = refl;
       past = left.past;
       small = λ k.
           let s = after_small k (fresh (first k)) (take m (notes_of pool calls)) ends (record { synced = small k; seen = small k; pending = tt }) in

@@ -14,7 +14,7 @@ pub struct Images {
 }
 
 impl Images {
-    /// The same bytes again. Want of memory is the only refusal.
+    /// The same bytes again. Out of memory is the only refusal.
     pub fn copy(&self) -> Result<Images, AllocError>
         ensures { IfOk result (λ images. images ≡ self.now) }
     {

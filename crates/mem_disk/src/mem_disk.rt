@@ -16,8 +16,8 @@ use abl_storage::{Disk, DiskFailed};
 use fault_count::is_among;
 use std::alloc::{AllocError, Global};
 
-/// A disk in memory, with a record of its writes and syncs. It tells what its areas hold and what a
-/// crash at each moment may have left.
+/// A disk in memory, with a record of its writes and syncs. What its areas hold, and what a crash at
+/// each moment may leave, is observable.
 #[derive(Drop)]
 pub struct MemDisk {
     first: Images,
@@ -107,7 +107,7 @@ impl MemDisk {
 
     /// A disk with these areas, at moment 0 with no write pending, which takes all the memory that
     /// its room asks for; the calls whose number is in `fails` fail, the first call being number 1.
-    /// Want of memory is the only refusal.
+    /// Out of memory is the only refusal.
     pub fn new(
         alloc: Global,
         areas: &Images,
@@ -249,11 +249,11 @@ impl MemDisk {
 }
 
 impl Disk for MemDisk {
-    ghost use Rattle.mem_disk.specs.Laws.{reads_left, left_told, length-notes_of};
+    ghost use Rattle.mem_disk.specs.Laws.{reads_left, image_known, length-notes_of};
     ghost use Rattle.mem_disk.specs.Shown.{shown, seen_of, left_of, IsDue, IsLast, PassesCalls, PassesRoom, Fits, Counts, SameHeld};
     ghost use Rattle.std.proofs.Common.{arith};
 
-    ghost told = { λ d. true };
+    ghost observable = { λ d. true };
 
     ghost seen = { λ d. seen_of (shown d) };
 
@@ -263,9 +263,9 @@ impl Disk for MemDisk {
 
     ghost failures = { λ d. d.failed };
 
-    ghost reads_left = { λ d told. reads_left (shown d).first (shown d).notes d.time (Prim.omega (arith, length-notes_of d.pool.items d.calls.items, d.many)) };
+    ghost reads_left = { λ d observable. reads_left (shown d).first (shown d).notes d.time (Prim.omega (arith, length-notes_of d.pool.items d.calls.items, d.many)) };
 
-    ghost left_told = { λ d m image left. left_told (shown d).first d.pool.items (length d.pool.items) d.calls.items d.time m image d.small d.inside left };
+    ghost image_known = { λ d m image left. image_known (shown d).first d.pool.items (length d.pool.items) d.calls.items d.time m image d.small d.inside left };
 
     fn faults(&self) -> u64 {
         self.failed

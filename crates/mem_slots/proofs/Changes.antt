@@ -1,7 +1,7 @@
--- A call that changes one client, and slots: what the type keeps, and what the slots then stand for.
+-- A call that changes one client, and slots: what the type keeps, and what the slots then mean.
 use Rattle.std.proofs.Common.{◌≡◌, ℕ, ◌+◌, ◌<◌, ◌≤◌, ◌++◌, Bool, true, List, length, take, drop, slice_index_or, slice_set, sym, ◌∙◌, ap, subst, refl, arith, Vec}
 use Rattle.std.proofs.lemmas.List.{length-set}
-use Rattle.abl_storage.specs.Slots.{Transaction, Becomes, Keeps, Rests, undone}
+use Rattle.abl_storage.specs.Slots.{Transaction, Becomes, KeepsCommitted, Rests, undone}
 use Rattle.mem_slots.specs.declared.slot.Slot.{Slot}
 use Rattle.std.specs.Vec.{vec_capacity}
 use Rattle.std.specs.declared.alloc.Global.{Global}
@@ -9,7 +9,7 @@ use Rattle.mem_slots.specs.declared.client.Client.{Client}
 use Rattle.mem_slots.specs.declared.mem_slots.MemSlots.{MemSlots}
 use Rattle.mem_slots.specs.Mem.{transaction_of, transaction_in, idle, state_of}
 use Rattle.mem_slots.specs.Promised.{promised_to, promised}
-use Rattle.mem_slots.specs.Sparse.{slot_in, kept_in, holds, AllHeld}
+use Rattle.mem_slots.specs.Sparse.{slot_in, committed_in, holds, AllHeld}
 use Rattle.mem_slots.proofs.Places.{take_front}
 use Rattle.mem_slots.proofs.Clients.{transaction_of_one, transaction_same, becomes, held_set, promised_set, held_none}
 
@@ -21,13 +21,13 @@ Stands ss cs room = record {
   held : (k : ℕ) → AllHeld ss (transaction_in cs k).undo;
 }
 
--- a client's writes have their places where those of the transaction do that it stands for
+-- a client's writes have their places where those of the transaction do that it means
 pub held_as : (ss : List Slot) (x : Client) {t : Transaction} → transaction_of x ≡ t → AllHeld ss t.undo → AllHeld ss x.undo.items
-held_as ss x stands_for held = subst (λ (u : Transaction). AllHeld ss u.undo) (sym stands_for) held
+held_as ss x meaning held = subst (λ (u : Transaction). AllHeld ss u.undo) (sym meaning) held
 
 -- a client without a transaction has no write
 pub held_idle : (ss : List Slot) (x : Client) → transaction_of x ≡ idle → AllHeld ss x.undo.items
-held_idle ss x stands_for = held_as ss x stands_for (held_none ss)
+held_idle ss x meaning = held_as ss x meaning (held_none ss)
 
 -- slots that are changed as a slice
 module _ (ss : Vec Slot Global) {mid : List Slot} (was : mid ≡ ss.items) (size : length mid ≡ ss.len) (new : List Slot) (still : length new ≡ length mid) where
@@ -41,7 +41,7 @@ module _ (ss : Vec Slot Global) {mid : List Slot} (was : mid ≡ ss.items) (size
 
 -- one of the clients of slots in memory
 module _ (s : MemSlots) {k : ℕ} {old : Client} (lt : k < 16) (is : old ≡ slice_index_or s.clients.items k old) where
-  -- it stands for the transaction of its number
+  -- it means the transaction of its number
   pub here : transaction_in s.clients.items k ≡ transaction_of old
   here = transaction_of_one s.clients.items k old s.sixteen lt is
 
@@ -61,20 +61,20 @@ module _ (s : MemSlots) {k : ℕ} {old : Client} (lt : k < 16) (is : old ≡ sli
         held = held_set s.slots.items new s.clients.items k x within more s.held (held (λ i il. more _ (held_here refl i il)));
       }
 
-  -- the client stands for this transaction
+  -- the client means this transaction
   pub becomes_one : (x : Client) (t : Transaction) (goes_on : Bool) (more : ℕ) → transaction_of x ≡ t → t.begun ≡ goes_on → more ≤ t.room
-      → Becomes k (transaction_in s.clients.items) (transaction_in (slice_set s.clients.items k x)) goes_on t.undo t.counted t.low more
-  becomes_one x t goes_on more stands_for begun room =
-      becomes s.clients.items k x goes_on t.undo t.counted t.low more (omega (arith, s.sixteen, lt))
-      (ap (λ (u : Transaction). u.begun) stands_for ∙ begun) (ap (λ (u : Transaction). u.undo) stands_for) (ap (λ (u : Transaction). u.counted) stands_for) (ap (λ (u : Transaction). u.low) stands_for)
-      (subst (λ (u : Transaction). more ≤ u.room) (sym stands_for) room)
+      → Becomes k (transaction_in s.clients.items) (transaction_in (slice_set s.clients.items k x)) goes_on t.undo t.written t.counted t.low more
+  becomes_one x t goes_on more meaning begun room =
+      becomes s.clients.items k x goes_on t.undo t.written t.counted t.low more (omega (arith, s.sixteen, lt))
+      (ap (λ (u : Transaction). u.begun) meaning ∙ begun) (ap (λ (u : Transaction). u.undo) meaning) (λ j. ap (λ (u : Transaction). u.written j) meaning) (ap (λ (u : Transaction). u.counted) meaning) (ap (λ (u : Transaction). u.low) meaning)
+      (subst (λ (u : Transaction). more ≤ u.room) (sym meaning) room)
 
-  -- nothing changes where the client stands for what it did
+  -- nothing changes where the client means what it did
   pub rests : (x : Client) (new : List Slot) → new ≡ s.slots.items → transaction_of x ≡ transaction_of old → Rests (state_of s.slots.items s.clients.items) (state_of new (slice_set s.clients.items k x))
-  rests x new same stands_for = record {
-    keeps = record { told = refl; kept = λ _. ap kept_in same; doubt = λ _. ap kept_in same };
+  rests x new same meaning = record {
+    keeps = record { observable = refl; committed = λ _. ap committed_in same; doubt = λ _. ap committed_in same };
     reads = λ _. ap slot_in same;
-    transaction = transaction_same s.clients.items k x (omega (arith, s.sixteen, lt)) (stands_for ∙ sym here);
+    transaction = transaction_same s.clients.items k x (omega (arith, s.sixteen, lt)) (meaning ∙ sym here);
   }
 
   -- where the slots are changed as a slice
@@ -86,11 +86,11 @@ module _ (s : MemSlots) {k : ℕ} {old : Client} (lt : k < 16) (is : old ≡ sli
         subst (λ (l : List Slot). Stands l (slice_set s.clients.items k x) (vec_capacity s.slots)) (sym (sliced s.slots was size new still))
         (stands x new (vec_capacity s.slots) (λ j h. same j ∙ ap (λ (l : List Slot). holds l j) was ∙ h) held (let long = ap length was in omega (arith, long, still, fits, s.has_room)))
 
-    -- what is kept stays
-    pub keeps_sliced : (x : Client) → ((j : ℕ) → kept_in new j ≡ kept_in mid j) → Keeps (state_of s.slots.items s.clients.items) (state_of (take s.slots.len (new ++ drop (length new) s.slots.items)) (slice_set s.clients.items k x))
-    keeps_sliced x same = let kept = part_of s.slots was size new still kept_in same in record { told = refl; kept = λ _. kept; doubt = λ _. kept }
+    -- what is committed stays
+    pub keeps_sliced : (x : Client) → ((j : ℕ) → committed_in new j ≡ committed_in mid j) → KeepsCommitted (state_of s.slots.items s.clients.items) (state_of (take s.slots.len (new ++ drop (length new) s.slots.items)) (slice_set s.clients.items k x))
+    keeps_sliced x same = let committed = part_of s.slots was size new still committed_in same in record { observable = refl; committed = λ _. committed; doubt = λ _. committed }
 
-    -- what reads give after writes of the client since a mark were taken back
+    -- what reads give after writes of the client since a mark were undone
     pub reads_back : (mark : ℕ) → ((j : ℕ) → slot_in new j ≡ undone (drop mark old.undo.items) (slot_in mid) j)
         → slot_in (take s.slots.len (new ++ drop (length new) s.slots.items)) ≡ undone (drop mark (transaction_in s.clients.items k).undo) (slot_in s.slots.items)
     reads_back mark reads =

@@ -1,5 +1,5 @@
 -- The transactions of the clients, and what is promised to them.
-use Rattle.std.proofs.Common.{◌≡◌, ◌≢◌, inl, inr, ℕ, zero, suc, ◌+◌, ◌*◌, ◌<◌, ◌≤◌, Bool, true, false, List, [], ◌∷◌, ◌++◌, length, slice_index_or, slice_set, refl, sym, ◌∙◌, ap, subst, arith, length-append, take}
+use Rattle.std.proofs.Common.{◌≡◌, ◌≢◌, inl, inr, ℕ, zero, suc, ◌+◌, ◌*◌, ◌<◌, ◌≤◌, ◌==◌, ◌||◌, Bool, true, false, List, [], ◌∷◌, ◌++◌, length, slice_index_or, slice_set, refl, sym, ◌∙◌, ap, subst, arith, length-append, take}
 use Rattle.std.proofs.lemmas.Bool.{cases_eq, cases_lt}
 use Rattle.std.proofs.lemmas.List.{get_or_append_left, get_or_push, get_or-take, length-take}
 use Rattle.std.proofs.lemmas.List.Sums.{sum_by-set, sum_by-cons}
@@ -9,7 +9,7 @@ use Rattle.mem_slots.specs.declared.slot.Slot.{Slot}
 use Rattle.mem_slots.specs.declared.client.Client.{Client}
 use Rattle.mem_slots.specs.Mem.{transaction_of, transaction_in, idle}
 use Rattle.mem_slots.specs.Promised.{promised_to, promised}
-use Rattle.mem_slots.specs.Sparse.{holds, no_undo, AllHeld}
+use Rattle.mem_slots.specs.Sparse.{holds, has_written, no_undo, AllHeld}
 
 pub transaction_at : (cs : List Client) (k : ℕ) (x : Client) → k < length cs → x ≡ slice_index_or cs k x → transaction_in cs k ≡ transaction_of x
 transaction_at [] k x lt is = absurd (omega arith)
@@ -32,7 +32,7 @@ transaction_set_other (c ∷ cs) (suc k) (suc j) x ne = transaction_set_other cs
 pub transaction_of_one : (cs : List Client) (k : ℕ) (x : Client) → length cs ≡ 16 → k < 16 → x ≡ slice_index_or cs k x → transaction_in cs k ≡ transaction_of x
 transaction_of_one cs k x sixteen lt is = transaction_at cs k x (omega (arith, sixteen, lt)) is
 
--- a client that is changed to one that stands for the same
+-- a client that is changed to one that means the same
 pub transaction_same : (cs : List Client) (k : ℕ) (x : Client) → k < length cs → transaction_of x ≡ transaction_in cs k → transaction_in (slice_set cs k x) ≡ transaction_in cs
 transaction_same cs k x lt is = λ i j. at j i
   where
@@ -42,15 +42,16 @@ transaction_same cs k x lt is = λ i j. at j i
       | inr ne ↦ transaction_set_other cs k j x ne
     ]
 
--- a client that is changed to one that stands for this
-pub becomes : (cs : List Client) (k : ℕ) (x : Client) (goes_on : Bool) (writes : List Undo) (many few more : ℕ) → k < length cs
-    → x.begun ≡ goes_on → x.undo.items ≡ writes → x.counted ≡ many → x.low ≡ few → more ≤ x.spare → Becomes k (transaction_in cs) (transaction_in (slice_set cs k x)) goes_on writes many few more
-becomes cs k x goes_on writes many few more lt begun undo counted low room =
+-- a client that is changed to one that means this
+pub becomes : (cs : List Client) (k : ℕ) (x : Client) (goes_on : Bool) (writes : List Undo) (touched : ℕ → Bool) (many few more : ℕ) → k < length cs
+    → x.begun ≡ goes_on → x.undo.items ≡ writes → ((j : ℕ) → has_written x.written.items j ≡ touched j) → x.counted ≡ many → x.low ≡ few → more ≤ x.spare → Becomes k (transaction_in cs) (transaction_in (slice_set cs k x)) goes_on writes touched many few more
+becomes cs k x goes_on writes touched many few more lt begun undo written counted low room =
     let at = transaction_set_same cs k x lt in
     record {
       others = λ j ne. transaction_set_other cs k j x ne;
       begun = ap (λ (t : Transaction). t.begun) at ∙ begun;
       undo = ap (λ (t : Transaction). t.undo) at ∙ undo;
+      written = λ j. ap (λ (t : Transaction). t.written j) at ∙ written j;
       counted = ap (λ (t : Transaction). t.counted) at ∙ counted;
       low = ap (λ (t : Transaction). t.low) at ∙ low;
       room = subst (λ (t : Transaction). more ≤ t.room) (sym at) room;
@@ -111,6 +112,16 @@ held_take ss us n all i il =
     let front : i < n = (let l = length-take n us in omega (arith, l)) in
     let whole : i < length us = (let l = length-take n us in omega (arith, l)) in
     subst (λ (w : Undo). holds ss w.slot ≡ true) (sym (get_or-take n us i no_undo front)) (all i whole)
+
+-- one slot more
+pub written_push : (slots : List ℕ) (slot k : ℕ) → has_written (slots ++ slot ∷ []) k ≡ ((k == slot) || has_written slots k)
+written_push [] slot k = refl
+written_push (s ∷ slots) slot k = ap (λ (b : Bool). (k == s) || b) (written_push slots slot k) ∙ swapped (k == s) (k == slot) (has_written slots k)
+  where
+    swapped : (a b c : Bool) → (a || (b || c)) ≡ (b || (a || c))
+    swapped true true c = refl
+    swapped true false c = refl
+    swapped false b c = refl
 
 -- the client has no write
 pub held_none : (ss : List Slot) → AllHeld ss []

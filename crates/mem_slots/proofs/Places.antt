@@ -12,7 +12,7 @@ use Rattle.mem_slots.specs.declared.slot.Slot.{Slot}
 use Rattle.mem_slots.specs.Sparse.{zeros, part_in, holds}
 
 abbrev pub no_slot : Slot
-no_slot = record { number = 0; now = []; kept = [] }
+no_slot = record { number = 0; now = []; committed = [] }
 
 -- the slot of number n stands first at place i
 pub record IsFirst (ss : List Slot) (i n : ℕ) : Type 0 where
@@ -124,17 +124,17 @@ wrote_more : (us : List Undo) (u : Undo) (k : ℕ) → wrote (us ++ u ∷ []) k 
 wrote_more [] u k = grind (arith, nat_tests)
 wrote_more (x ∷ us) u k = let rest = wrote_more us u k in grind (arith, nat_tests, rest)
 
-pub joined_more : (us : List Undo) (u : Undo) (r kept : ℕ → List ℕ) (k : ℕ) → joined (us ++ u ∷ []) r kept k ≡ put (joined us r kept) u.slot (r u.slot) k
-joined_more us u r kept k = let w = wrote_more us u k in elim (cases_eq k u.slot) [
+pub joined_more : (us : List Undo) (u : Undo) (r committed : ℕ → List ℕ) (k : ℕ) → joined (us ++ u ∷ []) r committed k ≡ put (joined us r committed) u.slot (r u.slot) k
+joined_more us u r committed k = let w = wrote_more us u k in elim (cases_eq k u.slot) [
   | inl e ↦
       let is : wrote (us ++ u ∷ []) k ≡ true = grind (arith, nat_tests, w) in
-      let a : joined (us ++ u ∷ []) r kept k ≡ r k = grind (arith, nat_tests) in
-      let b : put (joined us r kept) u.slot (r u.slot) k ≡ r u.slot = grind (arith, nat_tests) in
+      let a : joined (us ++ u ∷ []) r committed k ≡ r k = grind (arith, nat_tests) in
+      let b : put (joined us r committed) u.slot (r u.slot) k ≡ r u.slot = grind (arith, nat_tests) in
       a ∙ ap r e ∙ sym b
   | inr ne ↦
       let is : wrote (us ++ u ∷ []) k ≡ wrote us k = grind (arith, nat_tests, w) in
-      let b : put (joined us r kept) u.slot (r u.slot) k ≡ joined us r kept k = grind (arith, nat_tests) in
-      ap (λ (t : Bool). if t then r k else kept k) is ∙ sym b
+      let b : put (joined us r committed) u.slot (r u.slot) k ≡ joined us r committed k = grind (arith, nat_tests) in
+      ap (λ (t : Bool). if t then r k else committed k) is ∙ sym b
 ]
 
 pub take_front : {A : Type 0} (xs ys : List A) (n : ℕ) → length xs ≡ n → take n (xs ++ ys) ≡ xs
@@ -143,7 +143,7 @@ take_front [] ys (suc n) is = absurd (omega arith)
 take_front (x ∷ xs) ys zero is = absurd (omega arith)
 take_front (x ∷ xs) ys (suc n) is = ap (λ (l : List _). x ∷ l) (take_front xs ys n (omega arith))
 
--- the last write is taken back
+-- the last write is undone
 pub undone_pop : (us : List Undo) (n : ℕ) (u no_undo : Undo) (r : ℕ → List ℕ) (k : ℕ) → n < length us → get_or us n no_undo ≡ u → undone (drop n us) r k ≡ put (undone (drop (n + 1) us) r) u.slot u.old k
 undone_pop us n u no_undo r k lt is =
     ap (λ (l : List Undo). undone l r k) (drop_more us n no_undo lt) ∙ ap (λ (x : Undo). put (undone (drop (n + 1) us) r) x.slot x.old k) is

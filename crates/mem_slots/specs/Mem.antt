@@ -1,17 +1,17 @@
--- What the slots in memory stand for.
+-- What the slots in memory mean.
 use Rattle.std.specs.Prelude.{ℕ, zero, suc, true, false, List, [], ◌∷◌}
 use Rattle.abl_storage.specs.Slots.{Transaction, SlotState}
 use Rattle.mem_slots.specs.declared.slot.Slot.{Slot}
 use Rattle.mem_slots.specs.declared.client.Client.{Client}
-use Rattle.mem_slots.specs.Sparse.{slot_in, kept_in, zeros}
+use Rattle.mem_slots.specs.Sparse.{slot_in, committed_in, has_written, zeros}
 
--- the transaction that a client's fields stand for
+-- the transaction that a client's fields mean
 abbrev pub transaction_of : Client → Transaction
-transaction_of c = record { begun = c.begun; undo = c.undo.items; counted = c.counted; low = c.low; room = c.spare }
+transaction_of c = record { begun = c.begun; undo = c.undo.items; written = has_written c.written.items; counted = c.counted; low = c.low; room = c.spare }
 
 -- no transaction
 abbrev pub idle : Transaction
-idle = record { begun = false; undo = []; counted = 0; low = 0; room = 0 }
+idle = record { begun = false; undo = []; written = has_written []; counted = 0; low = 0; room = 0 }
 
 -- the transaction of the client of that number
 abbrev pub transaction_in : List Client → ℕ → Transaction
@@ -22,10 +22,10 @@ transaction_in (c ∷ cs) (suc k) = transaction_in cs k
 -- the state of the array
 abbrev pub state_of : List Slot → List Client → SlotState
 state_of slots clients = record {
-  told = true;
+  observable = true;
   reads = slot_in slots;
-  kept = kept_in slots;
-  doubt = kept_in slots;
+  committed = committed_in slots;
+  doubt = committed_in slots;
   transaction = transaction_in clients;
   failed = false;
   faults = 0;
@@ -37,9 +37,9 @@ state_of slots clients = record {
 -- slots of zeros, with no transaction begun
 abbrev pub at_rest : SlotState
 at_rest = record {
-  told = true;
+  observable = true;
   reads = λ _. zeros;
-  kept = λ _. zeros;
+  committed = λ _. zeros;
   doubt = λ _. zeros;
   transaction = λ _. idle;
   failed = false;

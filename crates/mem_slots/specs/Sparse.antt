@@ -1,4 +1,4 @@
--- What the slots that were written stand for; each other slot has zeros.
+-- What the slots that were written mean; each other slot has zeros.
 use Rattle.std.specs.Prelude.{◌≡◌, ℕ, ◌<◌, ◌==◌, ◌||◌, Bool, true, false, if◌then◌else◌, List, [], ◌∷◌, length, get_or, replicate}
 use Rattle.abl_storage.specs.declared.slots.Undo.{Undo}
 use Rattle.mem_slots.specs.declared.slot.Slot.{Slot}
@@ -17,13 +17,18 @@ abbrev pub slot_in : List Slot → ℕ → List ℕ
 slot_in slots = part_in (λ s. s.now) slots
 
 -- what the committed transactions left
-abbrev pub kept_in : List Slot → ℕ → List ℕ
-kept_in slots = part_in (λ s. s.kept) slots
+abbrev pub committed_in : List Slot → ℕ → List ℕ
+committed_in slots = part_in (λ s. s.committed) slots
 
 -- the slot has a place
 abbrev pub holds : List Slot → ℕ → Bool
 holds [] k = false
 holds (s ∷ ss) k = (s.number == k) || holds ss k
+
+-- whether the slot is among these
+abbrev pub has_written : List ℕ → ℕ → Bool
+has_written [] k = false
+has_written (slot ∷ slots) k = (k == slot) || has_written slots k
 
 abbrev pub no_undo : Undo
 no_undo = record { slot = 0; old = [] }

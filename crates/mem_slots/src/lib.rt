@@ -1,6 +1,6 @@
 //! The array of slots in memory: `MemSlots`, the form of `Slots` that tests and the first stages
-//! run over. It stands on `abl_storage`. It tells its slots, stays at moment 0, tells no stops and
-//! never answers `Disk`; it keeps only the slots that were written.
+//! run over. It depends on `abl_storage`. Its slots are observable, its stops are not; it stays at
+//! moment 0 and never answers `Disk`. It has memory for the slots that were written alone.
 #![tactic(auto)]
 
 mod client;

@@ -3,9 +3,9 @@
 ghost use Rattle.std.specs.Prelude.{◌≡◌, ◌^◌, ◌<◌, ◌≤◌, ◌+◌, ℕ, List, [], length, true, false, refl, IfOk, OnErr};
 ghost use Rattle.std.specs.Vec.{vec_capacity};
 ghost use Rattle.abl_storage.specs.Slots.{is_low, Grows, Rests, Writes};
-ghost use Rattle.mem_slots.specs.Sparse.{AllHeld};
-ghost use Rattle.mem_slots.specs.Promised.{promised};
-ghost use Rattle.mem_slots.specs.Mem.{transaction_in, state_of, at_rest};
+ghost use Rattle.mem_slots.specs.Sparse.{AllHeld, has_written};
+ghost use Rattle.mem_slots.specs.Promised.{promised, promised_to};
+ghost use Rattle.mem_slots.specs.Mem.{transaction_in, transaction_of, state_of, at_rest};
 ghost use Rattle.std.proofs.Common.{rules};
 
 use crate::client::{Client, has_low_number};
@@ -26,27 +26,36 @@ pub struct MemSlots {
     ghost held: { (k : ℕ) → AllHeld slots.items (transaction_in clients.items k).undo },
 }
 
+/// A client without a transaction.
+fn idle_client(alloc: Global) -> Client
+    ensures idle { transaction_of result ≡ record { begun = false; undo = []; written = has_written []; counted = 0; low = 0; room = 0 } }
+    ensures promised { promised_to result ≡ 0 }
+{
+    Client {
+        begun: false,
+        undo: Vec::new(alloc),
+        written: Vec::new(alloc),
+        counted: 0,
+        low: 0,
+        spare: 0,
+        low_room: 0,
+    }
+}
+
 /// Sixteen clients without a transaction.
 fn idle_clients(alloc: Global) -> Result<Vec<Client>, AllocError>
     ensures sixteen { IfOk result (λ clients. length clients.items ≡ 16) }
-    ensures idle { IfOk result (λ clients. (k : ℕ) → transaction_in clients.items k ≡ record { begun = false; undo = []; counted = 0; low = 0; room = 0 }) }
+    ensures idle { IfOk result (λ clients. (k : ℕ) → transaction_in clients.items k ≡ record { begun = false; undo = []; written = has_written []; counted = 0; low = 0; room = 0 }) }
     ensures promised { IfOk result (λ clients. promised clients.items ≡ 0) }
 {
     let mut clients = Vec::new(alloc);
     for _ in 0..16u32 {
-        clients.push(Client {
-            begun: false,
-            undo: Vec::new(alloc),
-            counted: 0,
-            low: 0,
-            spare: 0,
-            low_room: 0,
-        })?;
+        clients.push(idle_client(alloc))?;
     }
     Ok(clients)
 }
 
-/// How many writes more of all clients find memory.
+/// The number of further writes of all clients that memory is reserved for.
 fn all_promised(clients: &[Client]) -> u32
     requires { length clients.now ≤ 16 }
     ensures { result ≡ promised clients.now }
@@ -59,7 +68,7 @@ fn all_promised(clients: &[Client]) -> u32
 }
 
 impl MemSlots {
-    /// Slots of zeros, with no transaction begun, at moment 0. Want of memory is the only refusal.
+    /// Slots of zeros, with no transaction begun, at moment 0. Out of memory is the only refusal.
     pub fn new(alloc: Global) -> Result<MemSlots, AllocError>
         ensures { IfOk result (λ s. ⟦<MemSlots as Slots>⟧.state s ≡ at_rest) }
     {
@@ -69,7 +78,7 @@ impl MemSlots {
         })
     }
 
-    /// Takes memory for so many writes of the client.
+    /// Reserves memory for `writes` writes of the client.
     fn make_room(&mut self, client: usize, writes: u32) -> bool
         requires client { client < 16 }
         requires begun { (transaction_in self.old.clients.items client).begun ≡ true }
@@ -108,7 +117,7 @@ impl Slots for MemSlots {
 
     ghost stop = { λ s m slots. ⊥ };
 
-    ghost stop_told = { λ s m slots none. absurd none };
+    ghost stop_known = { λ s m slots none. absurd none };
 
     ghost since_past = { λ s. Prim.search rules };
 

@@ -4,7 +4,7 @@ ghost use Rattle.std.specs.Prelude.{◌≡◌, ◌<◌, ◌≤◌, ◌+◌, ◌=
 ghost use Rattle.std.specs.List.{position};
 ghost use Rattle.std.specs.Vec.{vec_capacity};
 ghost use Rattle.abl_storage.specs.Slots.{put, undone, joined};
-ghost use Rattle.mem_slots.specs.Sparse.{slot_in, kept_in, holds, AllHeld};
+ghost use Rattle.mem_slots.specs.Sparse.{slot_in, committed_in, holds, AllHeld};
 
 use abl_storage::Undo;
 
@@ -13,10 +13,10 @@ use abl_storage::Undo;
 pub struct Slot {
     pub number: u32,
     pub now: [u8; 256],
-    pub kept: [u8; 256],
+    pub committed: [u8; 256],
 }
 
-/// Where the slot of that number stands.
+/// The place of the slot of that number.
 pub fn find(slots: &[Slot], number: u32) -> Option<usize>
     ensures { result ≡ position (λ s. s.number == number) slots.now }
 {
@@ -48,7 +48,7 @@ pub fn bytes_of(slots: &[Slot], number: u32) -> [u8; 256]
 pub fn reach(slots: &mut Vec<Slot>, number: u32)
     requires { holds slots.old.items number ≡ false → length slots.old.items < vec_capacity slots.old }
     ensures reads { (k : ℕ) → slot_in slots.new.items k ≡ slot_in slots.old.items k }
-    ensures kept { (k : ℕ) → kept_in slots.new.items k ≡ kept_in slots.old.items k }
+    ensures committed { (k : ℕ) → committed_in slots.new.items k ≡ committed_in slots.old.items k }
     ensures here { holds slots.new.items number ≡ true }
     ensures held { (k : ℕ) → holds slots.old.items k ≡ true → holds slots.new.items k ≡ true }
     ensures len { length slots.new.items ≤ length slots.old.items + 1 }
@@ -60,7 +60,7 @@ pub fn reach(slots: &mut Vec<Slot>, number: u32)
             let blank = Slot {
                 number,
                 now: [0; 256],
-                kept: [0; 256],
+                committed: [0; 256],
             };
             slots.push(blank).unwrap();
         }
@@ -72,7 +72,7 @@ pub fn put_bytes(slots: &mut [Slot], number: u32, bytes: &[u8; 256]) -> [u8; 256
     requires { holds slots.old number ≡ true }
     ensures before { result ≡ slot_in slots.old number }
     ensures reads { (k : ℕ) → slot_in slots.new k ≡ put (slot_in slots.old) number bytes.now k }
-    ensures kept { (k : ℕ) → kept_in slots.new k ≡ kept_in slots.old k }
+    ensures committed { (k : ℕ) → committed_in slots.new k ≡ committed_in slots.old k }
     ensures held { (k : ℕ) → holds slots.new k ≡ holds slots.old k }
 {
     let place = place_of(slots, number);
@@ -82,26 +82,26 @@ pub fn put_bytes(slots: &mut [Slot], number: u32, bytes: &[u8; 256]) -> [u8; 256
     before
 }
 
-/// Keeps what the slot reads as.
+/// Commits what the slot reads as.
 pub fn keep_bytes(slots: &mut [Slot], number: u32)
     requires { holds slots.old number ≡ true }
     ensures reads { (k : ℕ) → slot_in slots.new k ≡ slot_in slots.old k }
-    ensures kept { (k : ℕ) → kept_in slots.new k ≡ put (kept_in slots.old) number (slot_in slots.old number) k }
+    ensures committed { (k : ℕ) → committed_in slots.new k ≡ put (committed_in slots.old) number (slot_in slots.old number) k }
     ensures held { (k : ℕ) → holds slots.new k ≡ holds slots.old k }
 {
     let place = place_of(slots, number);
     let slot = &mut slots[place];
     let now = slot.now;
-    slot.kept = now;
+    slot.committed = now;
 }
 
-/// Takes writes back until so many stand.
+/// Undoes writes until `stand` of them are left.
 pub fn take_back(slots: &mut [Slot], undo: &mut Vec<Undo>, stand: usize)
     requires stand { stand ≤ length undo.old.items }
     requires held { AllHeld slots.old undo.old.items }
     ensures undo { undo.new.items ≡ take stand undo.old.items }
     ensures reads { (k : ℕ) → slot_in slots.new k ≡ undone (drop stand undo.old.items) (slot_in slots.old) k }
-    ensures kept { (k : ℕ) → kept_in slots.new k ≡ kept_in slots.old k }
+    ensures committed { (k : ℕ) → committed_in slots.new k ≡ committed_in slots.old k }
     ensures same { (k : ℕ) → holds slots.new k ≡ holds slots.old k }
     ensures capacity { vec_capacity undo.new ≡ vec_capacity undo.old }
 {
@@ -112,11 +112,11 @@ pub fn take_back(slots: &mut [Slot], undo: &mut Vec<Undo>, stand: usize)
     }
 }
 
-/// Keeps the slots of these writes as they read.
+/// Commits the slots of these writes as they read.
 pub fn keep(slots: &mut [Slot], writes: &[Undo])
     requires held { AllHeld slots.old writes.now }
     ensures reads { (k : ℕ) → slot_in slots.new k ≡ slot_in slots.old k }
-    ensures kept { (k : ℕ) → kept_in slots.new k ≡ joined writes.now (slot_in slots.old) (kept_in slots.old) k }
+    ensures committed { (k : ℕ) → committed_in slots.new k ≡ joined writes.now (slot_in slots.old) (committed_in slots.old) k }
     ensures same { (k : ℕ) → holds slots.new k ≡ holds slots.old k }
 {
     for write in writes {

@@ -1,6 +1,6 @@
 -- What the type of the store keeps, over one call of the slots.
 use Rattle.std.proofs.Common.{◌≡◌, ◌≢◌, Err, ◌⊎◌, inl, inr, ℕ, Bool, true, false, List, [], ◌∷◌, ◌++◌, IsTrue, refl, sym, ◌∙◌, ap, subst}
-use Rattle.abl_storage.specs.Slots.{SlotState, Goes, Rests, HasCause, IsToldStop}
+use Rattle.abl_storage.specs.Slots.{SlotState, Goes, Rests, HasCause, IsStop}
 use Rattle.abl_storage.specs.declared.slots.SlotFault.{SlotFault}
 use Rattle.abl_storage.specs.declared.slots.SlotFault.TheVariants.{Disk, TxFull, NoMemory}
 use Rattle.prefix_store.specs.declared.Event.{Event}
@@ -17,10 +17,10 @@ Kept s stop opened trace closed = record {
   closed_is : closed ≡ (world_of opened trace).closed;
 }
 
--- it is kept where it holds of the world that the trace means
-pub kept_in : (s : SlotState) (stop : ℕ → (ℕ → List ℕ) → Type 0) (opened : List (List ℕ)) (trace : List Event) (closed : Bool) (v : World) → world_of opened trace ≡ v
+-- it is committed where it holds of the world that the trace means
+pub committed_in : (s : SlotState) (stop : ℕ → (ℕ → List ℕ) → Type 0) (opened : List (List ℕ)) (trace : List Event) (closed : Bool) (v : World) → world_of opened trace ≡ v
     → Survives s stop (first_of opened) v → IsInStep s v (first_of opened) → closed ≡ v.closed → Kept s stop opened trace closed
-kept_in s stop opened trace closed v is survives in_step closed_is = record {
+committed_in s stop opened trace closed v is survives in_step closed_is = record {
   survives = subst (λ (w : World). Survives s stop (first_of opened) w) (sym is) survives;
   in_step = subst (λ (w : World). IsInStep s w (first_of opened)) (sym is) in_step;
   closed_is = closed_is ∙ sym (ap (λ (w : World). w.closed) is);
@@ -32,34 +32,34 @@ world_more opened trace longer e is = ap (world_of opened) is ∙ run_more (open
 
 module _ (old new : SlotState) (before after : ℕ → (ℕ → List ℕ) → Type 0) (opened : List (List ℕ)) (trace : List Event) (closed : Bool)
     (survives : Survives old before (first_of opened) (world_of opened trace)) (in_step : IsInStep old (world_of opened trace) (first_of opened)) (closed_is : closed ≡ (world_of opened trace).closed)
-    (time : Goes old new before after) (stop_told : (m : ℕ) (x : ℕ → List ℕ) → after m x → IsToldStop new m) where
+    (time : Goes old new before after) (stop_known : (m : ℕ) (x : ℕ → List ℕ) → after m x → IsStop new m) where
   abbrev w : World
   w = world_of opened trace
 
   -- after a call other than a commit that is answered Ok
-  pub goes_on : (now : List Event) (shut : Bool) (v : World) → world_of opened now ≡ v → IsInStep new v (first_of opened) → new.told ≡ old.told → (IsTrue old.told → new.kept ≡ old.kept)
+  pub goes_on : (now : List Event) (shut : Bool) (v : World) → world_of opened now ≡ v → IsInStep new v (first_of opened) → new.observable ≡ old.observable → (IsTrue old.observable → new.committed ≡ old.committed)
       → v.moments ≡ w.moments → v.lefts ≡ w.lefts → (w.last ≡ []) ⊎ (v.last ≡ w.last) → shut ≡ v.closed → Kept new after opened now shut
-  goes_on now shut v is h same kept moments lefts last shut_is =
-      kept_in new after opened now shut v is (survives_call old new before after (first_of opened) w v survives h same kept time (λ m x there. (stop_told m x there).told) moments lefts last) h shut_is
+  goes_on now shut v is h same committed moments lefts last shut_is =
+      committed_in new after opened now shut v is (survives_call old new before after (first_of opened) w v survives h same committed time (λ m x there. (stop_known m x there).observable) moments lefts last) h shut_is
 
   -- and adds one event to the trace
-  pub logged : (now : List Event) (e : Event) (shut : Bool) → now ≡ trace ++ e ∷ [] → IsInStep new (step w e) (first_of opened) → new.told ≡ old.told → (IsTrue old.told → new.kept ≡ old.kept)
+  pub logged : (now : List Event) (e : Event) (shut : Bool) → now ≡ trace ++ e ∷ [] → IsInStep new (step w e) (first_of opened) → new.observable ≡ old.observable → (IsTrue old.observable → new.committed ≡ old.committed)
       → (step w e).moments ≡ w.moments → (step w e).lefts ≡ w.lefts → (w.last ≡ []) ⊎ ((step w e).last ≡ w.last) → shut ≡ (step w e).closed → Kept new after opened now shut
   logged now e shut is = goes_on now shut (step w e) (world_more opened trace now e is)
 
   -- after a call that is refused for want of memory
   pub refused : Rests old new → new.failed ≡ old.failed → (now : List Event) → now ≡ trace → Kept new after opened now closed
-  refused r same now is = goes_on now closed w (ap (world_of opened) is) (rests old w (first_of opened) in_step new r same) r.keeps.told r.keeps.kept refl refl (inr refl) closed_is
+  refused r same now is = goes_on now closed w (ap (world_of opened) is) (rests old w (first_of opened) in_step new r same) r.keeps.observable r.keeps.committed refl refl (inr refl) closed_is
 
   -- after a call other than a commit that is answered Disk
   pub shuts : (client : ℕ) → Rests old new → new.failed ≡ true → closed ≡ false → (now : List Event) → now ≡ trace ++ Closed client false ∷ [] → Kept new after opened now true
   shuts client r fails fine now is =
       let still : w.closed ≡ false = sym closed_is ∙ fine in
-      logged now (Closed client false) true is (closes old w (first_of opened) in_step new client r fails still) r.keeps.told r.keeps.kept refl refl (inl (in_step.no_last still)) refl
+      logged now (Closed client false) true is (closes old w (first_of opened) in_step new client r fails still) r.keeps.observable r.keeps.committed refl refl (inl (in_step.no_last still)) refl
 
   -- whether the store has closed, under another name
   with_closed : (now : List Event) (shut is : Bool) → shut ≡ is → Kept new after opened now is → Kept new after opened now shut
-  with_closed now shut is same kept = subst (λ (b : Bool). Kept new after opened now b) (sym same) kept
+  with_closed now shut is same committed = subst (λ (b : Bool). Kept new after opened now b) (sym same) committed
 
   -- after a call other than a commit that is answered with a fault
   pub faulted : {T : Type 0} (client : ℕ) (fault : SlotFault) → Rests old new → HasCause {T = T} old new (Err fault) → closed ≡ false → (was now : List Event) (shut : Bool) → was ≡ trace

@@ -27,11 +27,11 @@ put_same f c v = grind (arith, nat_tests)
 pub put_other : (f : ℕ → List ℕ) (c : ℕ) (v : List ℕ) (k : ℕ) → k ≢ c → put f c v k ≡ f k
 put_other f c v k ne = grind (arith, nat_tests)
 
-pub joined_in : (u : List Undo) (r kept : ℕ → List ℕ) (k : ℕ) → wrote u k ≡ true → joined u r kept k ≡ r k
-joined_in u r kept k is = grind (arith, nat_tests)
+pub joined_in : (u : List Undo) (r committed : ℕ → List ℕ) (k : ℕ) → wrote u k ≡ true → joined u r committed k ≡ r k
+joined_in u r committed k is = grind (arith, nat_tests)
 
-pub joined_out : (u : List Undo) (r kept : ℕ → List ℕ) (k : ℕ) → wrote u k ≡ false → joined u r kept k ≡ kept k
-joined_out u r kept k is = grind (arith, nat_tests)
+pub joined_out : (u : List Undo) (r committed : ℕ → List ℕ) (k : ℕ) → wrote u k ≡ false → joined u r committed k ≡ committed k
+joined_out u r committed k is = grind (arith, nat_tests)
 
 pub all_acknowledged : (ms : List ℕ) (m : ℕ) → ((i : ℕ) → i < length ms → get_or ms i 0 ≤ m) → acknowledged ms m ≡ length ms
 all_acknowledged [] m all = refl

@@ -29,18 +29,18 @@ module _ (first : ℕ → List ℕ) (w v : World) (same_moments : v.moments ≡ 
 -- a call other than a commit that is answered Ok
 pub still_survives : (old new : SlotState) (before after : ℕ → (ℕ → List ℕ) → Type 0) (first : ℕ → List ℕ) (w v : World) → Survives old before first w → Goes old new before after
     → v.moments ≡ w.moments → v.lefts ≡ w.lefts → (w.last ≡ []) ⊎ (v.last ≡ w.last)
-    → ((m : ℕ) (x : ℕ → List ℕ) → after m x → ∥ IsNamedAt first v (length v.moments) (decoded old.kept) ∥₁ × ∥ IsNamedAt first v (length v.moments) (decoded new.doubt) ∥₁)
+    → ((m : ℕ) (x : ℕ → List ℕ) → after m x → ∥ IsNamedAt first v (length v.moments) (decoded old.committed) ∥₁ × ∥ IsNamedAt first v (length v.moments) (decoded new.doubt) ∥₁)
     → Survives new after first v
 still_survives old new before after first w v so_far time same_moments same_lefts same_last named = record {
-  stops = λ m x low high told. elim (splits m old.moment) [
+  stops = λ m x low high observable. elim (splits m old.moment) [
     | inl past ↦
-        let was = so_far.stops m x (subst (λ (t : ℕ). t ≤ m) time.since low) past (time.nothing_else m x past told) in
+        let was = so_far.stops m x (subst (λ (t : ℕ). t ≤ m) time.since low) past (time.nothing_else m x past observable) in
         subst (λ (ms : List ℕ). ∥ IsNamedAt first v (acknowledged ms m) (decoded x) ∥₁) (sym same_moments) (∥∥₁_map was (named_grows first w v same_moments same_lefts same_last (acknowledged w.moments m) (decoded x)))
     | inr here ↦
         let all : acknowledged v.moments m ≡ length v.moments = all_acknowledged v.moments m (λ i lt. at_most m here i lt) in
-        let facts = named m x told in
-        let at_end : ∥ IsNamedAt first v (length v.moments) (decoded x) ∥₁ = ∥∥₁_elim (time.here m x here told) ∥∥₁_prop (λ which. ⊎_elim
-        (λ (e : x ≡ old.kept). subst (λ (s : ℕ → List ℕ). ∥ IsNamedAt first v (length v.moments) (decoded s) ∥₁) (sym e) facts.0)
+        let facts = named m x observable in
+        let at_end : ∥ IsNamedAt first v (length v.moments) (decoded x) ∥₁ = ∥∥₁_elim (time.here m x here observable) ∥∥₁_prop (λ which. ⊎_elim
+        (λ (e : x ≡ old.committed). subst (λ (s : ℕ → List ℕ). ∥ IsNamedAt first v (length v.moments) (decoded s) ∥₁) (sym e) facts.0)
         (λ (e : x ≡ new.doubt). subst (λ (s : ℕ → List ℕ). ∥ IsNamedAt first v (length v.moments) (decoded s) ∥₁) (sym e) facts.1) which) in
         subst (λ (n : ℕ). ∥ IsNamedAt first v n (decoded x) ∥₁) (sym all) at_end
   ];
@@ -60,26 +60,26 @@ still_survives old new before after first w v so_far time same_moments same_left
 -- a commit that is answered Ok, and leaves this
 pub commit_survives : (old new : SlotState) (before after : ℕ → (ℕ → List ℕ) → Type 0) (first left : ℕ → List ℕ) (w v : World) → Survives old before first w → Goes old new before after
     → w.last ≡ [] → v.last ≡ [] → v.moments ≡ w.moments ++ new.moment ∷ [] → v.lefts ≡ w.lefts ++ left ∷ [] → length w.lefts ≡ length w.moments
-    → ((m : ℕ) (x : ℕ → List ℕ) → after m x → (slice_get (first ∷ w.lefts) (length w.moments) ≡ Some (decoded old.kept)) × (decoded new.kept ≡ left) × (decoded new.doubt ≡ left))
-    → ((x : ℕ → List ℕ) → after new.moment x → x ≡ new.kept)
+    → ((m : ℕ) (x : ℕ → List ℕ) → after m x → (slice_get (first ∷ w.lefts) (length w.moments) ≡ Some (decoded old.committed)) × (decoded new.committed ≡ left) × (decoded new.doubt ≡ left))
+    → ((x : ℕ → List ℕ) → after new.moment x → x ≡ new.committed)
     → Survives new after first v
 commit_survives old new before after first left w v so_far time no_last none moments lefts as_many facts acknowledges = record {
-  stops = λ m x low high told. elim (splits new.moment m) [
+  stops = λ m x low high observable. elim (splits new.moment m) [
     | inl end ↦
         let same : m ≡ new.moment = omega arith in
-        let is_kept : x ≡ new.kept = acknowledges x (subst (λ (t : ℕ). after t x) same told) in
-        let contents : decoded x ≡ left = ap decoded is_kept ∙ (facts m x told).1 in
+        let is_kept : x ≡ new.committed = acknowledges x (subst (λ (t : ℕ). after t x) same observable) in
+        let contents : decoded x ≡ left = ap decoded is_kept ∙ (facts m x observable).1 in
         let all : acknowledged v.moments m ≡ length w.moments + 1 = all_acknowledged v.moments m (λ i lt. omega (arith, (bounds i lt).1)) ∙ many in
         subst (λ (n : ℕ). ∥ IsNamedAt first v n (decoded x) ∥₁) (sym all) ∣ inl (newest ∙ ap (λ (c : ℕ → List ℕ). Some c) (sym contents)) ∣₁
     | inr before_it ↦
         let as_before : acknowledged v.moments m ≡ acknowledged w.moments m = ap (λ (ms : List ℕ). acknowledged ms m) moments ∙ one_more_later w.moments new.moment m before_it in
         subst (λ (n : ℕ). ∥ IsNamedAt first v n (decoded x) ∥₁) (sym as_before) (elim (splits m old.moment) [
-          | inl past ↦ ∥∥₁_map (so_far.stops m x (subst (λ (t : ℕ). t ≤ m) time.since low) past (time.nothing_else m x past told)) (still_named (acknowledged w.moments m) (decoded x))
+          | inl past ↦ ∥∥₁_map (so_far.stops m x (subst (λ (t : ℕ). t ≤ m) time.since low) past (time.nothing_else m x past observable)) (still_named (acknowledged w.moments m) (decoded x))
           | inr here ↦
               let all : acknowledged w.moments m ≡ length w.moments = all_acknowledged w.moments m (λ i lt. omega (arith, here, (so_far.ascend.within i lt).1)) in
-              let at : ∥ IsNamedAt first v (length w.moments) (decoded x) ∥₁ = ∥∥₁_map (time.here m x here told) (λ which. ⊎_elim
-              (λ (e : x ≡ old.kept). inl (grows (length w.moments) (decoded x) ((facts m x told).0 ∙ ap (λ (s : ℕ → List ℕ). Some (decoded s)) (sym e))))
-              (λ (e : x ≡ new.doubt). inr (newest ∙ ap (λ (c : ℕ → List ℕ). Some c) (sym (ap decoded e ∙ (facts m x told).2)))) which) in
+              let at : ∥ IsNamedAt first v (length w.moments) (decoded x) ∥₁ = ∥∥₁_map (time.here m x here observable) (λ which. ⊎_elim
+              (λ (e : x ≡ old.committed). inl (grows (length w.moments) (decoded x) ((facts m x observable).0 ∙ ap (λ (s : ℕ → List ℕ). Some (decoded s)) (sym e))))
+              (λ (e : x ≡ new.doubt). inr (newest ∙ ap (λ (c : ℕ → List ℕ). Some c) (sym (ap decoded e ∙ (facts m x observable).2)))) which) in
               subst (λ (n : ℕ). ∥ IsNamedAt first v n (decoded x) ∥₁) (sym all) at
         ])
   ];

@@ -1,6 +1,6 @@
 -- What a trace means, and what a stop at each moment may leave by it.
 use Rattle.std.specs.Prelude.{◌≡◌, ◌≢◌, ◌⊎◌, ℕ, ◌+◌, ◌<◌, ◌≤◌, ◌==◌, nat_le, nat_lt, Bool, true, false, if◌then◌else◌, List, [], ◌∷◌, ◌++◌, length, get_or, slice_get, Option, Some, None, IsTrue}
-use Rattle.abl_storage.specs.Slots.{SlotState, Speaks, wrote, undone}
+use Rattle.abl_storage.specs.Slots.{SlotState, IsReadable, wrote, undone}
 use Rattle.prefix_store.specs.declared.Event.{Event}
 use Rattle.prefix_store.specs.declared.Event.TheVariants.{Begun, Set, Undone, Committed, Closed, Ended}
 
@@ -25,7 +25,7 @@ pub record World : Type 0 where
   -- the moments of the commits, and what each left, in order
   pub moments : List ℕ
   pub lefts : List (ℕ → List ℕ)
-  -- what the commit that was answered Closed leaves, if it was kept
+  -- what the commit that was answered Closed leaves, if it was committed
   pub last : List (ℕ → List ℕ)
   pub closed : Bool
 
@@ -77,36 +77,37 @@ first_of opened c = get_or opened c []
 abbrev pub world_of : List (List ℕ) → List Event → World
 world_of opened events = run (opened_with (first_of opened)) events
 
--- THE CLAUSE: each stop that is told leaves what the trace names, and the moments of the commits never fall
+-- THE CLAUSE: each stop that is observable leaves what the trace names, and the moments of the commits never fall
 pub record Survives (s : SlotState) (stop : ℕ → (ℕ → List ℕ) → Type 0) (first : ℕ → List ℕ) (w : World) : Type 0 where
   pub stops : (m : ℕ) (slots : ℕ → List ℕ) → s.since ≤ m → m ≤ s.moment → stop m slots → IsNamed first w m (decoded slots)
   pub ascend : Ascend s.since w.moments s.moment
 
--- what is kept beside it, between two calls
+-- what is committed beside it, between two calls
 pub record IsInStep (s : SlotState) (w : World) (first : ℕ → List ℕ) : Type 0 where
-  pub kept : IsTrue s.told → decoded s.kept ≡ w.done
+  pub committed : IsTrue s.observable → decoded s.committed ≡ w.done
   -- the last of what the commits left
   pub done : slice_get (first ∷ w.lefts) (length w.moments) ≡ Some w.done
   pub as_many : length w.lefts ≡ length w.moments
   pub closed : w.closed ≡ false → s.failed ≡ false
   pub no_last : w.closed ≡ false → w.last ≡ []
-  pub no_doubt : IsTrue s.told → w.last ≡ [] → decoded s.doubt ≡ w.done
-  pub doubt : IsTrue s.told → (v : ℕ → List ℕ) (rest : List (ℕ → List ℕ)) → w.last ≡ v ∷ rest → ∥ (decoded s.doubt ≡ w.done) ⊎ (decoded s.doubt ≡ v) ∥₁
+  pub no_doubt : IsTrue s.observable → w.last ≡ [] → decoded s.doubt ≡ w.done
+  pub doubt : IsTrue s.observable → (v : ℕ → List ℕ) (rest : List (ℕ → List ℕ)) → w.last ≡ v ∷ rest → ∥ (decoded s.doubt ≡ w.done) ⊎ (decoded s.doubt ≡ v) ∥₁
   pub begun : (c : ℕ) → c < 16 → (s.transaction c).begun ≡ w.begun c
   -- each transaction wrote its own slot alone
   pub alone : (c k : ℕ) → c < 16 → k ≢ 8192 + c → wrote (s.transaction c).undo k ≡ false
+  pub apart : (c k : ℕ) → c < 16 → k ≢ 8192 + c → (s.transaction c).written k ≡ false
   pub idle : (c : ℕ) → c < 16 → w.begun c ≡ false → w.own c ≡ None
-  -- what it set is what is read, and taking it back gives what was kept
-  pub own : Speaks s → (c : ℕ) → c < 16 → (b : List ℕ) → w.own c ≡ Some b → (wrote (s.transaction c).undo (8192 + c) ≡ true) × (s.reads (8192 + c) ≡ b)
-  pub none : Speaks s → (c : ℕ) → c < 16 → w.own c ≡ None → (wrote (s.transaction c).undo (8192 + c) ≡ false) × (s.reads (8192 + c) ≡ s.kept (8192 + c))
-  pub back : Speaks s → (c : ℕ) → c < 16 → undone (s.transaction c).undo s.reads (8192 + c) ≡ s.kept (8192 + c)
+  -- what it set is what is read, and taking it back gives what was committed
+  pub own : IsReadable s → (c : ℕ) → c < 16 → (b : List ℕ) → w.own c ≡ Some b → (wrote (s.transaction c).undo (8192 + c) ≡ true) × (s.reads (8192 + c) ≡ b)
+  pub none : IsReadable s → (c : ℕ) → c < 16 → w.own c ≡ None → (wrote (s.transaction c).undo (8192 + c) ≡ false) × (s.reads (8192 + c) ≡ s.committed (8192 + c))
+  pub back : IsReadable s → (c : ℕ) → c < 16 → undone (s.transaction c).undo s.reads (8192 + c) ≡ s.committed (8192 + c)
 
 -- slots with no transaction begun and no fault, of which each stop leaves what they keep
 pub record IsFresh (s : SlotState) (stop : ℕ → (ℕ → List ℕ) → Type 0) (first : ℕ → List ℕ) : Type 0 where
   pub past : s.since ≤ s.moment
   pub fine : s.failed ≡ false
-  pub idle : (c : ℕ) → ((s.transaction c).begun ≡ false) × ((s.transaction c).undo ≡ [])
-  pub contents : IsTrue s.told → decoded s.kept ≡ first
-  pub doubt : IsTrue s.told → s.doubt ≡ s.kept
-  pub reads : Speaks s → s.reads ≡ s.kept
+  pub idle : (c : ℕ) → ((s.transaction c).begun ≡ false) × ((s.transaction c).undo ≡ []) × ((k : ℕ) → (s.transaction c).written k ≡ false)
+  pub contents : IsTrue s.observable → decoded s.committed ≡ first
+  pub doubt : IsTrue s.observable → s.doubt ≡ s.committed
+  pub reads : IsReadable s → s.reads ≡ s.committed
   pub stops : (m : ℕ) (slots : ℕ → List ℕ) → s.since ≤ m → m ≤ s.moment → stop m slots → decoded slots ≡ first

@@ -18,7 +18,7 @@ pub enum Refusal {
 }
 
 /// One value for each client, in the slots from 8,192 on, with the trace of what was asked. Its type
-/// keeps that each told stop leaves the values of a committed prefix.
+/// keeps that each observable stop leaves the values of a committed prefix.
 #[derive(Drop)]
 pub struct Db<S: Slots + Drop> {
     slots: S,
@@ -94,7 +94,7 @@ impl<S: Slots + Drop> Db<S> {
         }
     }
 
-    /// Keeps what the transaction set.
+    /// Commits what the transaction set.
     pub fn commit(&mut self, client: u16) -> Result<(), Refusal>
         requires client { client < 16 }
         requires begun { (world_of self.old.opened.items self.old.trace.items).begun client ≡ true }

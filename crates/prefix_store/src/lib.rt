@@ -1,5 +1,5 @@
 //! A store of one value for each client, over any slots: it shows that the clauses of `Slots` are
-//! enough. It stands on `abl_storage`. Its type keeps that each told
+//! enough. It depends on `abl_storage`. Its type keeps that each observable
 //! stop leaves the values of a committed prefix (`specs/World.antt`).
 #![tactic(auto)]
 

@@ -1,7 +1,8 @@
-use Rattle.std.proofs.Common.{◌+◌, List, false, length, ap, ◌∙◌, length-append}
+use Rattle.std.proofs.Common.{◌+◌, List, [], ◌∷◌, length, ap, ◌∙◌, arith, length-append}
 use Rattle.std.proofs.lemmas.List.Sums.{sum_by-append}
 use Rattle.mem_slots.specs.declared.client.Client.{Client}
 use Rattle.mem_slots.specs.Mem.{transaction_in}
+use Rattle.mem_slots.specs.Sparse.{has_written}
 use Rattle.mem_slots.specs.Promised.{promised_to, promised}
 use Rattle.mem_slots.proofs.Clients.{idle_more}
 use Rattle.mem_slots.proofs.mem_slots.idle_clients.Goals as goal
@@ -11,6 +12,6 @@ loop-preserved c =
     let pushed = c.in_ok-push.ensures.items in
     record {
       sixteen = ap length pushed ∙ length-append c.loop.clients.items _ ∙ ap (λ n. n + 1) c.loop.invariant.sixteen;
-      idle = λ k. ap (λ (l : List Client). transaction_in l k) pushed ∙ idle_more c.loop.clients.items _ (λ i. record { begun = false; undo = c.new.ensures.items i; counted = 0; low = 0; room = 0 }) c.loop.invariant.idle k;
-      promised = ap promised pushed ∙ sum_by-append promised_to c.loop.clients.items _ ∙ ap (λ n. n + 0) c.loop.invariant.promised;
+      idle = λ k. ap (λ (l : List Client). transaction_in l k) pushed ∙ idle_more c.loop.clients.items _ c.idle_client.ensures.idle c.loop.invariant.idle k;
+      promised = (let sum = sum_by-append promised_to c.loop.clients.items (c.idle_client.result ∷ []) in let all = ap promised pushed in omega (arith, sum, all, c.idle_client.ensures.promised, c.loop.invariant.promised));
     }

@@ -2,7 +2,7 @@ use Rattle.std.proofs.Common.{ℕ, List, take, get_or, sym, ◌∙◌, ap}
 use Rattle.std.proofs.lemmas.List.{take_more}
 use Rattle.abl_storage.specs.Slots.{joined, put}
 use Rattle.abl_storage.specs.declared.slots.Undo.{Undo}
-use Rattle.mem_slots.specs.Sparse.{slot_in, kept_in, no_undo}
+use Rattle.mem_slots.specs.Sparse.{slot_in, committed_in, no_undo}
 use Rattle.mem_slots.proofs.Places.{joined_more, put_at}
 use Rattle.mem_slots.proofs.slot.keep.Goals as goal
 
@@ -16,14 +16,14 @@ loop-write-preserved c =
     let i = c.loop-write.write-index in
     let u : Undo = get_or us i no_undo in
     let r = slot_in c.args.slots.now in
-    let kept = kept_in c.args.slots.now in
+    let committed = committed_in c.args.slots.now in
     let inv = c.loop-write.invariant in
     record {
       reads = λ k. c.keep_bytes.ensures.reads k ∙ inv.reads k;
-      kept = λ k.
-          c.keep_bytes.ensures.kept k
-          ∙ put_at (kept_in ss) (joined (take i us) r kept) u.slot (slot_in ss u.slot) k (inv.kept k)
-          ∙ ap (λ (v : List ℕ). put (joined (take i us) r kept) u.slot v k) (inv.reads u.slot)
-          ∙ sym (ap (λ (l : List Undo). joined l r kept k) (take_more us i no_undo c.loop-write-test.true) ∙ joined_more (take i us) u r kept k);
+      committed = λ k.
+          c.keep_bytes.ensures.committed k
+          ∙ put_at (committed_in ss) (joined (take i us) r committed) u.slot (slot_in ss u.slot) k (inv.committed k)
+          ∙ ap (λ (v : List ℕ). put (joined (take i us) r committed) u.slot v k) (inv.reads u.slot)
+          ∙ sym (ap (λ (l : List Undo). joined l r committed k) (take_more us i no_undo c.loop-write-test.true) ∙ joined_more (take i us) u r committed k);
       same = λ k. c.keep_bytes.ensures.held k ∙ inv.same k;
     }

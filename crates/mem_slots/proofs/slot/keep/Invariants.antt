@@ -1,11 +1,11 @@
 use Rattle.std.proofs.Common.{◌≡◌, ℕ, take}
 use Rattle.abl_storage.specs.Slots.{joined}
-use Rattle.mem_slots.specs.Sparse.{slot_in, kept_in, holds}
+use Rattle.mem_slots.specs.Sparse.{slot_in, committed_in, holds}
 use Rattle.mem_slots.proofs.slot.keep.Given as goal
 
 abbrev pub invariant-loop-write : goal.invariant-loop-write
 invariant-loop-write l = record {
   reads : (k : ℕ) → slot_in l.slots k ≡ slot_in l.initial.slots k;
-  kept : (k : ℕ) → kept_in l.slots k ≡ joined (take l.write-index l.writes) (slot_in l.initial.slots) (kept_in l.initial.slots) k;
+  committed : (k : ℕ) → committed_in l.slots k ≡ joined (take l.write-index l.writes) (slot_in l.initial.slots) (committed_in l.initial.slots) k;
   same : (k : ℕ) → holds l.slots k ≡ holds l.initial.slots k;
 }

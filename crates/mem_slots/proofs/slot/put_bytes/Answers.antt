@@ -10,6 +10,6 @@ returns c =
     record {
       before = sym (part_at (λ (s : Slot). s.now) _ _ _ first);
       reads = part_put (λ (s : Slot). s.now) _ _ _ _ first number;
-      kept = part_same (λ (s : Slot). s.kept) _ _ _ _ first number refl;
+      committed = part_same (λ (s : Slot). s.committed) _ _ _ _ first number refl;
       held = holds_put _ _ _ _ first number;
     }

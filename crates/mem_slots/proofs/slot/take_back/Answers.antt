@@ -41,7 +41,7 @@ loop-undo-preserved-in-Some c =
           ∙ put_at (slot_in ss) (undone (drop (length S) U) r) u.slot u.old k (inv.reads k)
           ∙ ap (λ (n : ℕ). put (undone (drop n U) r) u.slot u.old k) long
           ∙ sym (undone_pop U (length T) u no_undo r k less last);
-      kept = λ k. c.put_bytes-written_over.ensures.kept k ∙ inv.kept k;
+      committed = λ k. c.put_bytes-written_over.ensures.committed k ∙ inv.committed k;
       same = λ k. c.put_bytes-written_over.ensures.held k ∙ inv.same k;
       capacity = c.in-Some.ensures.capacity ∙ inv.capacity;
     }

@@ -1,6 +1,6 @@
 use Rattle.std.proofs.Common.{◌≡◌, ◌≤◌, ℕ, length, take, drop, vec_capacity}
 use Rattle.abl_storage.specs.Slots.{undone}
-use Rattle.mem_slots.specs.Sparse.{slot_in, kept_in, holds}
+use Rattle.mem_slots.specs.Sparse.{slot_in, committed_in, holds}
 use Rattle.mem_slots.proofs.slot.take_back.Given as goal
 
 abbrev pub invariant-loop-undo : goal.invariant-loop-undo
@@ -9,7 +9,7 @@ invariant-loop-undo l = record {
   stands : l.stand ≤ length l.undo.items;
   size : length l.undo.items ≤ length l.initial.undo.items;
   reads : (k : ℕ) → slot_in l.slots k ≡ undone (drop (length l.undo.items) l.initial.undo.items) (slot_in l.initial.slots) k;
-  kept : (k : ℕ) → kept_in l.slots k ≡ kept_in l.initial.slots k;
+  committed : (k : ℕ) → committed_in l.slots k ≡ committed_in l.initial.slots k;
   same : (k : ℕ) → holds l.slots k ≡ holds l.initial.slots k;
   capacity : vec_capacity l.undo ≡ vec_capacity l.initial.undo;
 }

@@ -24,9 +24,9 @@ open-requires c =
     subst (λ (s : SlotState). IsFresh s (λ m slots. ⊥) (first_of c.in_ok-opened.opened.items)) (sym c.in_ok-slots.ensures) (record {
       past = omega arith;
       fine = refl;
-      idle = λ k. (refl, refl);
+      idle = λ k. (refl, refl, λ j. refl);
       contents = λ _. all_zeros ∙ sym (ap first_of opened);
       doubt = λ _. refl;
       reads = λ _. refl;
-      stops = λ m slots low high told. absurd told;
+      stops = λ m slots low high observable. absurd observable;
     })

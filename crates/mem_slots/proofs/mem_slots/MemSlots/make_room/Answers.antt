@@ -4,7 +4,7 @@ use Rattle.abl_storage.specs.Slots.{Transaction}
 use Rattle.abl_storage.specs.declared.slots.Undo.{Undo}
 use Rattle.mem_slots.specs.declared.slot.Slot.{Slot}
 use Rattle.mem_slots.specs.Promised.{promised}
-use Rattle.mem_slots.specs.Sparse.{slot_in, kept_in, holds, AllHeld}
+use Rattle.mem_slots.specs.Sparse.{slot_in, committed_in, holds, AllHeld}
 use Rattle.mem_slots.proofs.Clients.{promised_most}
 use Rattle.mem_slots.proofs.Changes.{here, stands, becomes_one, rests}
 use Rattle.mem_slots.proofs.mem_slots.MemSlots.make_room.Goals as goal
@@ -30,7 +30,7 @@ returns-in-Ok-clause-yes c =
     let client = c.index_mut-client.ensures.value in
     let same = c.reserve.ensures.items in
     λ yes. record {
-      keeps = record { told = refl; kept = λ _. ap kept_in same; doubt = λ _. ap kept_in same };
+      keeps = record { observable = refl; committed = λ _. ap committed_in same; doubt = λ _. ap committed_in same };
       reads = λ _. ap slot_in same;
       transaction = becomes_one s c.requires.client client c.make_room.new.self _ true c.args.writes (c.make_room.ensures.yes yes ∙ sym (ap (λ (t : Transaction). record t { room = c.args.writes }) (here s c.requires.client client))) c.requires.begun (omega arith);
     }

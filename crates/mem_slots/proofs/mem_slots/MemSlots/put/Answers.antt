@@ -1,4 +1,4 @@
-use Rattle.std.proofs.Common.{◌≡◌, ◌≤◌, ◌<◌, ◌∙◌, ◌+◌, ◌-◌, if◌then◌else◌, ℕ, List, Bool, true, false, [], ◌∷◌, ◌++◌, length, slice_set, sym, ap, subst, refl, arith}
+use Rattle.std.proofs.Common.{◌≡◌, ◌≤◌, ◌<◌, ◌∙◌, ◌+◌, ◌-◌, ◌==◌, ◌||◌, if◌then◌else◌, ℕ, List, Bool, true, false, [], ◌∷◌, ◌++◌, length, slice_set, sym, ap, subst, refl, arith}
 use Rattle.std.specs.Vec.{vec_capacity}
 use Rattle.abl_storage.specs.Slots.{Transaction, is_low, put}
 use Rattle.abl_storage.specs.declared.slots.Undo.{Undo}
@@ -6,9 +6,9 @@ use Rattle.mem_slots.specs.declared.slot.Slot.{Slot}
 use Rattle.mem_slots.specs.declared.client.Client.{Client}
 use Rattle.mem_slots.specs.Mem.{transaction_in}
 use Rattle.mem_slots.specs.Promised.{promised}
-use Rattle.mem_slots.specs.Sparse.{slot_in, kept_in, holds, AllHeld}
+use Rattle.mem_slots.specs.Sparse.{slot_in, committed_in, holds, has_written, AllHeld}
 use Rattle.mem_slots.proofs.Places.{put_at}
-use Rattle.mem_slots.proofs.Clients.{becomes, held_push, room_within, low_within}
+use Rattle.mem_slots.proofs.Clients.{becomes, written_push, held_push, room_within, low_within}
 use Rattle.mem_slots.proofs.Changes.{Stands, here, stands, sliced, part_of}
 use Rattle.mem_slots.proofs.mem_slots.MemSlots.put.Goals as goal
 
@@ -60,17 +60,19 @@ pub returns : goal.returns
 returns c =
     let s = c.args.self.now in
     let ss = s.slots.items in
+    let old = c.index_mut-client.result.now in
     let at = here s c.requires.client c.index_mut-client.ensures.value in
     let mid = c.reach.new.slots in
     let was : c.deref_mut.result.now ≡ mid.items = c.deref_mut.ensures.value in
-    let kept = part_of mid was c.deref_mut.ensures.len c.put_bytes-before.new.slots c.put_bytes-before.auto.slots kept_in c.put_bytes-before.ensures.kept ∙ (λ i k. c.reach.ensures.kept k i) in
+    let committed = part_of mid was c.deref_mut.ensures.len c.put_bytes-before.new.slots c.put_bytes-before.auto.slots committed_in c.put_bytes-before.ensures.committed ∙ (λ i k. c.reach.ensures.committed k i) in
     record {
-      keeps = record { told = refl; kept = λ _. kept; doubt = λ _. kept };
+      keeps = record { observable = refl; committed = λ _. committed; doubt = λ _. committed };
       reads = λ _. ap slot_in (sliced mid was c.deref_mut.ensures.len c.put_bytes-before.new.slots c.put_bytes-before.auto.slots) ∙ (λ i k. (c.put_bytes-before.ensures.reads k ∙ ap (λ (l : List Slot). put (slot_in l) c.args.slot c.args.bytes.now k) was ∙ put_at (slot_in mid.items) (slot_in ss) c.args.slot c.args.bytes.now k (c.reach.ensures.reads k)) i);
       before = c.put_bytes-before.result;
       before_is = λ _. c.put_bytes-before.ensures.before ∙ ap (λ (l : List Slot). slot_in l c.args.slot) was ∙ c.reach.ensures.reads c.args.slot;
-      transaction = becomes s.clients.items c.args.client c.add.new.self true _ _ _ _ (omega (arith, s.sixteen, c.requires.client)) c.add.ensures.begun
+      transaction = becomes s.clients.items c.args.client c.add.new.self true _ _ _ _ _ (omega (arith, s.sixteen, c.requires.client)) c.add.ensures.begun
           (c.add.ensures.undo ∙ ap (λ (l : List Undo). l ++ record { slot = c.args.slot; old = c.put_bytes-before.result } ∷ []) (sym (ap (λ (x : Transaction). x.undo) at)))
+          (λ j. ap (λ (l : List ℕ). has_written l j) c.add.ensures.written ∙ written_push old.written.items c.args.slot j ∙ ap (λ (x : Transaction). (j == c.args.slot) || x.written j) (sym at))
           (c.add.ensures.counted ∙ ap (λ (x : Transaction). if is_low c.args.slot then x.counted else x.counted + 1) (sym at))
           (c.add.ensures.low ∙ ap (λ (x : Transaction). if is_low c.args.slot then x.low + 1 else x.low) (sym at))
           (subst (λ (x : Transaction). x.room - 1 ≤ c.add.new.self.spare) (sym at) c.add.ensures.room);

@@ -1,4 +1,4 @@
-use Rattle.std.proofs.Common.{false, refl, inl, arith}
+use Rattle.std.proofs.Common.{false, refl, arith}
 use Rattle.mem_slots.proofs.Changes.{held_idle, held_here, stands_sliced, keeps_sliced, becomes_one, reads_back}
 use Rattle.mem_slots.proofs.mem_slots.MemSlotsSlots.abandon.Goals as goal
 
@@ -16,9 +16,9 @@ returns-clause-ended c =
     let client = c.index_mut-client.ensures.value in
     let slice = c.deref_mut.ensures in
     record {
-      keeps = keeps_sliced s c.requires.client client slice.value slice.len c.go_back.new.slots c.go_back.auto.slots c.end.new.self c.go_back.ensures.kept;
-      reads = λ _ _. reads_back s c.requires.client client slice.value slice.len c.go_back.new.slots c.go_back.auto.slots 0 c.go_back.ensures.reads;
+      keeps = keeps_sliced s c.requires.client client slice.value slice.len c.go_back.new.slots c.go_back.auto.slots c.end.new.self c.go_back.ensures.committed;
+      reads = λ _. reads_back s c.requires.client client slice.value slice.len c.go_back.new.slots c.go_back.auto.slots 0 c.go_back.ensures.reads;
       transaction = becomes_one s c.requires.client client c.end.new.self _ false 0 c.end.ensures.idle refl (omega arith);
       later = omega arith;
-      failed = inl refl;
+      failed = refl;
     }

@@ -21,7 +21,7 @@ returns-clause-ok c =
     let client = c.index_mut-client.ensures.value in
     let slice = c.deref_mut.ensures in
     record {
-      keeps = keeps_sliced s c.requires.client client slice.value slice.len c.go_back.new.slots c.go_back.auto.slots c.go_back.new.self c.go_back.ensures.kept;
+      keeps = keeps_sliced s c.requires.client client slice.value slice.len c.go_back.new.slots c.go_back.auto.slots c.go_back.new.self c.go_back.ensures.committed;
       reads = λ _. reads_back s c.requires.client client slice.value slice.len c.go_back.new.slots c.go_back.auto.slots c.args.mark.at c.go_back.ensures.reads;
       transaction = becomes_one s c.requires.client client c.go_back.new.self _ true _ (c.go_back.ensures.transaction ∙ sym (ap (λ (t : Transaction). record t { undo = take c.args.mark.at t.undo }) (here s c.requires.client client))) c.requires.begun (omega arith);
     }

@@ -2,7 +2,7 @@ use Rattle.std.proofs.Common.{◌∙◌, List, true, ap, refl, arith}
 use Rattle.std.specs.Vec.{vec_capacity}
 use Rattle.mem_slots.specs.declared.slot.Slot.{Slot}
 use Rattle.mem_slots.specs.Promised.{promised}
-use Rattle.mem_slots.specs.Sparse.{slot_in, kept_in, holds}
+use Rattle.mem_slots.specs.Sparse.{slot_in, committed_in, holds}
 use Rattle.mem_slots.proofs.Clients.{held_none, promised_most, either_way}
 use Rattle.mem_slots.proofs.Changes.{held_as, stands, becomes_one, rests}
 use Rattle.mem_slots.proofs.mem_slots.MemSlotsSlots.begin.Goals as goal
@@ -23,7 +23,7 @@ pub returns-then-begin-clause-ok : goal.returns-then-begin-clause-ok
 returns-then-begin-clause-ok c =
     let same = c.reserve.ensures.items in
     record {
-      keeps = record { told = refl; kept = λ _. ap kept_in same; doubt = λ _. ap kept_in same };
+      keeps = record { observable = refl; committed = λ _. ap committed_in same; doubt = λ _. ap committed_in same };
       reads = λ _. ap slot_in same;
       transaction = becomes_one c.args.self.now c.requires.client c.index_mut-client.ensures.value c.begin.new.self _ true 0 (c.begin.ensures.yes c.if-begin.true) refl (omega arith);
     }

@@ -2,7 +2,7 @@ use Rattle.std.proofs.Common.{◌∙◌, List, false, sym, ap, subst, refl, arit
 use Rattle.abl_storage.specs.Slots.{Transaction, joined}
 use Rattle.abl_storage.specs.declared.slots.Undo.{Undo}
 use Rattle.mem_slots.specs.declared.slot.Slot.{Slot}
-use Rattle.mem_slots.specs.Sparse.{slot_in, kept_in, AllHeld}
+use Rattle.mem_slots.specs.Sparse.{slot_in, committed_in, AllHeld}
 use Rattle.mem_slots.proofs.Changes.{here, held_idle, held_here, sliced, part_of, stands_sliced, becomes_one}
 use Rattle.mem_slots.proofs.mem_slots.MemSlotsSlots.commit.Goals as goal
 
@@ -23,11 +23,11 @@ returns-clause-ok c =
     let client = c.index_mut-client.ensures.value in
     let slice = c.deref_mut.ensures in
     record {
-      told = refl;
+      observable = refl;
       reads = λ _. part_of s.slots slice.value slice.len c.keep.new.slots c.keep.auto.slots slot_in c.keep.ensures.reads;
-      kept = λ _. ap kept_in (sliced s.slots slice.value slice.len c.keep.new.slots c.keep.auto.slots) ∙ (λ i k. c.keep.ensures.kept k i)
-          ∙ ap (λ (l : List Slot). joined c.deref.result.now (slot_in l) (kept_in l)) slice.value
-          ∙ ap (λ (u : List Undo). joined u (slot_in ss) (kept_in ss)) (c.deref.ensures.value ∙ sym (ap (λ (t : Transaction). t.undo) (here s c.requires.client client)));
+      committed = λ _. ap committed_in (sliced s.slots slice.value slice.len c.keep.new.slots c.keep.auto.slots) ∙ (λ i k. c.keep.ensures.committed k i)
+          ∙ ap (λ (l : List Slot). joined c.deref.result.now (slot_in l) (committed_in l)) slice.value
+          ∙ ap (λ (u : List Undo). joined u (slot_in ss) (committed_in ss)) (c.deref.ensures.value ∙ sym (ap (λ (t : Transaction). t.undo) (here s c.requires.client client)));
       doubt = λ _. refl;
       transaction = becomes_one s c.requires.client client c.end.new.self _ false 0 c.end.ensures.idle refl (omega arith);
       before = refl;

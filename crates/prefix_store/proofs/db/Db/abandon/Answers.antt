@@ -1,19 +1,15 @@
 use Rattle.std.proofs.Common.{◌≡◌, ◌<◌, ◌≤◌, ◌+◌, ◌^◌, inr, ⊎_elim, ℕ, List, [], ◌∷◌, ◌++◌, false, refl, sym, ◌∙◌, ap, subst, rules, arith}
-use Rattle.fault_count.specs.Faults.{Rose}
-use Rattle.abl_storage.specs.Slots.{SlotState, Speaks, Ends}
+use Rattle.abl_storage.specs.Slots.{SlotState, IsReadable, Ends}
 use Rattle.prefix_store.specs.World.{World, IsInStep, first_of, world_of, step}
 use Rattle.prefix_store.specs.declared.Event.TheVariants.{Ended, Closed}
-use Rattle.prefix_store.proofs.Steps.{taken_back, ended_failed, shut}
+use Rattle.prefix_store.proofs.Steps.{taken_back, shut}
 use Rattle.prefix_store.proofs.Calls.{world_more, goes_on, logged}
 use Rattle.prefix_store.proofs.db.Db.abandon.Goals as goal
 
--- the transaction ended, and no call has met a fault that none met before
-ended : (old new : SlotState) (w : World) (first : ℕ → List ℕ) (client : ℕ) → IsInStep old w first → client < 16 → Ends old new client → new.failed ≡ old.failed → IsInStep new (step w (Ended client)) first
-ended old new w first client h small b same =
-    taken_back old w first h new client false (step w (Ended client)) small b.keeps same (λ (s : Speaks old). b.reads s (same ∙ s.1)) b.transaction.others b.transaction.begun b.transaction.undo refl
-
-not_risen : (old new : SlotState) → new.faults ≡ old.faults → old.faults < 18446744073709551615 → Rose old.faults new.faults → new.failed ≡ old.failed
-not_risen old new level few rose = absurd (⊎_elim (λ (lt : old.faults < new.faults). omega (arith, lt, level)) (λ (le : 2 ^ 64 ≤ old.faults + 1). omega (arith, le, few)) rose)
+-- the transaction ended
+ended : (old new : SlotState) (w : World) (first : ℕ → List ℕ) (client : ℕ) → IsInStep old w first → client < 16 → Ends old new client → IsInStep new (step w (Ended client)) first
+ended old new w first client h small b =
+    taken_back old w first h new client false (step w (Ended client)) small b.keeps b.failed b.reads b.transaction.others b.transaction.begun b.transaction.undo (λ k ne. b.transaction.written k) refl
 
 pub invariant_of-self-then-before-lt18446744073709551615 : goal.invariant_of-self-then-before-lt18446744073709551615
 invariant_of-self-then-before-lt18446744073709551615 g c =
@@ -21,12 +17,9 @@ invariant_of-self-then-before-lt18446744073709551615 g c =
     let old = g.S.Slots.state db.slots in
     let new = g.S.Slots.state c.abandon.new.self in
     let b = c.abandon.ensures.ended in
-    let level : new.faults ≡ old.faults = sym c.faults.ensures ∙ c.if-faults-before.true ∙ c.faults-before.ensures in
-    let few : old.faults < 18446744073709551615 = subst (λ (n : ℕ). n < 18446744073709551615) c.faults-before.ensures c.if-before-lt18446744073709551615.true in
-    let same : new.failed ≡ old.failed = ⊎_elim (λ (e : new.failed ≡ old.failed). e) (λ f. not_risen old new level few f.1) b.failed in
-    let h = ended old new _ _ c.args.client db.in_step c.requires.client b same in
-    logged _ _ _ _ db.opened.items db.trace.items _ db.survives db.in_step db.closed_is c.abandon.ensures.time (g.met.S.Slots.stop_told c.abandon.new.self)
-    c.push.new.self.items (Ended c.args.client) _ (search rules) h b.keeps.told b.keeps.kept refl refl (inr refl) db.closed_is
+    let h = ended old new _ _ c.args.client db.in_step c.requires.client b in
+    logged _ _ _ _ db.opened.items db.trace.items _ db.survives db.in_step db.closed_is c.abandon.ensures.time (g.met.S.Slots.stop_known c.abandon.new.self)
+    c.push.new.self.items (Ended c.args.client) _ (search rules) h b.keeps.observable b.keeps.committed refl refl (inr refl) db.closed_is
 
 pub invariant_of-self-2 : goal.invariant_of-self-2
 invariant_of-self-2 g c =
@@ -41,9 +34,6 @@ invariant_of-self-2 g c =
     world_more db.opened.items longer c.push-2.new.self.items (Closed c.args.client false) (search rules)
     ∙ ap (λ (v : World). step v (Closed c.args.client false)) (world_more db.opened.items db.trace.items longer (Ended c.args.client) refl) in
     let b = c.abandon.ensures.ended in
-    let h : IsInStep new end first = ⊎_elim
-    (λ (same : new.failed ≡ old.failed). shut new (step w (Ended c.args.client)) first c.args.client (ended old new w first c.args.client db.in_step c.requires.client b same))
-    (λ fails. ended_failed old w first db.in_step new c.args.client c.requires.client b fails.0)
-    b.failed in
-    goes_on _ _ _ _ db.opened.items db.trace.items _ db.survives db.in_step db.closed_is c.abandon.ensures.time (g.met.S.Slots.stop_told c.abandon.new.self)
-    c.push-2.new.self.items _ end world_is h b.keeps.told b.keeps.kept refl refl (inr refl) refl
+    let h : IsInStep new end first = shut new (step w (Ended c.args.client)) first c.args.client (ended old new w first c.args.client db.in_step c.requires.client b) in
+    goes_on _ _ _ _ db.opened.items db.trace.items _ db.survives db.in_step db.closed_is c.abandon.ensures.time (g.met.S.Slots.stop_known c.abandon.new.self)
+    c.push-2.new.self.items _ end world_is h b.keeps.observable b.keeps.committed refl refl (inr refl) refl

@@ -9,11 +9,11 @@ invariant_of-self-in-Ok g c =
     let db = c.args.self.now in
     let b = c.in-Ok.ensures.ok in
     let h = writes _ _ _ db.in_step _ c.args.client c.args.bytes.now c.requires.client b (c.in-Ok.ensures.cause.stays (λ e. cc e)) c.requires.begun in
-    logged _ _ _ _ db.opened.items db.trace.items _ db.survives db.in_step db.closed_is c.write.ensures.time (g.met.S.Slots.stop_told c.write.new.self)
-    c.push.new.self.items (Set c.args.client c.args.bytes.now) _ (search rules) h b.keeps.told b.keeps.kept refl refl (inr refl) db.closed_is
+    logged _ _ _ _ db.opened.items db.trace.items _ db.survives db.in_step db.closed_is c.write.ensures.time (g.met.S.Slots.stop_known c.write.new.self)
+    c.push.new.self.items (Set c.args.client c.args.bytes.now) _ (search rules) h b.keeps.observable b.keeps.committed refl refl (inr refl) db.closed_is
 
 pub invariant_of-self-in-Err : goal.invariant_of-self-in-Err
 invariant_of-self-in-Err g c =
     let db = c.args.self.now in
-    faulted _ _ _ _ db.opened.items db.trace.items _ db.survives db.in_step db.closed_is c.write.ensures.time (g.met.S.Slots.stop_told c.write.new.self)
+    faulted _ _ _ _ db.opened.items db.trace.items _ db.survives db.in_step db.closed_is c.write.ensures.time (g.met.S.Slots.stop_known c.write.new.self)
     c.args.client c.in-Err.fault c.in-Err.ensures.err c.in-Err.ensures.cause c.in_ok-ready.ensures.fine _ _ _ c.ready.ensures.same c.refused.ensures.disk c.refused.ensures.rest

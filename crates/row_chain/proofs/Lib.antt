@@ -1,0 +1,10 @@
+pub mod Within
+pub mod Composes
+pub mod ChainReads
+pub mod Encoded
+pub mod Chained
+pub mod Laid
+pub mod Listing
+pub mod Parts
+pub mod Ties
+pub mod StopRows

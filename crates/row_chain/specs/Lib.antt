@@ -1,0 +1,4 @@
+pub mod Fragments
+pub mod Calls
+pub mod Tied
+pub mod Stops
