@@ -58,7 +58,7 @@ stands_built : {d : Defined} {signs : List Sign} {tree : Tree} → StandsFor d s
 stands_built (states statements) = statements_built statements
 stands_built (defines definition free rest) = stands_built rest
 
--- a tree for which a text stands is built
+-- the tree that a text denotes is supported
 pub form_is_built : (text : List ℕ) (tree : Tree) → IsSourceOf text tree → IsBuiltTree tree
 form_is_built text tree form = stands_built form.stands_for
 

@@ -1,4 +1,4 @@
--- What bytes want behind them, by the last one.
+-- The line feed that bytes need, by their last one.
 use Rattle.std.proofs.Common.{◌≡◌, ◌<◌, ◌-◌, ℕ, List, [], ◌∷◌, refl, arith, length, get_or}
 use Rattle.std.proofs.lemmas.Grind.{common_steps}
 use Rattle.abl_cli.specs.Report.{line_end_of, line_end_after}

@@ -1,16 +1,16 @@
--- Words that begin the form are those that stand where they may.
+-- Arguments that begin the form are those that fit their places.
 use Rattle.std.proofs.Common.{◌≡◌, ◌≢◌, ◌<◌, ◌≤◌, ◌+◌, ℕ, List, [], ◌∷◌, ◌++◌, refl, ap, sym, ◌∙◌, subst, arith, length, take, inr, length-take-le}
 use Rattle.std.proofs.lemmas.List.{take_all}
 use Rattle.std.proofs.lemmas.List.Elements.{All-cons, All-nil}
 use Rattle.std.specs.Prelude.{codes}
 use Rattle.std.specs.Char.{IsAsciiDigit, IsAsciiAlphanumeric}
-use Rattle.abl_cli.specs.declared.words.Mode.{Mode}
-use Rattle.abl_cli.specs.declared.words.Mode.TheVariants.{Quiet}
-use Rattle.abl_cli.specs.declared.words.Slot.{Slot}
-use Rattle.abl_cli.specs.Words.{Run, IsRun, IsSteps, IsName, IsProgram, words_of, mode_word, HaveForm, Begin, IsWrong, at_word, missing}
-use Rattle.abl_cli.specs.Slots.{form, FitAll}
+use Rattle.abl_cli.specs.declared.arguments.Mode.{Mode}
+use Rattle.abl_cli.specs.declared.arguments.Mode.TheVariants.{Quiet}
+use Rattle.abl_cli.specs.declared.arguments.Argument.{Argument}
+use Rattle.abl_cli.specs.CommandLine.{Run, IsRun, IsSteps, IsName, IsProgram, arguments_of, mode_argument, HaveForm, Begin, IsWrong, at_argument, missing}
+use Rattle.abl_cli.specs.Arguments.{form, FitAll}
 
--- ---- words of the form that some others begin
+-- ---- arguments of the form that some others begin
 
 one_is_steps : IsSteps (49 ∷ [])
 one_is_steps =
@@ -32,7 +32,7 @@ a_is_name =
 p_is_program : IsProgram (112 ∷ [])
 p_is_program = record { some = omega arith; plain = All-cons (λ byte. byte ≢ 60) 112 [] (λ e. omega arith) (All-nil (λ byte. byte ≢ 60)) }
 
--- the words `run SCHEMA STEPS MODE a=p`, whose first ones are given
+-- the arguments `run SCHEMA STEPS MODE a=p`, whose first ones are these
 run_with : List ℕ → List ℕ → Mode → Run
 run_with schema steps mode = record { schema = schema; steps = steps; mode = mode; name = 97 ∷ []; program = 112 ∷ [] }
 
@@ -40,10 +40,10 @@ is_run_with : (schema steps : List ℕ) (mode : Mode) → 0 < length schema → 
 unfolding run_with
 is_run_with schema steps mode some is_steps = record { schema = some; steps = is_steps; name = a_is_name; program = p_is_program }
 
--- words that stand where they may begin the form
-pub begin_of_fit : (words : List (List ℕ)) → FitAll form words → Begin words
+-- arguments that fit their places begin the form
+pub begin_of_fit : (arguments : List (List ℕ)) → FitAll form arguments → Begin arguments
 unfolding run_with
-begin_of_fit [] fit = (words_of (run_with (115 ∷ []) (49 ∷ []) Quiet), (run_with (115 ∷ []) (49 ∷ []) Quiet, (is_run_with (115 ∷ []) (49 ∷ []) Quiet (omega arith) one_is_steps, refl)))
+begin_of_fit [] fit = (arguments_of (run_with (115 ∷ []) (49 ∷ []) Quiet), (run_with (115 ∷ []) (49 ∷ []) Quiet, (is_run_with (115 ∷ []) (49 ∷ []) Quiet (omega arith) one_is_steps, refl)))
 begin_of_fit (a ∷ []) fit =
     let rest : List (List ℕ) = (115 ∷ []) ∷ (49 ∷ []) ∷ codes "quiet" ∷ (97 ∷ 61 ∷ 112 ∷ []) ∷ [] in
     (rest, (run_with (115 ∷ []) (49 ∷ []) Quiet, (is_run_with (115 ∷ []) (49 ∷ []) Quiet (omega arith) one_is_steps, ap (λ w. w ∷ rest) fit.0)))
@@ -73,7 +73,7 @@ begin_of_fit (a ∷ b ∷ c ∷ d ∷ e ∷ []) fit =
         (
           record { schema = fit.1.0; steps = fit.1.1.0; name = client.is_name; program = client.is_program },
           ap (λ w. w ∷ b ∷ c ∷ d ∷ e ∷ []) fit.0 ∙ ap (λ w. codes "run" ∷ b ∷ c ∷ w ∷ e ∷ []) mode.1
-              ∙ ap (λ w. codes "run" ∷ b ∷ c ∷ mode_word mode.0 ∷ w ∷ []) client.joined,
+              ∙ ap (λ w. codes "run" ∷ b ∷ c ∷ mode_argument mode.0 ∷ w ∷ []) client.joined,
         ),
       ),
     )
@@ -81,27 +81,27 @@ begin_of_fit (a ∷ b ∷ c ∷ d ∷ e ∷ f ∷ fs) fit = absurd fit.1.1.1.1.1
 
 -- ---- the converse
 
--- the first ones of words that stand where they may
-first_fit : (slots : List Slot) (words more : List (List ℕ)) → FitAll slots (words ++ more) → FitAll slots words
-first_fit slots [] more fit = tt
-first_fit [] (w ∷ words) more fit = fit
-first_fit (s ∷ slots) (w ∷ words) more fit = (fit.0, first_fit slots words more fit.1)
+-- the first ones of arguments that fit their places
+first_fit : (places : List Argument) (arguments more : List (List ℕ)) → FitAll places (arguments ++ more) → FitAll places arguments
+first_fit places [] more fit = tt
+first_fit [] (w ∷ arguments) more fit = fit
+first_fit (s ∷ places) (w ∷ arguments) more fit = (fit.0, first_fit places arguments more fit.1)
 
-form_fits : (run : Run) → IsRun run → FitAll form (words_of run)
+form_fits : (run : Run) → IsRun run → FitAll form (arguments_of run)
 form_fits run is_run =
     (refl, (is_run.schema, (is_run.steps, ((run.mode, refl), (record { name = run.name; program = run.program; is_name = is_run.name; is_program = is_run.program; joined = refl }, tt)))))
 
--- words that begin the form stand where they may
-pub fit_of_begin : (words : List (List ℕ)) → Begin words → FitAll form words
-fit_of_begin words begins =
-    first_fit form words begins.0 (subst (FitAll form) (sym begins.1.1.1) (form_fits begins.1.0 begins.1.1.0))
+-- arguments that begin the form fit their places
+pub fit_of_begin : (arguments : List (List ℕ)) → Begin arguments → FitAll form arguments
+fit_of_begin arguments begins =
+    first_fit form arguments begins.0 (subst (FitAll form) (sym begins.1.1.1) (form_fits begins.1.0 begins.1.1.0))
 
--- words that have the form are five
-pub form_is_five : (words : List (List ℕ)) → HaveForm words → length words ≡ 5
-form_is_five words has = ap length has.1.1
+-- arguments that have the form are five
+pub form_is_five : (arguments : List (List ℕ)) → HaveForm arguments → length arguments ≡ 5
+form_is_five arguments has = ap length has.1.1
 
--- no more words than the form has stand where they may
-pub fit_is_short : (words : List (List ℕ)) → FitAll form words → length words ≤ 5
+-- at most as many arguments fit as the form has places
+pub fit_is_short : (arguments : List (List ℕ)) → FitAll form arguments → length arguments ≤ 5
 fit_is_short [] fit = omega arith
 fit_is_short (a ∷ []) fit = omega arith
 fit_is_short (a ∷ b ∷ []) fit = omega arith
@@ -110,20 +110,20 @@ fit_is_short (a ∷ b ∷ c ∷ d ∷ []) fit = omega arith
 fit_is_short (a ∷ b ∷ c ∷ d ∷ e ∷ []) fit = omega arith
 fit_is_short (a ∷ b ∷ c ∷ d ∷ e ∷ f ∷ fs) fit = absurd fit.1.1.1.1.1
 
--- ---- the wrong word
+-- ---- the wrong argument
 
--- the first word that does not stand where it may is the wrong one
+-- the first argument that does not fit its place is the wrong one
 pub misfit_is_wrong :
-    (words : List (List ℕ)) (n : ℕ) → n < length words → FitAll form (take n words) → ¬ FitAll form (take (n + 1) words) → IsWrong words n
-misfit_is_wrong words n below fit misfit =
-    at_word words n below (begin_of_fit (take n words) fit) (λ begins. misfit (fit_of_begin (take (n + 1) words) begins))
+    (arguments : List (List ℕ)) (n : ℕ) → n < length arguments → FitAll form (take n arguments) → ¬ FitAll form (take (n + 1) arguments) → IsWrong arguments n
+misfit_is_wrong arguments n below fit misfit =
+    at_argument arguments n below (begin_of_fit (take n arguments) fit) (λ begins. misfit (fit_of_begin (take (n + 1) arguments) begins))
 
--- where all stand where they may and they are too few, more are missing
-pub few_are_missing : (words : List (List ℕ)) (n : ℕ) → n ≡ length words → length words < 5 → FitAll form (take n words) → IsWrong words n
-few_are_missing words n is few fit =
-    let all : FitAll form words = subst (FitAll form) (take_all n words (omega arith)) fit in
-    subst (IsWrong words) (sym is) (missing words (begin_of_fit words all) (λ has. absurd (omega (arith, few, form_is_five words has))))
+-- where all fit their places and they are too few, more are missing
+pub few_are_missing : (arguments : List (List ℕ)) (n : ℕ) → n ≡ length arguments → length arguments < 5 → FitAll form (take n arguments) → IsWrong arguments n
+few_are_missing arguments n is few fit =
+    let all : FitAll form arguments = subst (FitAll form) (take_all n arguments (omega arith)) fit in
+    subst (IsWrong arguments) (sym is) (missing arguments (begin_of_fit arguments all) (λ has. absurd (omega (arith, few, form_is_five arguments has))))
 
--- a word number is small
-pub misfit_is_small : (words : List (List ℕ)) (n : ℕ) → n ≤ length words → FitAll form (take n words) → n ≤ 5
-misfit_is_small words n within fit = let few = fit_is_short (take n words) fit in let same : length (take n words) ≡ n = length-take-le n words within in omega (arith, few, same)
+-- a argument number is small
+pub misfit_is_small : (arguments : List (List ℕ)) (n : ℕ) → n ≤ length arguments → FitAll form (take n arguments) → n ≤ 5
+misfit_is_small arguments n within fit = let few = fit_is_short (take n arguments) fit in let same : length (take n arguments) ≡ n = length-take-le n arguments within in omega (arith, few, same)

@@ -5,43 +5,44 @@ use Rattle.std.proofs.lemmas.List.{take-append-drop}
 use Rattle.fault_count.specs.Faults.{Rose}
 use Rattle.abl_outside.specs.Out.{appended}
 use Rattle.abl_outside.specs.declared.out.Stream.TheVariants.{Output as Standard}
-use Rattle.block_meaning.specs.declared.ends.ClientEnd.{ClientEnd}
-use Rattle.block_meaning.specs.declared.ends.ClientEnd.TheVariants as end
+use Rattle.client_database.specs.declared.ends.ClientEnd.{ClientEnd}
+use Rattle.client_database.specs.declared.ends.ClientEnd.TheVariants as end
 use Rattle.block_vm.specs.declared.output.Section.{Section}
 use Rattle.abl_cli.specs.declared.refusal.Refusal.{Refusal}
 use Rattle.abl_cli.specs.declared.refusal.Refusal.TheVariants.{Usage, File, TooLong, Schema, Source, Client, Output, NoMemory}
-use Rattle.abl_cli.specs.declared.run.Report.{Report}
-use Rattle.abl_cli.specs.Words.{HaveForm, Begin, IsWrong, at_word, missing}
+use Rattle.abl_cli.specs.declared.command.Report.{Report}
+use Rattle.abl_cli.specs.CommandLine.{HaveForm, Begin, IsWrong, at_argument, missing}
 use Rattle.abl_values.specs.Schema.{SchemaData}
-use Rattle.abl_cli.specs.declared.words.Mode.{Mode}
+use Rattle.abl_cli.specs.declared.arguments.Mode.{Mode}
 use Rattle.abl_cli.specs.Report.{run_text, status_of}
-use Rattle.abl_cli.specs.Writes.{Written}
-use Rattle.abl_cli.specs.Command.{Shelf, IsNotRead, Prevents, no_schema, no_source, schema_breaks, source_breaks, Cause, wrong_word, prevented, IsReported, Did, Refused, Ran, Tells, refusal_after, status_after, IsUsage}
+use Rattle.abl_outside.specs.Out.{OutState}
+use Rattle.abl_outside.specs.Files.{FileState}
+use Rattle.abl_cli.specs.Command.{IsNotRead, Prevents, no_schema, no_source, schema_breaks, source_breaks, Cause, wrong_argument, prevented, IsReported, CommandResult, Refused, Ran, WritesStatus, refusal_after, status_after, IsUsage}
 
--- ---- words
+-- ---- arguments
 
-begin_of_form : (words : List (List ℕ)) (k : ℕ) → HaveForm words → Begin (take k words)
-begin_of_form words k form = (drop k words, subst HaveForm (sym (take-append-drop k words)) form)
+begin_of_form : (arguments : List (List ℕ)) (k : ℕ) → HaveForm arguments → Begin (take k arguments)
+begin_of_form arguments k form = (drop k arguments, subst HaveForm (sym (take-append-drop k arguments)) form)
 
--- wrong words have no form
-pub wrong_or_formed : (words : List (List ℕ)) (n : ℕ) → IsWrong words n → HaveForm words → ⊥
-wrong_or_formed words n (at_word ws k below begins ends) form = ends (begin_of_form ws (k + 1) form)
-wrong_or_formed words n (missing ws begins formless) form = formless form
+-- wrong arguments have no form
+pub wrong_or_formed : (arguments : List (List ℕ)) (n : ℕ) → IsWrong arguments n → HaveForm arguments → ⊥
+wrong_or_formed arguments n (at_argument ws k below begins ends) form = ends (begin_of_form ws (k + 1) form)
+wrong_or_formed arguments n (missing ws begins formless) form = formless form
 
--- ---- what stands against a run
+-- ---- the refusal of a run
 
-no_usage : (whole : Bool) (how : ClientEnd) (word : ℕ) → refusal_after how whole ≡ Some (Usage word) → ⊥
-no_usage true end.Normal word e = cc e
-no_usage false end.Normal word e = cc e
-no_usage true end.Returned word e = cc e
-no_usage false end.Returned word e = cc e
-no_usage whole (end.Error t) word e = cc e
-no_usage whole (end.Stop why) word e = cc e
-no_usage whole end.NoMemory word e = cc e
+no_usage : (whole : Bool) (how : ClientEnd) (arg : ℕ) → refusal_after how whole ≡ Some (Usage arg) → ⊥
+no_usage true end.Normal arg e = cc e
+no_usage false end.Normal arg e = cc e
+no_usage true end.Returned arg e = cc e
+no_usage false end.Returned arg e = cc e
+no_usage whole (end.Error t) arg e = cc e
+no_usage whole (end.Stop why) arg e = cc e
+no_usage whole end.NoMemory arg e = cc e
 
-is_usage : (refusal : Option Refusal) → IsUsage refusal → (word : ℕ) × (refusal ≡ Some (Usage word))
+is_usage : (refusal : Option Refusal) → IsUsage refusal → (arg : ℕ) × (refusal ≡ Some (Usage arg))
 is_usage None h = absurd h
-is_usage (Some (Usage word)) h = (word, refl)
+is_usage (Some (Usage arg)) h = (arg, refl)
 is_usage (Some (File file)) h = absurd h
 is_usage (Some (TooLong file most)) h = absurd h
 is_usage (Some (Schema rule line)) h = absurd h
@@ -50,63 +51,63 @@ is_usage (Some (Client first)) h = absurd h
 is_usage (Some Output) h = absurd h
 is_usage (Some NoMemory) h = absurd h
 
--- ---- the wrong word
+-- ---- the wrong argument
 
-module _ (words : List (List ℕ)) (shelf : Shelf) (faults : ℕ) (old new : Written) (report : Report) where
-  -- nothing that prevents a run is told as a wrong word, or as a fault of the output
-  no_unread_usage : {file : List ℕ} {word : ℕ} → IsNotRead shelf faults file (Usage word) → ⊥
+module _ (arguments : List (List ℕ)) (files : FileState) (faults : ℕ) (old new : OutState) (report : Report) where
+  -- nothing that prevents a run is reported as a wrong argument, or as a fault of the output
+  no_unread_usage : {file : List ℕ} {arg : ℕ} → IsNotRead files faults file (Usage arg) → ⊥
   no_unread_usage h = elim h [ ]
 
-  no_prevents_usage : {schema program : List ℕ} {word : ℕ} → Prevents shelf faults schema program (Usage word) → ⊥
+  no_prevents_usage : {schema program : List ℕ} {arg : ℕ} → Prevents files faults schema program (Usage arg) → ⊥
   no_prevents_usage (no_schema h) = no_unread_usage h
   no_prevents_usage (no_source has h) = no_unread_usage h
   no_prevents_usage (schema_breaks texts h) = elim h [ ]
   no_prevents_usage (source_breaks texts clean h) = elim h [ ]
 
-  no_prevents_output : {schema program : List ℕ} → Prevents shelf faults schema program Output → ⊥
+  no_prevents_output : {schema program : List ℕ} → Prevents files faults schema program Output → ⊥
   no_prevents_output (no_schema h) = elim h [ ]
   no_prevents_output (no_source has h) = elim h [ ]
   no_prevents_output (schema_breaks texts h) = elim h [ ]
   no_prevents_output (source_breaks texts clean h) = elim h [ ]
 
-  usage_is_wrong : (name : List ℕ) (word : ℕ) → Cause words shelf faults name (Usage word) → IsWrong words word
-  usage_is_wrong name word (wrong_word wrong) = wrong
-  usage_is_wrong name word (prevented run is_run are prevents) = absurd (no_prevents_usage prevents)
+  usage_is_wrong : (name : List ℕ) (arg : ℕ) → Cause arguments files faults name (Usage arg) → IsWrong arguments arg
+  usage_is_wrong name arg (wrong_argument wrong) = wrong
+  usage_is_wrong name arg (prevented run is_run are prevents) = absurd (no_prevents_usage prevents)
 
-  no_output_cause : (name : List ℕ) → Cause words shelf faults name Output → ⊥
+  no_output_cause : (name : List ℕ) → Cause arguments files faults name Output → ⊥
   no_output_cause name (prevented run is_run are prevents) = no_prevents_output prevents
 
-  pub wrong_is_told : (word : ℕ) → Did words shelf faults old new report → report.refusal ≡ Some (Usage word) → IsWrong words word
-  wrong_is_told word (Refused name refusal cause is) told =
-      let same : refusal ≡ Usage word = cc (is.refusal, told) in usage_is_wrong name word (subst (λ r. Cause words shelf faults name r) same cause)
-  wrong_is_told word (Ran named is_run are texts clean tree form ran) told =
-      absurd (no_usage ran.reported.whole ran.end word (sym ran.reported.refusal ∙ told))
+  pub wrong_is_reported : (arg : ℕ) → CommandResult arguments files faults old new report → report.refusal ≡ Some (Usage arg) → IsWrong arguments arg
+  wrong_is_reported arg (Refused name refusal cause is) given =
+      let same : refusal ≡ Usage arg = cc (is.refusal, given) in usage_is_wrong name arg (subst (λ r. Cause arguments files faults name r) same cause)
+  wrong_is_reported arg (Ran named is_run are texts clean tree form ran) given =
+      absurd (no_usage ran.reported.whole ran.end arg (sym ran.reported.refusal ∙ given))
 
-  formless_is_usage : (name : List ℕ) (refusal : Refusal) → Cause words shelf faults name refusal → (HaveForm words → ⊥) → IsUsage (Some refusal)
-  formless_is_usage name refusal (wrong_word wrong) formless = tt
+  formless_is_usage : (name : List ℕ) (refusal : Refusal) → Cause arguments files faults name refusal → (HaveForm arguments → ⊥) → IsUsage (Some refusal)
+  formless_is_usage name refusal (wrong_argument wrong) formless = tt
   formless_is_usage name refusal (prevented run is_run are prevents) formless = absurd (formless (run, (is_run, are)))
 
-  pub formless_is_told : Did words shelf faults old new report → (HaveForm words → ⊥) → IsUsage report.refusal
-  formless_is_told (Refused name refusal cause is) formless = subst IsUsage (sym is.refusal) (formless_is_usage name refusal cause formless)
-  formless_is_told (Ran named is_run are texts clean tree form ran) formless = absurd (formless (named, (is_run, are)))
+  pub formless_is_reported : CommandResult arguments files faults old new report → (HaveForm arguments → ⊥) → IsUsage report.refusal
+  formless_is_reported (Refused name refusal cause is) formless = subst IsUsage (sym is.refusal) (formless_is_usage name refusal cause formless)
+  formless_is_reported (Ran named is_run are texts clean tree form ran) formless = absurd (formless (named, (is_run, are)))
 
-  pub formed_is_not_told : Did words shelf faults old new report → HaveForm words → IsUsage report.refusal → ⊥
-  formed_is_not_told did form usage = let word = is_usage report.refusal usage in wrong_or_formed words word.0 (wrong_is_told word.0 did word.1) form
+  pub formed_is_no_usage : CommandResult arguments files faults old new report → HaveForm arguments → IsUsage report.refusal → ⊥
+  formed_is_no_usage did form usage = let arg = is_usage report.refusal usage in wrong_or_formed arguments arg.0 (wrong_is_reported arg.0 did arg.1) form
 
   -- ---- faults of the output
 
   -- what was written later has no lower count
-  told_later : (name : List ℕ) (ends : List ClientEnd) (refusal : Option Refusal) (before after : Written) → Tells name ends refusal before after → before.faults ≤ after.faults
-  told_later name ends None before after is = let e = ap (λ (w : Written). w.faults) is in omega (arith, e)
-  told_later name ends (Some refusal) before after is = is.1.later
+  faults_later : (name : List ℕ) (ends : List ClientEnd) (refusal : Option Refusal) (before after : OutState) → WritesStatus name ends refusal before after → before.faults ≤ after.faults
+  faults_later name ends None before after is = let e = ap (λ (w : OutState). w.faults) is in omega (arith, e)
+  faults_later name ends (Some refusal) before after is = is.1.later
 
-  -- the text is the same whatever the schema, so one with nothing in it tells
+  -- the text is the same whatever the schema, so an empty one serves
   empty_schema : SchemaData
   empty_schema = record { tables = []; sequences = []; order = [] }
 
   pub rose_in_report : (mode : Mode) (name : List ℕ) (how : ClientEnd) (sections : List Section) (r : IsReported mode name how sections old new report) → r.whole ≡ false → Rose old.faults new.faults
   rose_in_report mode name how sections r broken =
-      rose_to r.between.faults (told_later name report.ends report.refusal r.between new r.lines) ((r.text empty_schema).cause broken)
+      rose_to r.between.faults (faults_later name report.ends report.refusal r.between new r.lines) ((r.text empty_schema).cause broken)
     where
       rose_to : (mid : ℕ) → mid ≤ new.faults → Rose old.faults mid → Rose old.faults new.faults
       rose_to mid later (inl below) = inl (omega (arith, later, below))
@@ -121,11 +122,11 @@ module _ (words : List (List ℕ)) (shelf : Shelf) (faults : ℕ) (old new : Wri
   output_breaks whole (end.Stop why) e = absurd (cc e)
   output_breaks whole end.NoMemory e = absurd (cc e)
 
-  pub output_rose : Did words shelf faults old new report → report.refusal ≡ Some Output → Rose old.faults new.faults
-  output_rose (Refused name refusal cause is) told =
-      let same : refusal ≡ Output = cc (is.refusal, told) in absurd (no_output_cause name (subst (λ r. Cause words shelf faults name r) same cause))
-  output_rose (Ran named is_run are texts clean tree form ran) told =
-      rose_in_report named.mode named.name ran.end ran.sections ran.reported (output_breaks ran.reported.whole ran.end (sym ran.reported.refusal ∙ told))
+  pub output_rose : CommandResult arguments files faults old new report → report.refusal ≡ Some Output → Rose old.faults new.faults
+  output_rose (Refused name refusal cause is) given =
+      let same : refusal ≡ Output = cc (is.refusal, given) in absurd (no_output_cause name (subst (λ r. Cause arguments files faults name r) same cause))
+  output_rose (Ran named is_run are texts clean tree form ran) given =
+      rose_in_report named.mode named.name ran.end ran.sections ran.reported (output_breaks ran.reported.whole ran.end (sym ran.reported.refusal ∙ given))
 
   -- ---- status 0
 
@@ -139,7 +140,7 @@ module _ (words : List (List ℕ)) (shelf : Shelf) (faults : ℕ) (old new : Wri
   status_of_run whole end.NoMemory e = absurd (cc e)
 
   no_status_0 : (refusal : Refusal) → status_of refusal ≡ 0 → ⊥
-  no_status_0 (Usage word) e = cc e
+  no_status_0 (Usage arg) e = cc e
   no_status_0 (File file) e = cc e
   no_status_0 (TooLong file most) e = cc e
   no_status_0 (Schema rule line) e = cc e
@@ -148,10 +149,10 @@ module _ (words : List (List ℕ)) (shelf : Shelf) (faults : ℕ) (old new : Wri
   no_status_0 Output e = cc e
   no_status_0 NoMemory e = cc e
 
-  pub whole_at_0 : Did words shelf faults old new report → report.status ≡ 0 → IsTrue old.told → (mode : Mode) × (name : List ℕ) × (sections : List Section) × ((schema : SchemaData) → new.texts ≡ appended Standard (run_text mode schema name sections report.trace) old.texts)
-  whole_at_0 (Refused name refusal cause is) zero told = absurd (no_status_0 refusal (sym is.status ∙ zero))
-  whole_at_0 (Ran named is_run are texts clean tree form ran) zero told =
+  pub whole_at_0 : CommandResult arguments files faults old new report → report.status ≡ 0 → IsTrue old.observable → (mode : Mode) × (name : List ℕ) × (sections : List Section) × ((schema : SchemaData) → new.texts ≡ appended Standard (run_text mode schema name sections report.trace) old.texts)
+  whole_at_0 (Refused name refusal cause is) zero given = absurd (no_status_0 refusal (sym is.status ∙ zero))
+  whole_at_0 (Ran named is_run are texts clean tree form ran) zero given =
       let r = ran.reported in
       let ok = status_of_run r.whole ran.end (ap status_after (sym r.refusal) ∙ sym r.status ∙ zero) in
-      let same : new ≡ r.between = subst (λ refusal. Tells named.name report.ends refusal r.between new) (r.refusal ∙ ok.1) r.lines in
-      (named.mode, named.name, ran.sections, λ schema. ap (λ (w : Written). w.texts) same ∙ (r.text schema).all ok.0 told)
+      let same : new ≡ r.between = subst (λ refusal. WritesStatus named.name report.ends refusal r.between new) (r.refusal ∙ ok.1) r.lines in
+      (named.mode, named.name, ran.sections, λ schema. ap (λ (w : OutState). w.texts) same ∙ (r.text schema).all ok.0 given)

@@ -2,12 +2,12 @@
 use Rattle.std.proofs.Common.{◌≡◌, ◌<◌, ◌≤◌, ◌+◌, ◌*◌, ◌-◌, ◌^◌, ℕ, List, [], ◌∷◌, refl, arith, length, get_or, take, add-one, pow-suc}
 use Rattle.std.proofs.Math.Seq.{take-suc}
 use Rattle.std.proofs.lemmas.List.Sums.{fold-append}
-use Rattle.abl_cli.specs.Words.{number_of}
+use Rattle.abl_cli.specs.CommandLine.{number_of}
 
 -- one digit more
-pub number_of-take : (word : List ℕ) (i : ℕ) → i < length word → number_of (take (i + 1) word) ≡ 10 * number_of (take i word) + (get_or word i 0 - 48)
-number_of-take word i below =
-    rw (add-one i, take-suc word i 0 below, fold-append (λ n digit. 10 * n + (digit - 48)) 0 (take i word) (get_or word i 0 ∷ [])) refl
+pub number_of-take : (arg : List ℕ) (i : ℕ) → i < length arg → number_of (take (i + 1) arg) ≡ 10 * number_of (take i arg) + (get_or arg i 0 - 48)
+number_of-take arg i below =
+    rw (add-one i, take-suc arg i 0 below, fold-append (λ n digit. 10 * n + (digit - 48)) 0 (take i arg) (get_or arg i 0 ∷ [])) refl
 
 -- a digit more is a place more
 pub below_power : (n i digit : ℕ) → n < 10 ^ i → digit ≤ 9 → 10 * n + digit < 10 ^ (i + 1)

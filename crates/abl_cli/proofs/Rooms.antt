@@ -1,22 +1,22 @@
--- The room that a trace has while a client runs.
+-- What a client requests, and that it is active then.
 use Rattle.std.proofs.Common.{◌≡◌, ◌≢◌, ◌≤◌, ◌+◌, ◌⊎◌, inl, inr, ℕ, [], refl, sym, subst, arith}
 use Rattle.block_vm.specs.Standing.{Standing}
-use Rattle.block_meaning.specs.declared.wants.Wants.{Wants}
-use Rattle.block_meaning.specs.declared.wants.Wants.TheVariants.{Ask, Ended}
+use Rattle.client_database.specs.declared.next_step.NextStep.{NextStep}
+use Rattle.client_database.specs.declared.next_step.NextStep.TheVariants.{Ask, Ended}
 use Rattle.block_vm.specs.declared.mode.Mode.{Mode}
 use Rattle.block_vm.specs.declared.mode.Mode.TheVariants.{Runs, Turns, Over, AsksEnter, AsksBack, AsksLeave, AsksEnd, Ended as HasEnded}
-use Rattle.block_vm.specs.Wants.{IsEnded}
+use Rattle.block_vm.specs.NextStep.{IsEnded}
 use Rattle.block_vm.specs.Work.{Shows, ShowsWants, Waits, IsWaiting, AsksTheEnd, IsEnding}
-use Rattle.database_meaning.specs.declared.operation.Op.{Op}
-use Rattle.database_meaning.specs.declared.operation.Op.TheVariants.{Enter, Leave, Back, End}
+use Rattle.client_database.specs.declared.operation.Op.{Op}
+use Rattle.client_database.specs.declared.operation.Op.TheVariants.{Enter, Leave, Back, End}
 use Rattle.level_machine.specs.Turns.{IsLevelOp}
 
--- room for the event of what the client wants
-abbrev pub HasRoomFor : Wants → ℕ → ℕ → Type 0
-HasRoomFor (Ask op) len capacity = len + 1 ≤ capacity
-HasRoomFor (Ended end) len capacity = Unit {0}
+-- where the client requests an operation, it is active
+abbrev pub MayRequest : NextStep → Type 0 → Type 0
+MayRequest (Ask op) Active = Active
+MayRequest (Ended end) Active = Unit {0}
 
--- a client that asks waits for the answer
+-- a client that requests an operation waits for the answer
 pub asking_waits : (client : Standing) (op : Op) → ShowsWants client (Ask op) → IsWaiting client
 asking_waits client op shows = go client.config.mode shows
   where
@@ -30,7 +30,7 @@ asking_waits client op shows = go client.config.mode shows
     go (AsksEnd ending) shows = tt
     go HasEnded shows = absurd shows
 
--- one that asks End is ending
+-- one that requests End is ending
 pub asking_end_ends : (client : Standing) → ShowsWants client (Ask End) → IsEnding client
 asking_end_ends client shows = go client.config.mode shows
   where
@@ -44,7 +44,7 @@ asking_end_ends client shows = go client.config.mode shows
     go (AsksEnd ending) shows = tt
     go HasEnded shows = absurd shows
 
--- so far a client asks operations of levels alone
+-- so far a client requests operations of levels alone
 pub asks_levels : (client : Standing) (op : Op) → ShowsWants client (Ask op) → IsLevelOp op
 asks_levels client op shows = go client.config.mode shows
   where
@@ -65,18 +65,11 @@ end_or_not : (op : Op) → (op ≡ End) ⊎ (op ≢ End)
 end_or_not End = inl refl
 end_or_not op = inr (λ e. cc e)
 
--- after an event there is room for what the client wants next
-pub room_after :
-    (op : Op) (wants : Wants) (len capacity : ℕ) →
-    (op ≢ End → len + 2 ≤ capacity) → (op ≡ End → IsEnded wants) → HasRoomFor wants (len + 1) capacity
-room_after op (Ended end) len capacity room ends = tt
-room_after op (Ask next) len capacity room ends = go (end_or_not op)
-  where
-    go : (op ≡ End) ⊎ (op ≢ End) → len + 1 + 1 ≤ capacity
-    go (inl is) = absurd (ends is)
-    go (inr other) = let two = room other in omega (arith, two)
+-- after the answer to another operation than End, and to End, which ends it
+pub may_request_after : (op : Op) (wants : NextStep) {Active : Type 0} → (op ≢ End → Active) → (op ≡ End → IsEnded wants) → MayRequest wants Active
+may_request_after op (Ended end) active ends = tt
+may_request_after op (Ask next) active ends = elim (end_or_not op) [ inl is ↦ absurd (ends is) | inr other ↦ active other ]
 
--- the first room
-pub first_room : (wants : Wants) (len capacity : ℕ) → len + 1 ≤ capacity → HasRoomFor wants len capacity
-first_room (Ask op) len capacity room = room
-first_room (Ended end) len capacity room = tt
+pub may_request_first : (wants : NextStep) {Active : Type 0} → Active → MayRequest wants Active
+may_request_first (Ask op) active = active
+may_request_first (Ended end) active = tt

@@ -1,8 +1,8 @@
 -- Where a list splits at its first `=`.
 use Rattle.std.proofs.Common.{◌≡◌, ◌≢◌, ◌+◌, ℕ, suc, List, [], ◌∷◌, ◌++◌, refl, sym, ◌∙◌, arith, inl, inr, get_or, take, drop, subst}
 use Rattle.std.specs.Prelude.{All}
-use Rattle.abl_cli.specs.Words.{IsName, IsProgram}
-use Rattle.abl_cli.specs.Slots.{IsClient}
+use Rattle.abl_cli.specs.CommandLine.{IsName, IsProgram}
+use Rattle.abl_cli.specs.Arguments.{IsClient}
 use Rattle.std.specs.Char.{IsAsciiAlphanumeric}
 
 -- what holds of each element holds of the first one, and of each of the others
@@ -39,16 +39,16 @@ no_sign xs all k d below = is_no_sign (get_or xs k d) (all k d below)
     is_no_sign byte (inl (inr upper)) = omega arith
     is_no_sign byte (inr lower) = omega arith
 
--- the parts of a client's word stand around its first `=`
+-- the parts of a client's argument are those around its first `=`
 pub parts_of_client :
-    (word : List ℕ) (at : ℕ) → All (λ byte. byte ≢ 61) (take at word) → word ≡ take at word ++ 61 ∷ drop (at + 1) word →
-    IsClient word → IsName (take at word) × IsProgram (drop (at + 1) word)
-parts_of_client word at front split client =
-    let same = split_once_only (take at word) (drop (at + 1) word) client.name client.program front
+    (arg : List ℕ) (at : ℕ) → All (λ byte. byte ≢ 61) (take at arg) → arg ≡ take at arg ++ 61 ∷ drop (at + 1) arg →
+    IsClient arg → IsName (take at arg) × IsProgram (drop (at + 1) arg)
+parts_of_client arg at front split client =
+    let same = split_once_only (take at arg) (drop (at + 1) arg) client.name client.program front
     (no_sign client.name client.is_name.letters) (sym split ∙ client.joined) in
     (subst IsName (sym same.0) client.is_name, subst IsProgram (sym same.1) client.is_program)
 
--- a word without `=` is no client's
-pub no_client : (word : List ℕ) → All (λ byte. byte ≢ 61) word → IsClient word → ⊥
-no_client word all client =
+-- a argument without `=` is no client's
+pub no_client : (arg : List ℕ) → All (λ byte. byte ≢ 61) arg → IsClient arg → ⊥
+no_client arg all client =
     has_none client.name client.program (subst (All (λ byte. byte ≢ 61)) client.joined all)

@@ -3,9 +3,9 @@ use Rattle.std.proofs.Common.{◌≡◌, ◌<◌, ◌+◌, ℕ, suc, zero, Bool,
 use Rattle.std.specs.Prelude.{codes}
 use Rattle.abl_values.specs.Schema.{SchemaData}
 use Rattle.abl_outside.specs.declared.out.Stream.TheVariants.{Output}
-use Rattle.database_meaning.specs.declared.operation.Event.{Event}
+use Rattle.client_database.specs.declared.event.Event.{Event}
 use Rattle.abl_cli.specs.Trace.{trace_line, trace_lines, trace_part}
-use Rattle.abl_cli.specs.Writes.{Written, Writes}
+use Rattle.abl_outside.specs.Out.{OutState, Writes}
 use Rattle.abl_cli.proofs.Writing.{writes_part, writes_then}
 
 -- the lines, parted at one of them
@@ -58,7 +58,7 @@ module _ (schema : SchemaData) (names : List (List ℕ)) (trace : List Event) (i
 
   -- a further line was written
   pub writes_more :
-      (ok : Bool) (old mid new : Written) → Writes true Output (trace_part schema names (take i trace)) old mid →
+      (ok : Bool) (old mid new : OutState) → Writes true Output (trace_part schema names (take i trace)) old mid →
       Writes ok Output (trace_line schema names (i + 1) (get_or trace i d)) mid new → Writes ok Output (trace_part schema names (take (i + 1) trace)) old new
   writes_more ok old mid new before line =
       subst (λ text. Writes ok Output text old new) (sym part-more)
@@ -66,7 +66,7 @@ module _ (schema : SchemaData) (names : List (List ℕ)) (trace : List Event) (i
 
   -- a prefix of a further line was written
   pub writes_some :
-      (old mid new : Written) → Writes true Output (trace_part schema names (take i trace)) old mid →
+      (old mid new : OutState) → Writes true Output (trace_part schema names (take i trace)) old mid →
       Writes false Output (trace_line schema names (i + 1) (get_or trace i d)) mid new → Writes false Output (trace_part schema names trace) old new
   writes_some old mid new before line =
       subst (λ text. Writes false Output text old new) (sym whole)

@@ -9,7 +9,7 @@ use Rattle.abl_outside.specs.declared.out.Stream.{Stream}
 use Rattle.abl_outside.specs.declared.out.Stream.TheVariants.{Output, Diagnostics}
 use Rattle.abl_outside.specs.Out.{Texts, appended, AppendsPrefix}
 use Rattle.fault_count.specs.Faults.{Rose}
-use Rattle.abl_cli.specs.Writes.{Written, Writes}
+use Rattle.abl_outside.specs.Out.{OutState, Writes}
 
 appended-nothing : (stream : Stream) (t : Texts) → appended stream [] t ≡ t
 appended-nothing Output t = ap (λ text. record { output = text; diagnostics = t.diagnostics }) (append-nil t.output)
@@ -20,15 +20,15 @@ appended-append Output a b t = ap (λ text. record { output = text; diagnostics 
 appended-append Diagnostics a b t = ap (λ text. record { output = t.output; diagnostics = text }) (append_assoc t.diagnostics a b)
 
 -- nothing was written
-pub writes_nothing : (stream : Stream) (w : Written) → Writes true stream [] w w
+pub writes_nothing : (stream : Stream) (w : OutState) → Writes true stream [] w w
 writes_nothing stream w =
     record {
-      all = λ ok told. sym (appended-nothing stream w.texts);
+      all = λ ok given. sym (appended-nothing stream w.texts);
       part = λ no. absurd (cc no);
       cause = λ no. absurd (cc no);
       quiet = λ ok. refl;
       later = omega arith;
-      tells = refl;
+      same_observable = refl;
     }
 
 -- a count that rose from a later one rose from an earlier one too
@@ -40,7 +40,7 @@ rose_later a b c le more (inr last) = either (cases_lt a c)
     either (inl lt) = inl lt
     either (inr ge) = inr (omega (arith, le, more, last, ge))
 
--- a prefix behind a whole text
+-- a prefix after a whole text
 part_then : (stream : Stream) (a b : List ℕ) (old mid new : Texts) → mid ≡ appended stream a old → AppendsPrefix stream b mid new → AppendsPrefix stream (a ++ b) old new
 part_then stream a b old mid new is part =
     let both : length (a ++ b) ≡ length a + length b = length-append a b in (
@@ -52,29 +52,29 @@ part_then stream a b old mid new is part =
 
 -- a text, and then another, or a prefix of it
 pub writes_then :
-    (ok : Bool) (stream : Stream) (a b : List ℕ) (old mid new : Written) →
+    (ok : Bool) (stream : Stream) (a b : List ℕ) (old mid new : OutState) →
     Writes true stream a old mid → Writes ok stream b mid new → Writes ok stream (a ++ b) old new
 writes_then ok stream a b old mid new first second =
     record {
-      all = λ yes told. second.all yes (subst IsTrue (sym first.tells) told) ∙ ap (appended stream b) (first.all refl told) ∙ appended-append stream a b old.texts;
-      part = λ no told. part_then stream a b old.texts mid.texts new.texts (first.all refl told) (second.part no (subst IsTrue (sym first.tells) told));
+      all = λ yes given. second.all yes (subst IsTrue (sym first.same_observable) given) ∙ ap (appended stream b) (first.all refl given) ∙ appended-append stream a b old.texts;
+      part = λ no given. part_then stream a b old.texts mid.texts new.texts (first.all refl given) (second.part no (subst IsTrue (sym first.same_observable) given));
       cause = λ no. rose_later old.faults mid.faults new.faults first.later second.later (second.cause no);
       quiet = λ yes. second.quiet yes ∙ first.quiet refl;
       later = omega (arith, first.later, second.later);
-      tells = second.tells ∙ first.tells;
+      same_observable = second.same_observable ∙ first.same_observable;
     }
 
 -- a prefix of a text is one of a longer text
 pub writes_part :
-    (stream : Stream) (a b : List ℕ) (old new : Written) → Writes false stream a old new → Writes false stream (a ++ b) old new
+    (stream : Stream) (a b : List ℕ) (old new : OutState) → Writes false stream a old new → Writes false stream (a ++ b) old new
 writes_part stream a b old new first =
     record {
       all = λ no. absurd (cc no);
-      part = λ no told. longer (first.part refl told);
+      part = λ no given. longer (first.part refl given);
       cause = first.cause;
       quiet = λ no. absurd (cc no);
       later = first.later;
-      tells = first.tells;
+      same_observable = first.same_observable;
     }
   where
     longer : AppendsPrefix stream a old.texts new.texts → AppendsPrefix stream (a ++ b) old.texts new.texts
@@ -99,7 +99,7 @@ flat_map-parted f (x ∷ xs) (suc i) d below =
 
 -- the texts before an element were written whole, and a prefix of its own
 pub writes_within :
-    {X : Type 0} (f : X → List ℕ) (xs : List X) (i : ℕ) (d : X) (stream : Stream) (old mid new : Written) → i < length xs →
+    {X : Type 0} (f : X → List ℕ) (xs : List X) (i : ℕ) (d : X) (stream : Stream) (old mid new : OutState) → i < length xs →
     Writes true stream (flat_map f (take i xs)) old mid → Writes false stream (f (get_or xs i d)) mid new →
     Writes false stream (flat_map f xs) old new
 writes_within f xs i d stream old mid new below before at =

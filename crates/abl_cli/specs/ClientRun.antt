@@ -1,14 +1,14 @@
 -- What a client did: its operations, its end and what it wrote, by the meaning of its source.
 use Rattle.std.specs.Prelude.{◌≡◌, ℕ, List, [], ◌∷◌, ◌++◌}
-use Rattle.database_meaning.specs.declared.operation.Op.TheVariants.{End}
-use Rattle.database_meaning.specs.declared.operation.Answer.{Answer}
-use Rattle.database_meaning.specs.declared.operation.Event.{Event}
+use Rattle.client_database.specs.declared.operation.Op.TheVariants.{End}
+use Rattle.client_database.specs.declared.answer.Answer.{Answer}
+use Rattle.client_database.specs.declared.event.Event.{Event}
 use Rattle.database_meaning.specs.Traces.{operations_of, answers_of}
-use Rattle.block_meaning.specs.declared.ends.ClientEnd.{ClientEnd}
-use Rattle.block_meaning.specs.declared.ends.ClientEnd.TheVariants as end
+use Rattle.client_database.specs.declared.ends.ClientEnd.{ClientEnd}
+use Rattle.client_database.specs.declared.ends.ClientEnd.TheVariants as end
 use Rattle.block_meaning.specs.declared.wants.Piece.{Piece}
-use Rattle.block_meaning.specs.declared.wants.Wants.TheVariants.{Ended}
-use Rattle.block_meaning.specs.State.{Doing}
+use Rattle.client_database.specs.declared.next_step.NextStep.TheVariants.{Ended}
+use Rattle.block_meaning.specs.State.{Progress}
 use Rattle.block_meaning.specs.Meaning.{asked}
 use Rattle.block_meaning.specs.GivesUp.{Begins, GaveUp}
 use Rattle.block_vm.specs.declared.output.Section.{Section}
@@ -20,32 +20,32 @@ abbrev pub end_event : Answer → Event
 end_event a = record { client = 0; op = End; answer = a }
 
 -- what a client did whose run means m: the events, its end, and the pieces that it wrote
-pub data DidAsMeant (m : List Answer → Doing) : List Event → ClientEnd → List Piece → Type 0 where
-  -- its operations are those that m asks under its answers, and after them it has ended and written as m says
+pub data RanAsMeant (m : List Answer → Progress) : List Event → ClientEnd → List Piece → Type 0 where
+  -- its operations are those that m requests under its answers, and after them it has ended and written as m says
   ToItsEnd : (trace : List Event) (how : ClientEnd) (pieces : List Piece) →
       operations_of 0 trace ≡ asked m (answers_of 0 trace) → m (answers_of 0 trace) ≡ record { written = pieces; wants = Ended how } →
-      DidAsMeant m trace how pieces
-  -- or memory was wanting where m asks something more: End was asked in its place, and what was written goes on from what m had
-  -- written at the last answer, and is a beginning of what m writes before it asks again
+      RanAsMeant m trace how pieces
+  -- or it was out of memory where m requests one operation more: End was requested in its place, and what was written extends what m
+  -- had written at the last answer, and is a prefix of what m writes before it requests an operation again
   GivingUp : (before : List Event) (a : Answer) (pieces : List Piece) →
       operations_of 0 before ≡ asked m (answers_of 0 before) → GaveUp m (answers_of 0 before) pieces →
-      DidAsMeant m (before ++ end_event a ∷ []) end.NoMemory pieces
+      RanAsMeant m (before ++ end_event a ∷ []) end.NoMemory pieces
 
--- and the sections that it wrote; no section where want of memory kept it from beginning. A source that is built so far
+-- and the sections that it wrote; no section where it was out of memory before it began. A source that is built so far
 -- names no output
-pub data ClientDid (m : List Answer → Doing) : List Event → ClientEnd → List Section → Type 0 where
-  NeverBegan : ClientDid m [] end.NoMemory []
-  Began : (trace : List Event) (how : ClientEnd) (pieces : List Piece) → DidAsMeant m trace how pieces →
-      ClientDid m trace how (sections_of [] pieces)
+pub data ClientOutcome (m : List Answer → Progress) : List Event → ClientEnd → List Section → Type 0 where
+  NeverBegan : ClientOutcome m [] end.NoMemory []
+  Began : (trace : List Event) (how : ClientEnd) (pieces : List Piece) → RanAsMeant m trace how pieces →
+      ClientOutcome m trace how (sections_of [] pieces)
 
 -- ---- inside of a run
 
 -- m never takes back what it has written
-abbrev pub OnlyGrows : (List Answer → Doing) → Type 0
+abbrev pub OnlyGrows : (List Answer → Progress) → Type 0
 OnlyGrows m = (ans more : List Answer) → Begins (m ans).written (m (ans ++ more)).written
 
 -- what a client has done in the end, where the named outputs have these names
-pub record HasDone (client : Standing) (names : List (List ℕ)) (m : List Answer → Doing) (trace : List Event) (how : ClientEnd) : Type 0 where
+pub record Finished (client : Standing) (names : List (List ℕ)) (m : List Answer → Progress) (trace : List Event) (how : ClientEnd) : Type 0 where
   pub pieces : List Piece
   pub has : HasWritten client names pieces
-  pub did : DidAsMeant m trace how pieces
+  pub did : RanAsMeant m trace how pieces

@@ -2,13 +2,13 @@
 use Rattle.std.specs.Prelude.{◌≡◌, refl, true, [], ◌∷◌, ℕ, codes}
 use Rattle.std.specs.Fmt.{digits}
 use Rattle.abl_values.specs.Schema.{SchemaData}
-use Rattle.database_meaning.specs.declared.operation.Op.{Op}
-use Rattle.database_meaning.specs.declared.operation.Op.TheVariants.{Enter, Leave, Back, End, Lock}
-use Rattle.database_meaning.specs.declared.operation.Answer.{Answer}
-use Rattle.database_meaning.specs.declared.operation.Answer.TheVariants.{Done, Committed, Blocked}
-use Rattle.database_meaning.specs.declared.operation.Event.{Event}
+use Rattle.client_database.specs.declared.operation.Op.{Op}
+use Rattle.client_database.specs.declared.operation.Op.TheVariants.{Enter, Leave, Back, End, Lock}
+use Rattle.client_database.specs.declared.answer.Answer.{Answer}
+use Rattle.client_database.specs.declared.answer.Answer.TheVariants.{Done, Committed, Blocked}
+use Rattle.client_database.specs.declared.event.Event.{Event}
 use Rattle.abl_base.specs.declared.rule.Rule.TheVariants.{F1}
-use Rattle.abl_cli.specs.declared.prepare.TheConstants.{MAX_FILE_BYTES}
+use Rattle.abl_cli.specs.declared.load.TheConstants.{MAX_FILE_BYTES}
 use Rattle.abl_cli.specs.declared.refusal.Refusal.TheVariants.{Schema}
 use Rattle.abl_cli.specs.Report.{status_lines}
 use Rattle.abl_cli.specs.Trace.{trace_line, trace_part}

@@ -1,8 +1,7 @@
-pub mod Words
-pub mod Slots
+pub mod CommandLine
+pub mod Arguments
 pub mod Trace
 pub mod Report
-pub mod Writes
 pub mod ClientRun
 pub mod Command
 pub mod Examples

@@ -1,15 +1,15 @@
--- The text that a run writes to standard output, and the lines that tell how a command ended.
+-- The text that a run writes to standard output, and the lines on how a command ended.
 use Rattle.std.specs.Prelude.{ℕ, ◌==◌, if◌then◌else◌, List, [], ◌∷◌, ◌++◌, codes, decimal}
 use Rattle.std.specs.List.{flat_map}
 use Rattle.abl_base.specs.Rules.{rule_name}
-use Rattle.block_meaning.specs.Ends.{stop_name}
-use Rattle.block_meaning.specs.declared.ends.ClientEnd.{ClientEnd}
-use Rattle.block_meaning.specs.declared.ends.ClientEnd.TheVariants as end
+use Rattle.client_database.specs.Ends.{stop_name}
+use Rattle.client_database.specs.declared.ends.ClientEnd.{ClientEnd}
+use Rattle.client_database.specs.declared.ends.ClientEnd.TheVariants as end
 use Rattle.abl_values.specs.Schema.{SchemaData}
-use Rattle.database_meaning.specs.declared.operation.Event.{Event}
+use Rattle.client_database.specs.declared.event.Event.{Event}
 use Rattle.block_vm.specs.declared.output.Section.{Section}
-use Rattle.abl_cli.specs.declared.words.Mode.{Mode}
-use Rattle.abl_cli.specs.declared.words.Mode.TheVariants.{Trace, Quiet}
+use Rattle.abl_cli.specs.declared.arguments.Mode.{Mode}
+use Rattle.abl_cli.specs.declared.arguments.Mode.TheVariants.{Trace, Quiet}
 use Rattle.abl_cli.specs.Trace.{trace_part}
 use Rattle.abl_cli.specs.declared.refusal.Refusal.{Refusal}
 use Rattle.abl_cli.specs.declared.refusal.Refusal.TheVariants.{Usage, File, TooLong, Schema, Source, Client, Output, NoMemory}
@@ -18,7 +18,7 @@ use Rattle.abl_cli.specs.declared.refusal.Refusal.TheVariants.{Usage, File, TooL
 abbrev pub line_end_after : ℕ → List ℕ
 line_end_after b = if b == 10 then [] else 10 ∷ []
 
--- what bytes want behind them, so that they are empty or end with a line feed
+-- a line feed if the bytes do not end with one; nothing for empty bytes
 abbrev pub line_end_of : List ℕ → List ℕ
 line_end_of [] = []
 line_end_of (b ∷ []) = line_end_after b
@@ -34,7 +34,7 @@ report_of name [] = part_of name []
 report_of name (section ∷ named) =
     part_of name section.bytes ++ flat_map (λ s. part_of (name ++ 58 ∷ s.name) s.bytes) named
 
--- the text of a run: the client's part, and its trace where the mode asks for it
+-- the text of a run: the client's part, and its trace in mode trace
 abbrev pub run_text : Mode → SchemaData → List ℕ → List Section → List Event → List ℕ
 run_text Quiet schema name sections trace = report_of name sections
 run_text Trace schema name sections trace = report_of name sections ++ trace_part schema (name ∷ []) trace
@@ -49,7 +49,7 @@ end_line name end.NoMemory = []
 
 -- the lines of a status: of the only client's name and of its end, where a run began
 abbrev pub status_lines : List ℕ → List ClientEnd → Refusal → List ℕ
-status_lines name ends (Usage word) = codes "abl: usage at word " ++ decimal word ++ 10 ∷ []
+status_lines name ends (Usage arg) = codes "abl: usage at word " ++ decimal arg ++ 10 ∷ []
 status_lines name ends (File file) = codes "abl: cannot read " ++ file ++ 10 ∷ []
 status_lines name ends (TooLong file most) =
     codes "abl: " ++ file ++ codes " is longer than " ++ decimal most ++ codes " bytes" ++ 10 ∷ []
@@ -63,7 +63,7 @@ status_lines name ends NoMemory = codes "abl: no memory" ++ 10 ∷ []
 
 -- the status that a refusal ends with
 abbrev pub status_of : Refusal → ℕ
-status_of (Usage word) = 1
+status_of (Usage arg) = 1
 status_of (File file) = 2
 status_of (TooLong file most) = 10
 status_of (Schema rule line) = 3

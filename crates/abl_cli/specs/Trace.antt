@@ -4,12 +4,13 @@ use Rattle.std.specs.List.{flat_map}
 use Rattle.std.specs.Fmt.{signed_decimal}
 use Rattle.abl_values.specs.declared.schema.SequenceDef.{SequenceDef}
 use Rattle.abl_values.specs.Schema.{SchemaData, name_of}
-use Rattle.database_meaning.specs.declared.operation.Op.{Op}
-use Rattle.database_meaning.specs.declared.operation.Op.TheVariants.{Enter, Leave, Back, Next, Get, Lock, Insert, Put, Delete, Drop, NextValue, CurrentValue, End}
-use Rattle.database_meaning.specs.declared.operation.Answer.{Answer}
-use Rattle.database_meaning.specs.declared.operation.Answer.TheVariants as answer
-use Rattle.database_meaning.specs.declared.operation.Event.{Event}
+use Rattle.client_database.specs.declared.operation.Op.{Op}
+use Rattle.client_database.specs.declared.operation.Op.TheVariants.{Enter, Leave, Back, Next, Get, Lock, Insert, Put, Delete, Drop, NextValue, CurrentValue, End}
+use Rattle.client_database.specs.declared.answer.Answer.{Answer}
+use Rattle.client_database.specs.declared.answer.Answer.TheVariants as answer
+use Rattle.client_database.specs.declared.event.Event.{Event}
 use Rattle.level_machine.specs.Turns.{IsLevelOp}
+pub use Rattle.abl_values.specs.Schema.{no_sequence}
 
 -- ---- operations
 
@@ -33,14 +34,11 @@ op_name End = codes "End"
 abbrev pub either_letter : Bool → ℕ → ℕ → List ℕ
 either_letter b on off = 32 ∷ (if b then on else off) ∷ []
 
-abbrev pub no_sequence : SequenceDef
-no_sequence = record { name = []; initial = pos 0; increment = pos 0 }
-
 -- the name of a sequence, as it is spelt
 abbrev pub sequence_name : SchemaData → ℕ → List ℕ
 sequence_name schema sequence = (slice_index_or schema.sequences sequence no_sequence).name
 
--- What stands behind the operation's name, each after a blank: how many rows are kept, the level, the name of the table or of the
+-- What follows the operation's name, each after a blank: the number of rows that are kept, the level, the name of the table or of the
 -- sequence, the row, and for a lock S or X and then W or N
 abbrev pub operands : SchemaData → Op → List ℕ
 operands schema Enter = []
@@ -87,7 +85,7 @@ answer_name (answer.Value value) = codes "Value"
 abbrev pub client_names : List (List ℕ) → List ℕ → List ℕ
 client_names names clients = flat_map (λ client. 32 ∷ slice_index_or names client []) clients
 
--- what stands behind the answer's name, each after a blank: the row, the value, the clients that stand against the operation
+-- what follows the answer's name, each after a blank: the row, the value, the clients that conflict with the operation
 abbrev pub added : List (List ℕ) → Answer → List ℕ
 added names (answer.Found row key values) = 32 ∷ decimal row.0
 added names (answer.Inserted row) = 32 ∷ decimal row.0

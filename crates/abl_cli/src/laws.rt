@@ -11,72 +11,75 @@ ghost use Rattle.abl_schema.specs.Rules.{violation_of};
 ghost use Rattle.built_source.specs.Sources.{BreaksFirst, IsSourceOf};
 ghost use Rattle.block_vm.specs.declared.output.Section.{Section as Part};
 ghost use Rattle.abl_cli.specs.declared.refusal.Refusal.TheVariants.{Usage, File, TooLong, Schema, Source, Output};
-ghost use Rattle.abl_cli.specs.declared.run.Report.{Report as Told};
-ghost use Rattle.abl_cli.specs.declared.prepare.TheConstants.{MAX_FILE_BYTES as MOST};
+ghost use Rattle.abl_cli.specs.declared.command.Report.{Report as Told};
+ghost use Rattle.abl_cli.specs.declared.load.TheConstants.{MAX_FILE_BYTES as MOST};
 ghost use Rattle.abl_values.specs.Schema.{SchemaData};
-ghost use Rattle.abl_cli.specs.declared.words.Mode.{Mode};
-ghost use Rattle.abl_cli.specs.Words.{Run, HaveForm, IsWrong};
+ghost use Rattle.abl_cli.specs.declared.arguments.Mode.{Mode};
+ghost use Rattle.abl_cli.specs.CommandLine.{Run, HaveForm, IsWrong};
 ghost use Rattle.abl_cli.specs.Report.{run_text};
-ghost use Rattle.abl_cli.specs.Writes.{Written};
-ghost use Rattle.abl_cli.specs.Command.{Shelf, Did, IsRefusal, IsThere, IsUsage, NamesRun};
+ghost use Rattle.abl_outside.specs.Out.{OutState};
+ghost use Rattle.abl_outside.specs.Files.{FileState};
+ghost use Rattle.abl_cli.specs.Command.{CommandResult, IsRefusal, IsThere, IsUsage, NamesRun};
 
-/// The wrong word is told exactly where the words have no form.
-pub fn wrong_words_are_told()
-    ensures wrong { (words : List (List ℕ)) (shelf : Shelf) (faults : ℕ) (old new : Written) (report : Told) (word : ℕ) → Did words shelf faults old new report → report.refusal ≡ Some (Usage word) → IsWrong words word }
-    ensures told { (words : List (List ℕ)) (shelf : Shelf) (faults : ℕ) (old new : Written) (report : Told) → Did words shelf faults old new report → (HaveForm words → ⊥) → IsUsage report.refusal }
-    ensures formed { (words : List (List ℕ)) (shelf : Shelf) (faults : ℕ) (old new : Written) (report : Told) → Did words shelf faults old new report → HaveForm words → IsUsage report.refusal → ⊥ }
+/// The refusal is Usage, with the number of the wrong argument, exactly where the arguments have no
+/// form.
+pub fn usage_names_the_wrong_argument()
+    ensures wrong { (arguments : List (List ℕ)) (files : FileState) (faults : ℕ) (old new : OutState) (report : Told) (arg : ℕ) → CommandResult arguments files faults old new report → report.refusal ≡ Some (Usage arg) → IsWrong arguments arg }
+    ensures reported { (arguments : List (List ℕ)) (files : FileState) (faults : ℕ) (old new : OutState) (report : Told) → CommandResult arguments files faults old new report → (HaveForm arguments → ⊥) → IsUsage report.refusal }
+    ensures formed { (arguments : List (List ℕ)) (files : FileState) (faults : ℕ) (old new : OutState) (report : Told) → CommandResult arguments files faults old new report → HaveForm arguments → IsUsage report.refusal → ⊥ }
 {}
 
-/// Over files that are told and sound, and words that name a run, the first thing that prevents the
-/// run is told, exactly: the schema file is missing or too long, then the source, then a rule that
-/// the schema breaks first, then one that the source breaks first. In each case memory may be
-/// wanting instead.
-pub fn what_prevents_a_run_is_told()
-    ensures no_schema { (words : List (List ℕ)) (shelf : Shelf) (faults : ℕ) (old new : Written) (report : Told) (run : Run) →
-        Did words shelf faults old new report → NamesRun words shelf run →
-        shelf.file run.schema ≡ None → IsRefusal report.refusal (File run.schema) }
-    ensures long_schema { (words : List (List ℕ)) (shelf : Shelf) (faults : ℕ) (old new : Written) (report : Told) (run : Run) →
-        Did words shelf faults old new report → NamesRun words shelf run →
-        (df : List ℕ) → shelf.file run.schema ≡ Some df → MOST < length df → IsRefusal report.refusal (TooLong run.schema MOST) }
-    ensures no_source { (words : List (List ℕ)) (shelf : Shelf) (faults : ℕ) (old new : Written) (report : Told) (run : Run) →
-        Did words shelf faults old new report → NamesRun words shelf run →
-        (df : List ℕ) → IsThere shelf run.schema df →
-        shelf.file run.program ≡ None → IsRefusal report.refusal (File run.program) }
-    ensures long_source { (words : List (List ℕ)) (shelf : Shelf) (faults : ℕ) (old new : Written) (report : Told) (run : Run) →
-        Did words shelf faults old new report → NamesRun words shelf run →
-        (df text : List ℕ) → IsThere shelf run.schema df → shelf.file run.program ≡ Some text →
+/// Over files that are observable and sound, and arguments that name a run, the refusal is the first cause
+/// that prevents the run, exactly: the schema file is missing or too long, then the source, then a rule that
+/// the schema breaks first, then one that the source breaks first. In each case it may be
+/// out of memory instead.
+pub fn the_first_cause_is_the_refusal()
+    ensures no_schema { (arguments : List (List ℕ)) (files : FileState) (faults : ℕ) (old new : OutState) (report : Told) (run : Run) →
+        CommandResult arguments files faults old new report → NamesRun arguments files run →
+        files.file run.schema ≡ None → IsRefusal report.refusal (File run.schema) }
+    ensures long_schema { (arguments : List (List ℕ)) (files : FileState) (faults : ℕ) (old new : OutState) (report : Told) (run : Run) →
+        CommandResult arguments files faults old new report → NamesRun arguments files run →
+        (df : List ℕ) → files.file run.schema ≡ Some df → MOST < length df → IsRefusal report.refusal (TooLong run.schema MOST) }
+    ensures no_source { (arguments : List (List ℕ)) (files : FileState) (faults : ℕ) (old new : OutState) (report : Told) (run : Run) →
+        CommandResult arguments files faults old new report → NamesRun arguments files run →
+        (df : List ℕ) → IsThere files run.schema df →
+        files.file run.program ≡ None → IsRefusal report.refusal (File run.program) }
+    ensures long_source { (arguments : List (List ℕ)) (files : FileState) (faults : ℕ) (old new : OutState) (report : Told) (run : Run) →
+        CommandResult arguments files faults old new report → NamesRun arguments files run →
+        (df text : List ℕ) → IsThere files run.schema df → files.file run.program ≡ Some text →
         MOST < length text → IsRefusal report.refusal (TooLong run.program MOST) }
-    ensures broken_schema { (words : List (List ℕ)) (shelf : Shelf) (faults : ℕ) (old new : Written) (report : Told) (run : Run) →
-        Did words shelf faults old new report → NamesRun words shelf run →
-        (df text : List ℕ) → IsThere shelf run.schema df → IsThere shelf run.program text →
+    ensures broken_schema { (arguments : List (List ℕ)) (files : FileState) (faults : ℕ) (old new : OutState) (report : Told) (run : Run) →
+        CommandResult arguments files faults old new report → NamesRun arguments files run →
+        (df text : List ℕ) → IsThere files run.schema df → IsThere files run.program text →
         (rule : TheRule) (line : ℕ) → violation_of df ≡ Some (record { rule = rule; line = line }) → IsRefusal report.refusal (Schema rule line) }
-    ensures broken_source { (words : List (List ℕ)) (shelf : Shelf) (faults : ℕ) (old new : Written) (report : Told) (run : Run) →
-        Did words shelf faults old new report → NamesRun words shelf run →
-        (df text : List ℕ) → IsThere shelf run.schema df → IsThere shelf run.program text → violation_of df ≡ None →
+    ensures broken_source { (arguments : List (List ℕ)) (files : FileState) (faults : ℕ) (old new : OutState) (report : Told) (run : Run) →
+        CommandResult arguments files faults old new report → NamesRun arguments files run →
+        (df text : List ℕ) → IsThere files run.schema df → IsThere files run.program text → violation_of df ≡ None →
         (rule : TheRule) (place : ThePlace) → BreaksFirst text rule place → IsRefusal report.refusal (Source 0 rule place) }
 {}
 
-/// Where the words name a run, the files are told and sound, the schema file and the source are
+/// Where the arguments name a run, the files are observable and sound, the schema file and the source are
 /// there, short enough and break no rule, and no write fails, the client runs: the status is 0 or 8
-/// by its end, or 7, since memory may want.
+/// by its end, or 7, for out of memory.
 pub fn a_run_without_faults_is_done()
-    ensures { (words : List (List ℕ)) (shelf : Shelf) (faults : ℕ) (old new : Written) (report : Told) (run : Run) →
-        Did words shelf faults old new report → NamesRun words shelf run →
-        (df text : List ℕ) → IsThere shelf run.schema df → IsThere shelf run.program text →
+    ensures { (arguments : List (List ℕ)) (files : FileState) (faults : ℕ) (old new : OutState) (report : Told) (run : Run) →
+        CommandResult arguments files faults old new report → NamesRun arguments files run →
+        (df text : List ℕ) → IsThere files run.schema df → IsThere files run.program text →
         violation_of df ≡ None → (tree : Tree) → IsSourceOf text tree →
         (Rose old.faults new.faults → ⊥) →
         (report.status ≡ 0) ⊎ ((report.status ≡ 8) ⊎ (report.status ≡ 7)) }
 {}
 
-/// Status 0 says that the whole report, in the mode that the words ask for, stands on standard output, and nothing on standard error.
+/// Status 0 means that the whole report, in the mode that the arguments name, was appended to standard
+/// output, and nothing to standard error.
 pub fn status_0_says_that_the_report_is_whole()
-    ensures { (words : List (List ℕ)) (shelf : Shelf) (faults : ℕ) (old new : Written) (report : Told) →
-        Did words shelf faults old new report → report.status ≡ 0 → IsTrue old.told →
+    ensures { (arguments : List (List ℕ)) (files : FileState) (faults : ℕ) (old new : OutState) (report : Told) →
+        CommandResult arguments files faults old new report → report.status ≡ 0 → IsTrue old.observable →
         (mode : Mode) × (name : List ℕ) × (sections : List Part) × ((schema : SchemaData) → new.texts ≡ appended Standard (run_text mode schema name sections report.trace) old.texts) }
 {}
 
 /// The output is at fault only where the count of write faults rose.
 pub fn output_is_at_fault_where_its_count_rose()
-    ensures { (words : List (List ℕ)) (shelf : Shelf) (faults : ℕ) (old new : Written) (report : Told) →
-        Did words shelf faults old new report → report.refusal ≡ Some Output → Rose old.faults new.faults }
+    ensures { (arguments : List (List ℕ)) (files : FileState) (faults : ℕ) (old new : OutState) (report : Told) →
+        CommandResult arguments files faults old new report → report.refusal ≡ Some Output → Rose old.faults new.faults }
 {}

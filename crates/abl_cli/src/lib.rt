@@ -1,21 +1,18 @@
-//! The program without its outside: the words, the order of refusals, the run, and the report. It
-//! stands on all crates below; `main` gives it the real files and streams.
+//! The program without its outside: the arguments, the order of refusals, the run, and the report.
+//! It depends on all crates below; `main` gives it the real files and streams.
 #![tactic(auto)]
 
-mod drive;
+pub mod arguments;
+pub mod command;
+mod execute;
 pub mod laws;
-mod perform;
-mod prepare;
+mod load;
 pub mod refusal;
 mod report;
-pub mod run;
+mod run_client;
 mod trace;
-pub mod words;
 
-pub use prepare::MAX_FILE_BYTES;
+pub use arguments::{Arg, Mode};
+pub use command::{Ends, Report, run_abl};
+pub use load::MAX_FILE_BYTES;
 pub use refusal::Refusal;
-pub use run::{Ends, Report, run_abl};
-pub use words::{Mode, Word};
-
-#[cfg(test)]
-mod tests;

@@ -5,16 +5,16 @@ use abl_base::{Bytes, Place, Rule};
 /// A refusal, in the order in which the causes are looked for (this project's choice).
 #[derive(Drop)]
 pub enum Refusal {
-    /// The words have no form of the program; the number of the wrong word, from 0, or the count
-    /// of words where more are missing.
+    /// The arguments have no form of the program; the number of the wrong argument, from 0, or the count
+    /// of arguments where more are missing.
     Usage {
-        word: u32,
+        argument: u32,
     },
     /// The file cannot be read, also where there is none of that name.
     File {
         name: Bytes,
     },
-    /// The file is longer than so many bytes.
+    /// The file is longer than `most` bytes.
     TooLong {
         name: Bytes,
         most: u64,
@@ -36,7 +36,7 @@ pub enum Refusal {
     },
     /// Standard output did not take the whole report.
     Output,
-    /// Memory is wanting.
+    /// Out of memory.
     NoMemory,
 }
 

@@ -1,26 +1,26 @@
-//! The text that a run writes to standard output, and the lines that tell how a command ended.
+//! The text that a run writes to standard output, and the lines on how a command ended.
 
 ghost use Rattle.std.specs.Prelude.{◌≡◌, ◌++◌, ◌∷◌, [], All, codes, decimal, is_ok};
 ghost use Rattle.std.specs.List.{flat_map};
 ghost use Rattle.abl_outside.specs.declared.out.Stream.{Stream};
-ghost use Rattle.abl_cli.specs.Writes.{Writes};
+ghost use Rattle.abl_outside.specs.Out.{Writes};
 ghost use Rattle.abl_values.specs.Schema.{SchemaData};
 ghost use Rattle.abl_cli.specs.Trace.{IsLevelEvent};
 ghost use Rattle.abl_cli.specs.Report.{line_end_of, line_end_after, part_of, report_of, run_text, end_line, status_lines};
 
+use crate::arguments::Mode;
 use crate::refusal::Refusal;
 use crate::trace::write_trace;
-use crate::words::Mode;
 use abl_base::Place;
 use abl_outside::{Out, OutFailed, Stream};
 use block_meaning::ClientEnd;
 use block_vm::Section;
-use database_meaning::Event;
+use client_database::Event;
 use itoa::Buffer;
 
 /// Writes the piece. After an error a prefix of it was written.
 fn write_piece<O: Out>(out: &mut O, stream: Stream, piece: &[u8]) -> Result<(), OutFailed>
-    ensures { Writes (is_ok result) stream piece.now (record { told = O.told out.old; texts = O.written out.old; faults = O.failures out.old }) (record { told = O.told out.new; texts = O.written out.new; faults = O.failures out.new }) }
+    ensures { Writes (is_ok result) stream piece.now (O.state out.old) (O.state out.new) }
 {
     match out.write(stream, piece) {
         Ok(()) => Ok(()),
@@ -34,7 +34,7 @@ pub(crate) fn write_all<O: Out>(
     stream: Stream,
     pieces: &[&[u8]],
 ) -> Result<(), OutFailed>
-    ensures { Writes (is_ok result) stream (flat_map (λ piece. piece.now) pieces.now) (record { told = O.told out.old; texts = O.written out.old; faults = O.failures out.old }) (record { told = O.told out.new; texts = O.written out.new; faults = O.failures out.new }) }
+    ensures { Writes (is_ok result) stream (flat_map (λ piece. piece.now) pieces.now) (O.state out.old) (O.state out.new) }
 {
     for piece in pieces {
         write_piece(out, stream, piece)?;
@@ -42,18 +42,18 @@ pub(crate) fn write_all<O: Out>(
     Ok(())
 }
 
-/// What bytes want behind them, so that they are empty or end with a line feed.
+/// A line feed if `bytes` does not end with one; nothing for empty `bytes`.
 fn line_end(bytes: &[u8]) -> &'static [u8]
     ensures { result.now ≡ line_end_of bytes.now }
 {
     match bytes {
         [] => b"",
-        [.., last] => line_end_behind(*last),
+        [.., last] => line_end_after_byte(*last),
     }
 }
 
-/// What stands behind bytes that end with this one.
-fn line_end_behind(last: u8) -> &'static [u8]
+/// A line feed, except after a line feed.
+fn line_end_after_byte(last: u8) -> &'static [u8]
     ensures { result.now ≡ line_end_after last }
 {
     if last == b'\n' { b"" } else { b"\n" }
@@ -67,7 +67,7 @@ fn write_part<'a, O: Out>(
     end: &'a [u8],
 ) -> Result<(), OutFailed>
     requires { end.now ≡ line_end_of bytes.now }
-    ensures { Writes (is_ok result) Stream.Output (part_of title.now bytes.now) (record { told = O.told out.old; texts = O.written out.old; faults = O.failures out.old }) (record { told = O.told out.new; texts = O.written out.new; faults = O.failures out.new }) }
+    ensures { Writes (is_ok result) Stream.Output (part_of title.now bytes.now) (O.state out.old) (O.state out.new) }
 {
     let pieces = [b"== ", title, b" ==\n", bytes, end];
     write_all(out, Stream::Output, &pieces)
@@ -82,7 +82,7 @@ fn write_named<'a, O: Out>(
     end: &'a [u8],
 ) -> Result<(), OutFailed>
     requires { end.now ≡ line_end_of bytes.now }
-    ensures { Writes (is_ok result) Stream.Output (part_of (name.now ++ 58 ∷ file.now) bytes.now) (record { told = O.told out.old; texts = O.written out.old; faults = O.failures out.old }) (record { told = O.told out.new; texts = O.written out.new; faults = O.failures out.new }) }
+    ensures { Writes (is_ok result) Stream.Output (part_of (name.now ++ 58 ∷ file.now) bytes.now) (O.state out.old) (O.state out.new) }
 {
     let pieces = [b"== ", name, b":", file, b" ==\n", bytes, end];
     write_all(out, Stream::Output, &pieces)
@@ -91,7 +91,7 @@ fn write_named<'a, O: Out>(
 /// Writes a client's part of the report: `== NAME ==` and its output, and for each named output
 /// `== NAME:FILE ==` and its bytes. It takes no memory.
 pub fn write_report<O: Out>(out: &mut O, name: &[u8], sections: &[Section]) -> Result<(), OutFailed>
-    ensures { Writes (is_ok result) Stream.Output (report_of name.now sections.now) (record { told = O.told out.old; texts = O.written out.old; faults = O.failures out.old }) (record { told = O.told out.new; texts = O.written out.new; faults = O.failures out.new }) }
+    ensures { Writes (is_ok result) Stream.Output (report_of name.now sections.now) (O.state out.old) (O.state out.new) }
 {
     let Some((default, named)) = sections.split_first() else {
         return write_part(out, name, b"", b"");
@@ -101,7 +101,7 @@ pub fn write_report<O: Out>(out: &mut O, name: &[u8], sections: &[Section]) -> R
     write_all_named(out, name, named)
 }
 
-/// Writes the text of a run: the client's part, and the trace where the mode asks for it.
+/// Writes the text of a run: the client's part, and in mode trace the trace.
 pub fn write_run<O: Out>(
     out: &mut O,
     mode: Mode,
@@ -110,7 +110,7 @@ pub fn write_run<O: Out>(
     trace: &[Event],
 ) -> Result<(), OutFailed>
     requires { All IsLevelEvent trace.now }
-    ensures { (schema : SchemaData) → Writes (is_ok result) Stream.Output (run_text mode schema name.now sections.now trace.now) (record { told = O.told out.old; texts = O.written out.old; faults = O.failures out.old }) (record { told = O.told out.new; texts = O.written out.new; faults = O.failures out.new }) }
+    ensures { (schema : SchemaData) → Writes (is_ok result) Stream.Output (run_text mode schema name.now sections.now trace.now) (O.state out.old) (O.state out.new) }
 {
     match mode {
         Mode::Quiet => write_report(out, name, sections),
@@ -123,7 +123,7 @@ pub fn write_run<O: Out>(
 
 /// Writes the parts of the named outputs.
 fn write_all_named<O: Out>(out: &mut O, name: &[u8], named: &[Section]) -> Result<(), OutFailed>
-    ensures { Writes (is_ok result) Stream.Output (flat_map (λ s. part_of (name.now ++ 58 ∷ s.name) s.bytes) named.now) (record { told = O.told out.old; texts = O.written out.old; faults = O.failures out.old }) (record { told = O.told out.new; texts = O.written out.new; faults = O.failures out.new }) }
+    ensures { Writes (is_ok result) Stream.Output (flat_map (λ s. part_of (name.now ++ 58 ∷ s.name) s.bytes) named.now) (O.state out.old) (O.state out.new) }
 {
     for section in named {
         let bytes = section.bytes.as_slice();
@@ -139,13 +139,13 @@ pub fn write_status<O: Out>(
     ends: &[ClientEnd],
     refusal: &Refusal,
 ) -> Result<(), OutFailed>
-    ensures { Writes (is_ok result) Stream.Diagnostics (status_lines name.now ends.now refusal.now) (record { told = O.told out.old; texts = O.written out.old; faults = O.failures out.old }) (record { told = O.told out.new; texts = O.written out.new; faults = O.failures out.new }) }
+    ensures { Writes (is_ok result) Stream.Diagnostics (status_lines name.now ends.now refusal.now) (O.state out.old) (O.state out.new) }
 {
     let mut buffer = Buffer::new();
     match refusal {
-        Refusal::Usage { word } => {
-            let word = buffer.format(*word).as_bytes();
-            write_line(out, b"abl: usage at word ", word, b"")
+        Refusal::Usage { argument } => {
+            let argument = buffer.format(*argument).as_bytes();
+            write_line(out, b"abl: usage at word ", argument, b"")
         }
         Refusal::File { name: file } => {
             write_line(out, b"abl: cannot read ", file.as_slice(), b"")
@@ -172,7 +172,7 @@ fn write_line<'a, O: Out>(
     middle: &'a [u8],
     after: &'a [u8],
 ) -> Result<(), OutFailed>
-    ensures { Writes (is_ok result) Stream.Diagnostics (before.now ++ middle.now ++ after.now ++ 10 ∷ []) (record { told = O.told out.old; texts = O.written out.old; faults = O.failures out.old }) (record { told = O.told out.new; texts = O.written out.new; faults = O.failures out.new }) }
+    ensures { Writes (is_ok result) Stream.Diagnostics (before.now ++ middle.now ++ after.now ++ 10 ∷ []) (O.state out.old) (O.state out.new) }
 {
     let pieces = [before, middle, after, b"\n"];
     write_all(out, Stream::Diagnostics, &pieces)
@@ -180,7 +180,7 @@ fn write_line<'a, O: Out>(
 
 /// Writes the line about a file that is too long.
 fn write_too_long<'a, O: Out>(out: &mut O, name: &'a [u8], most: &'a [u8]) -> Result<(), OutFailed>
-    ensures { Writes (is_ok result) Stream.Diagnostics (codes "abl: " ++ name.now ++ codes " is longer than " ++ most.now ++ codes " bytes" ++ 10 ∷ []) (record { told = O.told out.old; texts = O.written out.old; faults = O.failures out.old }) (record { told = O.told out.new; texts = O.written out.new; faults = O.failures out.new }) }
+    ensures { Writes (is_ok result) Stream.Diagnostics (codes "abl: " ++ name.now ++ codes " is longer than " ++ most.now ++ codes " bytes" ++ 10 ∷ []) (O.state out.old) (O.state out.new) }
 {
     let pieces = [b"abl: ", name, b" is longer than ", most, b" bytes\n"];
     write_all(out, Stream::Diagnostics, &pieces)
@@ -188,7 +188,7 @@ fn write_too_long<'a, O: Out>(out: &mut O, name: &'a [u8], most: &'a [u8]) -> Re
 
 /// Writes the line about a schema file that breaks a rule.
 fn write_schema<'a, O: Out>(out: &mut O, rule: &'a [u8], line: &'a [u8]) -> Result<(), OutFailed>
-    ensures { Writes (is_ok result) Stream.Diagnostics (codes "abl: schema " ++ rule.now ++ codes " at line " ++ line.now ++ 10 ∷ []) (record { told = O.told out.old; texts = O.written out.old; faults = O.failures out.old }) (record { told = O.told out.new; texts = O.written out.new; faults = O.failures out.new }) }
+    ensures { Writes (is_ok result) Stream.Diagnostics (codes "abl: schema " ++ rule.now ++ codes " at line " ++ line.now ++ 10 ∷ []) (O.state out.old) (O.state out.new) }
 {
     let pieces = [b"abl: schema ", rule, b" at line ", line, b"\n"];
     write_all(out, Stream::Diagnostics, &pieces)
@@ -201,7 +201,7 @@ fn write_source<O: Out>(
     rule: &[u8],
     place: Place,
 ) -> Result<(), OutFailed>
-    ensures { Writes (is_ok result) Stream.Diagnostics (codes "abl: " ++ name.now ++ codes ": " ++ rule.now ++ codes " at " ++ decimal place.line ++ 58 ∷ decimal place.column ++ 10 ∷ []) (record { told = O.told out.old; texts = O.written out.old; faults = O.failures out.old }) (record { told = O.told out.new; texts = O.written out.new; faults = O.failures out.new }) }
+    ensures { Writes (is_ok result) Stream.Diagnostics (codes "abl: " ++ name.now ++ codes ": " ++ rule.now ++ codes " at " ++ decimal place.line ++ 58 ∷ decimal place.column ++ 10 ∷ []) (O.state out.old) (O.state out.new) }
 {
     let mut line = Buffer::new();
     let mut column = Buffer::new();
@@ -218,7 +218,7 @@ fn write_rule<'a, O: Out>(
     line: &'a [u8],
     column: &'a [u8],
 ) -> Result<(), OutFailed>
-    ensures { Writes (is_ok result) Stream.Diagnostics (codes "abl: " ++ name.now ++ codes ": " ++ rule.now ++ codes " at " ++ line.now ++ 58 ∷ column.now ++ 10 ∷ []) (record { told = O.told out.old; texts = O.written out.old; faults = O.failures out.old }) (record { told = O.told out.new; texts = O.written out.new; faults = O.failures out.new }) }
+    ensures { Writes (is_ok result) Stream.Diagnostics (codes "abl: " ++ name.now ++ codes ": " ++ rule.now ++ codes " at " ++ line.now ++ 58 ∷ column.now ++ 10 ∷ []) (O.state out.old) (O.state out.new) }
 {
     let pieces = [
         b"abl: ", name, b": ", rule, b" at ", line, b":", column, b"\n",
@@ -228,7 +228,7 @@ fn write_rule<'a, O: Out>(
 
 /// Writes a line for each client that ended in Error or Stop.
 fn write_ends<O: Out>(out: &mut O, name: &[u8], ends: &[ClientEnd]) -> Result<(), OutFailed>
-    ensures { Writes (is_ok result) Stream.Diagnostics (flat_map (end_line name.now) ends.now) (record { told = O.told out.old; texts = O.written out.old; faults = O.failures out.old }) (record { told = O.told out.new; texts = O.written out.new; faults = O.failures out.new }) }
+    ensures { Writes (is_ok result) Stream.Diagnostics (flat_map (end_line name.now) ends.now) (O.state out.old) (O.state out.new) }
 {
     for end in ends {
         write_end(out, name, end)?;
@@ -238,7 +238,7 @@ fn write_ends<O: Out>(out: &mut O, name: &[u8], ends: &[ClientEnd]) -> Result<()
 
 /// Writes the line about a client that ended in Error or Stop.
 fn write_end<O: Out>(out: &mut O, name: &[u8], end: &ClientEnd) -> Result<(), OutFailed>
-    ensures { Writes (is_ok result) Stream.Diagnostics (end_line name.now end.now) (record { told = O.told out.old; texts = O.written out.old; faults = O.failures out.old }) (record { told = O.told out.new; texts = O.written out.new; faults = O.failures out.new }) }
+    ensures { Writes (is_ok result) Stream.Diagnostics (end_line name.now end.now) (O.state out.old) (O.state out.new) }
 {
     match end {
         ClientEnd::Normal | ClientEnd::Returned | ClientEnd::NoMemory => Ok(()),
@@ -254,7 +254,7 @@ fn write_how<'a, O: Out>(
     how: &'a [u8],
     why: &'a [u8],
 ) -> Result<(), OutFailed>
-    ensures { Writes (is_ok result) Stream.Diagnostics (codes "abl: client " ++ name.now ++ how.now ++ why.now ++ 10 ∷ []) (record { told = O.told out.old; texts = O.written out.old; faults = O.failures out.old }) (record { told = O.told out.new; texts = O.written out.new; faults = O.failures out.new }) }
+    ensures { Writes (is_ok result) Stream.Diagnostics (codes "abl: client " ++ name.now ++ how.now ++ why.now ++ 10 ∷ []) (O.state out.old) (O.state out.new) }
 {
     let pieces = [b"abl: client ", name, how, why, b"\n"];
     write_all(out, Stream::Diagnostics, &pieces)

@@ -5,18 +5,18 @@ ghost use Rattle.abl_values.specs.Schema.{SchemaData};
 ghost use Rattle.abl_outside.specs.declared.out.Stream.{Stream};
 ghost use Rattle.level_machine.specs.Turns.{IsLevelOp};
 ghost use Rattle.abl_cli.specs.Trace.{IsLevelEvent, answer_name, op_name, operands, trace_line, trace_part};
-ghost use Rattle.abl_cli.specs.Writes.{Writes};
+ghost use Rattle.abl_outside.specs.Out.{Writes};
 
 use crate::report::write_all;
 use abl_outside::{Out, OutFailed, Stream};
-use database_meaning::{Answer, Event, Op};
+use client_database::{Answer, Event, Op};
 use itoa::Buffer;
 
 /// Writes the part of the report that has the trace: `== trace ==`, and for each event its number
 /// from 1, the client's name, the operation and the answer. It takes no memory.
 pub fn write_trace<O: Out>(out: &mut O, name: &[u8], trace: &[Event]) -> Result<(), OutFailed>
     requires { All IsLevelEvent trace.now }
-    ensures { (schema : SchemaData) → Writes (is_ok result) Stream.Output (trace_part schema (name.now ∷ []) trace.now) (record { told = O.told out.old; texts = O.written out.old; faults = O.failures out.old }) (record { told = O.told out.new; texts = O.written out.new; faults = O.failures out.new }) }
+    ensures { (schema : SchemaData) → Writes (is_ok result) Stream.Output (trace_part schema (name.now ∷ []) trace.now) (O.state out.old) (O.state out.new) }
 {
     write_heading(out)?;
     for (at, event) in trace.iter().enumerate() {
@@ -27,7 +27,7 @@ pub fn write_trace<O: Out>(out: &mut O, name: &[u8], trace: &[Event]) -> Result<
 
 /// Writes the heading of the trace.
 fn write_heading<O: Out>(out: &mut O) -> Result<(), OutFailed>
-    ensures { Writes (is_ok result) Stream.Output (codes "== trace ==" ++ 10 ∷ []) (record { told = O.told out.old; texts = O.written out.old; faults = O.failures out.old }) (record { told = O.told out.new; texts = O.written out.new; faults = O.failures out.new }) }
+    ensures { Writes (is_ok result) Stream.Output (codes "== trace ==" ++ 10 ∷ []) (O.state out.old) (O.state out.new) }
 {
     write_all(out, Stream::Output, &[b"== trace ==\n"])
 }
@@ -40,7 +40,7 @@ fn write_event<O: Out>(
     event: &Event,
 ) -> Result<(), OutFailed>
     requires { IsLevelEvent event.now }
-    ensures { (schema : SchemaData) → Writes (is_ok result) Stream.Output (trace_line schema (name.now ∷ []) number event.now) (record { told = O.told out.old; texts = O.written out.old; faults = O.failures out.old }) (record { told = O.told out.new; texts = O.written out.new; faults = O.failures out.new }) }
+    ensures { (schema : SchemaData) → Writes (is_ok result) Stream.Output (trace_line schema (name.now ∷ []) number event.now) (O.state out.old) (O.state out.new) }
 {
     let mut digits = Buffer::new();
     let number = digits.format(number).as_bytes();
@@ -56,7 +56,7 @@ fn write_event<O: Out>(
     }
 }
 
-/// Writes a line of these words, with `blank` before the operand.
+/// Writes a line of these arguments, with `blank` before the operand.
 fn write_line<'a, O: Out>(
     out: &mut O,
     number: &'a [u8],
@@ -66,7 +66,7 @@ fn write_line<'a, O: Out>(
     operand: &'a [u8],
     answer: &'a [u8],
 ) -> Result<(), OutFailed>
-    ensures { Writes (is_ok result) Stream.Output (number.now ++ 32 ∷ name.now ++ 32 ∷ op.now ++ (blank.now ++ operand.now) ++ 32 ∷ answer.now ++ 10 ∷ []) (record { told = O.told out.old; texts = O.written out.old; faults = O.failures out.old }) (record { told = O.told out.new; texts = O.written out.new; faults = O.failures out.new }) }
+    ensures { Writes (is_ok result) Stream.Output (number.now ++ 32 ∷ name.now ++ 32 ∷ op.now ++ (blank.now ++ operand.now) ++ 32 ∷ answer.now ++ 10 ∷ []) (O.state out.old) (O.state out.new) }
 {
     let pieces = [
         number, b" ", name, b" ", op, blank, operand, b" ", answer, b"\n",
@@ -95,7 +95,7 @@ fn op_name(op: &Op) -> &'static [u8]
     }
 }
 
-/// The number that stands behind the name of an operation of levels, where one does: how many rows
+/// The number after the name of an operation of levels, where it has one: the number of rows that
 /// are kept, or the level.
 fn operand(op: &Op) -> Option<u64>
     requires { IsLevelOp op.now }

@@ -1,26 +1,26 @@
-//! The program `abl DATABASE WORD...`: gives the top call the words, the real files and the real
-//! streams, and ends with its status. The word DATABASE is not read yet.
+//! The program `abl DATABASE COMMAND...`: gives the top call the arguments, the real files and the
+//! real streams, and ends with its status. The argument DATABASE is not read yet.
 #![tactic(auto)]
 
+mod arguments;
 mod real_files;
 mod real_out;
 
-use abl_base::Bytes;
-use abl_cli::{Word, run_abl};
+use abl_cli::run_abl;
+use arguments::arguments;
 use real_files::RealFiles;
 use real_out::RealOut;
-use std::alloc::{AllocError, Global};
+use std::io;
 use std::process::ExitCode;
-use std::{env, io};
 
 const HELP: &str = "\
 abl DATABASE run SCHEMA STEPS MODE NAME=PROG
 
 Reads the schema file SCHEMA, compiles the ABL source PROG and runs it as client
-NAME, which may spend STEPS units (1 to 999999999). The client's output goes to
-standard output, and in MODE trace the lines of what it asked of the database
-and was answered too; in MODE quiet nothing else. How the command ended goes to
-standard error, with the status:
+NAME, which may spend STEPS units (1 to 999999999). Each file may have 1 MiB
+(1048576 bytes). The client's output goes to standard output, and in MODE trace
+the lines of what it asked of the database and was answered too; in MODE quiet
+nothing else. How the command ended goes to standard error, with the status:
 
   0  the client ended          6  standard output was not taken
   1  wrong words               7  memory was wanting
@@ -28,45 +28,53 @@ standard error, with the status:
   3  the schema breaks a rule  10 a file is too long
   4  the source breaks a rule
 
+`usage at word N` counts the words after DATABASE from 0. Where words are
+missing, N is the number of those that are there. A rule that is broken has a
+letter and a number, and the line or the line:column where it is broken first:
+
+  F  the schema file           G   the grammar of the source
+  L  the tokens of the source  N1  correct ABL that is not supported yet
+
 DATABASE is not read yet.
 
 abl --help     this text
 abl --version  the version
 ";
 
-/// What is told where there is no memory for the words.
+/// The line on standard error where there is no memory for the arguments.
 const NO_MEMORY: &str = "abl: no memory\n";
+
+/// The line on standard error where standard output does not take the text.
+const NO_OUTPUT: &str = "abl: output\n";
 
 const VERSION: &str = "abl 0.1.0\n";
 
 fn main(rt: HostRuntime) -> io::Result<ExitCode> {
-    let Ok(words) = words(&rt) else {
-        rt.stderr().write_all(NO_MEMORY.as_bytes())?;
+    let Ok(arguments) = arguments(&rt) else {
+        let _ = rt.stderr().write_all(NO_MEMORY.as_bytes());
         return Ok(ExitCode::from(7));
     };
-    match words.as_slice() {
-        [word] if word.as_slice() == b"--help".as_slice() => {
-            rt.write_all(HELP.as_bytes())?;
-            return Ok(ExitCode::from(0));
+    match arguments.as_slice() {
+        [argument] if argument.as_slice() == b"--help".as_slice() => {
+            return Ok(ExitCode::from(print(&mut rt.stdout(), &mut rt.stderr(), HELP)));
         }
-        [word] if word.as_slice() == b"--version".as_slice() => {
-            rt.write_all(VERSION.as_bytes())?;
-            return Ok(ExitCode::from(0));
+        [argument] if argument.as_slice() == b"--version".as_slice() => {
+            return Ok(ExitCode::from(print(&mut rt.stdout(), &mut rt.stderr(), VERSION)));
         }
         _ => {}
     }
     let mut files = RealFiles::new(&rt, rt.alloc());
     let mut out = RealOut::new(rt.stdout(), rt.stderr());
-    let behind_database = words.get(1..).unwrap_or(&[]);
-    let report = run_abl(rt.alloc(), behind_database, &mut files, &mut out);
+    let after_database = arguments.get(1..).unwrap_or(&[]);
+    let report = run_abl(rt.alloc(), after_database, &mut files, &mut out);
     Ok(ExitCode::from(report.status))
 }
 
-/// The words behind the program's name.
-fn words(rt: &(impl env::Env + AllocGlobal)) -> io::Result<Vec<Word>> {
-    let mut words = Vec::new(rt.alloc());
-    for word in env::args(rt)?.skip(1) {
-        words.push(Bytes::of(rt.alloc(), word.as_bytes())?)?;
+/// Writes the text to standard output; the status that the program then ends with.
+fn print(output: &mut impl Print, diagnostics: &mut impl Print, text: &str) -> u8 {
+    if output.write_all(text.as_bytes()).is_ok() {
+        return 0;
     }
-    Ok(words)
+    let _ = diagnostics.write_all(NO_OUTPUT.as_bytes());
+    6
 }

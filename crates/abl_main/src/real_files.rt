@@ -1,4 +1,4 @@
-//! The files of the machine. It tells nothing of what they hold.
+//! The files of the machine. What they hold is not observable in proofs.
 
 ghost use Rattle.std.specs.Prelude.{◌≡◌, ◌≤◌, ◌<◌, length, IfOk};
 
@@ -34,15 +34,9 @@ impl<'a, R: Machine> RealFiles<'a, R> {
 impl<R: Machine> Files for RealFiles<'_, R> {
     ghost use Rattle.std.specs.Prelude.{false, None};
 
-    ghost told = { λ _. false };
+    ghost state = { λ files. record { observable = false; sound = false; file = λ _. None; faults = files.faults } };
 
-    ghost sound = { λ _. false };
-
-    ghost file = { λ _ _. None };
-
-    ghost failures = { λ files. files.faults };
-
-    ghost sound_told = { λ _ sound. sound };
+    ghost sound_observable = { λ _ sound. sound };
 
     fn faults(&self) -> u64 {
         self.faults

@@ -1,4 +1,4 @@
-//! The streams of the machine. It tells nothing of what stands on them.
+//! The streams of the machine. What is written to them is not observable in proofs.
 
 use abl_outside::{Out, OutFailed, Stream};
 
@@ -24,11 +24,7 @@ impl<P: Print, E: Print> RealOut<P, E> {
 impl<P: Print, E: Print> Out for RealOut<P, E> {
     ghost use Rattle.std.specs.Prelude.{false, []};
 
-    ghost told = { λ _. false };
-
-    ghost written = { λ _. record { output = []; diagnostics = [] } };
-
-    ghost failures = { λ out. out.faults };
+    ghost state = { λ out. record { observable = false; texts = record { output = []; diagnostics = [] }; faults = out.faults } };
 
     fn faults(&self) -> u64 {
         self.faults

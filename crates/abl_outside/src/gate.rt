@@ -1,4 +1,4 @@
-//! Where a client stands before it asks for a step.
+//! Where a client waits before it requests a step.
 
 use std::hint::spin_loop;
 use std::sync::atomic::{AtomicU64, Ordering};
@@ -29,8 +29,8 @@ const SPENT: u64 = 0xffff_0000;
 /// All came before any had spent its turns.
 const MET: u64 = 0x1_0000_0000;
 
-/// A gate at which clients meet: it holds each one at the operation of that number until so many
-/// different clients have come there, or until it has waited so many turns. A client that has
+/// A gate at which clients meet: it holds each one at the operation of that number until `clients`
+/// different clients have come there, or until it has waited `turns` turns. A client that has
 /// spent its turns is held no more. So each call ends by itself.
 #[derive(Drop)]
 pub struct MeetGate {
@@ -41,7 +41,7 @@ pub struct MeetGate {
 }
 
 impl MeetGate {
-    /// A gate for so many clients, at the operation of that number, with so many turns for each.
+    /// A gate for `clients` clients at the operation `number`, with `turns` turns for each.
     pub fn new(clients: u16, number: u64, turns: u64) -> MeetGate {
         MeetGate {
             clients,
@@ -51,12 +51,12 @@ impl MeetGate {
         }
     }
 
-    /// Whether so many clients came before any of them had spent its turns.
+    /// Whether all clients came before any of them had spent its turns.
     pub fn met(&self) -> bool {
         self.seen.load(Ordering::SeqCst) & MET != 0
     }
 
-    /// Whether so many clients have come, by the word.
+    /// Whether all clients have come, by the bits of `seen`.
     fn are_there(&self, seen: u64) -> bool {
         (seen & CAME).count_ones() >= u32::from(self.clients)
     }

@@ -1,8 +1,8 @@
 //! What lies outside the program: the files that it reads, the output that it writes and the gate
-//! before each step, each as a trait with its form in memory. It stands on `abl_base` and
-//! `fault_count`. The layer above may rely on the traits' clauses alone: what a read gives where
-//! the object tells its files, that a write appends the whole piece or, after a fault, a prefix of
-//! it, and that a fault comes only where its count rose. A gate has no meaning for the answers.
+//! before each step, each as a trait with its form in memory. It depends on `abl_base` and
+//! `fault_count`. The layer above may rely on the traits' clauses alone: what a read returns where
+//! the files are observable, that a write appends the whole piece or, after a fault, a prefix of it
+//! (`Writes`), and that a call fails only where its count of faults rose. A gate has no meaning for the answers.
 #![tactic(auto)]
 
 pub mod files;

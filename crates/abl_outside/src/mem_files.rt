@@ -1,9 +1,9 @@
 //! Files in memory.
 
-ghost use Rattle.std.specs.Prelude.{◌≡◌, ◌≤◌, ◌↔◌, length, true, Some, None, refl, IsTrue, IfOk, IsErrOf, ◌==◌, option_copied};
+ghost use Rattle.std.specs.Prelude.{◌≡◌, ◌≤◌, ◌↔◌, length, Some, None, refl, IsTrue, IfOk, IsErrOf, ◌==◌, option_copied};
 ghost use Rattle.fault_count.specs.Faults.{Rose, counted};
 ghost use Rattle.abl_outside.specs.Files.{IsLonger, bytes_named};
-ghost use Rattle.abl_outside.specs.MemFiles.{FailsNext};
+ghost use Rattle.abl_outside.specs.MemFiles.{FailsNext, file_state};
 
 use crate::files::{FileFault, Files};
 use crate::named_file::{NamedFile, NamedFiles};
@@ -12,7 +12,7 @@ use fault_count::is_among;
 use std::alloc::{AllocError, Global};
 use std::marker::Model;
 
-/// Files in memory. It tells its files, and is sound where no call is to fail.
+/// Files in memory. They are observable, and sound where no call is to fail.
 #[derive(Drop)]
 pub struct MemFiles {
     files: Vec<NamedFile>,
@@ -62,7 +62,7 @@ fn read_file(files: &[NamedFile], name: &[u8], most: u64) -> Result<Bytes, FileF
     }
 }
 
-/// The same files again.
+/// A copy of the files.
 fn copies(alloc: Global, files: &[NamedFile]) -> Result<Vec<NamedFile>, AllocError>
     ensures { IfOk result (λ same. same.items ≡ files.now) }
 {
@@ -74,8 +74,8 @@ fn copies(alloc: Global, files: &[NamedFile]) -> Result<Vec<NamedFile>, AllocErr
 }
 
 impl MemFiles {
-    /// These files; the reads whose number is in `fails` fail, the first read being number 1. Want
-    /// of memory is the only refusal.
+    /// These files; the reads whose number is in `fails` fail, the first read being number 1. An
+    /// error means out of memory.
     pub fn new(alloc: Global, files: &NamedFiles, fails: &[u64]) -> Result<MemFiles, AllocError>
         ensures { IfOk result (λ m. m ≡ record { files = files.now; fails = fails.now; calls = 0; faults = 0 }) }
     {
@@ -89,15 +89,9 @@ impl MemFiles {
 }
 
 impl Files for MemFiles {
-    ghost told = { λ m. true };
+    ghost state = { file_state };
 
-    ghost sound = { λ m. length m.fails == 0 };
-
-    ghost file = { λ m. bytes_named m.files };
-
-    ghost failures = { λ m. m.faults };
-
-    ghost sound_told = { λ m sound. refl };
+    ghost sound_observable = { λ m sound. refl };
 
     fn faults(&self) -> u64 {
         self.failed

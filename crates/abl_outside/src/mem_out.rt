@@ -1,16 +1,16 @@
 //! Output in memory.
 
-ghost use Rattle.std.specs.Prelude.{◌≡◌, ◌≤◌, ◌+◌, ◌↔◌, true, [], length, IsTrue, IfOk, OnOk, OnErr, IsErr};
-ghost use Rattle.fault_count.specs.Faults.{Rose, counted};
-ghost use Rattle.abl_outside.specs.Out.{appended, AppendsPrefix, text_on};
-ghost use Rattle.abl_outside.specs.MemOut.{FailsNext};
+ghost use Rattle.std.specs.Prelude.{◌≡◌, ◌+◌, ◌↔◌, [], length, IfOk, OnOk, OnErr, IsErr, is_ok};
+ghost use Rattle.fault_count.specs.Faults.{counted};
+ghost use Rattle.abl_outside.specs.Out.{Writes, appended, text_on};
+ghost use Rattle.abl_outside.specs.MemOut.{FailsNext, out_state};
 
 use crate::out::{Out, OutFailed, Stream};
 use fault_count::is_among;
 use std::alloc::{AllocError, Global};
 use std::marker::Model;
 
-/// Output in memory. It tells what stands on its streams.
+/// Output in memory. It is observable.
 #[derive(Drop)]
 pub struct MemOut {
     output: Vec<u8>,
@@ -35,7 +35,7 @@ impl Model for MemOut {
 
 impl MemOut {
     /// Room for `most` bytes on both streams together; the writes whose number is in `fails` fail,
-    /// the first write being number 1. Want of memory is the only refusal.
+    /// the first write being number 1. An error means out of memory.
     pub fn new(alloc: Global, most: u64, fails: &[u64]) -> Result<MemOut, AllocError>
         ensures { IfOk result (λ m. m ≡ record { texts = record { output = []; diagnostics = [] }; most = most; fails = fails.now; calls = 0; faults = 0 }) }
     {
@@ -61,11 +61,7 @@ impl MemOut {
 }
 
 impl Out for MemOut {
-    ghost told = { λ m. true };
-
-    ghost written = { λ m. m.texts };
-
-    ghost failures = { λ m. m.faults };
+    ghost state = { out_state };
 
     fn faults(&self) -> u64 {
         self.failed
@@ -74,14 +70,11 @@ impl Out for MemOut {
     /// Beyond what every object does: a write fails exactly where its number is in the list or the
     /// bytes of both streams would pass the most. One that fails appends nothing.
     fn write(&mut self, stream: Stream, piece: &[u8]) -> Result<(), OutFailed>
+        ensures writes { Writes (is_ok result) stream piece.now (out_state self.old) (out_state self.new) }
         ensures whole { OnOk result (self.new.texts ≡ appended stream piece.now self.old.texts) }
         ensures nothing { OnErr result (self.new.texts ≡ self.old.texts) }
         ensures failed { IsErr result ↔ FailsNext self.old (length piece.now) }
-        ensures prefix { OnErr result (AppendsPrefix stream piece.now self.old.texts self.new.texts) }
-        ensures cause { OnErr result (Rose self.old.faults self.new.faults) }
         ensures rises { OnErr result (self.new.faults ≡ counted self.old.faults) }
-        ensures quiet { OnOk result (self.new.faults ≡ self.old.faults) }
-        ensures later { self.old.faults ≤ self.new.faults }
         ensures counts { self.new ≡ record self.old { texts = self.new.texts; calls = counted self.old.calls; faults = self.new.faults } }
     {
         self.calls = self.calls.saturating_add(1);

@@ -5,7 +5,7 @@ ghost use Rattle.std.specs.Prelude.{◌≡◌, IfOk};
 use abl_base::{Bytes, Items};
 use std::alloc::AllocError;
 
-/// A file's name and what it holds.
+/// A file's name and its bytes.
 #[derive(Drop)]
 pub struct NamedFile {
     pub name: Bytes,
@@ -16,7 +16,7 @@ pub struct NamedFile {
 pub type NamedFiles = Items<NamedFile>;
 
 impl NamedFile {
-    /// The same file again. Want of memory is the only refusal.
+    /// A copy. An error means out of memory.
     pub fn copy(&self) -> Result<NamedFile, AllocError>
         ensures { IfOk result (λ file. file ≡ self.now) }
     {

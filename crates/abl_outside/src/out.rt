@@ -1,8 +1,7 @@
 //! The two streams that a program writes.
 
-ghost use Rattle.std.specs.Prelude.{◌≡◌, ◌≤◌, ℕ, Bool, IsTrue, OnOk, OnErr};
-ghost use Rattle.fault_count.specs.Faults.{Rose};
-ghost use Rattle.abl_outside.specs.Out.{Texts, appended, AppendsPrefix};
+ghost use Rattle.std.specs.Prelude.{◌≡◌, is_ok};
+ghost use Rattle.abl_outside.specs.Out.{OutState, Writes};
 
 use thiserror::Error;
 
@@ -11,7 +10,7 @@ use thiserror::Error;
 pub enum Stream {
     /// Stream 0, the report: standard output.
     Output,
-    /// Stream 1, the lines that tell how a command ended: standard error.
+    /// Stream 1, the lines on how a command ended: standard error.
     Diagnostics,
 }
 
@@ -22,26 +21,15 @@ pub struct OutFailed;
 
 /// Two streams of bytes.
 pub trait Out {
-    /// Whether the object tells what stands on its streams.
-    ghost told: { Self → Bool };
-
-    /// The bytes that stand on each stream.
-    ghost written: { Self → Texts };
-
-    /// How often a write has failed.
-    ghost failures: { Self → ℕ };
+    /// What was written to each stream, as far as it is known, and how often a write has failed.
+    ghost state: { Self → OutState };
 
     /// How often a write has failed, at most 2^64 - 1.
     fn faults(&self) -> u64
-        ensures { result ≡ failures self.now };
+        ensures { result ≡ (state self.now).faults };
 
     /// Appends the piece to the stream, and leaves the other as it was. After an error a prefix of
     /// the piece was appended, and the count of faults rose in this call. It takes no memory.
     fn write(&mut self, stream: Stream, piece: &[u8]) -> Result<(), OutFailed>
-        ensures whole { OnOk result (IsTrue (told self.old) → written self.new ≡ appended stream piece.now (written self.old)) }
-        ensures prefix { OnErr result (IsTrue (told self.old) → AppendsPrefix stream piece.now (written self.old) (written self.new)) }
-        ensures cause { OnErr result (Rose (failures self.old) (failures self.new)) }
-        ensures quiet { OnOk result (failures self.new ≡ failures self.old) }
-        ensures later { failures self.old ≤ failures self.new }
-        ensures tells { told self.new ≡ told self.old };
+        ensures { Writes (is_ok result) stream piece.now (state self.old) (state self.new) };
 }

@@ -5,6 +5,6 @@ use Rattle.std.specs.Prelude.{◌<◌, ◌≤◌, ◌+◌, ◌-◌, ◌^◌, ◌
 abbrev pub counted : ℕ → ℕ
 counted n = min (n + 1) (2 ^ 64 - 1)
 
--- the count rose, or it stands at its last value
+-- the count rose, or it is at its last value
 abbrev pub Rose : ℕ → ℕ → Type 0
 Rose was now = (was < now) ⊎ (2 ^ 64 ≤ was + 1)

@@ -1,4 +1,4 @@
-//! Counts of faults and numbers of calls, which stay at their last value, 2^64 - 1. It stands on no
+//! Counts of faults and numbers of calls, which stay at their last value, 2^64 - 1. It depends on no
 //! other crate. The crates above say by `Rose` that a fault comes only where its count rose in
 //! that call, and their objects in memory fail at the calls of given numbers (`is_among`).
 #![tactic(auto)]

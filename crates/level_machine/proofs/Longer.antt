@@ -1,22 +1,23 @@
 -- Traces that are one event longer.
 use Rattle.std.proofs.Common.{◌≡◌, ℕ, ◌<◌, ◌==◌, Bool, true, false, List, [], ◌∷◌, ◌++◌, cond, refl, sym, ap, subst, eq-eqb}
 use Rattle.database_meaning.specs.declared.contents.Contents.{Contents}
-use Rattle.database_meaning.specs.declared.operation.Event.{Event}
-use Rattle.database_meaning.specs.declared.operation.Op.{Op}
-use Rattle.database_meaning.specs.declared.operation.Answer.{Answer}
-use Rattle.database_meaning.specs.declared.limits.TheConstants.{MAX_TRACE_BYTES}
-use Rattle.database_meaning.specs.Frame.{Frame}
+use Rattle.client_database.specs.declared.event.Event.{Event}
+use Rattle.client_database.specs.declared.operation.Op.{Op}
+use Rattle.client_database.specs.declared.answer.Answer.{Answer}
+use Rattle.abl_base.specs.declared.limits.TheConstants.{MAX_TRACE_BYTES}
+use Rattle.database_meaning.specs.Setting.{Setting}
 use Rattle.database_meaning.specs.State.{State}
 use Rattle.database_meaning.specs.Answers.{Answers}
 use Rattle.database_meaning.specs.Traces.{IsSoundContents, Follows, opened, left_by, state_after, after_event, operations_of, answers_of}
 use Rattle.level_machine.specs.Reached.{Reached, IsAt}
-use Rattle.level_machine.specs.Turns.{IsTurn, IsAfter, event_of}
+use Rattle.database_interface.specs.Step.{event_of}
+use Rattle.level_machine.specs.Turns.{IsTurn, IsAfter}
 
-pub state_longer : (f : Frame) (s : State) (events : List Event) (e : Event) → state_after f s (events ++ e ∷ []) ≡ after_event f (state_after f s events) e
+pub state_longer : (f : Setting) (s : State) (events : List Event) (e : Event) → state_after f s (events ++ e ∷ []) ≡ after_event f (state_after f s events) e
 state_longer f s [] e = refl
 state_longer f s (first ∷ events) e = state_longer f (after_event f s first) events e
 
-pub follows_longer : (f : Frame) (s : State) (events : List Event) (e : Event) → Follows f s events → Answers f (state_after f s events) e.client e.op e.answer → Follows f s (events ++ e ∷ [])
+pub follows_longer : (f : Setting) (s : State) (events : List Event) (e : Event) → Follows f s events → Answers f (state_after f s events) e.client e.op e.answer → Follows f s (events ++ e ∷ [])
 follows_longer f s [] e follows answers = (answers, tt)
 follows_longer f s (first ∷ events) e follows answers = (follows.0, follows_longer f (after_event f s first) events e follows.1 answers)
 
@@ -41,17 +42,17 @@ answers_longer c (first ∷ events) e same =
 
 -- ---- turns
 
-pub begins_legal : (f : Frame) (contents : Contents) → IsSoundContents f contents → IsAfter f contents (record { depth = 0; left = MAX_TRACE_BYTES }) []
+pub begins_legal : (f : Setting) (contents : Contents) → IsSoundContents f contents → IsAfter f contents (record { depth = 0; left = MAX_TRACE_BYTES }) []
 begins_legal f contents sound =
     record {
       legal = (sound, tt);
       at = record { depth = refl; left = refl; unclosed = refl; unwanting = refl };
     }
 
-pub keeps_legal : (f : Frame) (contents : Contents) (old new : Reached) (op : Op) (a : Answer) (trace : List Event)
-    → 0 < f.clients → IsAfter f contents old trace → IsTurn old op a new → IsAfter f contents new (trace ++ event_of op a ∷ [])
+pub keeps_legal : (f : Setting) (contents : Contents) (old new : Reached) (op : Op) (a : Answer) (trace : List Event)
+    → 0 < f.clients → IsAfter f contents old trace → IsTurn old op a new → IsAfter f contents new (trace ++ event_of 0 op a ∷ [])
 keeps_legal f contents old new op a trace some after turn =
     record {
-      legal = (after.legal.0, follows_longer f (opened contents) trace (event_of op a) after.legal.1 (turn.legal f (left_by f contents trace) some after.at));
-      at = subst (λ s. IsAt new s) (sym (state_longer f (opened contents) trace (event_of op a))) (turn.leaves f (left_by f contents trace) some after.at);
+      legal = (after.legal.0, follows_longer f (opened contents) trace (event_of 0 op a) after.legal.1 (turn.legal f (left_by f contents trace) some after.at));
+      at = subst (λ s. IsAt new s) (sym (state_longer f (opened contents) trace (event_of 0 op a))) (turn.leaves f (left_by f contents trace) some after.at);
     }

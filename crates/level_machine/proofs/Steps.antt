@@ -5,58 +5,58 @@ use Rattle.std.proofs.lemmas.List.{length-take-le}
 use Rattle.std.proofs.lemmas.Bool.Decides.{eqb_tells}
 use Rattle.abl_base.specs.declared.row.RowId.{RowId}
 use Rattle.database_meaning.specs.declared.state.Key.{Key}
-use Rattle.database_meaning.specs.declared.operation.Op.{Op}
-use Rattle.database_meaning.specs.declared.operation.Op.TheVariants.{Enter, Leave, Back, End}
-use Rattle.database_meaning.specs.declared.operation.Answer.{Answer}
-use Rattle.database_meaning.specs.declared.operation.Answer.TheVariants.{Refused, TraceFull, Done, Committed}
-use Rattle.database_meaning.specs.declared.limits.TheConstants.{MAX_TRACE_BYTES}
-use Rattle.database_meaning.specs.Frame.{Frame, unique_keys, has_key}
+use Rattle.client_database.specs.declared.operation.Op.{Op}
+use Rattle.client_database.specs.declared.operation.Op.TheVariants.{Enter, Leave, Back, End}
+use Rattle.client_database.specs.declared.answer.Answer.{Answer}
+use Rattle.client_database.specs.declared.answer.Answer.TheVariants.{Refused, TraceFull, Done, Committed}
+use Rattle.abl_base.specs.declared.limits.TheConstants.{MAX_TRACE_BYTES}
+use Rattle.database_meaning.specs.Setting.{Setting, unique_keys, has_key}
 use Rattle.database_meaning.specs.State.{State, depth_of}
 use Rattle.database_meaning.specs.Counts.{HasRoom, event_size}
-use Rattle.database_meaning.specs.Answers.{Answers, Middle, Succeeds, IsSound, IsRefused}
+use Rattle.database_meaning.specs.Answers.{Answers, FromGone, Succeeds, IsWellFormed, IsRefused}
 use Rattle.database_meaning.specs.Steps.{after, is_outermost, own_after, own_after_commit, own_after_leave}
 use Rattle.level_machine.specs.Reached.{Reached, IsAt}
 use Rattle.level_machine.specs.Turns.{IsLevelOp}
 
-module _ (f : Frame) (s : State) where
-  no_row_has_no_keys : (k : Key) → ¬ IsTrue (has_key (unique_keys f.schema None) k)
+module _ (f : Setting) (s : State) where
+  pub no_row_has_no_keys : (k : Key) → ¬ IsTrue (has_key (unique_keys f.schema None) k)
   unfolding unique_keys
   no_row_has_no_keys k h = let e : false ≡ true = h in cc
 
   -- ---- nothing stands against an operation of levels
 
-  pub middle_enter : (a : Answer) → Succeeds f s 0 Enter a → Middle f s 0 Enter a
+  pub middle_enter : (a : Answer) → Succeeds f s 0 Enter a → FromGone f s 0 Enter a
   middle_enter a succeeds =
       inr (λ h. h, inr (λ h. h.1, inr (λ h. h.0.1, inr (λ h. h.0.1, inr (λ h. h.1, inr (λ h. no_row_has_no_keys h.2.0.0 h.2.0.2, inr (λ h. h.0, inr (λ h. h.0, inr (λ h. let e = h.1 in cc, inr (λ h. h.0, succeeds))))))))))
 
-  pub middle_leave : (keep : List RowId) (a : Answer) → Succeeds f s 0 (Leave keep) a → Middle f s 0 (Leave keep) a
+  pub middle_leave : (keep : List RowId) (a : Answer) → Succeeds f s 0 (Leave keep) a → FromGone f s 0 (Leave keep) a
   middle_leave keep a succeeds =
       inr (λ h. h, inr (λ h. h.1, inr (λ h. h.0.1, inr (λ h. h.0.1, inr (λ h. h.1, inr (λ h. no_row_has_no_keys h.2.0.0 h.2.0.2, inr (λ h. h.0, inr (λ h. h.0, inr (λ h. let e = h.1 in cc, inr (λ h. h.0, succeeds))))))))))
 
-  pub middle_back : (depth : ℕ) (a : Answer) → Succeeds f s 0 (Back depth) a → Middle f s 0 (Back depth) a
+  pub middle_back : (depth : ℕ) (a : Answer) → Succeeds f s 0 (Back depth) a → FromGone f s 0 (Back depth) a
   middle_back depth a succeeds =
       inr (λ h. h, inr (λ h. h.1, inr (λ h. h.0.1, inr (λ h. h.0.1, inr (λ h. h.1, inr (λ h. no_row_has_no_keys h.2.0.0 h.2.0.2, inr (λ h. h.0, inr (λ h. h.0, inr (λ h. let e = h.1 in cc, inr (λ h. h.0, succeeds))))))))))
 
-  pub middle_end : (a : Answer) → Succeeds f s 0 End a → Middle f s 0 End a
+  pub middle_end : (a : Answer) → Succeeds f s 0 End a → FromGone f s 0 End a
   middle_end a succeeds =
       inr (λ h. h, inr (λ h. h.1, inr (λ h. h.0.1, inr (λ h. h.0.1, inr (λ h. h.1, inr (λ h. no_row_has_no_keys h.2.0.0 h.2.0.2, inr (λ h. h.0, inr (λ h. h.0, inr (λ h. let e = h.1 in cc, inr (λ h. h.0, succeeds))))))))))
 
   module _ (reached : Reached) (some : 0 < f.clients) (at : IsAt reached s) where
     -- ---- the rows of the table of answers
 
-    not_refused : (op : Op) → IsSound f s 0 op → ¬ IsRefused f s 0 op
+    not_refused : (op : Op) → IsWellFormed f s 0 op → ¬ IsRefused f s 0 op
     not_refused op sound refused = refused (some, sound, λ asks. let waits_not = at.unwanting in cc)
 
     not_closed : (op : Op) → ¬ (IsTrue s.closed × (op ≢ End))
     not_closed op h = let closed : s.closed ≡ true = h.0 in let unclosed = at.unclosed in cc
 
-    refused_by_table : (op : Op) → ¬ IsSound f s 0 op → Answers f s 0 op Refused
+    refused_by_table : (op : Op) → ¬ IsWellFormed f s 0 op → Answers f s 0 op Refused
     refused_by_table op unsound = inr (inl (λ h. unsound h.1, refl))
 
-    succeeds_by_table : (op : Op) (a : Answer) → IsSound f s 0 op → HasRoom s op a → Middle f s 0 op a → Answers f s 0 op a
+    succeeds_by_table : (op : Op) (a : Answer) → IsWellFormed f s 0 op → HasRoom s op a → FromGone f s 0 op a → Answers f s 0 op a
     succeeds_by_table op a sound room middle = inr (inr (not_refused op sound, inr (not_closed op, inl (room, middle))))
 
-    full_by_table : (op : Op) (a : Answer) → IsSound f s 0 op → Middle f s 0 op a → ¬ HasRoom s op a → Answers f s 0 op TraceFull
+    full_by_table : (op : Op) (a : Answer) → IsWellFormed f s 0 op → FromGone f s 0 op a → ¬ HasRoom s op a → Answers f s 0 op TraceFull
     full_by_table op a sound middle no_room = inr (inr (not_refused op sound, inr (not_closed op, inr (refl, a, middle, no_room))))
 
     -- ---- the bytes left
@@ -91,7 +91,7 @@ module _ (f : Frame) (s : State) where
 
     module _ (depth : ℕ) where
       module _ (some_level : 0 < depth) (is_open : depth ≤ reached.depth) where
-        back_sound : IsSound f s 0 (Back depth)
+        back_sound : IsWellFormed f s 0 (Back depth)
         back_sound = (some_level, subst (λ n. depth ≤ n) (sym at.depth) is_open)
 
         pub back_legal : 64 ≤ reached.left → Answers f s 0 (Back depth) Done
@@ -114,7 +114,7 @@ module _ (f : Frame) (s : State) where
 
     -- ---- Leave
 
-    leave_sound : 0 < reached.depth → IsSound f s 0 (Leave [])
+    leave_sound : 0 < reached.depth → IsWellFormed f s 0 (Leave [])
     leave_sound some_level = subst (λ n. 0 < n) (sym at.depth) some_level
 
     pub leave_refused : reached.depth ≡ 0 → Answers f s 0 (Leave []) Refused
@@ -124,7 +124,7 @@ module _ (f : Frame) (s : State) where
     commit_legal one place =
         succeeds_by_table (Leave []) (Committed 0) (leave_sound (omega arith)) (inr (has_place place)) (middle_leave [] (Committed 0) (inl (at.depth ∙ one, 0, refl)))
 
-    leave_succeeds : reached.depth ≢ 1 → Middle f s 0 (Leave []) Done
+    leave_succeeds : reached.depth ≢ 1 → FromGone f s 0 (Leave []) Done
     leave_succeeds more = middle_leave [] Done (inr (λ one. more (sym at.depth ∙ one), refl))
 
     pub leave_legal : 0 < reached.depth → reached.depth ≢ 1 → 64 ≤ reached.left → Answers f s 0 (Leave []) Done

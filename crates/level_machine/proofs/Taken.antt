@@ -1,10 +1,10 @@
 -- Each answer of the levels is a turn of the database machine.
 use Rattle.std.proofs.Common.{◌≡◌, ◌≢◌, ℕ, ◌+◌, ◌-◌, ◌<◌, ◌≤◌, [], refl, sym, subst}
-use Rattle.database_meaning.specs.declared.operation.Op.{Op}
-use Rattle.database_meaning.specs.declared.operation.Op.TheVariants.{Enter, Leave, Back, End}
-use Rattle.database_meaning.specs.declared.operation.Answer.{Answer}
-use Rattle.database_meaning.specs.declared.operation.Answer.TheVariants.{TraceFull, Done, Committed}
-use Rattle.database_meaning.specs.Frame.{Frame}
+use Rattle.client_database.specs.declared.operation.Op.{Op}
+use Rattle.client_database.specs.declared.operation.Op.TheVariants.{Enter, Leave, Back, End}
+use Rattle.client_database.specs.declared.answer.Answer.{Answer}
+use Rattle.client_database.specs.declared.answer.Answer.TheVariants.{TraceFull, Done, Committed}
+use Rattle.database_meaning.specs.Setting.{Setting}
 use Rattle.database_meaning.specs.State.{State}
 use Rattle.database_meaning.specs.Answers.{Answers}
 use Rattle.level_machine.specs.Reached.{Reached, IsAt}
@@ -51,7 +51,7 @@ module _ (old : Reached) where
         leaves = λ f s some at. end_leaves f s old some at;
       }
 
-  full_turn : (op : Op) → IsLevelOp op → ((f : Frame) (s : State) → 0 < f.clients → IsAt old s → Answers f s 0 op TraceFull) → IsTurn old op TraceFull (record { depth = old.depth; left = old.left })
+  full_turn : (op : Op) → IsLevelOp op → ((f : Setting) (s : State) → 0 < f.clients → IsAt old s → Answers f s 0 op TraceFull) → IsTurn old op TraceFull (record { depth = old.depth; left = old.left })
   full_turn op level legal =
       record {
         legal = legal;

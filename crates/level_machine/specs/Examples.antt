@@ -1,7 +1,7 @@
 -- Examples of the definitions that compute.
 use Rattle.std.specs.Prelude.{◌≡◌, true, [], refl}
-use Rattle.database_meaning.specs.declared.operation.Op.TheVariants.{Leave, Lock}
-use Rattle.database_meaning.specs.declared.operation.Answer.TheVariants as answer
+use Rattle.client_database.specs.declared.operation.Op.TheVariants.{Leave, Lock}
+use Rattle.client_database.specs.declared.answer.Answer.TheVariants as answer
 use Rattle.level_machine.specs.declared.reply.Reply.TheVariants as reply
 use Rattle.level_machine.specs.Turns.{IsLevelOp, answer_of}
 

@@ -1,6 +1,6 @@
 -- What the fields of `Levels` stand for.
 use Rattle.std.specs.Prelude.{◌+◌, ◌*◌, ◌≤◌}
-use Rattle.database_meaning.specs.declared.limits.TheConstants.{MAX_TRACE_BYTES, EVENT_BYTES}
+use Rattle.abl_base.specs.declared.limits.TheConstants.{MAX_TRACE_BYTES, EVENT_BYTES}
 use Rattle.level_machine.specs.declared.levels.Levels.TheInside.{Inside}
 use Rattle.level_machine.specs.Reached.{Reached}
 

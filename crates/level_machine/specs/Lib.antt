@@ -1,4 +1,5 @@
 pub mod Reached
 pub mod Inside
 pub mod Turns
+pub mod LevelDatabase
 pub mod Examples

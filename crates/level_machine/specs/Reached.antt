@@ -1,6 +1,6 @@
 -- What the levels of the one client have come to.
 use Rattle.std.specs.Prelude.{◌≡◌, ℕ, ◌-◌, false, None}
-use Rattle.database_meaning.specs.declared.limits.TheConstants.{MAX_TRACE_BYTES}
+use Rattle.abl_base.specs.declared.limits.TheConstants.{MAX_TRACE_BYTES}
 use Rattle.database_meaning.specs.State.{State, depth_of}
 
 pub record Reached : Type 0 where
@@ -13,4 +13,4 @@ pub record IsAt (reached : Reached) (s : State) : Type 0 where
   pub depth : depth_of s 0 ≡ reached.depth
   pub left : MAX_TRACE_BYTES - s.size ≡ reached.left
   pub unclosed : s.closed ≡ false
-  pub unwanting : (s.client 0).want ≡ None
+  pub unwanting : (s.client 0).blocked ≡ None

@@ -1,12 +1,12 @@
 -- One operation and its answer, as the database machine allows them.
 use Rattle.std.specs.Prelude.{◌≡◌, ◌<◌, ◌≤◌, List, []}
 use Rattle.database_meaning.specs.declared.contents.Contents.{Contents}
-use Rattle.database_meaning.specs.declared.operation.Op.{Op}
-use Rattle.database_meaning.specs.declared.operation.Op.TheVariants.{Enter, Leave, Back, End}
-use Rattle.database_meaning.specs.declared.operation.Answer.{Answer}
-use Rattle.database_meaning.specs.declared.operation.Answer.TheVariants as answer
-use Rattle.database_meaning.specs.declared.operation.Event.{Event}
-use Rattle.database_meaning.specs.Frame.{Frame}
+use Rattle.client_database.specs.declared.operation.Op.{Op}
+use Rattle.client_database.specs.declared.operation.Op.TheVariants.{Enter, Leave, Back, End}
+use Rattle.client_database.specs.declared.answer.Answer.{Answer}
+use Rattle.client_database.specs.declared.answer.Answer.TheVariants as answer
+use Rattle.client_database.specs.declared.event.Event.{Event}
+use Rattle.database_meaning.specs.Setting.{Setting}
 use Rattle.database_meaning.specs.State.{State}
 use Rattle.database_meaning.specs.Answers.{Answers}
 use Rattle.database_meaning.specs.Steps.{after}
@@ -38,13 +38,10 @@ answer_of reply.Committed = answer.Committed 0
 
 -- from each state that the levels are at, the database may answer so, and the levels are then at the state after it
 pub record IsTurn (old : Reached) (op : Op) (a : Answer) (new : Reached) : Type 0 where
-  pub legal : (f : Frame) (s : State) → 0 < f.clients → IsAt old s → Answers f s 0 op a
-  pub leaves : (f : Frame) (s : State) → 0 < f.clients → IsAt old s → IsAt new (after f s 0 op a)
-
-abbrev pub event_of : Op → Answer → Event
-event_of op a = record { client = 0; op = op; answer = a }
+  pub legal : (f : Setting) (s : State) → 0 < f.clients → IsAt old s → Answers f s 0 op a
+  pub leaves : (f : Setting) (s : State) → 0 < f.clients → IsAt old s → IsAt new (after f s 0 op a)
 
 -- the trace is legal, and the levels are at the state that it leaves
-pub record IsAfter (f : Frame) (contents : Contents) (reached : Reached) (trace : List Event) : Type 0 where
+pub record IsAfter (f : Setting) (contents : Contents) (reached : Reached) (trace : List Event) : Type 0 where
   pub legal : IsLegal f contents trace
   pub at : IsAt reached (left_by f contents trace)

@@ -2,41 +2,42 @@
 //! that does nothing.
 
 ghost use Rattle.std.specs.Prelude.{◌≡◌, ◌<◌, ℕ, List, [], ◌∷◌, ◌++◌};
-ghost use Rattle.database_meaning.specs.Frame.{Frame};
+ghost use Rattle.database_meaning.specs.Setting.{Setting};
 ghost use Rattle.database_meaning.specs.State.{State};
 ghost use Rattle.database_meaning.specs.Answers.{Answers};
 ghost use Rattle.database_meaning.specs.Traces.{Follows, IsSoundContents, state_after, after_event, operations_of, answers_of};
 ghost use Rattle.database_meaning.specs.declared.contents.Contents.{Contents as Opening};
-ghost use Rattle.database_meaning.specs.declared.operation.Event.{Event as TraceEvent};
-ghost use Rattle.database_meaning.specs.declared.operation.Op.{Op as Asked};
-ghost use Rattle.database_meaning.specs.declared.operation.Answer.{Answer as Given};
-ghost use Rattle.database_meaning.specs.declared.limits.TheConstants.{MAX_TRACE_BYTES as MOST};
+ghost use Rattle.client_database.specs.declared.event.Event.{Event as TraceEvent};
+ghost use Rattle.client_database.specs.declared.operation.Op.{Op as Asked};
+ghost use Rattle.client_database.specs.declared.answer.Answer.{Answer as Given};
+ghost use Rattle.abl_base.specs.declared.limits.TheConstants.{MAX_TRACE_BYTES as MOST};
 ghost use Rattle.level_machine.specs.Reached.{Reached};
-ghost use Rattle.level_machine.specs.Turns.{IsTurn, IsAfter, event_of};
+ghost use Rattle.database_interface.specs.Step.{event_of};
+ghost use Rattle.level_machine.specs.Turns.{IsTurn, IsAfter};
 
 /// The empty trace is legal from sound contents, and new levels are at the state of a database that
 /// was just opened.
 pub fn traces_begin_legal()
-    ensures { (f : Frame) (contents : Opening) → IsSoundContents f contents → IsAfter f contents (record { depth = 0; left = MOST }) [] }
+    ensures { (f : Setting) (contents : Opening) → IsSoundContents f contents → IsAfter f contents (record { depth = 0; left = MOST }) [] }
 {}
 
 /// A turn makes a legal trace one event longer, and it stays legal, whatever the schema and the
 /// contents.
 pub fn turns_keep_traces_legal()
-    ensures { (f : Frame) (contents : Opening) (old new : Reached) (op : Asked) (a : Given) (trace : List TraceEvent) →
+    ensures { (f : Setting) (contents : Opening) (old new : Reached) (op : Asked) (a : Given) (trace : List TraceEvent) →
         0 < f.clients →
         IsAfter f contents old trace →
         IsTurn old op a new →
-        IsAfter f contents new (trace ++ event_of op a ∷ []) }
+        IsAfter f contents new (trace ++ event_of 0 op a ∷ []) }
 {}
 
 /// Events that follow a state, and one more that follows the state they leave, follow it together.
 pub fn events_follow_one_by_one()
-    ensures follows { (f : Frame) (s : State) (events : List TraceEvent) (e : TraceEvent) →
+    ensures follows { (f : Setting) (s : State) (events : List TraceEvent) (e : TraceEvent) →
         Follows f s events →
         Answers f (state_after f s events) e.client e.op e.answer →
         Follows f s (events ++ e ∷ []) }
-    ensures state { (f : Frame) (s : State) (events : List TraceEvent) (e : TraceEvent) →
+    ensures state { (f : Setting) (s : State) (events : List TraceEvent) (e : TraceEvent) →
         state_after f s (events ++ e ∷ []) ≡ after_event f (state_after f s events) e }
 {}
 
@@ -48,4 +49,9 @@ pub fn own_events_grow_at_the_end()
     ensures answers { (c : ℕ) (events : List TraceEvent) (e : TraceEvent) →
         e.client ≡ c →
         answers_of c (events ++ e ∷ []) ≡ answers_of c events ++ e.answer ∷ [] }
+{}
+
+/// Some frame with a client has sound contents: one without tables and sequences.
+pub fn some_contents_are_sound()
+    ensures { (f : Setting) × (contents : Opening) × (0 < f.clients) × IsSoundContents f contents }
 {}

@@ -2,16 +2,16 @@
 
 ghost use Rattle.std.specs.Prelude.{◌≡◌, ◌≢◌, ◌+◌, ◌*◌, ◌^◌, ◌-◌, ◌<◌, ◌≤◌, ◌↔◌, []};
 ghost use Rattle.database_meaning.specs.declared.contents.Contents.{Contents};
-ghost use Rattle.database_meaning.specs.declared.operation.Op.{Op};
+ghost use Rattle.client_database.specs.declared.operation.Op.{Op};
 ghost use Rattle.database_meaning.specs.Traces.{opened};
 ghost use Rattle.level_machine.specs.Reached.{IsAt};
-ghost use Rattle.database_meaning.specs.declared.limits.TheConstants.{MAX_TRACE_BYTES, EVENT_BYTES};
+ghost use Rattle.abl_base.specs.declared.limits.TheConstants.{MAX_TRACE_BYTES, EVENT_BYTES};
 ghost use Rattle.level_machine.specs.declared.reply.Reply.{Reply};
 ghost use Rattle.level_machine.specs.Turns.{IsLevelOp, IsOpen, IsTurn, answer_of};
 
 use crate::reply::Reply;
-use database_meaning::Op;
-use database_meaning::limits::{EVENT_BYTES, MAX_TRACE_BYTES};
+use abl_base::limits::{EVENT_BYTES, MAX_TRACE_BYTES};
+use client_database::Op;
 use std::marker::Model;
 
 /// Where the one client of a database is with its levels, and how long its trace may still grow.
@@ -153,13 +153,13 @@ impl Levels {
 #[cfg(test)]
 mod tests {
     use super::*;
-    use abl_base::Rows;
+    use client_database::RowIds;
     use std::test::Fail;
 
     #[test]
     fn levels_open_and_close(rt: HostRuntime) -> Result<(), Fail> {
         let leave = Op::Leave {
-            keep: Rows::empty(rt.alloc()),
+            keep: RowIds::empty(rt.alloc()),
         };
         let mut levels = Levels::new();
         assert_eq!(rt; levels.owed(), 1);

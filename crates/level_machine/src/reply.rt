@@ -3,7 +3,7 @@
 ghost use Rattle.std.specs.Prelude.{◌≡◌};
 ghost use Rattle.level_machine.specs.Turns.{answer_of};
 
-use database_meaning::Answer;
+use client_database::Answer;
 
 /// An answer that has no memory of its own.
 #[derive(Clone, Copy, Debug, PartialEq, Eq)]

@@ -1,6 +1,6 @@
 use Rattle.std.proofs.Common.{◌<◌, ◌≤◌, subst, arith}
-use Rattle.database_meaning.specs.declared.operation.Op.TheVariants.{Back}
-use Rattle.database_meaning.specs.declared.operation.Answer.TheVariants.{Done}
+use Rattle.client_database.specs.declared.operation.Op.TheVariants.{Back}
+use Rattle.client_database.specs.declared.answer.Answer.TheVariants.{Done}
 use Rattle.level_machine.specs.Reached.{Reached}
 use Rattle.level_machine.proofs.Taken.{to, back_turn, full_back_turn}
 use Rattle.level_machine.proofs.levels.Levels.back.Goals as goal

@@ -1,6 +1,6 @@
 use Rattle.std.proofs.Common.{subst}
-use Rattle.database_meaning.specs.declared.operation.Op.TheVariants.{End}
-use Rattle.database_meaning.specs.declared.operation.Answer.TheVariants.{Done}
+use Rattle.client_database.specs.declared.operation.Op.TheVariants.{End}
+use Rattle.client_database.specs.declared.answer.Answer.TheVariants.{Done}
 use Rattle.level_machine.specs.Inside.{reached}
 use Rattle.level_machine.specs.Turns.{IsTurn}
 use Rattle.level_machine.proofs.Taken.{end_turn}

@@ -1,6 +1,6 @@
 use Rattle.std.proofs.Common.{◌<◌, ◌≤◌, ◌∙◌, ◌+◌, ◌-◌, subst, ap}
-use Rattle.database_meaning.specs.declared.operation.Op.TheVariants.{Enter}
-use Rattle.database_meaning.specs.declared.operation.Answer.TheVariants.{Done}
+use Rattle.client_database.specs.declared.operation.Op.TheVariants.{Enter}
+use Rattle.client_database.specs.declared.answer.Answer.TheVariants.{Done}
 use Rattle.level_machine.specs.Reached.{Reached}
 use Rattle.level_machine.proofs.Taken.{to, enter_turn, full_enter_turn}
 use Rattle.level_machine.proofs.levels.Levels.enter.Goals as goal

@@ -1,6 +1,6 @@
 use Rattle.std.proofs.Common.{◌≡◌, ◌≢◌, ◌<◌, ◌≤◌, ◌∙◌, ◌-◌, ap, subst, arith, []}
-use Rattle.database_meaning.specs.declared.operation.Op.TheVariants.{Leave}
-use Rattle.database_meaning.specs.declared.operation.Answer.TheVariants.{Done, Committed}
+use Rattle.client_database.specs.declared.operation.Op.TheVariants.{Leave}
+use Rattle.client_database.specs.declared.answer.Answer.TheVariants.{Done, Committed}
 use Rattle.level_machine.specs.Reached.{Reached}
 use Rattle.level_machine.proofs.Taken.{to, commit_turn, leave_turn, full_leave_turn}
 use Rattle.level_machine.proofs.levels.Levels.leave.Goals as goal

@@ -1,0 +1,40 @@
+-- A command is refused by its arguments or by what prevents its run; else its client runs.
+use Rattle.std.proofs.Common.{ℕ, List, subst, inl, inr, ◌⊎◌}
+use Rattle.abl_cli.specs.declared.refusal.Refusal.TheVariants.{NoMemory}
+use Rattle.abl_cli.specs.declared.command.Report.{Report}
+use Rattle.abl_cli.specs.declared.arguments.RunArguments.{RunArguments}
+use Rattle.bound_tree.specs.Bound.{source_of}
+use Rattle.block_code.specs.declared.code.Code.{Code}
+use Rattle.abl_cli.specs.CommandLine.{Names}
+use Rattle.abl_outside.specs.Out.{OutState}
+use Rattle.abl_outside.specs.Files.{FileState}
+use Rattle.abl_cli.specs.Command.{CommandResult, Refused, Ran, IsReady, IsCodeOf, HasRun, IsRefused, wrong_argument, run_wants}
+use Rattle.abl_cli.proofs.Causes.{run_of, cause_of_prevented}
+use Rattle.abl_cli.proofs.command.run_abl.Goals as goal
+
+pub returns-in-Err : goal.returns-in-Err
+returns-in-Err g c = Refused _ _ (wrong_argument c.in-Err.ensures.wrong) c.refused.ensures
+
+pub returns-in-Err-load : goal.returns-in-Err-load
+returns-in-Err-load g c =
+    Refused _ _ (cause_of_prevented c.args.arguments.now _ _ c.in-Ok.run' c.in-Ok.ensures.form c.in-Err-load.refusal c.in-Err-load.ensures.prevented) c.refused-in-Err-load.ensures
+
+-- a run that was executed, or was out of memory
+executed :
+    (arguments : List (List ℕ)) (files : FileState) (faults : ℕ) (old new : OutState) (report : Report) (read : RunArguments) →
+    Names arguments read → (code : Code) → IsReady files read.schema.now read.program.now code →
+    ((text : List ℕ) (is_code : IsCodeOf text code) → HasRun read.mode read.name.now read.steps (source_of is_code.bound) old new report ⊎ IsRefused read.name.now NoMemory old new report) →
+    CommandResult arguments files faults old new report
+executed arguments files faults old new report read names code ready ensured = by_case (ensured ready.texts.source ready.is_code)
+  where
+    by_case : HasRun read.mode read.name.now read.steps (source_of ready.is_code.bound) old new report ⊎ IsRefused read.name.now NoMemory old new report → CommandResult arguments files faults old new report
+    by_case (inl ran) =
+        Ran (run_of arguments read names) names.is_run names.arguments_are ready.texts ready.clean
+        (source_of ready.is_code.bound) ready.is_code.form
+        (subst (λ units. HasRun read.mode read.name.now units (source_of ready.is_code.bound) old new report) names.number ran)
+    by_case (inr refused) =
+        Refused read.name.now NoMemory (cause_of_prevented arguments files faults read names NoMemory run_wants) refused
+
+pub returns-in-Ok-load : goal.returns-in-Ok-load
+returns-in-Ok-load g c =
+    executed c.args.arguments.now _ _ _ _ _ c.in-Ok.run' c.in-Ok.ensures.form c.in-Ok-load.code c.in-Ok-load.ensures.code c.execute.ensures

@@ -1,9 +1,0 @@
--- The event of a turn keeps the trace legal.
-use Rattle.std.proofs.Common.{◌++◌, ◌∷◌, [], subst, sym, ap, ◌∙◌}
-use Rattle.level_machine.specs.Turns.{IsAfter, event_of}
-use Rattle.abl_cli.proofs.drive.turn.Goals as goal
-
-pub returns-clause-legal : goal.returns-clause-legal
-returns-clause-legal c f contents clients after =
-    subst (λ trace. IsAfter f contents c.reply-reply.new.self trace) (sym (c.push_reserved.ensures.items ∙ ap (λ a. c.args.trace.now.items ++ event_of c.args.op a ∷ []) c.answer.ensures))
-    (c.turns_keep_traces_legal.ensures f contents c.args.levels.now c.reply-reply.new.self c.args.op _ c.args.trace.now.items clients after c.reply-reply.ensures.turn)

@@ -1,0 +1,31 @@
+-- The form of the command line, argument by argument.
+use Rattle.std.specs.Prelude.{◌≡◌, ℕ, ◌<◌, List, [], ◌∷◌, ◌++◌, length, codes}
+use Rattle.abl_cli.specs.declared.arguments.Argument.{Argument}
+use Rattle.abl_cli.specs.declared.arguments.Argument.TheVariants.{Command, Schema, Steps, Mode, Client}
+use Rattle.abl_cli.specs.CommandLine.{IsMode, IsSteps, IsName, IsProgram}
+
+-- the places of the form, in order
+abbrev pub form : List Argument
+form = Command ∷ Schema ∷ Steps ∷ Mode ∷ Client ∷ []
+
+-- `NAME=PROG`
+pub record IsClient (arg : List ℕ) : Type 0 where
+  pub name : List ℕ
+  pub program : List ℕ
+  pub is_name : IsName name
+  pub is_program : IsProgram program
+  pub joined : arg ≡ name ++ 61 ∷ program
+
+-- the argument fits the place
+abbrev pub Fits : Argument → List ℕ → Type 0
+Fits Command arg = arg ≡ codes "run"
+Fits Schema arg = 0 < length arg
+Fits Steps arg = IsSteps arg
+Fits Mode arg = IsMode arg
+Fits Client arg = IsClient arg
+
+-- each argument fits its place, and there are no more arguments than places
+abbrev pub FitAll : List Argument → List (List ℕ) → Type 0
+FitAll places [] = Unit {0}
+FitAll [] (arg ∷ arguments) = ⊥
+FitAll (argument ∷ places) (arg ∷ arguments) = Fits argument arg × FitAll places arguments
