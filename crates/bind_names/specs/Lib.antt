@@ -1,0 +1,4 @@
+pub mod Judged
+pub mod Sorts
+pub mod Names
+pub mod Views
