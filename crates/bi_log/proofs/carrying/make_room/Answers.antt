@@ -1,0 +1,6 @@
+use Rattle.disk_steps.proofs.Runs.{started}
+use Rattle.bi_log.specs.Generations.{AfterGate}
+use Rattle.bi_log.proofs.carrying.make_room.Goals as goal
+
+pub returns-clause-time : goal.returns-clause-time
+returns-clause-time g c = started _ _ (AfterGate c.args.area) (λ m image left. (g.met.D.Disk.image_known c.args.disk.now m image left).past)

@@ -1,0 +1,93 @@
+//! The log: its area, and the notes that are in no batch yet.
+
+ghost use Rattle.std.specs.Prelude.{◌≡◌, ◌≢◌, ◌⊎◌, ◌↔◌, ◌+◌, ◌<◌, ◌≤◌, ◌^◌, ◌++◌, ◌∷◌, [], ℕ, List, length, IsTrue, OnOk, OnErr, is_ok};
+ghost use Rattle.abl_storage.specs.Disk.{Others, HasCause};
+ghost use Rattle.disk_steps.specs.Steps.{Image, Run, Any};
+ghost use Rattle.log_meaning.specs.declared.note.Note.{Note as LogNote};
+ghost use Rattle.log_meaning.specs.declared.note.Note.TheVariants.{Commit as Committed};
+ghost use Rattle.log_meaning.specs.Bytes.{note_bytes, IsNote};
+ghost use Rattle.bi_log.specs.Appending.{Held, with_batch, Appends};
+ghost use Rattle.bi_log.specs.Buffer.{content};
+ghost use Rattle.bi_log.specs.Logs.{HasNotes, Keeps};
+
+use crate::buffer::MAX_BATCH_BYTES;
+use crate::note_buffer::NoteBuffer;
+use crate::settle;
+use abl_storage::{Disk, DiskFailed};
+use log_meaning::Note;
+
+/// The log of a disk, while notes are appended.
+#[derive(Drop)]
+pub struct Log {
+    pub(crate) area: u8,
+    pub(crate) gate: u64,
+    pub(crate) buffer: NoteBuffer,
+    pub(crate) appended: u64,
+    pub(crate) settled: u64,
+}
+
+impl Log {
+    /// Whether the buffer has no room for one note more.
+    pub fn is_full(&self) -> bool {
+        self.buffer.len() + 525 > MAX_BATCH_BYTES
+    }
+
+    /// Whether the buffer has no note.
+    pub fn is_empty(&self) -> bool
+        ensures { IsTrue result ↔ (length (content self.now.buffer) ≡ 0) }
+    {
+        self.buffer.len() == 0
+    }
+
+    /// Whether the area has room for a whole batch.
+    pub fn has_room(&self) -> bool
+        ensures { IsTrue result ↔ (self.now.gate < 2 ^ 39) }
+    {
+        self.gate < 1 << 39
+    }
+
+    /// Adds a note to the buffer.
+    pub fn append(&mut self, note: &Note)
+        requires room { length (content self.old.buffer) + 525 ≤ 1048576 }
+        requires few { self.old.appended + 1 < 2 ^ 64 }
+        ensures notes { (notes : List LogNote) → HasNotes self.old.buffer notes → IsNote note.now → HasNotes self.new.buffer (notes ++ note.now ∷ []) }
+        ensures place { (self.new.area ≡ self.old.area) × (self.new.gate ≡ self.old.gate) }
+    {
+        self.buffer.push(note);
+        self.appended += 1;
+    }
+
+    /// Adds the commit of this transaction.
+    pub fn append_commit(&mut self, tx: u64)
+        requires room { length (content self.old.buffer) + 525 ≤ 1048576 }
+        requires few { self.old.appended + 1 < 2 ^ 64 }
+        ensures notes { (notes : List LogNote) → HasNotes self.old.buffer notes → HasNotes self.new.buffer (notes ++ Committed tx ∷ []) }
+        ensures place { (self.new.area ≡ self.old.area) × (self.new.gate ≡ self.old.gate) }
+    {
+        self.append(&Note::Commit(tx));
+    }
+
+    /// Puts the notes of the buffer into an open batch.
+    pub fn flush<D: Disk>(&mut self, disk: &mut D) -> Result<(), DiskFailed>
+        requires area { self.old.area < 3 }
+        requires small { self.old.gate < 2 ^ 39 }
+        ensures same_observable { D.observable disk.new ≡ D.observable disk.old }
+        ensures later { D.time disk.old ≤ D.time disk.new }
+        ensures past { Run (D.time disk.old) (D.time disk.new) (D.left disk.old) (D.left disk.new) Any }
+        ensures time { (held : Held) (notes : List LogNote) → Keeps self.old (D.left disk.old (D.time disk.old)) held notes → notes ≢ []
+            → Run (D.time disk.old) (D.time disk.new) (D.left disk.old) (D.left disk.new) (Appends self.old.area held notes) }
+        ensures ok { OnOk result ((held : Held) (notes : List LogNote) → Keeps self.old (D.left disk.old (D.time disk.old)) held notes → notes ≢ []
+            → Keeps self.new (D.left disk.new (D.time disk.new)) (with_batch held notes) []) }
+        ensures area { self.new.area ≡ self.old.area }
+        ensures seen { IsTrue (D.observable disk.old) → Others self.old.area (D.seen disk.old) (D.seen disk.new) }
+        ensures settled { OnOk result (self.new.settled ≡ self.old.appended) }
+        ensures cause { HasCause (D.failures disk.old) (D.failures disk.new) (is_ok result) }
+    {
+        let n = self.buffer.len() as u64;
+        settle(disk, self.area, self.gate, self.buffer.sealed())?;
+        self.gate = self.gate + 5 + n;
+        self.buffer.clear();
+        self.settled = self.appended;
+        Ok(())
+    }
+}

@@ -1,0 +1,11 @@
+pub mod Carrying
+pub mod NotesRead
+pub mod NoteSlots
+pub mod Writing
+pub mod Reopening
+pub mod Filled
+pub mod Recovery
+pub mod Creating
+pub mod CarriedRun
+pub mod CarriedOver
+pub mod Stilling

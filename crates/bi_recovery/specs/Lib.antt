@@ -1,0 +1,5 @@
+pub mod ReadNotes
+pub mod NoteSlots
+pub mod Reopening
+pub mod Carried
+pub mod Creating

@@ -1,0 +1,25 @@
+//! A new generation that carries nothing.
+
+ghost use Rattle.std.specs.Prelude.{◌≡◌, ◌<◌, ◌^◌, ℕ, List, IsTrue, OnOk};
+ghost use Rattle.abl_storage.specs.Disk.{Others};
+ghost use Rattle.disk_steps.specs.Steps.{Image, Run};
+ghost use Rattle.bi_log.specs.Appending.{fresh, RestsAt};
+ghost use Rattle.bi_recovery.specs.Reopening.{StepsTo};
+
+use abl_storage::{Disk, DiskFailed};
+use bi_log::generation::{close_area, open_area, write_header};
+
+/// Opens a generation without notes in an area of the log that is not in use.
+pub fn next_generation<D: Disk>(disk: &mut D, area: u8, generation: u64) -> Result<(), DiskFailed>
+    requires area { area < 3 }
+    requires fits { generation < 2 ^ 63 }
+    requires synced { (image : Image) → D.left disk.old (D.time disk.old) image → image area ≡ D.seen disk.old area }
+    ensures same_observable { D.observable disk.new ≡ D.observable disk.old }
+    ensures time { Run (D.time disk.old) (D.time disk.new) (D.left disk.old) (D.left disk.new) (StepsTo area generation) }
+    ensures ok { OnOk result ((image : Image) → D.left disk.new (D.time disk.new) image → RestsAt (image area) (fresh generation) 32) }
+    ensures seen { IsTrue (D.observable disk.old) → Others area (D.seen disk.old) (D.seen disk.new) }
+{
+    close_area(disk, area)?;
+    write_header(disk, area, generation)?;
+    open_area(disk, area)
+}

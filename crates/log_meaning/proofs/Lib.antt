@@ -1,0 +1,11 @@
+pub mod Notes
+pub mod Undone
+pub mod LoggedSteps
+pub mod LoggedEnds
+pub mod LoggedStarts
+pub mod OneLog
+pub mod Areas
+pub mod LogStates
+pub mod Replay
+pub mod Filling
+pub mod GapExamples
