@@ -52,8 +52,8 @@ fn read<F: Files>(alloc: Global, files: &mut F, name: &[u8]) -> Result<Bytes, Re
     }
 }
 
-/// Nothing, where the schema file breaks no rule. No statement that is built names a part of the
-/// schema yet.
+/// Checks the schema file: refused by the first rule that it breaks. No statement that is built names
+/// a part of the schema yet.
 fn check_schema(alloc: Global, text: &[u8]) -> Result<(), Refusal>
     ensures clean { OnOk result (violation_of text.now ≡ None) }
     ensures refused { IfErr result (BreaksSchema text.now) }

@@ -1,4 +1,4 @@
--- The syntax of a source: what a derivation of its tokens stands for, without the words and signs that say nothing more. Each part has
+-- The syntax of a source: what a derivation of its tokens denotes, without the words and signs that say nothing more. Each part has
 -- the place of the token that a refusal would name, its `at`.
 use Rattle.std.specs.Prelude.{ℕ, Bool, List, Option}
 use Rattle.abl_base.specs.declared.place.Place.{Place}
@@ -83,7 +83,7 @@ pub record Counting : Type 0 where
   pub end : Expression
   pub by : Option Expression
 
--- DO or REPEAT with the buffers behind FOR, or FOR with its buffer and record options
+-- DO or REPEAT with the buffers after FOR, or FOR with its buffer and record options
 pub data Opening : Type 0 where
   Plainly : (word : BlockWord) (buffers : List Word) → Opening
   ForRecords : (which : FetchWord) (buffer : Word) (options : List RecordOption) → Opening
@@ -109,7 +109,7 @@ pub data Argument : Type 0 where
   Output : (at : Place) (name : Word) → Argument
   InputOutput : (at : Place) (name : Word) → Argument
 
--- a count behind SKIP or SPACE
+-- a count after SKIP or SPACE
 pub record Count : Type 0 where
   pub number : ℕ
   pub at : Place

@@ -32,7 +32,7 @@ pub record Typed : Type 0 where
 abbrev pub typed : Expr → Sort → Typed
 typed e s = record { expr = e; sort = s }
 
--- what stands for an expression that breaks a rule
+-- what takes the place of an expression that breaks a rule
 abbrev pub no_value : Typed
 no_value = typed (b.Literal value.Unknown) Broken
 
