@@ -27,6 +27,8 @@ abbrev pub no_header : Header
 no_header = record {
   number = 0;
   kind = block.Procedure;
+  line = 1;
+  transaction = false;
   flags = record { starts = false; undo = true; retry_seen = false };
   scoped = [];
   to = None;
@@ -38,7 +40,7 @@ no_header = record {
 
 -- the default procedure
 abbrev pub no_procedure : Procedure
-no_procedure = record { undoable = []; no_undo = []; buffers = []; parameters = []; header = no_header; body = Nothing }
+no_procedure = record { name = []; undoable = []; no_undo = []; buffers = []; parameters = []; header = no_header; body = Nothing; references = [] }
 
 -- a procedure by its number; the external one is 0
 abbrev pub procedure_at : Program → ℕ → Procedure

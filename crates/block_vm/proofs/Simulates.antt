@@ -129,12 +129,12 @@ module _ (w : Around) (streams : List Stream) where
   -- from an instruction that stands for a statement
   stmt_follows : (m : List Answer → Progress) (c : Config) (p q : ℕ) (t : Stmt) (retry : Bool) (rest : Body) (os : List Outer) → IsUnopened streams → StandsAs c.code p q t → StandsBehind os c.code q (Some rest) → AreOpenIn c (length c.olds) c.level os → ((ans : List Answer) → m ans ≡ goes_on w os (and_then (meaning t (retrying w retry) (here c) ans) (all_of w retry rest))) → On m (act (slice_get c.code p) p c)
   stmt_follows m c p q (Inner b body) retry rest os un at next opened does =
-      let does1 : (ans : List Answer) → m ans ≡ goes_on w os (and_then (meaning (Inner (plain_header at.0.number at.0.kind at.0.flags) body) (retrying w retry) (here c) ans) (all_of w retry rest)) =
+      let does1 : (ans : List Answer) → m ans ≡ goes_on w os (and_then (meaning (Inner (plain_header at.0.number at.0.kind at.0.line at.0.transaction at.0.flags) body) (retrying w retry) (here c) ans) (all_of w retry rest)) =
       λ ans. does ans ∙ ap (λ (b : Header). goes_on w os (and_then (meaning (Inner b body) (retrying w retry) (here c) ans) (all_of w retry rest))) at.2.is in
       subst (λ i. On m (act i p c)) (sym at.1)
       (paid_follows m (λ r. goes_on w os (and_then r (all_of w retry rest))) _ _ c (after_passes os retry rest) does1 (λ u lt does.
       record {
-        o = record { number = at.0.number; kind = at.0.kind; flags = at.0.flags; body = body; outer = retry; fuel = u; copy = None; after = Some rest };
+        o = record { number = at.0.number; kind = at.0.kind; line = at.0.line; transaction = at.0.transaction; flags = at.0.flags; body = body; outer = retry; fuel = u; copy = None; after = Some rest };
         os = os;
         at = record { h = at.0; to = q; opens = at.1; number = refl; flags = refl; once = at.2.once; no_retry = at.2.no_retry; inside = at.3; behind = next; enough = omega arith };
         opened = fewer c u (length c.olds) c.level os lt opened;
@@ -220,7 +220,7 @@ module _ (w : Around) (streams : List Stream) where
       let e : zero ≡ c.units = omega (arith, at.enough) in
       subst (λ u. On m (paid_from u (λ c. enters_if (enters_at at.h c.level) p c) c)) e (λ ans. does ans ∙ turn_passes o os (client.Stop why.Budget) (here c) ans)
   begin_follows (suc n) m c p o os at is opened does =
-      let o1 : Outer = record { number = o.number; kind = o.kind; flags = o.flags; body = o.body; outer = o.outer; fuel = n; copy = None; after = o.after } in
+      let o1 : Outer = record { number = o.number; kind = o.kind; line = o.line; transaction = o.transaction; flags = o.flags; body = o.body; outer = o.outer; fuel = n; copy = None; after = o.after } in
       paid_follows m (λ r. goes_on w os (after_turn w o1 r)) (blocks.enters_level w.program (header_in o) only_turn (retry_in o) (all_of w (retry_in o) o.body)) _ c (turn_passes o1 os) does (λ u lt does.
       let c1 : Config = record c { units = u } in
       enters_follows (enters_at at.h c.level) m c1 p o1 os refl
@@ -461,7 +461,7 @@ module _ (w : Around) (streams : List Stream) where
 
   entered_follows : (m : List Answer → Progress) (c : Config) (p : ℕ) (o : Outer) (os : List Outer) → IsAt c.code c.units os o p → AreOpenIn c (length c.olds) c.level os → ((ans : List Answer) → m ans ≡ goes_on w os (after_turn w o (blocks.ends w.program (header_in o) (with_copy (Some (call.copy_of (here c)))) (all_of w (retry_in o) o.body (blocks.deeper (here c)) ans)))) → On m (entered p c)
   entered_follows m c p o os at opened does =
-      let o1 : Outer = record { number = o.number; kind = o.kind; flags = o.flags; body = o.body; outer = o.outer; fuel = o.fuel; copy = Some (call.copy_of (here c)); after = o.after } in
+      let o1 : Outer = record { number = o.number; kind = o.kind; line = o.line; transaction = o.transaction; flags = o.flags; body = o.body; outer = o.outer; fuel = o.fuel; copy = Some (call.copy_of (here c)); after = o.after } in
       let at1 : IsAt c.code c.units os o1 p = record { h = at.h; to = at.to; opens = at.opens; number = at.number; flags = at.flags; once = at.once; no_retry = at.no_retry; inside = at.inside; behind = at.behind; enough = at.enough } in
       let mark : Mark = record { depth = c.level + 1; olds = length c.olds } in
       let copied : o1.copy ≡ copy_of c.olds c.undoable (Some mark) = entered_copy c.level c.olds c.undoable in

@@ -43,9 +43,9 @@ runs_once kind.Repeat e = absurd (cc)
 runs_once kind.For e = absurd (cc)
 
 abbrev with_fields : (h : SourceHeader) (scoped : List ℕ) (to : Option SourceToPhrase) (test : Option SourceExpr) (fetch : Option SourceFetch) (error endkey : Option SourceOnPhrase) → Header
-with_fields h scoped to test fetch error endkey = record { number = h.number; kind = h.kind; flags = h.flags; scoped = scoped; to = to_of to; while_test = maybe_expr_of test; fetch = fetch_of fetch; on_error = on_of error; on_endkey = on_of endkey }
+with_fields h scoped to test fetch error endkey = record { number = h.number; kind = h.kind; line = h.line; transaction = h.transaction; flags = h.flags; scoped = scoped; to = to_of to; while_test = maybe_expr_of test; fetch = fetch_of fetch; on_error = on_of error; on_endkey = on_of endkey }
 
-header_is : (h : SourceHeader) → h.scoped.items ≡ [] → h.to ≡ None → h.while_test ≡ None → h.fetch ≡ None → h.on_error ≡ None → h.on_endkey ≡ None → header_of h ≡ plain_header h.number h.kind h.flags
+header_is : (h : SourceHeader) → h.scoped.items ≡ [] → h.to ≡ None → h.while_test ≡ None → h.fetch ≡ None → h.on_error ≡ None → h.on_endkey ≡ None → header_of h ≡ plain_header h.number h.kind h.line h.transaction h.flags
 header_is h scoped to test fetch error endkey =
     ap (λ x. with_fields h x h.to h.while_test h.fetch h.on_error h.on_endkey) scoped
     ∙ ap (λ x. with_fields h [] x h.while_test h.fetch h.on_error h.on_endkey) to

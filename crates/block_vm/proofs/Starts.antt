@@ -49,16 +49,16 @@ no_items [] e = refl
 no_items (x ∷ xs) e = absurd (cc)
 
 -- the run is that of the external procedure, without buffers and with a plain header
-run_is : (p : Program) (bound : Bound) (main : SourceProcedure) (units : ℕ) (ans : List Answer) → p.source ≡ source_of bound → bound.procedures.items ≡ main ∷ [] → is_built_procedure main ≡ true → run p units ans ≡ run_from p units (let q : Procedure = record { undoable = main.undoable; no_undo = main.no_undo; buffers = []; parameters = main.parameters.items; header = plain_header main.header.value.number main.header.value.kind main.header.value.flags; body = body_of main.body.items } in q) ans
+run_is : (p : Program) (bound : Bound) (main : SourceProcedure) (units : ℕ) (ans : List Answer) → p.source ≡ source_of bound → bound.procedures.items ≡ main ∷ [] → is_built_procedure main ≡ true → run p units ans ≡ run_from p units (let q : Procedure = record { name = main.name; undoable = main.undoable; no_undo = main.no_undo; buffers = []; parameters = main.parameters.items; header = plain_header main.header.value.number main.header.value.kind main.header.value.line main.header.value.transaction main.header.value.flags; body = body_of main.body.items; references = main.references.items } in q) ans
 run_is p bound main units ans source only built =
     let e2 = left_of_and _ (is_built_body main.body.items) built in
     let none : main.buffers.items ≡ [] = no_items main.buffers.items (left_of_and (is_nil main.buffers.items) (is_built_header main.header.value) e2) in
-    let plain : header_of main.header.value ≡ plain_header main.header.value.number main.header.value.kind main.header.value.flags = (header_plain main.header.value (right_of_and (is_nil main.buffers.items) (is_built_header main.header.value) e2)).is in
+    let plain : header_of main.header.value ≡ plain_header main.header.value.number main.header.value.kind main.header.value.line main.header.value.transaction main.header.value.flags = (header_plain main.header.value (right_of_and (is_nil main.buffers.items) (is_built_header main.header.value) e2)).is in
     let at : procedure_at p 0 ≡ procedure_of main =
     ap (λ (ps : List Procedure). slice_index_or ps 0 no_procedure) (ap (λ s. s.procedures) source ∙ ap (map procedure_of) only) in
     ap (λ q. run_from p units q ans) at
-    ∙ ap (λ bs. run_from p units (let q : Procedure = record { undoable = main.undoable; no_undo = main.no_undo; buffers = bs; parameters = main.parameters.items; header = header_of main.header.value; body = body_of main.body.items } in q) ans) none
-    ∙ ap (λ h. run_from p units (let q : Procedure = record { undoable = main.undoable; no_undo = main.no_undo; buffers = []; parameters = main.parameters.items; header = h; body = body_of main.body.items } in q) ans) plain
+    ∙ ap (λ bs. run_from p units (let q : Procedure = record { name = main.name; undoable = main.undoable; no_undo = main.no_undo; buffers = bs; parameters = main.parameters.items; header = header_of main.header.value; body = body_of main.body.items; references = main.references.items } in q) ans) none
+    ∙ ap (λ h. run_from p units (let q : Procedure = record { name = main.name; undoable = main.undoable; no_undo = main.no_undo; buffers = []; parameters = main.parameters.items; header = h; body = body_of main.body.items; references = main.references.items } in q) ans) plain
 
 only_built : (qs : List SourceProcedure) (main : SourceProcedure) → qs ≡ main ∷ [] → are_built_procedures qs ≡ true → is_built_procedure main ≡ true
 only_built qs main e built = sym (ap are_built_procedures e) ∙ built
@@ -72,9 +72,9 @@ starts code bound p units stands built source =
     let plain = header_plain main.header.value (right_of_and (is_nil main.buffers.items) (is_built_header main.header.value) e2) in
     let w : Around = record { program = p; calls = calls_of p 32; retry = false } in
     let streams = replicate (p.source.streams + 1) no_stream in
-    let o : Outer = record { number = main.header.value.number; kind = main.header.value.kind; flags = main.header.value.flags; body = body_of main.body.items; outer = false; fuel = units; copy = None; after = None } in
+    let o : Outer = record { number = main.header.value.number; kind = main.header.value.kind; line = main.header.value.line; transaction = main.header.value.transaction; flags = main.header.value.flags; body = body_of main.body.items; outer = false; fuel = units; copy = None; after = None } in
     let c : Config = record { code = code.instrs.items; mode = Turns 0; opened = []; undoable = code.undoable; no_undo = code.no_undo; olds = []; level = 0; units = units; written = []; size = 0 } in
-    let q : Procedure = record { undoable = main.undoable; no_undo = main.no_undo; buffers = []; parameters = main.parameters.items; header = plain_header main.header.value.number main.header.value.kind main.header.value.flags; body = body_of main.body.items } in
+    let q : Procedure = record { name = main.name; undoable = main.undoable; no_undo = main.no_undo; buffers = []; parameters = main.parameters.items; header = plain_header main.header.value.number main.header.value.kind main.header.value.line main.header.value.transaction main.header.value.flags; body = body_of main.body.items; references = main.references.items } in
     let low : units ≤ units = omega arith in
     let turn : FollowsTurn w streams (run p units) c 0 = record {
       o = o;

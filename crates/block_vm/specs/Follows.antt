@@ -38,10 +38,12 @@ use Rattle.block_vm.specs.Machine.{Config, values_at, end_of}
 -- ---- the code and the tree
 
 -- a header without buffers, TO, WHILE, a record phrase and ON
-abbrev pub plain_header : ℕ → BlockKind → Flags → Header
-plain_header number kind flags = record {
+abbrev pub plain_header : ℕ → BlockKind → ℕ → Bool → Flags → Header
+plain_header number kind line transaction flags = record {
   number = number;
   kind = kind;
+  line = line;
+  transaction = transaction;
   flags = flags;
   scoped = [];
   to = None;
@@ -53,7 +55,7 @@ plain_header number kind flags = record {
 
 -- the header stands for that one; its block does not iterate and does not ask RETRY
 pub record IsPlain (h : SourceHeader) (b : Header) : Type 0 where
-  pub is : b ≡ plain_header h.number h.kind h.flags
+  pub is : b ≡ plain_header h.number h.kind h.line h.transaction h.flags
   pub once : blocks.is_repeat_or_for h.kind ≡ false
   pub no_retry : h.flags.retry_seen ≡ false
 
@@ -99,6 +101,8 @@ abbrev mutual
 pub record Outer : Type 0 where
   pub number : ℕ
   pub kind : BlockKind
+  pub line : ℕ
+  pub transaction : Bool
   pub flags : Flags
   pub body : Body
   pub outer : Bool
@@ -108,7 +112,7 @@ pub record Outer : Type 0 where
 
 -- its header
 abbrev pub header_in : Outer → Header
-header_in o = plain_header o.number o.kind o.flags
+header_in o = plain_header o.number o.kind o.line o.transaction o.flags
 
 -- what its turn begins with: there is only the first one
 abbrev pub only_turn : state.Turn

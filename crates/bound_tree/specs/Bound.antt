@@ -99,6 +99,8 @@ abbrev pub header_of : SourceHeader → Header
 header_of h = record {
   number = h.number;
   kind = h.kind;
+  line = h.line;
+  transaction = h.transaction;
   flags = h.flags;
   scoped = h.scoped.items;
   to = to_of h.to;
@@ -171,14 +173,21 @@ body_of (t ∷ ts) = Then (stmt_of t) (body_of ts)
 -- a procedure
 abbrev pub procedure_of : SourceProcedure → Procedure
 procedure_of q = record {
+  name = q.name;
   undoable = q.undoable;
   no_undo = q.no_undo;
   buffers = q.buffers.items;
   parameters = q.parameters.items;
   header = header_of q.header.value;
   body = body_of q.body.items;
+  references = q.references.items;
 }
 
 -- the source
 abbrev pub source_of : Bound → Source
-source_of b = record { procedures = map procedure_of b.procedures.items; streams = b.streams }
+source_of b = record {
+  procedures = map procedure_of b.procedures.items;
+  streams = b.streams;
+  outputs = b.outputs.items;
+  inputs = b.inputs.items;
+}

@@ -13,6 +13,7 @@ use Rattle.bound_tree.specs.declared.block.Flags.{Flags}
 use Rattle.bound_tree.specs.declared.statement.FindWord.{FindWord}
 use Rattle.bound_tree.specs.declared.statement.Target.{Target}
 use Rattle.bound_tree.specs.declared.procedure.BufferDef.{BufferDef}
+use Rattle.bound_tree.specs.declared.procedure.Reference.{Reference}
 
 -- an expression
 pub data Expr : Type 0 where
@@ -74,6 +75,9 @@ pub record ToPhrase : Type 0 where
 pub record Header : Type 0 where
   pub number : ℕ
   pub kind : BlockKind
+  -- the line of its first word, and whether the word TRANSACTION is in it
+  pub line : ℕ
+  pub transaction : Bool
   pub flags : Flags
   pub scoped : List ℕ
   pub to : Option ToPhrase
@@ -139,16 +143,22 @@ mutual
     Nothing : Body
     Then : (first : Stmt) (rest : Body) → Body
 
--- a procedure: the initial values of its variables, its buffers, and the variables that are its parameters
+-- a procedure: its name, the initial values of its variables, its buffers, the variables that are its parameters, and the namings of
+-- its buffers in text order
 pub record Procedure : Type 0 where
+  pub name : List ℕ
   pub undoable : List Value
   pub no_undo : List Value
   pub buffers : List BufferDef
   pub parameters : List Variable
   pub header : Header
   pub body : Body
+  pub references : List Reference
 
--- a source: its procedures, the external one first, and the number of streams beside the unnamed one
+-- a source: its procedures, the external one first, the number of streams beside the unnamed one, and the names after OUTPUT TO and
+-- after INPUT FROM, each once, in text order
 pub record Source : Type 0 where
   pub procedures : List Procedure
   pub streams : ℕ
+  pub outputs : List (List ℕ)
+  pub inputs : List (List ℕ)

@@ -34,6 +34,8 @@ abbrev pub header : ℕ → BlockKind → Bool → Header
 header number what transaction = record {
   number = number;
   kind = what;
+  line = 1;
+  transaction = transaction;
   flags = record { starts = transaction; undo = true; retry_seen = false };
   scoped = [];
   to = None;
@@ -46,8 +48,10 @@ header number what transaction = record {
 -- the tree of a source without schema, procedures and streams
 abbrev pub source_with : Defined → Body → Source
 source_with d body = record {
-  procedures = (record { undoable = d.undoable; no_undo = d.no_undo; buffers = []; parameters = []; header = header 0 block_kind.Procedure false; body = body }) ∷ [];
+  procedures = (record { name = []; undoable = d.undoable; no_undo = d.no_undo; buffers = []; parameters = []; header = header 0 block_kind.Procedure false; body = body; references = [] }) ∷ [];
   streams = 0;
+  outputs = [];
+  inputs = [];
 }
 
 -- the kind that a word names

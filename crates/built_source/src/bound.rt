@@ -49,16 +49,15 @@ pub(crate) fn undo_of(block: u32) -> Stmt
     }
 }
 
-/// The block DO TRANSACTION with this number, line and body.
+/// The block DO TRANSACTION with this number and body.
 pub(crate) fn block_of(
     alloc: Global,
     number: u32,
-    line: u32,
     body: Vec<Stmt>,
 ) -> Result<Stmt, AllocFailed<Header>>
     ensures { IfOk result (λ stmt. stmt_of stmt ≡ Inner (header number Do true) (body_of body.items)) }
 {
-    let header = header_with(alloc, number, BlockKind::Do, line, true)?;
+    let header = header_with(alloc, number, BlockKind::Do, true)?;
     Ok(Stmt::Block { header, body })
 }
 
@@ -67,7 +66,6 @@ pub(crate) fn header_with(
     alloc: Global,
     number: u32,
     kind: BlockKind,
-    line: u32,
     transaction: bool,
 ) -> Result<Box<Header>, AllocFailed<Header>>
     ensures { IfOk result (λ boxed. header_of boxed.value ≡ header number kind transaction) }
@@ -75,7 +73,7 @@ pub(crate) fn header_with(
     let header = Header {
         number,
         kind,
-        line,
+        line: 1,
         transaction,
         flags: Flags {
             starts: transaction,

@@ -121,7 +121,7 @@ fn bound(alloc: Global, scope: Scope, body: Vec<Stmt>) -> Result<Bound, AllocErr
     ensures inputs { IfOk result (λ bound. bound.inputs.items ≡ []) }
     ensures outputs { IfOk result (λ bound. bound.outputs.items ≡ []) }
 {
-    let header = header_with(alloc, 0, BlockKind::Procedure, 1, false)?;
+    let header = header_with(alloc, 0, BlockKind::Procedure, false)?;
     let mut procedures = Vec::new(alloc);
     procedures.push(Procedure {
         name: Bytes::empty(alloc),

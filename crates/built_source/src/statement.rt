@@ -48,14 +48,6 @@ fn is_end(tokens: &[Token]) -> bool
     }
 }
 
-/// The line of the first token, and 1 where there is none.
-fn line_of(tokens: &[Token]) -> u32 {
-    match tokens.first() {
-        Some(token) => token.place.line,
-        None => 1,
-    }
-}
-
 /// The statement in front, the number of the next block, and the rest. The first block of the
 /// statement gets `number`.
 #[cycle(blocks)]
@@ -74,8 +66,7 @@ fn statement<'a>(
     ) {
         Some(inside) => {
             let (body, after, rest) = inner(alloc, names, number, inside)?;
-            let line = line_of(tokens);
-            Ok((block_of(alloc, number, line, body)?, after, rest))
+            Ok((block_of(alloc, number, body)?, after, rest))
         }
         None => {
             let (stmt, rest) = set(alloc, names, tokens)?;

@@ -76,6 +76,8 @@ abbrev pub header : BlockKind → ℕ → Flags → List ℕ → Header
 header kind n flags scoped = record {
   number = n;
   kind = kind;
+  line = 1;
+  transaction = false;
   flags = flags;
   scoped = scoped;
   to = None;
@@ -148,7 +150,7 @@ zeros zero = []
 zeros (suc n) = Int (pos 0) ∷ zeros n
 
 abbrev pub procedure : ℕ → ℕ → List BufferDef → Header → Body → Procedure
-procedure undo keep buffers head body = record { undoable = zeros undo; no_undo = zeros keep; buffers = buffers; parameters = []; header = head; body = body }
+procedure undo keep buffers head body = record { name = []; undoable = zeros undo; no_undo = zeros keep; buffers = buffers; parameters = []; header = head; body = body; references = [] }
 
 -- each byte of an input is a line here: 0 ends it, 255 is a bad first element, another one is that number and then
 -- the text "x"
@@ -166,7 +168,7 @@ toy_forms = record { masked = λ mask v. plain_text v; number_in = λ t. None; l
 abbrev pub program : List ℕ → List Procedure → Program
 program input procedures = record {
   tables = customer ∷ [];
-  source = record { procedures = procedures; streams = 0 };
+  source = record { procedures = procedures; streams = 0; outputs = []; inputs = [] };
   input = input;
   inputs = [];
   forms = toy_forms;
