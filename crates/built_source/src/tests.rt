@@ -2,7 +2,7 @@
 
 use crate::{SourceFault, read_source};
 use abl_base::{Place, Rule};
-use bound_tree::{Bound, Stmt};
+use bound_tree::Bound;
 use std::alloc::{AllocError, Global};
 use std::process::Abort;
 use std::test::Fail;
