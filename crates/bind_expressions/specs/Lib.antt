@@ -1,3 +1,4 @@
 pub mod Expressions
+pub mod Parts
 pub mod WellKinded
 pub mod Views
