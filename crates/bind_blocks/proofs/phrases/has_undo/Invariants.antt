@@ -1,0 +1,9 @@
+use Rattle.std.proofs.Common.{◌≡◌, drop, map}
+use Rattle.std.specs.Prelude.{not}
+use Rattle.std.specs.List.{list_any}
+use Rattle.abl_syntax.specs.Typed.{phrase_of}
+use Rattle.bind_blocks.specs.Headers.{is_while}
+use Rattle.bind_blocks.proofs.phrases.has_undo.Given as goal
+
+abbrev pub invariant-loop-one : goal.invariant-loop-one
+invariant-loop-one l = list_any (λ p. not (is_while p)) (map phrase_of (drop l.one-index l.given)) ≡ list_any (λ p. not (is_while p)) (map phrase_of l.given)

@@ -1,0 +1,5 @@
+pub mod Flow
+pub mod Headers
+pub mod Named
+pub mod Records
+pub mod Views
