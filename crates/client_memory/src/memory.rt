@@ -1,0 +1,228 @@
+//! The variables of a client.
+
+ghost use Rattle.std.specs.Prelude.{◌≡◌, ◌≤◌, ◌<◌, ◌+◌, ◌-◌, ◌++◌, ◌∷◌, [], length, reverse, take, map, slice_index_or, slice_set, OnOk, OnErr, IfOk};
+ghost use Rattle.abl_base.specs.declared.value.Value.{Value};
+ghost use Rattle.bound_tree.specs.declared.expression.Variable.{Variable};
+ghost use Rattle.client_undo.specs.Undo.{Values, with_value, value_at, restored_to, old_values_before, copy_at};
+ghost use Rattle.client_memory.specs.Memory.{Remembered, begun, ended, IsOuter, frame_of as procedure_of, value_now, set_variable, entered, left, left_to, restored, last_copy, IsWhole, HasVariablesOnly};
+ghost use Rattle.client_memory.specs.OldValues.{old_values_of};
+
+use crate::slots::Slots;
+use abl_base::Value;
+use bound_tree::Variable;
+use std::alloc::{AllocError, Global};
+use std::marker::Model;
+
+/// The value that an undoable variable had before an assignment.
+#[derive(Drop)]
+pub struct OldValue {
+    pub frame: usize,
+    pub number: usize,
+    pub value: Value,
+}
+
+/// A savepoint, made with an Enter: the number of CREATEs before, of open procedures, and of old
+/// values.
+#[derive(Clone, Copy, Debug)]
+pub struct Savepoint {
+    pub made: u64,
+    pub frames: usize,
+    pub old_values: usize,
+}
+
+/// The procedure of a variable, where `count` are open.
+fn frame_of(external: bool, count: usize) -> usize
+    ensures { result ≡ procedure_of external count }
+{
+    if external { 0 } else { count.saturating_sub(1) }
+}
+
+/// The value of a variable.
+fn get_value<'a>(frames: &'a [Slots], frame: usize, number: usize, unknown: &'a Value) -> &'a Value
+    requires { unknown.now ≡ Value.Unknown }
+    ensures { result.now ≡ value_at frame number frames.now }
+{
+    match frames.get(frame) {
+        Some(values) => values.get_or(number, unknown),
+        None => unknown,
+    }
+}
+
+/// Gives a variable a value, and returns the old one.
+fn set_value(frames: &mut Vec<Slots>, frame: usize, number: usize, value: Value) -> Value
+    ensures old { result ≡ value_at frame number frames.old.items }
+    ensures new { frames.new.items ≡ with_value frame number value frames.old.items }
+{
+    match frames.get_mut(frame) {
+        Some(values) => values.replace(number, value),
+        None => Value::Unknown,
+    }
+}
+
+/// Restores the old values after the first `at`, the last one first.
+fn restore(frames: &mut Vec<Slots>, old_values: &mut Vec<OldValue>, at: usize)
+    ensures values { frames.new.items ≡ restored_to at (reverse (old_values_of old_values.old.items)) frames.old.items }
+    ensures old_values { reverse (old_values_of old_values.new.items) ≡ old_values_before at (reverse (old_values_of old_values.old.items)) }
+{
+    while old_values.len() > at {
+        if let Some(old) = old_values.pop() {
+            let _ = set_value(frames, old.frame, old.number, old.value);
+        }
+    }
+}
+
+/// The variables of the open procedures, and the open levels.
+#[derive(Drop)]
+pub struct Memory {
+    undoable: Vec<Slots>,
+    no_undo: Vec<Slots>,
+    old_values: Vec<OldValue>,
+    savepoints: Vec<Savepoint>,
+    depth: u32,
+}
+
+impl Model for Memory {
+    ghost use Rattle.std.specs.Prelude.{◌≡◌, length};
+    ghost use Rattle.client_memory.specs.Memory.{Remembered};
+
+    ghost Value = { Remembered };
+
+    ghost use Rattle.client_memory.specs.Savepoints.{remembered, AreInOrder};
+
+    ghost view = { λ m. remembered m.undoable.items m.no_undo.items m.old_values.items m.savepoints.items };
+
+    ghost invariant = { λ m. (length m.no_undo.items ≡ length m.undoable.items) × AreInOrder (length m.old_values.items) (length m.undoable.items) 0 0 m.savepoints.items × (m.depth ≡ length m.savepoints.items) };
+}
+
+impl Memory {
+    /// No procedure is open yet.
+    pub fn new(alloc: Global) -> Memory
+        ensures { result ≡ record { undoable = []; no_undo = []; copies = [] } }
+    {
+        Memory {
+            undoable: Vec::new(alloc),
+            no_undo: Vec::new(alloc),
+            old_values: Vec::new(alloc),
+            savepoints: Vec::new(alloc),
+            depth: 0,
+        }
+    }
+
+    /// A procedure begins. The copies stay the same: it is in none of them.
+    pub fn begin(&mut self, undoable: Slots, no_undo: Slots) -> Result<(), AllocError>
+        ensures ok { OnOk result (self.new ≡ begun undoable no_undo self.old) }
+        ensures err { OnErr result (self.new ≡ self.old) }
+    {
+        self.undoable.reserve(1)?;
+        self.no_undo.reserve(1)?;
+        self.undoable.push_reserved(undoable);
+        self.no_undo.push_reserved(no_undo);
+        Ok(())
+    }
+
+    /// The innermost procedure ends; no level was opened in it. The copies stay the same.
+    pub fn end(&mut self)
+        requires { IsOuter self.old }
+        ensures { self.new ≡ ended self.old }
+    {
+        let count = self.undoable.len().saturating_sub(1);
+        self.undoable.truncate(count);
+        self.no_undo.truncate(count);
+    }
+
+    /// The number of open levels.
+    pub fn depth(&self) -> u32
+        ensures { result ≡ length self.now.copies }
+    {
+        self.depth
+    }
+
+    /// The value of a variable; `unknown` where there is no such variable.
+    pub fn get<'a>(&'a self, variable: Variable, unknown: &'a Value) -> &'a Value
+        requires { unknown.now ≡ Value.Unknown }
+        ensures { result.now ≡ value_now variable self.now }
+    {
+        let frame = frame_of(variable.external, self.undoable.len());
+        let number = variable.number as usize;
+        if variable.undoable {
+            get_value(&self.undoable, frame, number, unknown)
+        } else {
+            get_value(&self.no_undo, frame, number, unknown)
+        }
+    }
+
+    /// Gives a variable a value. The copies stay the same.
+    pub fn set(&mut self, variable: Variable, value: Value) -> Result<(), AllocError>
+        ensures ok { OnOk result (self.new ≡ set_variable variable value self.old) }
+        ensures err { OnErr result (self.new ≡ self.old) }
+    {
+        let number = variable.number as usize;
+        let frame = frame_of(variable.external, self.undoable.len());
+        if variable.undoable {
+            if self.savepoints.is_empty() {
+                let _ = set_value(&mut self.undoable, frame, number, value);
+            } else {
+                self.old_values.reserve(1)?;
+                let value = set_value(&mut self.undoable, frame, number, value);
+                self.old_values.push_reserved(OldValue {
+                    frame,
+                    number,
+                    value,
+                });
+            }
+        } else {
+            let _ = set_value(&mut self.no_undo, frame, number, value);
+        }
+        Ok(())
+    }
+
+    /// A level begins, and its copy is made.
+    pub fn enter(&mut self, made: u64) -> Result<(), AllocError>
+        ensures ok { OnOk result (self.new ≡ entered made self.old) }
+        ensures err { OnErr result (self.new ≡ self.old) }
+    {
+        let Some(depth) = self.depth.checked_add(1) else {
+            return Err(AllocError);
+        };
+        self.savepoints.push(Savepoint {
+            made,
+            frames: self.undoable.len(),
+            old_values: self.old_values.len(),
+        })?;
+        self.depth = depth;
+        Ok(())
+    }
+
+    /// The innermost level is left.
+    pub fn leave(&mut self)
+        ensures { self.new ≡ left self.old }
+    {
+        if let Some(_) = self.savepoints.pop() {
+            self.depth = self.depth.saturating_sub(1);
+            if self.savepoints.is_empty() {
+                self.old_values.clear();
+            }
+        }
+    }
+
+    /// Leaves the levels inside of level `depth`.
+    pub fn leave_to(&mut self, depth: u32)
+        ensures { self.new ≡ left_to depth self.old }
+    {
+        if depth < self.depth {
+            self.savepoints.truncate(depth as usize);
+            self.depth = depth;
+        }
+    }
+
+    /// Restores the variables of the innermost copy; its level stays open.
+    pub fn back(&mut self)
+        ensures back { IsWhole self.old → self.new ≡ restored self.old }
+        ensures plain { IsWhole self.old → HasVariablesOnly (last_copy self.old.copies) (length self.old.copies) }
+    {
+        if let Some(savepoint) = self.savepoints.pop() {
+            restore(&mut self.undoable, &mut self.old_values, savepoint.old_values);
+            self.savepoints.push_reserved(savepoint);
+        }
+    }
+}

@@ -1,0 +1,9 @@
+//! The output of a client: its sections, the default one first, and as definitions the sections of
+//! the pieces that it wrote (`specs/Sections.antt`).
+#![tactic(auto)]
+
+pub mod section;
+pub mod writing;
+
+pub use section::Section;
+pub use writing::write_default;

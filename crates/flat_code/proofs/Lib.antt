@@ -1,0 +1,3 @@
+pub mod Grows
+pub mod Emits
+pub mod Procedures
