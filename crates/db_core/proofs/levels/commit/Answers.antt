@@ -1,0 +1,21 @@
+use Rattle.std.proofs.Common.{List, ℤ, sym, subst}
+use Rattle.abl_rows.specs.Rows.{Commits}
+use Rattle.db_core.specs.declared.control.Control.{Control}
+use Rattle.db_core.specs.Represents.{IsSound}
+use Rattle.db_core.proofs.Commits.{commit_counted, commit_sound}
+use Rattle.db_core.proofs.Sound.{sound_counted}
+use Rattle.db_core.proofs.levels.commit.Goals as goal
+
+pub returns-clause-represents : goal.returns-clause-represents
+returns-clause-represents g c = λ f s keep moment represents outermost right.
+    let rows = g.R.RowStore.state c.args.rows.now in
+    let new = g.R.RowStore.state c.commit.new.self in
+    commit_counted f rows new c.args.control.now c.settle-freed.new.control c.count_frees.new.control s c.args.client keep c.args.staying.now moment
+    c.requires.sound (g.met.R.RowStore.consistent c.args.rows.now) c.requires.fine (subst (λ (xs : List ℤ). Commits rows new c.args.client xs) c.as_slice.ensures.value c.in_ok-moment.ensures.ok) c.settle-freed.ensures.settles
+    represents outermost right c.settle-freed.result c.has_reserved-reserved.result c.settle-freed.ensures.frees c.settle-freed.ensures.freed c.has_reserved-reserved.ensures c.count_frees.ensures
+
+pub returns-clause-sound : goal.returns-clause-sound
+returns-clause-sound g c =
+    let rows = g.R.RowStore.state c.args.rows.now in
+    let new = g.R.RowStore.state c.commit.new.self in
+    subst (λ (k : Control). IsSound new k) (sym c.count_frees.ensures) (sound_counted new c.settle-freed.new.control _ (commit_sound rows new c.args.control.now c.settle-freed.new.control c.args.client _ c.args.staying.now c.in_ok-moment.ensures.ok c.settle-freed.ensures.settles c.requires.sound))

@@ -1,0 +1,18 @@
+use Rattle.std.proofs.Common.{sym, subst}
+use Rattle.db_core.specs.declared.control.Control.{Control}
+use Rattle.db_core.specs.Represents.{IsSound}
+use Rattle.db_core.proofs.Ends.{end_counted, end_sound}
+use Rattle.db_core.proofs.Sound.{sound_counted}
+use Rattle.db_core.proofs.levels.end.Goals as goal
+
+pub returns-clause-represents : goal.returns-clause-represents
+returns-clause-represents g c = λ f s represents.
+    end_counted f (g.R.RowStore.state c.args.rows.now) (g.R.RowStore.state c.abandon_open.new.rows) c.args.control.now c.end_client-freed.new.control c.count_frees.new.control s c.args.client
+    c.requires.sound (g.met.R.RowStore.consistent c.args.rows.now) c.abandon_open.ensures c.end_client-freed.ensures.ends represents c.end_client-freed.result c.has_reserved-reserved.result
+    c.end_client-freed.ensures.frees c.end_client-freed.ensures.freed c.has_reserved-reserved.ensures c.count_frees.ensures
+
+pub returns-clause-sound : goal.returns-clause-sound
+returns-clause-sound g c =
+    subst (λ (k : Control). IsSound (g.R.RowStore.state c.abandon_open.new.rows) k) (sym c.count_frees.ensures)
+    (sound_counted (g.R.RowStore.state c.abandon_open.new.rows) c.end_client-freed.new.control _
+    (end_sound (g.R.RowStore.state c.args.rows.now) (g.R.RowStore.state c.abandon_open.new.rows) c.args.control.now c.end_client-freed.new.control c.args.client c.requires.sound (g.met.R.RowStore.consistent c.args.rows.now) c.abandon_open.ensures c.end_client-freed.ensures.ends))

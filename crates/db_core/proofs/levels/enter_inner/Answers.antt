@@ -1,0 +1,14 @@
+use Rattle.db_core.proofs.LevelMoves.{begun_opens, enter_represents, enter_sound, enters_of}
+use Rattle.db_core.proofs.levels.enter_inner.Goals as goal
+
+pub returns-clause-represents : goal.returns-clause-represents
+returns-clause-represents g c = λ f s represents.
+    let rows = g.R.RowStore.state c.args.rows.now in
+    enter_represents rows rows c.args.control.now c.end_wait.new.control c.args.client c.mark-mark.result c.requires.sound (g.met.R.RowStore.consistent c.args.rows.now) (begun_opens rows c.args.client c.requires.begun) c.mark-mark.ensures
+    (enters_of c.args.control.now c.push_mark.new.control c.end_wait.new.control c.args.client c.mark-mark.result c.in-Ok.ensures.ok c.end_wait.ensures) f s represents
+
+pub returns-clause-sound : goal.returns-clause-sound
+returns-clause-sound g c =
+    let rows = g.R.RowStore.state c.args.rows.now in
+    enter_sound rows rows c.args.control.now c.end_wait.new.control c.args.client c.mark-mark.result c.requires.sound (g.met.R.RowStore.consistent c.args.rows.now) (begun_opens rows c.args.client c.requires.begun) c.mark-mark.ensures
+    (enters_of c.args.control.now c.push_mark.new.control c.end_wait.new.control c.args.client c.mark-mark.result c.in-Ok.ensures.ok c.end_wait.ensures)

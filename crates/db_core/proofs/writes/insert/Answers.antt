@@ -1,0 +1,18 @@
+use Rattle.db_core.proofs.Sound.{change_sound, marks_stay}
+use Rattle.db_core.proofs.Inserts.{insert_represents, is_fresh}
+use Rattle.db_core.proofs.writes.insert.Goals as goal
+
+pub returns-in-Ok-insert-clause-represents : goal.returns-in-Ok-insert-clause-represents
+returns-in-Ok-insert-clause-represents g c = λ f s represents.
+    insert_represents (g.R.RowStore.state c.args.rows.now) (g.R.RowStore.state c.insert.new.self) c.args.control.now c.grant.new.control c.args.client c.args.table c.args.row c.args.values.now
+    c.requires.sound (g.met.R.RowStore.consistent c.args.rows.now) c.requires.fine c.requires.free c.in-Ok-insert.ensures.ok c.in-Ok.ensures.ok f s represents
+
+pub returns-in-Ok-insert-clause-fresh : goal.returns-in-Ok-insert-clause-fresh
+returns-in-Ok-insert-clause-fresh g c = λ f s represents seen.
+    is_fresh (g.R.RowStore.state c.args.rows.now) (g.R.RowStore.state c.insert.new.self) c.args.control.now c.grant.new.control c.args.client c.args.table c.args.row c.args.values.now
+    c.requires.sound (g.met.R.RowStore.consistent c.args.rows.now) c.requires.fine c.requires.free c.in-Ok-insert.ensures.ok c.in-Ok.ensures.ok f s represents seen
+
+pub returns-in-Ok-insert-clause-sound : goal.returns-in-Ok-insert-clause-sound
+returns-in-Ok-insert-clause-sound g c =
+    change_sound (g.R.RowStore.state c.args.rows.now) (g.R.RowStore.state c.insert.new.self) c.args.control.now c.grant.new.control c.args.client c.args.row.0 _ c.requires.begun c.in-Ok-insert.ensures.ok
+    (marks_stay c.args.control.now c.grant.new.control c.args.client _ c.in-Ok.ensures.ok.client) c.in-Ok.ensures.ok.client.blocked c.in-Ok.ensures.ok.client.own_blocked c.requires.sound

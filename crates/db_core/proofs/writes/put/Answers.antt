@@ -1,0 +1,13 @@
+use Rattle.db_core.proofs.Sound.{change_sound, marks_stay}
+use Rattle.db_core.proofs.Puts.{put_represents}
+use Rattle.db_core.proofs.writes.put.Goals as goal
+
+pub returns-clause-represents : goal.returns-clause-represents
+returns-clause-represents g c = λ f s represents holds.
+    put_represents (g.R.RowStore.state c.args.rows.now) (g.R.RowStore.state c.put.new.self) c.args.control.now c.end_wait.new.control c.args.client c.args.table c.args.row c.requires.sound (g.met.R.RowStore.consistent c.args.rows.now) c.requires.fine
+    c.end_wait.ensures f s represents holds c.args.values.now c.in_ok-put.ensures.ok
+
+pub returns-clause-sound : goal.returns-clause-sound
+returns-clause-sound g c =
+    change_sound (g.R.RowStore.state c.args.rows.now) (g.R.RowStore.state c.put.new.self) c.args.control.now c.end_wait.new.control c.args.client c.args.row.0 _ c.requires.begun c.in_ok-put.ensures.ok
+    (marks_stay c.args.control.now c.end_wait.new.control c.args.client _ c.end_wait.ensures.client) c.end_wait.ensures.client.blocked c.end_wait.ensures.client.own_blocked c.requires.sound

@@ -1,0 +1,4 @@
+pub mod Represents
+pub mod Waits
+pub mod Opening
+pub mod Moves

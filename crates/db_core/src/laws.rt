@@ -1,0 +1,43 @@
+//! Laws of representing a state. Each is the contract of a function that does nothing.
+
+ghost use Rattle.std.specs.Prelude.{◌≡◌, ◌<◌, ℕ, length};
+ghost use Rattle.database_meaning.specs.declared.contents.Contents.{Contents};
+ghost use Rattle.database_meaning.specs.Setting.{Setting};
+ghost use Rattle.database_meaning.specs.State.{State, view};
+ghost use Rattle.database_meaning.specs.Traces.{opened};
+ghost use Rattle.abl_rows.specs.Rows.{Fails, IsConsistent, RowState, IsObservable};
+ghost use Rattle.client_database.specs.declared.answer.Answer.TheVariants.{Refused};
+ghost use Rattle.client_database.specs.declared.operation.Op.{Op as Asked};
+ghost use Rattle.database_meaning.specs.Steps.{after};
+ghost use Rattle.db_core.specs.declared.control.Control.{Control};
+ghost use Rattle.db_core.specs.Opening.{IsNew, IsOpened};
+ghost use Rattle.db_core.specs.Represents.{IsSound, Represents};
+
+/// The rows of the store are the view.
+pub fn rows_are_the_view()
+    ensures { (f : Setting) (rows : RowState) (control : Control) (s : State) →
+        Represents f rows control s → IsSound rows control → IsConsistent rows → IsObservable rows →
+        (k : ℕ) → rows.rows k ≡ view f s k }
+{}
+
+/// A newly opened store and new control data represent the state at opening.
+pub fn a_new_database_is_represented()
+    ensures sound { (rows : RowState) (control : Control) (contents : Contents) →
+        IsOpened rows contents → IsNew control contents → IsSound rows control }
+    ensures represents { (f : Setting) (rows : RowState) (control : Control) (contents : Contents) →
+        f.schema ≡ rows.schema → f.clients ≡ length control.sessions.items →
+        IsOpened rows contents → IsNew control contents → Represents f rows control (opened contents) }
+{}
+
+/// After the answer Refused the relation stays: nothing changes.
+pub fn a_refusal_changes_nothing()
+    ensures { (f : Setting) (rows : RowState) (control : Control) (s : State) (c : ℕ) (op : Asked) →
+        Represents f rows control s → Represents f rows control (after f s c op Refused) }
+{}
+
+/// After an error of the disk the relation stays, and so does that the control data are sound.
+pub fn a_disk_error_keeps_the_state()
+    ensures represents { (f : Setting) (old new : RowState) (control : Control) (s : State) →
+        Fails old new → Represents f old control s → Represents f new control s }
+    ensures sound { (old new : RowState) (control : Control) → Fails old new → IsSound old control → IsSound new control }
+{}

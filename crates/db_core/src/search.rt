@@ -1,0 +1,43 @@
+//! The answer to a Next. Nothing changes here.
+
+ghost use Rattle.std.specs.Prelude.{◌≡◌, ℕ, IfOk, OnOk, MatchOption, ⊤};
+ghost use Rattle.std.specs.Option.{option_copied};
+ghost use Rattle.database_meaning.specs.Answers.{FromGone};
+ghost use Rattle.database_meaning.specs.Setting.{HasIndex, HasTable, Setting};
+ghost use Rattle.database_meaning.specs.State.{State};
+ghost use Rattle.abl_rows.specs.Rows.{AfterError, IsObservable};
+ghost use Rattle.db_core.specs.Represents.{IsSound, Represents};
+
+use crate::control::Control;
+use abl_base::Row;
+use abl_rows::{RowError, RowStore};
+use client_database::{Answer, Cursor, Op};
+
+/// The answer to a Next.
+pub fn decide_next<R: RowStore>(
+    rows: &mut R,
+    control: &Control,
+    table: u16,
+    index: Option<u16>,
+    prefix: &Row,
+    cursor: Option<&Cursor>,
+    forward: bool,
+) -> Result<Answer, RowError>
+    requires sound { IsSound (R.RowStore.state rows.old) control.now }
+    requires table { HasTable (R.RowStore.state rows.old).schema table }
+    requires order { MatchOption index ⊤ (λ i. HasIndex (R.RowStore.state rows.old).schema table i) }
+    ensures answer { IfOk result (λ answer. (f : Setting) (s : State) (c : ℕ) →
+        Represents f (R.RowStore.state rows.old) control.now s → IsObservable (R.RowStore.state rows.old) →
+        FromGone f s c (Op.Next table index prefix.now (option_copied cursor.entry) forward) answer) }
+    ensures same { OnOk result (R.RowStore.state rows.new ≡ R.RowStore.state rows.old) }
+    ensures err { AfterError (R.RowStore.state rows.old) (R.RowStore.state rows.new) result }
+{
+    match rows.next(table, index, prefix, cursor, forward)? {
+        None => Ok(Answer::AtEnd),
+        Some(found) => Ok(Answer::Found {
+            row: found.row,
+            key: found.key,
+            values: found.values,
+        }),
+    }
+}
