@@ -1,5 +1,5 @@
 -- RUN with its arguments.
-use Rattle.std.proofs.Common.{◌≡◌, ◌<◌, ◌≤◌, ◌+◌, ℕ, zero, suc, Bool, true, false, List, [], ◌∷◌, ◌++◌, length, map, drop, get_or, Option, Some, None, refl, ap, sym, ◌∙◌, add-one, drop-cons, append_assoc, append-nil, arith}
+use Rattle.std.proofs.Common.{◌≡◌, ◌<◌, ◌≤◌, ◌+◌, ℕ, zero, suc, Bool, false, List, [], ◌∷◌, ◌++◌, length, map, drop, get_or, Option, Some, None, refl, ap, sym, ◌∙◌, add-one, drop-cons, append_assoc, append-nil, arith}
 use Rattle.std.proofs.lemmas.List.{length-map}
 use Rattle.std.specs.Prelude.{nat_le, slice_get}
 use Rattle.std.specs.Option.{option_map}
@@ -17,7 +17,6 @@ use Rattle.bound_tree.specs.declared.expression.Variable.{Variable}
 use Rattle.bind_names.specs.declared.names.Formal.{Formal}
 use Rattle.bind_names.specs.declared.names.NamedVariable.{NamedVariable}
 use Rattle.bind_names.specs.declared.notes.Notes.{Notes}
-use Rattle.bind_names.specs.declared.violation.Violation.{Violation}
 use Rattle.bind_names.specs.Judged.{Judged, at, breaking, fine, first_of, made, made_of, unless}
 use Rattle.bind_names.specs.Names.{Scene, meaning}
 use Rattle.bind_names.specs.Views.{IsJudged}

@@ -11,7 +11,6 @@ use Rattle.abl_values.specs.Fit.{fitted, default_initial}
 use Rattle.abl_values.specs.Masks.{mask_is_for}
 use Rattle.abl_values.specs.Schema.{number_of_name, table_named}
 use Rattle.bound_tree.specs.declared.expression.Variable.{Variable}
-use Rattle.bound_tree.specs.Tree as b
 use Rattle.bound_tree.specs.Tree.{Nothing}
 use Rattle.abl_syntax.specs.Syntax as s
 use Rattle.abl_syntax.specs.declared.name.Word.{Word}

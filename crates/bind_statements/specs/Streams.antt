@@ -14,13 +14,11 @@ use Rattle.abl_syntax.specs.declared.name.Named.{Named}
 use Rattle.abl_syntax.specs.declared.name.Named.TheVariants as spelled
 use Rattle.abl_syntax.specs.declared.name.Word.{Word}
 use Rattle.abl_syntax.specs.Syntax.{Expression, named_at, starts_at}
-use Rattle.abl_syntax.specs.declared.word.BlockWord.TheVariants as word
 use Rattle.bind_names.specs.declared.names.NamedBuffer.{NamedBuffer}
 use Rattle.bind_names.specs.declared.names.Naming.{Naming}
 use Rattle.bind_names.specs.declared.names.NamingKind.TheVariants as naming_kind
 use Rattle.bind_names.specs.Judged.{Judged, unless, fine, broken, made, made_of, breaking, naming}
 use Rattle.bind_names.specs.Names.{Scene, variable_named, stream_named, buffer_named, buffer_number, names_it, from}
-use Rattle.bind_names.specs.Names as n
 use Rattle.bind_expressions.specs.Expressions.{expression}
 use Rattle.bind_expressions.specs.Parts.{Done, does, listed, the_expr}
 use Rattle.bind_statements.specs.Assignments.{the_target}

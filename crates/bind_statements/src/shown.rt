@@ -11,7 +11,7 @@ ghost use Rattle.bind_names.specs.Sorts.{kind_in};
 ghost use Rattle.bind_names.specs.Views.{IsJudged, scene_of};
 ghost use Rattle.bind_expressions.specs.Parts.{does, listed};
 ghost use Rattle.bind_statements.specs.Definitions.{default_mask};
-ghost use Rattle.bind_statements.specs.Shown.{count, message, put, mask_of, mask_of_meaning, mask_of_name, put_item, put_mask};
+ghost use Rattle.bind_statements.specs.Shown.{count, mask_of, mask_of_meaning, mask_of_name, message, put, put_item, put_mask};
 ghost use Rattle.bind_statements.specs.Views.{expr_in, name_in};
 
 use crate::definitions::default_mask;

@@ -6,9 +6,8 @@ ghost use Rattle.bound_tree.specs.Bound.{stmt_of};
 ghost use Rattle.bound_tree.specs.Tree.{InputClose, OutputClose, Nothing, Then};
 ghost use Rattle.bind_names.specs.Judged.{made};
 ghost use Rattle.bind_names.specs.Views.{IsJudged, scene_of};
-ghost use Rattle.bind_expressions.specs.Parts.{does};
 ghost use Rattle.bind_statements.specs.Streams.{file_number, input, input_from, output, output_to, stream, with_file};
-ghost use Rattle.bind_expressions.specs.Parts.{IsAfter, done_with};
+ghost use Rattle.bind_expressions.specs.Parts.{IsAfter, does, done_with};
 
 use abl_base::{Bytes, Items, Rule};
 use abl_syntax::Word;

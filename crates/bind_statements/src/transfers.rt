@@ -10,7 +10,7 @@ ghost use Rattle.bound_tree.specs.declared.statement.Target.TheVariants.{Field};
 ghost use Rattle.bind_names.specs.Names.{from};
 ghost use Rattle.bind_names.specs.Views.{IsJudged, buffer_of, maybe_buffer_of, scene_of};
 ghost use Rattle.bind_expressions.specs.Parts.{does, listed};
-ghost use Rattle.bind_statements.specs.Streams.{export, exported, import, field_targets, import_alone, import_target, import_targets, lone_buffer, named_alone};
+ghost use Rattle.bind_statements.specs.Streams.{export, exported, field_targets, import, import_alone, import_target, import_targets, lone_buffer, named_alone};
 ghost use Rattle.bind_statements.specs.Views.{IsExported, target_alone};
 
 use crate::shown::{expressions, name_in};

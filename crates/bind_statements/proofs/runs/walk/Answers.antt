@@ -1,4 +1,4 @@
-use Rattle.std.proofs.Common.{◌≡◌, ap, arith, map, drop}
+use Rattle.std.proofs.Common.{arith, map}
 use Rattle.bound_tree.specs.Bound.{argument_of}
 use Rattle.bind_names.specs.Views.{scene_of}
 use Rattle.bind_statements.specs.Views.{run_arguments_of}

@@ -1,4 +1,4 @@
-use Rattle.std.proofs.Common.{◌≡◌, ◌≢◌, length, arith, rules, sym}
+use Rattle.std.proofs.Common.{◌≡◌, ◌≢◌, length, arith, rules}
 use Rattle.bind_statements.proofs.Alone.{chain_alone, chain_not_alone}
 use Rattle.bind_statements.proofs.shown.+name_in.Goals as goal
 

@@ -1,4 +1,4 @@
-use Rattle.std.proofs.Common.{arith, map, drop}
+use Rattle.std.proofs.Common.{arith, map}
 use Rattle.abl_syntax.specs.Typed.{put_item_of}
 use Rattle.bound_tree.specs.Bound.{item_of}
 use Rattle.bind_names.specs.Views.{scene_of}

@@ -1,4 +1,4 @@
-use Rattle.std.proofs.Common.{arith, drop}
+use Rattle.std.proofs.Common.{arith}
 use Rattle.bind_names.specs.Views.{scene_of}
 use Rattle.bind_statements.specs.Streams.{import_target}
 use Rattle.bind_statements.proofs.Lists.{list_judged, next_item, none_left, one_more_item}

@@ -1,4 +1,4 @@
-use Rattle.std.proofs.Common.{arith, sym}
+use Rattle.std.proofs.Common.{arith}
 use Rattle.bind_statements.proofs.Alone.{one_more_field}
 use Rattle.bind_statements.proofs.transfers.targets_of.Goals as goal
 
