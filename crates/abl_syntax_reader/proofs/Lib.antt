@@ -1,0 +1,12 @@
+pub mod Chains
+pub mod Rows
+pub mod Dates
+pub mod Same
+pub mod SameLeaves
+pub mod SameComparisons
+pub mod SameExpressions
+pub mod SameDefinitions
+pub mod SameHeaders
+pub mod SamePlain
+pub mod SameStreaming
+pub mod SameStatements

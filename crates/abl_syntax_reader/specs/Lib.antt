@@ -1,0 +1,9 @@
+pub mod Nodes
+pub mod Expressions
+pub mod Definitions
+pub mod Headers
+pub mod Plain
+pub mod Streaming
+pub mod Statements
+pub mod Views
+pub mod Days
