@@ -41,7 +41,7 @@ fine_end whole (end.Stop why) unbroken = inr (inl refl)
 fine_end whole end.NoMemory unbroken = inr (inr refl)
 
 module _ (arguments : List (List ℕ)) (files : FileState) (faults : ℕ) (old new : OutState) (report : Report) (run : Run) (names : NamesRun arguments files run) where
-  -- what comes of the run that the arguments name
+  -- the outcome of the run that the arguments name
   data Outcome : Type 0 where
     was_prevented : (refusal : Refusal) → report.refusal ≡ Some refusal → report.status ≡ status_after (Some refusal) → Prevents files faults run.schema run.program refusal → Outcome
     had_run : (texts : Texts files run.schema run.program) → violation_of texts.df ≡ None → (tree : Tree) → IsSourceOf texts.source tree → ((Rose old.faults new.faults → ⊥) → (report.status ≡ 0) ⊎ ((report.status ≡ 8) ⊎ (report.status ≡ 7))) → Outcome

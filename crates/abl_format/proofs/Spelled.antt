@@ -101,7 +101,7 @@ trimmed_are (b ∷ bs) h =
     by_rest [] d k = by_zero (b == 48) d
     by_rest (c ∷ cs) d k = and_from (is_digit b) (list_all is_digit (c ∷ cs)) d k
 
--- so many zeros went, and the number is the same with them
+-- this number of zeros was dropped, and the number is the same with them
 record Trimmed (n : ℕ) (ds kept : List ℕ) : Type 0 where
   shorter : length kept ≤ length ds
   number : number_after n kept * 10 ^ (length ds - length kept) ≡ number_after n ds

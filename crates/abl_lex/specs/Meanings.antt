@@ -72,7 +72,7 @@ escaped (b ∷ bs) =
     else if b == 10 then []
     else control_of b ∷ []
 
--- What the bytes after an opening quote denote, up to the closing one, when so many of them
+-- What the bytes after an opening quote denote, up to the closing one, when this number of them
 -- are passed over first.
 unfoldable pub inside : ℕ → ℕ → List ℕ → List ℕ
 inside quote passed [] = []

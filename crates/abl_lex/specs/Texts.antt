@@ -63,7 +63,7 @@ pub data TokensFrom (text : List ℕ) : ℕ → List Token → Type 0 where
 abbrev pub HasTokens : List ℕ → List Token → Type 0
 HasTokens text list = TokensFrom text 0 list
 
--- How a word of a form breaks a rule, and so many bytes after its start: a name or a part of one
+-- How a word of a form breaks a rule, and the number of bytes after its start at which it does: a name or a part of one
 -- above 32 bytes, a number of more than 18 digits or more than 10 after the point, no date.
 pub data Misfit : Form → List ℕ → Rule → ℕ → Type 0 where
   long_name : {w : List ℕ} → 32 < length w → Misfit Word w L4 0

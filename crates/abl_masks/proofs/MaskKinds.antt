@@ -121,7 +121,7 @@ fraction_letters decimals (b ∷ c ∷ cs) h =
     let nines = and_parts (b == 46) _ parts.1 in
     and_from _ _ (point_is_letter b nines.0) (all_letters is_nine nine_is_letter (c ∷ cs) nines.1)
 
--- what stands behind the signs of whole digits
+-- what follows the signs of whole digits
 abbrev behind_whole : List ℕ → List ℕ
 behind_whole mask = after_run is_fixed (after_run is_floating (without_minus mask))
 

@@ -58,7 +58,7 @@ last_digits_scaled k (suc j) m =
     ∙ append_assoc (last_digits k m) (replicate j 48) (48 ∷ [])
     ∙ ap (λ (ds : List ℕ). last_digits k m ++ ds) (replicate_more j 48 ∙ ap (λ (i : ℕ). replicate i 48) one)
 
--- what `Rounded::of` computes of a magnitude, under a mask with so many decimals
+-- what `Rounded::of` computes of a magnitude, under a mask with this number of decimals
 pub record IsRounded (d m k u : ℕ) : Type 0 where
   pub whole : u / 10 ^ k ≡ units_of d m / 10 ^ d
   pub behind : last_digits k u ++ replicate (d - k) 48 ≡ last_digits d (units_of d m)

@@ -54,7 +54,7 @@ length_decimals (suc w) n =
     let digits = length_last_digits (suc w - 1) n in
     omega arith
 
--- the parts before and behind the point
+-- the parts before and after the point
 length_parts : (p : ℕ → Bool) (xs : List ℕ) → length (take (prefix_len p xs) xs) + length (from_first_not p xs) ≡ length xs
 length_parts p xs = let h = prefix_len-le-length p xs in simp (length-take, length-drop) (omega arith)
 

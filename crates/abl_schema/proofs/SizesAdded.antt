@@ -40,7 +40,7 @@ item_line before item = line_said before item.attributes item.head
 
 -- ---- how long the text is
 
--- how much of the text comes of an item, after it and all the others are read
+-- the bytes that an item adds to the text, after it and all the others are read
 abbrev pub size_said : List Item → List Attributed → Head → ℕ
 size_said items attributes (Table name) = table_size items name
 size_said items attributes (Sequence name) =

@@ -263,7 +263,7 @@ by_cycle n a b c e doy is hb hc he hd leap =
     let e8 : t - e * 365 ≡ doy = omega arith in
     rw (e1, e2, e3, e4, e5, e6, e7, e8) refl
 
--- the date so many days after 1 January of the year 1
+-- the date this number of days after 1 January of the year 1
 pub date_after-days_before : (k j i : ℕ) → j < 12 → i < length_at (months_of (suc k)) j → date_after (days_of_years k + days_of_first (months_of (suc k)) j + i) ≡ record { year = suc k; month = suc j; day = suc i }
 unfolding made
 date_after-days_before k j i hj hi =

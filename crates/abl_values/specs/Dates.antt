@@ -78,7 +78,7 @@ month_and_day [] month n = (month, n + 1)
 month_and_day (days ∷ months) month n =
     if nat_lt n days then (month, n + 1) else month_and_day months (month + 1) (n - days)
 
--- the date so many days after 1 January of the year 1, by the cycles of 400, 100, 4 and 1 years:
+-- the date this number of days after 1 January of the year 1, by the cycles of 400, 100, 4 and 1 years:
 -- 400 years have 146,097 days, 100 have 36,524 and one more at the end of the 400, four have 1,461 save at the end of a hundred
 unfoldable pub date_after : ℕ → CivilDate
 date_after n =

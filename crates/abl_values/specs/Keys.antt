@@ -19,7 +19,7 @@ escaped_byte b = if b == 0 then 0 ∷ 255 ∷ [] else b ∷ []
 abbrev pub escaped : List ℕ → List ℕ
 escaped text = flat_map escaped_byte text
 
--- a signed number of so many bits with its highest bit turned over: the number plus half its range
+-- a signed number of this number of bits with its highest bit turned over: the number plus half its range
 abbrev pub turned_over : ℕ → ℤ → ℕ
 turned_over bits n = unsigned_abs (n +ℤ pos (2 ^ (bits - 1)))
 

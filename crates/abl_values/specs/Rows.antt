@@ -56,7 +56,7 @@ IsShort v = Unit {0}
 abbrev pub Found : Type 0
 Found = Option (Value × List ℕ)
 
--- n bytes as a value, where there are so many
+-- the first n bytes as a value, where there are n
 abbrev pub number_in : ℕ → (ℕ → Value) → List ℕ → Found
 number_in n value bytes =
     if nat_le n (length bytes) then Some (value (number_at_head n bytes), drop n bytes) else None
@@ -67,7 +67,7 @@ day_in None = None
 day_in (Some (Date d, rest)) = if is_day d then Some (Date d, rest) else None
 day_in (Some (v, rest)) = None
 
--- the text of n bytes, where there are so many and a text may have them
+-- the text of the first n bytes, where there are n and a text may have n
 abbrev pub text_in : ℕ → List ℕ → Found
 text_in n bytes =
     if nat_le n MAX_TEXT_BYTES then (if nat_le n (length bytes) then Some (Text (take n bytes), drop n bytes) else None)

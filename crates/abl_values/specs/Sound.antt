@@ -25,7 +25,7 @@ pub record IsSoundField (f : FieldDef) : Type 0 where
   pub name : IsTrue (is_name f.name)
   pub initial : IsOfField f.kind f.initial
 
--- an index with a name, whose components are fields of a table with so many
+-- an index with a name, whose components are fields of a table with this number of fields
 pub record IsSoundIndex (fields : ℕ) (i : IndexDef) : Type 0 where
   pub name : IsTrue (is_name i.name)
   pub parts : All (λ p. p.field < fields) i.parts

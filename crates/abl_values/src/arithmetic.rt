@@ -20,7 +20,7 @@ pub enum ArithFault {
     NoMemory,
 }
 
-/// The sum of two numbers, the text of two texts one after the other, or the day so many days
+/// The sum of two numbers, the text of two texts one after the other, or the day a number of days
 /// after a date. An operand `?` gives `?`, and so do operands of kinds that no program adds.
 /// Overflow comes exactly where whole numbers leave 64 bits, decimals as they are stored leave 128
 /// bits, a day leaves the years 1 to 9999, or a text passes 30,000 bytes. (OpenEdge ABL Reference,
@@ -47,7 +47,7 @@ pub fn add(alloc: Global, a: &Value, b: &Value) -> Result<Value, ArithFault>
     }
 }
 
-/// The difference of two numbers, the day so many days before a date, or the days from one date to
+/// The difference of two numbers, the day a number of days before a date, or the days from one date to
 /// another. An operand `?` gives `?`, and so do operands of kinds that no program subtracts.
 /// Overflow comes exactly where it does at `add`. (OpenEdge ABL Reference, the operators `-`.)
 #[tactic(auto, unfolding(crate::specs::Arithmetic::difference_of))]
@@ -279,7 +279,7 @@ pub(crate) fn date_in_range(day: i128) -> Result<Value, ArithFault>
     }
 }
 
-/// The day so many days before another.
+/// The day a number of days before another.
 fn days_before(day: i32, days: i64) -> Result<Value, ArithFault>
     ensures { result ≡ date_in_range (day -ℤ days) }
 {

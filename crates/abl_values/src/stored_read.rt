@@ -167,7 +167,7 @@ fn length_at_head(bytes: &[u8]) -> u16
     BigEndian::read_u16(bytes)
 }
 
-/// The number of 32 bits in the first four bytes, where there are so many.
+/// The number of 32 bits in the first four bytes; None where there are fewer.
 #[tactic(auto, unfolding(crate::specs::Rows::number_at_head))]
 fn small_at_head(bytes: &[u8]) -> Option<i32>
     ensures { result ≡ (if nat_le 4 (length bytes.now) then Some (cast_signed w32 (number_at_head 4 bytes.now)) else None) }
@@ -178,7 +178,7 @@ fn small_at_head(bytes: &[u8]) -> Option<i32>
     Some(BigEndian::read_i32(bytes))
 }
 
-/// The number of 64 bits in the first eight bytes, where there are so many.
+/// The number of 64 bits in the first eight bytes; None where there are fewer.
 #[tactic(auto, unfolding(crate::specs::Rows::number_at_head))]
 fn whole_at_head(bytes: &[u8]) -> Option<i64>
     ensures { result ≡ (if nat_le 8 (length bytes.now) then Some (cast_signed w64 (number_at_head 8 bytes.now)) else None) }
@@ -189,7 +189,7 @@ fn whole_at_head(bytes: &[u8]) -> Option<i64>
     Some(BigEndian::read_i64(bytes))
 }
 
-/// The number of 128 bits in the first sixteen bytes, where there are so many.
+/// The number of 128 bits in the first sixteen bytes; None where there are fewer.
 #[tactic(auto, unfolding(crate::specs::Rows::number_at_head))]
 fn decimal_at_head(bytes: &[u8]) -> Option<i128>
     ensures { result ≡ (if nat_le 16 (length bytes.now) then Some (cast_signed w128 (number_at_head 16 bytes.now)) else None) }

@@ -44,7 +44,7 @@ value_of w place (TheField buffer field kind mask) = fine (typed (b.TheField buf
 value_of w place (TheBuffer buffer) = naming (names_it w buffer Free false place) (broken no_value Y8 place)
 value_of w place Nothing = fine no_value
 
--- what comes of a meaning, with what it breaks and names
+-- the judgement of a name as a value, by what it means
 abbrev pub of_meaning : {A : Type 0} → Judged Meaning → (Meaning → Judged A) → Judged A
 of_meaning m use_it =
     let a = use_it m.is in

@@ -1,4 +1,4 @@
-//! What is known of the values of an expression, and what comes of operands.
+//! What is known of the values of an expression, and the sorts of operators' results.
 
 ghost use Rattle.std.specs.Prelude.{◌≡◌};
 ghost use Rattle.bind_names.specs.Sorts.{are_comparable, both_logical, branch_sort, branches_of, difference, fits, if_sort, is_broken, is_date, is_decimal, is_number_kind, is_unknown, is_whole_kind, kind_fits, kind_in, may_be_date, may_be_logical, may_be_number, may_be_text, may_be_whole, negated, number_sort, numbers, result_sort, result_of, same_kind, sort_of_value, sort_or_broken, sum, unless_broken, where_holds};

@@ -1,4 +1,4 @@
--- No two clients' locks stand against each other.
+-- No two clients' locks conflict.
 use Rattle.std.proofs.Common.{◌≡◌, ℕ, Bool, true, false, cond, List, Option, Some, None, refl, sym, ap, ◌∙◌, subst, inl, inr, eqb}
 use Rattle.std.specs.FinMap.{get, insert, remove, empty}
 use Rattle.abl_base.specs.declared.row.RowId.{RowId}
@@ -16,7 +16,7 @@ use Rattle.database_meaning.proofs.TableRows.{Success}
 abbrev pub NoClash : (ℕ → Client) → Type 0
 NoClash client = (c d row : ℕ) (x : Bool) → (c ≡ d → ⊥) → get (client c).held row ≡ Some x → ¬ LocksConflict (get (client d).held row) x
 
--- these locks of client c stand against no other client's
+-- these locks of client c conflict with no other client's
 abbrev pub Suits : (ℕ → Client) → ℕ → Held → Type 0
 Suits client c held = (d row : ℕ) (x : Bool) → (c ≡ d → ⊥) → get held row ≡ Some x → ¬ LocksConflict (get (client d).held row) x
 

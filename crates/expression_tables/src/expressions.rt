@@ -237,7 +237,7 @@ fn one_more(stack: &mut Vec<Expr>, operator: Option<Operator>) -> Result<bool, A
     }
 }
 
-/// A chain of the last expression and so many links that add 1.
+/// A chain of the last expression and `count` links that add 1.
 fn many(alloc: Global, stack: &mut Vec<Expr>, count: &str) -> Result<bool, AllocError> {
     let (Some(first), Ok(count)) = (stack.pop(), count.parse::<u32>()) else {
         return Ok(false);

@@ -13,7 +13,7 @@ use Rattle.mem_disk.specs.Shown.{Shown, shown, seen_of, left_of, Passed, SameHel
 use Rattle.mem_disk.proofs.Record.{spent_more}
 use Rattle.mem_disk.proofs.Moments.{Image, passes, passes_by, torn_not, seen_here, seen_same, still_step, write_step, durable, held_same, written_torn}
 
--- so many moments are recorded as there were, or as there is room for
+-- the number of moments recorded is that of the moments so far, or that for which there is room
 pub many_notes : (d : MemDisk) → length (shown d).notes ≡ min d.time d.room.calls
 many_notes d = length-notes_of d.pool.items d.calls.items ∙ d.many
 

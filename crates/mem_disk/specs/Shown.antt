@@ -37,7 +37,7 @@ IsDue s = Contains s.fails (counted s.calls)
 abbrev pub PassesCalls : Shown → Type 0
 PassesCalls s = s.room.calls ≤ s.time
 
--- a write of so many bytes there would pass the room
+-- a write of this number of bytes there would pass the room
 abbrev pub PassesRoom : Shown → ℕ → ℕ → Type 0
 PassesRoom s at n = (s.room.calls ≤ s.time) ⊎ ((s.room.bytes < spent_by s.notes + n) ⊎ (s.room.length < at + n))
 
@@ -65,7 +65,7 @@ pub record Passed (old new : Shown) : Type 0 where
 abbrev pub SameHeld : Shown → Shown → Type 0
 SameHeld old new = (k : ℕ) → held new.first new.notes k ≡ held old.first old.notes k
 
--- there is a moment and room for a write of so many bytes there
+-- there is a moment and room for a write of this number of bytes there
 pub record Fits (s : Shown) (at n : ℕ) : Type 0 where
   pub moment : s.time + 1 < 2 ^ 64
   pub calls : s.time < s.room.calls

@@ -24,6 +24,6 @@ capacity_in [] k = 0
 capacity_in (v ∷ areas) zero = vec_capacity v
 capacity_in (v ∷ areas) (suc k) = capacity_in areas k
 
--- each area has memory for so many bytes
+-- each area has memory for this number of bytes
 abbrev pub HaveRoom : ℕ → List (Vec ℕ Global) → Type 0
 HaveRoom n areas = (k : ℕ) → k < length areas → n ≤ capacity_in areas k

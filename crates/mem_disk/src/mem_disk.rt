@@ -53,7 +53,7 @@ fn area_in(images: &Images, area: u8) -> &[u8]
     }
 }
 
-/// The same bytes, with memory for so many.
+/// The same bytes, with memory for `count` of them.
 fn with_room(alloc: Global, bytes: &[u8], count: u64) -> Result<Vec<u8>, AllocError>
     ensures bytes { IfOk result (λ v. v.items ≡ bytes.now) }
     ensures room { IfOk result (λ v. count ≤ vec_capacity v) }
@@ -63,7 +63,7 @@ fn with_room(alloc: Global, bytes: &[u8], count: u64) -> Result<Vec<u8>, AllocEr
     Ok(v)
 }
 
-/// The three areas, each with memory for so many bytes.
+/// The three areas, each with memory for `count` bytes.
 fn areas_with_room(alloc: Global, images: &Images, count: u64) -> Result<Vec<Vec<u8>>, AllocError>
     ensures three { IfOk result (λ v. length v.items ≡ 3) }
     ensures bytes { IfOk result (λ v. (k : ℕ) → bytes_in v.items k ≡ area_of images.now k) }
@@ -153,7 +153,7 @@ impl MemDisk {
         crashed_images(alloc, &self.first, calls, &self.pool, torn)
     }
 
-    /// Whether there is room for a write of so many bytes there.
+    /// Whether there is room for a write of `count` bytes at that place.
     fn has_room(&self, at: u64, count: u64) -> bool
         requires { at + count < 2 ^ 40 }
         ensures fits { result ≡ true → (self.now.time < self.now.room.calls) × ((length self.now.pool.items + count ≤ self.now.room.bytes) × (at + count ≤ self.now.room.length)) }

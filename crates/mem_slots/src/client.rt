@@ -61,7 +61,7 @@ impl Client {
         true
     }
 
-    /// Takes memory for so many writes.
+    /// Takes memory for `writes` writes.
     pub fn make_room(&mut self, writes: u32) -> bool
         requires begun { self.old.begun ≡ true }
         requires few { writes ≤ 7989 }

@@ -47,7 +47,7 @@ module _ (old new : SlotState) (before after : ℕ → (ℕ → List ℕ) → Ty
       → (step w e).moments ≡ w.moments → (step w e).lefts ≡ w.lefts → (w.last ≡ []) ⊎ ((step w e).last ≡ w.last) → shut ≡ (step w e).closed → Kept new after opened now shut
   logged now e shut is = goes_on now shut (step w e) (world_more opened trace now e is)
 
-  -- after a call that is refused for want of memory
+  -- after a call that is refused for lack of memory
   pub refused : Rests old new → new.failed ≡ old.failed → (now : List Event) → now ≡ trace → Kept new after opened now closed
   refused r same now is = goes_on now closed w (ap (world_of opened) is) (rests old w (first_of opened) in_step new r same) r.keeps.observable r.keeps.committed refl refl (inr refl) closed_is
 

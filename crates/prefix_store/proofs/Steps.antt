@@ -146,7 +146,7 @@ module _ (old : SlotState) (w : World) (first : ℕ → List ℕ) (h : IsInStep 
   each_rests new r before c lt = unchanged new c _ _ lt refl refl (ap (λ (t : ℕ → Transaction). t c) r.transaction)
       (λ speaks. let s = before speaks in same_slot new c r.keeps s (ap (λ (f : ℕ → List ℕ). f (8192 + c)) (r.reads s)))
 
-  -- a call that is refused for want of memory
+  -- a call that is refused for lack of memory
   pub rests : (new : SlotState) → Rests old new → new.failed ≡ old.failed → IsInStep new w first
   rests new r same = keeps_on new w.begun w.own w.closed r.keeps (still_open new same) (each_rests new r (speaks_back new r.keeps same))
 

@@ -57,7 +57,7 @@ acknowledged (moment ∷ moments) m = if nat_le moment m then acknowledged momen
 abbrev pub afters : (ℕ → List ℕ) → World → List (ℕ → List ℕ)
 afters first w = (first ∷ w.lefts) ++ w.last
 
--- the contents after n commits, or after n + 1, where there are so many
+-- the contents after n commits, or after n + 1 where there is one more
 abbrev pub IsNamedAt : (ℕ → List ℕ) → World → ℕ → (ℕ → List ℕ) → Type 0
 IsNamedAt first w n contents = (slice_get (afters first w) n ≡ Some contents) ⊎ (slice_get (afters first w) (n + 1) ≡ Some contents)
 

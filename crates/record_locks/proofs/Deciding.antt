@@ -1,4 +1,4 @@
--- What the list of those who stand against a lock says of a request.
+-- What the list of the clients that conflict with a lock says of a request.
 use Rattle.std.proofs.Common.{◌≡◌, ◌≢◌, ℕ, zero, Bool, List, [], ◌∷◌, length, inl, inr, refl, arith}
 use Rattle.database_meaning.specs.Waiting.{Chain, IsCycleFrom, ListsAll}
 use Rattle.record_locks.specs.declared.locks.Client.{Client}

@@ -10,7 +10,7 @@ use abl_parse::{SyntaxRefusal, parse};
 use abl_tree::{Tokens, Tree};
 use std::alloc::{AllocError, Global};
 
-/// What comes of a source: what was asked for, or the answer that says which rule it breaks.
+/// The answer for a source: what was asked for, or the answer that says which rule it breaks.
 enum Reading<T> {
     Read(T),
     Refused(String),

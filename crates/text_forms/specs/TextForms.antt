@@ -16,7 +16,7 @@ pub data Imported : Type 0 where
 pub record TextForms : Type 0 where
   -- the text of a value under a mask
   pub masked : List ℕ → Value → List ℕ
-  -- the number times 10^10 that a text stands for, if it is the text of a DECIMAL
+  -- the number times 10^10 that a text denotes, if it is the text of a DECIMAL
   pub number_in : List ℕ → Option ℤ
   -- the line that begins at a place of an input, for targets of these kinds. A target without a kind passes over one element
   pub line_at : List ℕ → ℕ → List (Option Kind) → Imported

@@ -11,7 +11,7 @@ use Rattle.turn_lock.specs.Journal.{own_entries}
 use Rattle.turn_lock.specs.View.{view, with_stage, with_list_out, client_in}
 
 module _ {T E : Type 0} where
-  -- number: it has the client of the number found, with no entry yet. The numbers not yet found are as many as the passes not yet made
+  -- number: it has the client of the number found, with no entry yet. There is one number not yet found for each pass not yet made
   abbrev pub Numbers : Me (Option T) (View T E) → ℕ → Me (Option T) (View T E) → Type 0
   Numbers m r n = (n ≡ (view m.0.key m.0.parts ((r, []) ∷ []) m.0.stage, m.1)) × ((key : Key T) → m.0.key ≡ Some key → r + m.0.parts ≡ key.first + key.seats)
 

@@ -91,7 +91,7 @@ fn part_of(word: &str) -> Option<KeyPart> {
     })
 }
 
-/// What comes of adding fields of these names one after the other: the number by which the name is
+/// The result of adding fields of these names one after the other: the number by which the name is
 /// found afterwards, or why it was refused.
 pub fn names(alloc: Global, arguments: &str) -> Result<Option<String>, AllocError> {
     let mut fields = Named::empty(alloc);
