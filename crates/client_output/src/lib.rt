@@ -2,8 +2,10 @@
 //! the pieces that it wrote (`specs/Sections.antt`).
 #![tactic(auto)]
 
+pub mod output;
 pub mod section;
 pub mod writing;
 
+pub use output::Output;
 pub use section::Section;
 pub use writing::write_default;

@@ -1,4 +1,4 @@
-use Rattle.std.proofs.Common.{◌∙◌, ap, sym, OnOk, Result, Ok, Err}
+use Rattle.std.proofs.Common.{◌∙◌, ap, sym}
 use Rattle.client_output.specs.Sections.{first_longer}
 use Rattle.client_output.proofs.Written.{wrote_more, on_ok}
 use Rattle.client_output.proofs.writing.write_default.Goals as goal
