@@ -2,3 +2,4 @@ pub mod Lists
 pub mod Alone
 pub mod Arguments
 pub mod Numbered
+pub mod Within

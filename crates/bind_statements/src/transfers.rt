@@ -1,7 +1,8 @@
 //! IMPORT and EXPORT.
 
 ghost use Rattle.std.specs.Option.{option_map};
-ghost use Rattle.std.specs.Prelude.{◌≡◌, IfOk, MatchOption, None, Some, map};
+ghost use Rattle.std.specs.Prelude.{◌≡◌, ◌≤◌, IfOk, length, MatchOption, None, Some, map};
+ghost use Rattle.abl_base.specs.declared.limits.TheConstants.{MAX_FIELDS};
 ghost use Rattle.abl_syntax.specs.Typed.{expression_of};
 ghost use Rattle.abl_values.specs.Schema.{fields_of};
 ghost use Rattle.bound_tree.specs.Bound.{expr_of, stmt_of};
@@ -61,13 +62,12 @@ fn targets_of(
     buffer: u32,
     fields: &[FieldDef],
 ) -> Result<Vec<Option<Target>>, BindFault>
+    requires { length fields.now ≤ MAX_FIELDS }
     ensures { IfOk result (λ r. r.items ≡ field_targets buffer 0 fields.now) }
 {
     let mut bound = Vec::new(alloc);
     for (i, field) in fields.iter().enumerate() {
-        let Ok(number) = u16::try_from(i) else {
-            return Err(BindFault);
-        };
+        let number = i as u16;
         let target = field_target(buffer, number, field);
         bound.push(target)?;
     }
@@ -86,6 +86,7 @@ fn buffer_targets(
     if table >= schema.tables() {
         return Ok(Vec::new(alloc));
     }
+    schema.soundness();
     targets_of(alloc, buffer, schema.fields(table))
 }
 
