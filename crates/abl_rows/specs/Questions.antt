@@ -14,7 +14,7 @@ use Rattle.database_meaning.specs.Search.{IsFindableIn}
 use Rattle.database_meaning.specs.Counts.{sum_below}
 use Rattle.database_meaning.specs.Answers.{IsDuplicateIn, IsFirstLongKey}
 use Rattle.abl_rows.specs.Changes.{RowsById}
-use Rattle.abl_rows.specs.Rows.{RowState, RowTransaction}
+use Rattle.abl_rows.specs.Rows.{RowState}
 
 -- ---- tables
 

@@ -1,5 +1,5 @@
 -- What the calls of a store of rows with transactions do.
-use Rattle.std.specs.Prelude.{◌≡◌, ◌≢◌, ◌⊎◌, ℕ, ◌+◌, ◌-◌, ◌<◌, ◌≤◌, ◌==◌, max, Bool, true, false, ◌||◌, if◌then◌else◌, List, [], ◌∷◌, ◌++◌, take, drop, Option, Some, None, IsTrue, IsFalse, Result, IsErrOf, ℤ}
+use Rattle.std.specs.Prelude.{◌≡◌, ◌≢◌, ◌⊎◌, ℕ, ◌+◌, ◌-◌, ◌<◌, ◌≤◌, ◌==◌, max, Bool, true, false, ◌||◌, if◌then◌else◌, List, [], ◌∷◌, ◌++◌, take, drop, Option, None, IsTrue, IsFalse, Result, IsErrOf, ℤ}
 use Rattle.fault_count.specs.Faults.{Rose}
 use Rattle.abl_base.specs.declared.limits.TheConstants.{FIRST_ROW, ROW_LIMIT}
 use Rattle.abl_values.specs.Schema.{SchemaData}

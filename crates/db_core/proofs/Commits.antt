@@ -83,6 +83,42 @@ both_true : (a b : Bool) → IsTrue (a && b) → IsTrue b
 both_true true b h = h
 both_true false b h = cc
 
+-- the committed rows after the client's commit, and the rows that it holds
+module _ (f : Setting) (rows : RowState) (control : Control) (s : State) (c : ℕ) (keep : List RowId) (settled_so : IsConsistent rows) (represents : Represents f rows control s) (outermost : is_outermost s c ≡ true) where
+  abbrev laid_rows : Stored
+  laid_rows = committed_after s c (Leave keep)
+
+  over_changed : (b : Bool) (row below : Option StoredRow) → over (cond b (Some row) None) below ≡ cond b row below
+  over_changed true row below = refl
+  over_changed false row below = refl
+
+  -- the committed rows are what the store then has committed
+  pub laid_rows_are : IsObservable rows → (k : ℕ) → get laid_rows k ≡ joined (rows.transaction c).changes rows.rows rows.committed k
+  laid_rows_are seen k =
+      ap (λ (b : Bool). get (cond b (laid_on (entries (s.client c).overlay) s.committed) s.committed) k) outermost
+      ∙ (get_laid_on (entries (s.client c).overlay) s.committed k
+      ∙ (ap (λ (o : Option (Option StoredRow)). over o (get s.committed k)) (sym (get-entries (s.client c).overlay k) ∙ (represents.client c).overlay seen k)
+      ∙ (ap (over (change_at rows.rows (rows.transaction c).changes k)) (represents.committed seen.0 k)
+      ∙ over_changed (has_change (rows.transaction c).changes k) (rows.rows k) (rows.committed k))))
+
+  -- a row that the client holds stands as it is then committed
+  pub held_rows_stay : IsObservable rows → (k : ℕ) (b : Bool) → get (s.client c).held k ≡ Some b → (n : Bool) → has_change (rows.transaction c).changes k ≡ n → get laid_rows k ≡ rows.rows k
+  held_rows_stay seen k b held true is = laid_rows_are seen k ∙ ap (λ (n : Bool). cond n (rows.rows k) (rows.committed k)) is
+  held_rows_stay seen k b held false is =
+      let none : (d : ℕ) → IsFalse (has_change (rows.transaction d).changes k) = λ d. elim (cases_eq d c) [
+        | inl same ↦ subst (λ (e : ℕ). has_change (rows.transaction e).changes k ≡ false) (sym same) is
+        | inr ne ↦ untouched d ne (has_change (rows.transaction d).changes k) refl
+      ] in
+      laid_rows_are seen k ∙ (ap (λ (n : Bool). cond n (rows.rows k) (rows.committed k)) is ∙ sym (settled_so.base seen k none))
+    where
+      untouched : (d : ℕ) → d ≢ c → (n : Bool) → has_change (rows.transaction d).changes k ≡ n → has_change (rows.transaction d).changes k ≡ false
+      untouched d ne true e =
+          let touched = settled_so.touched d k e in
+          let free = untouched_where_held f rows control s represents seen d c k b (λ same. ne (sym same)) held in
+          let clash : true ≡ false = sym touched ∙ free in
+          cc
+      untouched d ne false e = e
+
 module _ (f : Setting) (rows new : RowState) (control now : Control) (s : State) (c : ℕ) (keep staying : List RowId) (moment : ℕ)
     (sound : IsSound rows control) (settled_so : IsConsistent rows) (fine : rows.failed ≡ false) (commits : Commits rows new c control.sequences.items) (settles : Settles control c staying now)
     (represents : Represents f rows control s) (outermost : is_outermost s c ≡ true)
@@ -96,18 +132,9 @@ module _ (f : Setting) (rows new : RowState) (control now : Control) (s : State)
   was : IsObservable new → IsObservable rows
   was seen = was_observable seen.0
 
-  over_changed : (b : Bool) (row below : Option StoredRow) → over (cond b (Some row) None) below ≡ cond b row below
-  over_changed true row below = refl
-  over_changed false row below = refl
-
   -- the committed rows are what the store then has committed
-  pub laid_is : IsObservable rows → (k : ℕ) → get laid k ≡ joined (rows.transaction c).changes rows.rows rows.committed k
-  laid_is seen k =
-      ap (λ (b : Bool). get (cond b (laid_on (entries (s.client c).overlay) s.committed) s.committed) k) outermost
-      ∙ (get_laid_on (entries (s.client c).overlay) s.committed k
-      ∙ (ap (λ (o : Option (Option StoredRow)). over o (get s.committed k)) (sym (get-entries (s.client c).overlay k) ∙ (represents.client c).overlay seen k)
-      ∙ (ap (over (change_at rows.rows (rows.transaction c).changes k)) (represents.committed seen.0 k)
-      ∙ over_changed (has_change (rows.transaction c).changes k) (rows.rows k) (rows.committed k))))
+  laid_is : IsObservable rows → (k : ℕ) → get laid k ≡ joined (rows.transaction c).changes rows.rows rows.committed k
+  laid_is = laid_rows_are f rows control s c keep settled_so represents outermost
 
   abbrev own : Client
   own = record { overlay = empty; levels = []; reserved_keys = []; drawn = 0; written = 0; held = held_after_commit laid keep (s.client c).held; blocked = None }
@@ -120,23 +147,9 @@ module _ (f : Setting) (rows new : RowState) (control now : Control) (s : State)
       ∙ (ap (λ (m : Held). settled (has_row staying k) (get m k)) (represents.client c).held
       ∙ (same_settled (has_row staying k) (stays laid keep k) (get (s.client c).held k) (λ v e. right k v e) ∙ sym (get_kept laid keep (s.client c).held k))))
 
-  -- a row that the client holds stands as it is then committed
+  -- a row that the client holds is as it is then committed
   held_represents : IsObservable rows → (k : ℕ) (b : Bool) → get (s.client c).held k ≡ Some b → (n : Bool) → has_change (rows.transaction c).changes k ≡ n → get laid k ≡ rows.rows k
-  held_represents seen k b held true is = laid_is seen k ∙ ap (λ (n : Bool). cond n (rows.rows k) (rows.committed k)) is
-  held_represents seen k b held false is =
-      let none : (d : ℕ) → IsFalse (has_change (rows.transaction d).changes k) = λ d. elim (cases_eq d c) [
-        | inl same ↦ subst (λ (e : ℕ). has_change (rows.transaction e).changes k ≡ false) (sym same) is
-        | inr ne ↦ untouched d ne (has_change (rows.transaction d).changes k) refl
-      ] in
-      laid_is seen k ∙ (ap (λ (n : Bool). cond n (rows.rows k) (rows.committed k)) is ∙ sym (settled_so.base seen k none))
-    where
-      untouched : (d : ℕ) → d ≢ c → (n : Bool) → has_change (rows.transaction d).changes k ≡ n → has_change (rows.transaction d).changes k ≡ false
-      untouched d ne true e =
-          let touched = settled_so.touched d k e in
-          let free = untouched_where_held f rows control s represents seen d c k b (λ same. ne (sym same)) held in
-          let clash : true ≡ false = sym touched ∙ free in
-          cc
-      untouched d ne false e = e
+  held_represents = held_rows_stay f rows control s c keep settled_so represents outermost
 
   contained : (m : Stored) (k : ℕ) → get m k ≡ None → IsTrue (contains_key m k) → ⊥
   contained m k e h =

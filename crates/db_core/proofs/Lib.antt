@@ -17,3 +17,5 @@ pub mod GetRows
 pub mod KeyRows
 pub mod Puts
 pub mod SearchRows
+pub mod SequenceRows
+pub mod StayingRows

@@ -1,17 +1,18 @@
 -- What the calls change in the control data.
 use Rattle.std.specs.FinMap.{get, insert, remove}
 use Rattle.database_meaning.specs.State.{State}
-use Rattle.database_meaning.specs.Steps.{committed_after, stays}
+use Rattle.database_meaning.specs.Steps.{committed_after, is_in, stays}
 use Rattle.client_database.specs.declared.operation.Op.{Op}
 use Rattle.client_database.specs.declared.operation.Op.TheVariants.{Leave, Next, Get, CurrentValue}
 use Rattle.record_locks.specs.Requests.{granted}
 use Rattle.record_locks.specs.Settled.{has_row, settled}
 use Rattle.abl_base.specs.declared.row.RowId.{RowId}
-use Rattle.std.specs.Prelude.{Bool, [], ◌≡◌, ◌≢◌, ◌++◌, ◌∷◌, ℕ, ℤ, List, Option, take, length, None, Some}
+use Rattle.std.specs.Prelude.{Bool, [], ◌≡◌, ◌≢◌, ◌++◌, ◌∷◌, ℕ, ℤ, List, Option, take, length, None, Some, ◌&&◌, is_some}
 use Rattle.record_locks.specs.declared.locks.Client.{Client as LockClient}
 use Rattle.record_locks.specs.declared.locks.BlockedLock.{BlockedLock}
 use Rattle.database_meaning.specs.declared.state.BlockedRequest.{BlockedRequest}
 use Rattle.record_locks.specs.Table.{client_of, lock_of, no_client}
+use Rattle.abl_rows.specs.Changes.{RowsById}
 use Rattle.db_core.specs.declared.control.Control.{Control}
 use Rattle.db_core.specs.Represents.{marks_at, blocked_at}
 
@@ -118,3 +119,7 @@ IsQuestion (Next table index prefix cursor forward) = Unit {0}
 IsQuestion (Get table row) = Unit {0}
 IsQuestion (CurrentValue sequence) = Unit {0}
 IsQuestion _ = ⊥
+
+-- the list has those of these rows that are there
+abbrev pub ListsPresent : RowsById → List RowId → List RowId → Type 0
+ListsPresent rows keep list = (k : ℕ) → has_row list k ≡ (is_in k keep && is_some (rows k))

@@ -12,6 +12,8 @@ pub mod laws;
 pub mod levels;
 pub mod locks;
 pub mod search;
+pub mod sequences;
+pub mod staying;
 pub mod writes;
 
 pub use control::{Control, Session};

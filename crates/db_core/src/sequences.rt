@@ -1,0 +1,33 @@
+//! The answers to operations on sequences. Nothing changes here.
+
+ghost use Rattle.std.specs.Prelude.{◌≡◌, ◌<◌, ℕ, length};
+ghost use Rattle.database_meaning.specs.Answers.{FromGone};
+ghost use Rattle.database_meaning.specs.Setting.{Setting, increment_of};
+ghost use Rattle.database_meaning.specs.State.{State};
+ghost use Rattle.abl_rows.specs.Rows.{RowState};
+ghost use Rattle.db_core.specs.Represents.{Represents};
+
+use crate::control::Control;
+use client_database::{Answer, Op};
+
+/// The answer to a NextValue of a sequence with this increment.
+pub fn decide_next_value(control: &Control, sequence: u16, increment: i64) -> Answer
+    requires { sequence < length control.now.sequences.items }
+    ensures { (f : Setting) (rows : RowState) (s : State) (c : ℕ) → Represents f rows control.now s → increment ≡ increment_of f.schema sequence →
+        FromGone f s c (Op.NextValue sequence) result }
+{
+    let current = control.sequences[usize::from(sequence)];
+    match current.checked_add(increment) {
+        None => Answer::SequenceEnd,
+        Some(value) => Answer::Value(value),
+    }
+}
+
+/// The answer to a CurrentValue.
+pub fn decide_current_value(control: &Control, sequence: u16) -> Answer
+    requires { sequence < length control.now.sequences.items }
+    ensures { (f : Setting) (rows : RowState) (s : State) (c : ℕ) → Represents f rows control.now s →
+        FromGone f s c (Op.CurrentValue sequence) result }
+{
+    Answer::Value(control.sequences[usize::from(sequence)])
+}

@@ -1,0 +1,57 @@
+//! The rows on which locks stay at a commit.
+
+ghost use Rattle.std.specs.Prelude.{◌≡◌, ℕ, true, IfOk, OnOk};
+ghost use Rattle.database_meaning.specs.Setting.{Setting};
+ghost use Rattle.database_meaning.specs.State.{State};
+ghost use Rattle.database_meaning.specs.Steps.{is_outermost};
+ghost use Rattle.abl_rows.specs.Rows.{AfterError, IsObservable};
+ghost use Rattle.db_core.specs.Moves.{AreStaying, ListsPresent};
+ghost use Rattle.db_core.specs.Represents.{Represents};
+
+use crate::control::Control;
+use abl_base::{Items, RowId};
+use abl_rows::{RowError, RowStore};
+use client_database::RowIds;
+use std::alloc::Global;
+
+/// Those of these rows that are there.
+fn list_present<R: RowStore>(
+    alloc: Global,
+    rows: &mut R,
+    keep: &[RowId],
+) -> Result<Vec<RowId>, RowError>
+    ensures found { IfOk result (λ list. IsObservable (R.RowStore.state rows.old) → ListsPresent (R.RowStore.state rows.old).rows keep.now list.items) }
+    ensures same { OnOk result (R.RowStore.state rows.new ≡ R.RowStore.state rows.old) }
+    ensures err { AfterError (R.RowStore.state rows.old) (R.RowStore.state rows.new) result }
+{
+    match keep.split_last() {
+        None => Ok(Vec::new(alloc)),
+        Some((last, earlier)) => {
+            let mut list = list_present(alloc, rows, earlier)?;
+            match rows.table(*last)? {
+                None => Ok(list),
+                Some(_) => match list.push(*last) {
+                    Ok(()) => Ok(list),
+                    Err(_) => Err(RowError::NoMemory),
+                },
+            }
+        }
+    }
+}
+
+/// Those rows of a Leave's `keep` on which the client's locks stay when it commits. An error NoMemory
+/// means out of memory.
+pub fn staying_rows<R: RowStore>(
+    alloc: Global,
+    rows: &mut R,
+    control: &Control,
+    keep: &RowIds,
+) -> Result<RowIds, RowError>
+    ensures staying { IfOk result (λ staying. (f : Setting) (s : State) (c : ℕ) → Represents f (R.RowStore.state rows.old) control.now s → IsObservable (R.RowStore.state rows.old) →
+        is_outermost s c ≡ true → AreStaying s c keep.now staying) }
+    ensures same { OnOk result (R.RowStore.state rows.new ≡ R.RowStore.state rows.old) }
+    ensures err { AfterError (R.RowStore.state rows.old) (R.RowStore.state rows.new) result }
+{
+    let list = list_present(alloc, rows, keep.as_slice())?;
+    Ok(Items::from_vec(list))
+}
