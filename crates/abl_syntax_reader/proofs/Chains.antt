@@ -9,7 +9,7 @@ use Rattle.abl_syntax.specs.declared.expression.Expression.{Expression as TypedE
 use Rattle.abl_syntax.specs.Syntax.{Expression, Arguments, More, NoMore}
 use Rattle.abl_syntax.specs.Typed.{expression_of, linked_of, joined, arguments_of}
 use Rattle.abl_syntax_reader.specs.Nodes.{Source, Uses, IsAt}
-use Rattle.abl_syntax_reader.specs.Expressions.{IsExpression, IsConjunction, IsNegation, IsProduct, IsSigned, IsOperator, AreOr, no_or, one_or, AreAnd, no_and, one_and, AreAdded, none_added, one_added, AreMultiplied, no_factor, one_factor, AreMoreArguments, no_argument, one_argument, AreArguments}
+use Rattle.abl_syntax_reader.specs.Expressions.{IsExpression, IsConjunction, IsNegation, IsProduct, IsSigned, IsOperator, AreOr, one_or, AreAnd, one_and, AreAdded, one_added, AreMultiplied, one_factor, AreMoreArguments, no_argument, one_argument, AreArguments}
 
 -- the last link of a chain joins what the links before it make
 linked_snoc : (links : List TypedLink) (l : TypedLink) (a : Expression) → linked_of (links ++ l ∷ []) a ≡ joined l.operator l.at (linked_of links a) (expression_of l.operand)

@@ -6,7 +6,7 @@ use Rattle.abl_syntax.specs.declared.name.Named.{Named}
 use Rattle.abl_syntax.specs.declared.name.Word.{Word}
 use Rattle.abl_tree.specs.declared.production.TheConstants as p
 use Rattle.abl_syntax.specs.declared.statement.Statement.{Statement as TypedStatement}
-use Rattle.abl_syntax.specs.Syntax.{Argument, RecordOption, Statement, Statements, Nothing, Then}
+use Rattle.abl_syntax.specs.Syntax.{Argument, RecordOption, Statements, Nothing, Then}
 use Rattle.abl_syntax.specs.Typed.{statement_of, statements_of}
 use Rattle.abl_syntax_reader.specs.Nodes.{Source, Uses, IsName, AreAll, all_read, one_more}
 use Rattle.abl_syntax_reader.specs.Headers.{AreNames, AreNamesFrom, all_named, one_name}

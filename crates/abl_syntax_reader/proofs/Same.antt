@@ -1,7 +1,7 @@
 -- No node and no token denotes two things: the node's production and first token, and what a token is. A fact about one of them is a fact about
 -- the other, so each lemma takes a family `P`.
-use Rattle.std.specs.Prelude.{◌≡◌, ℕ, ℤ, ◌+◌, List, [], ◌∷◌, Option, Some, None, Bool, true, false, slice_get}
-use Rattle.std.proofs.Common.{refl, ap, sym, ◌∙◌, subst, eqb, arith}
+use Rattle.std.specs.Prelude.{◌≡◌, ℕ, ℤ, ◌+◌, List, ◌∷◌, Option, Some, Bool, true, false, slice_get}
+use Rattle.std.proofs.Common.{ap, sym, ◌∙◌, subst, eqb, arith}
 use Rattle.std.proofs.lemmas.Bool.{false≢true}
 use Rattle.abl_base.specs.declared.place.Place.{Place}
 use Rattle.abl_tree.specs.declared.token.Token.{Token}

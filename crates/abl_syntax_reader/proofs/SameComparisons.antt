@@ -1,5 +1,5 @@
 -- No node denotes two parts of the syntax: comparisons.
-use Rattle.std.specs.Prelude.{◌≡◌, ℕ}
+use Rattle.std.specs.Prelude.{ℕ}
 use Rattle.std.proofs.Common.{refl}
 use Rattle.abl_base.specs.declared.place.Place.{Place}
 use Rattle.bound_tree.specs.declared.expression.Binary.{Binary}

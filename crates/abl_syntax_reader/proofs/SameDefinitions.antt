@@ -1,5 +1,5 @@
 -- No node denotes two parts of the syntax: definitions.
-use Rattle.std.specs.Prelude.{◌≡◌, ℕ, ℤ, ◌+◌, List, Bool, true, false}
+use Rattle.std.specs.Prelude.{ℕ, ℤ, ◌+◌, List, Bool, true, false}
 use Rattle.std.proofs.Common.{refl}
 use Rattle.abl_base.specs.declared.place.Place.{Place}
 use Rattle.abl_base.specs.declared.value.Value.{Value}

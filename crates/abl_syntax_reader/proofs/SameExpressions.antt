@@ -1,5 +1,5 @@
 -- No node denotes two parts of the syntax: expressions.
-use Rattle.std.specs.Prelude.{◌≡◌, ℕ, ◌+◌, Option}
+use Rattle.std.specs.Prelude.{ℕ, ◌+◌, Option}
 use Rattle.std.proofs.Common.{refl}
 use Rattle.abl_base.specs.declared.place.Place.{Place}
 use Rattle.abl_base.specs.declared.value.Value.{Value}

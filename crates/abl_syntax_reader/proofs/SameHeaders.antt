@@ -1,5 +1,5 @@
 -- No node denotes two parts of the syntax: headers.
-use Rattle.std.specs.Prelude.{◌≡◌, ℕ, ◌+◌, List, ◌∷◌, Option, Some, Bool}
+use Rattle.std.specs.Prelude.{ℕ, ◌+◌, List, ◌∷◌, Option, Some, Bool}
 use Rattle.std.proofs.Common.{refl}
 use Rattle.abl_base.specs.declared.place.Place.{Place}
 use Rattle.bound_tree.specs.declared.block.FetchWord.{FetchWord}

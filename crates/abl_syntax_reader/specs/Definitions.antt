@@ -1,5 +1,5 @@
 -- Which definition a node denotes, a constructor a production.
-use Rattle.std.specs.Prelude.{ℕ, ℤ, ◌+◌, ◌≡◌, List, Bool, true, false}
+use Rattle.std.specs.Prelude.{ℕ, ℤ, ◌+◌, List, Bool, true, false}
 use Rattle.abl_base.specs.declared.place.Place.{Place}
 use Rattle.abl_base.specs.declared.value.Kind.{Kind}
 use Rattle.abl_base.specs.declared.value.Kind.TheVariants as kind

@@ -1,8 +1,6 @@
 -- What the reader sees of a source: its tokens, and the nodes of its tree by their numbers.
 use Rattle.std.specs.Prelude.{ℕ, ℤ, ◌+◌, ◌≡◌, List, [], ◌∷◌, Option, Some, None, Bool, true, false, slice_get, pos, neg_ℤ}
 use Rattle.abl_base.specs.declared.place.Place.{Place}
-use Rattle.abl_base.specs.declared.value.Value.{Value}
-use Rattle.abl_base.specs.declared.value.Value.TheVariants as value
 use Rattle.abl_values.specs.Dates.{date_from}
 use Rattle.abl_tree.specs.declared.token.CivilDate.{CivilDate}
 use Rattle.abl_tree.specs.declared.token.Token.{Token}

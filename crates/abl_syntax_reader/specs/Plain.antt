@@ -1,5 +1,5 @@
 -- Which statement a node denotes that has no statement inside, a constructor a production.
-use Rattle.std.specs.Prelude.{ℕ, ◌+◌, ◌≡◌, List, [], ◌∷◌, Option, Some, None, Bool, true, false}
+use Rattle.std.specs.Prelude.{ℕ, ◌+◌, ◌≡◌, List, [], ◌∷◌, Option, Bool}
 use Rattle.abl_base.specs.declared.place.Place.{Place}
 use Rattle.abl_tree.specs.declared.production.TheConstants as p
 use Rattle.abl_syntax.specs.declared.name.Named.{Named}
@@ -9,7 +9,7 @@ use Rattle.abl_syntax.specs.declared.word.FindWhich.{FindWhich}
 use Rattle.abl_syntax.specs.declared.word.FindWhich.TheVariants as which
 use Rattle.abl_syntax.specs.Syntax as s
 use Rattle.abl_syntax.specs.Syntax.{Expression, RightSide, Pair, RecordOption, Action, Argument, Count, PutItem, Statement}
-use Rattle.abl_syntax_reader.specs.Nodes.{Source, Uses, IsAt, IsName, IsQualified, IsText, IsWhole, IsWordThere, IsNameThere, IsTextThere, AreAll}
+use Rattle.abl_syntax_reader.specs.Nodes.{Source, Uses, IsAt, IsName, IsQualified, IsWordThere, AreAll}
 use Rattle.abl_syntax_reader.specs.Expressions.{IsExpression}
 use Rattle.abl_syntax_reader.specs.Headers.{IsRecordOption, IsLabel, IsErrorWord, IsValueThere, IsActionThere}
 

@@ -1,5 +1,5 @@
 -- Which statement of streams a node denotes, a constructor a production.
-use Rattle.std.specs.Prelude.{ℕ, ◌+◌, List, [], ◌∷◌, Option, Some, None, Bool, true, false}
+use Rattle.std.specs.Prelude.{ℕ, ◌+◌, List, [], ◌∷◌, Option, Some, None, Bool, false}
 use Rattle.abl_base.specs.declared.place.Place.{Place}
 use Rattle.abl_tree.specs.declared.production.TheConstants as p
 use Rattle.abl_syntax.specs.declared.name.Named.{Named}

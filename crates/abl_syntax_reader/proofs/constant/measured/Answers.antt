@@ -1,4 +1,4 @@
-use Rattle.std.specs.Prelude.{ℤ, ◌+◌}
+use Rattle.std.specs.Prelude.{ℤ}
 use Rattle.abl_base.specs.declared.value.Value.{Value}
 use Rattle.abl_syntax_reader.specs.Nodes.{IsDay}
 use Rattle.abl_syntax_reader.specs.Views.{source_of}
