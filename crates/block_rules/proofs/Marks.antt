@@ -1,10 +1,9 @@
 -- Phrases and options that repeat one before them, over the list as the code goes over it.
-use Rattle.std.proofs.Common.{◌≡◌, ℕ, suc, ◌+◌, ◌<◌, List, [], ◌∷◌, ◌++◌, Bool, true, false, length, get_or, take, drop, refl, sym, ap, ◌∙◌, add-one, arith}
+use Rattle.std.proofs.Common.{◌≡◌, ℕ, suc, ◌+◌, ◌<◌, List, [], ◌∷◌, ◌++◌, true, false, length, get_or, take, drop, refl, sym, ap, ◌∙◌, add-one}
 use Rattle.std.specs.Prelude.{map, if◌then◌else◌}
 use Rattle.std.proofs.Math.Seq.{drop-cons, take-suc}
 use Rattle.abl_base.specs.declared.place.Place.{Place}
 use Rattle.abl_base.specs.declared.rule.Rule.TheVariants.{U6}
-use Rattle.bind_names.specs.declared.violation.Violation.{Violation}
 use Rattle.bind_names.specs.Judged.{at}
 use Rattle.abl_syntax.specs.declared.block.Phrase.{Phrase}
 use Rattle.abl_syntax.specs.declared.record.RecordOption.{RecordOption}
@@ -48,7 +47,7 @@ pub not_repeated :
 not_repeated f xs i x class below is same new =
     ap (λ ms. repeats_after (classes (map f (take i xs))) ms) (left f xs i x below is)
     ∙ ap (λ b. if b then at U6 (f x).place else repeats_after (classes (map f (take i xs)) ++ (f x).class ∷ []) (map f (drop (i + 1) xs)))
-        (ap (λ c. is_one_of (classes (map f (take i xs))) c) (sym same) ∙ new)
+    (ap (λ c. is_one_of (classes (map f (take i xs))) c) (sym same) ∙ new)
     ∙ ap (λ cs. repeats_after cs (map f (drop (i + 1) xs))) (sym (classes_more f xs i x below is))
 
 -- the next one is
@@ -59,7 +58,7 @@ pub repeated :
 repeated f xs i x class place below is same spot old =
     ap (λ ms. repeats_after (classes (map f (take i xs))) ms) (left f xs i x below is)
     ∙ ap (λ b. if b then at U6 (f x).place else repeats_after (classes (map f (take i xs)) ++ (f x).class ∷ []) (map f (drop (i + 1) xs)))
-        (ap (λ c. is_one_of (classes (map f (take i xs))) c) (sym same) ∙ old)
+    (ap (λ c. is_one_of (classes (map f (take i xs))) c) (sym same) ∙ old)
     ∙ ap (λ p. at U6 p) (sym spot)
 
 -- none is left

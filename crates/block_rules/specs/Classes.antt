@@ -2,9 +2,8 @@
 use Rattle.std.specs.Prelude.{ℕ, List, map}
 use Rattle.abl_syntax.specs.declared.block.Phrase.{Phrase}
 use Rattle.abl_syntax.specs.declared.record.RecordOption.{RecordOption}
-use Rattle.abl_syntax.specs.declared.definition.VariableOption.{VariableOption}
 use Rattle.abl_syntax.specs.Typed.{phrase_of, record_option_of}
-use Rattle.block_rules.specs.Options.{Marked, of_phrase, of_option, of_variable_option}
+use Rattle.block_rules.specs.Options.{Marked, of_phrase, of_option}
 
 abbrev pub mark_of_phrase : Phrase → Marked
 mark_of_phrase p = of_phrase (phrase_of p)

@@ -1,5 +1,5 @@
 -- Worked rows, each with its source text, and the first rule U that it breaks. They compute, and nothing depends on them.
-use Rattle.std.specs.Prelude.{ℕ, ◌≡◌, false, List, [], ◌∷◌, Option, Some, None, refl, codes}
+use Rattle.std.specs.Prelude.{ℕ, ◌≡◌, List, [], ◌∷◌, Option, Some, None, refl, codes}
 use Rattle.abl_base.specs.declared.place.Place.{Place}
 use Rattle.abl_base.specs.declared.rule.Rule.{Rule}
 use Rattle.abl_base.specs.declared.rule.Rule.TheVariants.{U1, U2, U3, U4, U5, U6, U7}
@@ -9,7 +9,7 @@ use Rattle.abl_syntax.specs.declared.name.Word.{Word}
 use Rattle.abl_syntax.specs.declared.word.BlockWord.{BlockWord}
 use Rattle.abl_syntax.specs.declared.word.BlockWord.TheVariants.{Do, Repeat}
 use Rattle.abl_syntax.specs.declared.word.FindWhich.TheVariants as which
-use Rattle.abl_syntax.specs.Syntax.{Phrase, Transaction, OnError, RecordOption, Lock, UseIndex, Plainly, Head, Leave, Next, RetryIt, Statement, Block, Find, Undo, LeaveBlock, NextBlock, Statements, Nothing, Then, Alone}
+use Rattle.abl_syntax.specs.Syntax.{Phrase, Transaction, OnError, Lock, UseIndex, Plainly, Head, Leave, Next, RetryIt, Statement, Block, Find, Undo, NextBlock, Statements, Nothing, Then, Alone}
 use Rattle.block_rules.specs.Rules.{first_broken}
 
 -- a place in the first line

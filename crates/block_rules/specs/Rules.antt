@@ -1,5 +1,5 @@
 -- The rules U, by recursion over the syntax. `around` has the blocks around the place, the innermost first.
-use Rattle.std.specs.Prelude.{Bool, true, false, not, if◌then◌else◌, List, [], ◌∷◌, ◌++◌, Option, Some, None, map}
+use Rattle.std.specs.Prelude.{not, if◌then◌else◌, List, [], ◌∷◌, ◌++◌, Option, Some, None, map}
 use Rattle.abl_base.specs.declared.place.Place.{Place}
 use Rattle.abl_base.specs.declared.rule.Rule.TheVariants.{U1, U2, U3, U4, U5, U6, U7}
 use Rattle.bind_names.specs.declared.violation.Violation.{Violation}

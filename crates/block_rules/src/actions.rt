@@ -26,12 +26,7 @@ pub fn leaves_break(around: &Around, label: &Option<Word>, first: &mut Option<Vi
 }
 
 /// NEXT, with its label if it has one.
-pub fn nexts_break(
-    around: &Around,
-    at: Place,
-    label: &Option<Word>,
-    first: &mut Option<Violation>,
-)
+pub fn nexts_break(around: &Around, at: Place, label: &Option<Word>, first: &mut Option<Violation>)
     ensures { first.new ≡ first_of first.old (nexts_break (heads_of around.now) at label.now) }
 {
     match label {
@@ -44,7 +39,12 @@ pub fn nexts_break(
 fn leave_breaks(around: &Around, label: &Word, first: &mut Option<Violation>)
     ensures { first.new ≡ first_of first.old (leave_breaks (heads_of around.now) label.now) }
 {
-    unless(first, is_inner(from_label(around, label)), Rule::U1, label.at);
+    unless(
+        first,
+        is_inner(from_label(around, label)),
+        Rule::U1,
+        label.at,
+    );
 }
 
 /// NEXT with a label.
@@ -64,7 +64,12 @@ fn inside_breaks(around: &Around, undone: &Around, label: &Word, first: &mut Opt
     ensures { first.new ≡ first_of first.old (inside_breaks (heads_of around.now) (heads_of undone.now) label.now) }
 {
     if is_inner(from_label(around, label)) {
-        unless(first, is_inner(from_label(undone, label)), Rule::U5, label.at);
+        unless(
+            first,
+            is_inner(from_label(undone, label)),
+            Rule::U5,
+            label.at,
+        );
     }
 }
 
@@ -81,30 +86,28 @@ fn retry_breaks(around: &Around, undone: &Around, label: &Word, first: &mut Opti
 
 /// What follows an UNDO of the block `undone`.
 #[tactic(auto, using(bind_names::proofs::Joined::first_of_append))]
-fn action_breaks(
-    around: &Around,
-    undone: &Around,
-    action: &Action,
-    first: &mut Option<Violation>,
-)
+fn action_breaks(around: &Around, undone: &Around, action: &Action, first: &mut Option<Violation>)
     ensures { first.new ≡ first_of first.old (action_breaks (heads_of around.now) (heads_of undone.now) (action_of action.now)) }
 {
     match action {
         Action::Leave {
-            label: Some(label), ..
+            label: Some(label),
+            ..
         } => {
             leave_breaks(around, label, first);
             inside_breaks(around, undone, label, first);
         }
         Action::Next { at, label: None } => unless(first, first_iterates(undone), Rule::U4, *at),
         Action::Next {
-            label: Some(label), ..
+            label: Some(label),
+            ..
         } => {
             next_breaks(around, label, first);
             inside_breaks(around, undone, label, first);
         }
         Action::Retry {
-            label: Some(label), ..
+            label: Some(label),
+            ..
         } => retry_breaks(around, undone, label, first),
         _ => {}
     }

@@ -30,7 +30,12 @@ fn label_breaks(around: &Around, label: &Option<Word>, first: &mut Option<Violat
     ensures { first.new ≡ first_of first.old (label_breaks (heads_of around.now) label.now) }
 {
     if let Some(label) = label {
-        unless(first, !is_inner(from_label(around, label)), Rule::U2, label.at);
+        unless(
+            first,
+            !is_inner(from_label(around, label)),
+            Rule::U2,
+            label.at,
+        );
     }
 }
 

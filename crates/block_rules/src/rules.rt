@@ -66,7 +66,9 @@ fn statement_breaks(statement: &Statement, around: &Around, first: &mut Option<V
             statements_break(body, &Around::Block(&**head, &*around), first);
         }
         Statement::If {
-            then_it, else_it, ..
+            then_it,
+            else_it,
+            ..
         } => {
             statement_breaks(then_it, around, first);
             if let Some(else_it) = else_it {
