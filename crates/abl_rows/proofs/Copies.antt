@@ -1,4 +1,4 @@
--- Overlays and copies over changes that are taken back.
+-- Overlays and copies over changes that are undone.
 use Rattle.std.proofs.Common.{◌≡◌, ◌≢◌, ℕ, zero, suc, ◌<◌, ◌≤◌, ◌==◌, ◌||◌, Bool, true, false, cond, eq-eqb, List, [], ◌∷◌, ◌++◌, length, take, drop, get_or, Option, Some, None, refl, sym, ap, ◌∙◌, inl, inr, arith}
 use Rattle.std.specs.Prelude.{IsTrue}
 use Rattle.std.specs.FinMap.{get, insert, empty}
@@ -10,7 +10,7 @@ use Rattle.database_meaning.specs.State.{Overlay}
 use Rattle.abl_rows.specs.declared.store.RowChange.{RowChange}
 use Rattle.abl_rows.specs.Changes.{RowsById, with_row, undone, has_change, change_at, copy_at, IsOverlay, AreCopies, AreMarks}
 
--- ---- taking back
+-- ---- undoing
 
 both_false : (a b : Bool) → a ≡ false → b ≡ false → (a || b) ≡ false
 both_false a b p q = ap (λ (x : Bool). x || b) p ∙ q
@@ -27,13 +27,13 @@ right_false : (a b : Bool) → (a || b) ≡ false → b ≡ false
 right_false true b e = cc
 right_false false b e = e
 
--- what is taken back at a row looks at that row alone
+-- an undo at a row depends on that row alone
 pub undone_cong : (changes : List RowChange) (v w : RowsById) (k : ℕ) → (has_change changes k ≡ false → v k ≡ w k) → undone changes v k ≡ undone changes w k
 undone_cong [] v w k same = same refl
 undone_cong (c ∷ changes) v w k same =
     under (k == c.row) c.old _ _ (λ no. undone_cong changes v w k (λ rest. same (both_false _ _ no rest)))
 
--- a row that none of the changes has_change stays
+-- a row without a change stays
 pub undone_other : (changes : List RowChange) (v : RowsById) (k : ℕ) → has_change changes k ≡ false → undone changes v k ≡ v k
 undone_other [] v k other = refl
 undone_other (c ∷ changes) v k other =
@@ -197,7 +197,7 @@ drop_more xs ys zero le = refl
 drop_more [] ys (suc n) le = absurd (omega arith)
 drop_more (x ∷ xs) ys (suc n) le = drop_more xs ys n (omega arith)
 
--- a change and its taking back leave the rows
+-- a change and its undo leave the rows
 covered : (rows : RowsById) (row : ℕ) (before value : Option StoredRow) → before ≡ rows row → with_row (with_row rows row value) row before ≡ rows
 covered rows row before value is = λ i k. at k i
   where

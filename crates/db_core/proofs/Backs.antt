@@ -91,7 +91,7 @@ module _ (rows new : RowState) (control now : Control) (c depth mark : ℕ)
   at_mark : (low : ℕ) → AreMarks 0 marks low → mark ≤ low
   at_mark low m = let here = mark_at 0 low marks m (depth - 1) (omega arith) in subst (λ (n : ℕ). n ≤ low) (sym mark_is) here.1
 
-  -- ---- the book and the transactions
+  -- ---- the control data and the transactions
 
   pub back_sound : IsSound new now
   back_sound = record {

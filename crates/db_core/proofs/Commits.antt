@@ -101,7 +101,7 @@ module _ (f : Setting) (rows : RowState) (control : Control) (s : State) (c : �
       ∙ (ap (over (change_at rows.rows (rows.transaction c).changes k)) (represents.committed seen.0 k)
       ∙ over_changed (has_change (rows.transaction c).changes k) (rows.rows k) (rows.committed k))))
 
-  -- a row that the client holds stands as it is then committed
+  -- a row that the client holds is as it is then committed
   pub held_rows_stay : IsObservable rows → (k : ℕ) (b : Bool) → get (s.client c).held k ≡ Some b → (n : Bool) → has_change (rows.transaction c).changes k ≡ n → get laid_rows k ≡ rows.rows k
   held_rows_stay seen k b held true is = laid_rows_are seen k ∙ ap (λ (n : Bool). cond n (rows.rows k) (rows.committed k)) is
   held_rows_stay seen k b held false is =

@@ -1,4 +1,4 @@
--- Whether keys that others keep stand against an Insert or Put, and what it is answered then.
+-- Whether reserved keys of others conflict with an Insert or Put, and its answer then.
 use Rattle.std.proofs.Common.{◌≡◌, ◌≢◌, ◌<◌, ℕ, List, [], ◌∷◌, length, refl, inl, inr, arith}
 use Rattle.std.specs.List.{Contains}
 use Rattle.client_database.specs.declared.operation.Op.{Op}
@@ -43,7 +43,7 @@ module _ (f : Setting) (rows : RowState) (control : Control) (s : State) (repres
     key_deadlock cycle is =
         (some_conflict some, inr (cycle, closes_so f rows control s represents sound settled seen c keyed waiting op against key_holders cycle is, refl))
 
--- where the store has_change no holders there is no conflict
+-- where the store lists no holders there is no conflict
 pub none_conflict : (f : Setting) (rows : RowState) (control : Control) (s : State) → Represents f rows control s → IsSound rows control → IsConsistent rows → IsObservable rows → (c : ℕ) (op : Op) → IsKeyed op
     → ((b : ℕ) → ¬ MeetsReserved rows c op b) → ¬ HasConflict f s c op
 none_conflict f rows control s represents sound settled seen c op brings none p =

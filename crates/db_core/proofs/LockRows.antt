@@ -31,7 +31,7 @@ use Rattle.db_core.proofs.Views.{rows_viewed}
 module _ (f : Setting) (rows : RowState) (control : Control) (s : State) (represents : Represents f rows control s) (sound : IsSound rows control) (settled : IsConsistent rows) (seen : IsObservable rows) where
   -- ---- conflicts
 
-  -- who stands in the way of a lock, by the table of locks and by the state
+  -- whose lock conflicts, by the table of locks and by the state
   to_state : (a row b : ℕ) (exclusive : Bool) → ConflictsOnLock control.locks a row exclusive b → (b ≢ a) × LocksConflict (get (s.client b).held row) exclusive
   to_state a row b exclusive h = (h.0, subst (λ (m : Held). LocksConflict (get m row) exclusive) (represents.client b).held h.1)
 
@@ -53,7 +53,7 @@ module _ (f : Setting) (rows : RowState) (control : Control) (s : State) (repres
   viewed : (k : ℕ) → rows.rows k ≡ view f s k
   viewed = rows_viewed f rows control s represents sound settled seen
 
-  -- the operation of a want waits by a lock or by a key
+  -- a blocked operation waits by a lock or by a key
   abbrev ByLock : Option BlockedLock → ℕ → ℕ → Type 0
   ByLock blocked a b = IsSomeAnd blocked (λ w. ConflictsOnLock control.locks a w.row.0 w.exclusive b)
 
@@ -106,7 +106,7 @@ module _ (f : Setting) (rows : RowState) (control : Control) (s : State) (repres
           | inr key ↦ inr (subst (λ (w : Option BlockedRequest). WaitsByKey rows a w b) ((represents.client a).blocked seen.0) (lists.sound a b key))
         ])
 
-    -- ---- the operation of client c, and who stands against it
+    -- ---- the operation of client c, and who conflicts with it
 
     module _ (op : Op) (against : List ℕ) (holders : IsHolders f s c op against) where
       would_to : (a b : ℕ) → WouldWait f s c op a b → WaitsAgainst control.locks keyed c against a b
@@ -172,7 +172,7 @@ module _ (f : Setting) (rows : RowState) (control : Control) (s : State) (repres
           closing [] h = absurd h
           closing (first ∷ others) h = (others, h.2)
 
-    -- ---- nobody stands against it
+    -- ---- nobody conflicts with it
 
     there_from : (o : Option StoredRow) → view f s row.0 ≡ o → table_in o ≡ Some table → IsThere f s table row.0
     there_from None is e = cc

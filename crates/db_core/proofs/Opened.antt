@@ -1,4 +1,4 @@
--- A new store and a new book stand for the state at opening.
+-- A new store and new control data represent the state at opening.
 use Rattle.std.proofs.Common.{◌≡◌, ℕ, List, [], length, Option, None, refl, sym, ap, ◌∙◌, subst, arith}
 use Rattle.std.specs.FinMap.{get, get-empty}
 use Rattle.std.specs.Ordering.{nat_cmp}

@@ -79,7 +79,7 @@ module _ (rows : RowState) (control : Control) (client : ℕ) where
     ];
   }
 
--- ---- what the store observable of one client's wait, after calls that changed nothing
+-- ---- what the store answers about one client's wait, after calls that changed nothing
 
 none_found : (found : Option (List ℕ)) (R : Type 0) (P : List ℕ → Type 0) → found ≡ None → MatchOption found R P → R
 none_found None R P e h = h
