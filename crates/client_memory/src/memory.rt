@@ -221,7 +221,11 @@ impl Memory {
         ensures plain { IsWhole self.old → HasVariablesOnly (last_copy self.old.copies) (length self.old.copies) }
     {
         if let Some(savepoint) = self.savepoints.pop() {
-            restore(&mut self.undoable, &mut self.old_values, savepoint.old_values);
+            restore(
+                &mut self.undoable,
+                &mut self.old_values,
+                savepoint.old_values,
+            );
             self.savepoints.push_reserved(savepoint);
         }
     }

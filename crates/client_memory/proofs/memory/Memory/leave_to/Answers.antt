@@ -8,10 +8,11 @@ pub invariant_of-self : goal.invariant_of-self
 invariant_of-self c =
     let m = c.self.inside in
     let o = length m.old_values.items in
-    let f = length m.undoable.items in
-    (c.self.invariant.0,
-    subst (λ ms. AreInOrder o f 0 0 ms) (sym c.truncate.ensures.items) (order_left_to o f 0 0 c.args.depth m.savepoints.items c.self.invariant.1),
-    sym (ap length c.truncate.ensures.items ∙ length-take-le c.args.depth m.savepoints.items (omega (arith, c.if-depth-self.true, c.self.invariant.2))))
+    let f = length m.undoable.items in (
+      c.self.invariant.0,
+      subst (λ ms. AreInOrder o f 0 0 ms) (sym c.truncate.ensures.items) (order_left_to o f 0 0 c.args.depth m.savepoints.items c.self.invariant.1),
+      sym (ap length c.truncate.ensures.items ∙ length-take-le c.args.depth m.savepoints.items (omega (arith, c.if-depth-self.true, c.self.invariant.2))),
+    )
 
 pub returns-then-depth-self : goal.returns-then-depth-self
 returns-then-depth-self c =
