@@ -1,0 +1,10 @@
+pub mod Choices
+pub mod Inner
+pub mod Onward
+pub mod Outer
+pub mod Named
+pub mod Walk
+pub mod Bound
+pub mod Limits
+pub mod Inside
+pub mod Formals

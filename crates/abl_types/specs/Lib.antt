@@ -1,0 +1,6 @@
+pub mod Statements
+pub mod Sources
+pub mod Items
+pub mod Counted
+pub mod Views
+pub mod Examples

@@ -1,0 +1,191 @@
+//! Whole sources: the items of a source, and the walks over it.
+
+ghost use Rattle.std.specs.List.{list_any};
+ghost use Rattle.std.specs.Prelude.{◌≡◌, ◌+◌, ◌++◌, ◌∷◌, [], IfOk, OnOk, length, map};
+ghost use Rattle.bound_tree.specs.Bound.{body_of, procedure_of, source_of};
+ghost use Rattle.abl_values.specs.Schema.{same_name};
+ghost use Rattle.abl_syntax.specs.Typed.{item_of, program_of};
+ghost use Rattle.bind_names.specs.Views.{IsJudged, scene_of};
+ghost use Rattle.bind_expressions.specs.Parts.{IsAfter};
+ghost use Rattle.abl_types.specs.Items.{IsOneMore};
+ghost use Rattle.abl_types.specs.Sources.{beginning, judged, signatures, source_with};
+
+use crate::buffers::{buffers_in, named_in};
+use crate::procedures::{frame_of, internal, nothing_defined, procedure_block, procedure_with};
+use crate::statements::{join, statement};
+use abl_base::{Bytes, Items, Rule};
+use abl_syntax::{Item, Program, Word};
+use abl_values::{Schema, same_name};
+use bind_names::{BindFault, Known, Naming, Notes, Scene, Signature};
+use bound_tree::{Bound, Procedure, Stmt};
+use std::alloc::Global;
+
+/// What was bound of the items of a source so far: the statements of the external procedure, and
+/// the internal procedures with their names.
+#[derive(Drop)]
+pub struct Parts {
+    pub body: Vec<Stmt>,
+    pub procedures: Vec<Procedure>,
+    pub names: Items<Bytes>,
+}
+
+/// Whether one of the names is this one, in any case.
+fn is_taken(names: &[Bytes], name: &[u8]) -> bool
+    ensures { result ≡ list_any (λ n. same_name n name.now) names.now }
+{
+    for one in names {
+        if same_name(one.as_slice(), name) {
+            return true;
+        }
+    }
+    false
+}
+
+/// The place at the beginning of a source.
+fn beginning<'a>(
+    alloc: Global,
+    schema: &'a Schema,
+    said: &'a [Naming],
+    procedures: &'a [Signature],
+) -> Result<Scene<'a>, BindFault>
+    ensures { IfOk result (λ r. scene_of r ≡ beginning (record { schema = schema.now; namings = said.now; procedures = procedures.now })) }
+{
+    Ok(Scene {
+        schema,
+        namings: said,
+        procedures,
+        known: Known {
+            own: nothing_defined(alloc),
+            outer: None,
+            variables: 0,
+            streams: 0,
+            blocks: 1,
+            inputs: Items::empty(alloc),
+            outputs: Items::empty(alloc),
+        },
+        procedure: 0,
+        buffers: buffers_in(alloc, 0, said)?,
+        named: named_in(alloc, 0, said)?,
+        around: procedure_block(alloc, 0)?,
+        block: 0,
+    })
+}
+
+/// The number of the next internal procedure.
+fn next_number(parts: &Parts) -> Result<u32, BindFault>
+    ensures { IfOk result (λ n. n ≡ length parts.now.procedures.items + 1) }
+{
+    let Ok(number) = u32::try_from(parts.procedures.len()) else {
+        return Err(BindFault);
+    };
+    match number.checked_add(1) {
+        None => Err(BindFault),
+        Some(next) => Ok(next),
+    }
+}
+
+/// Adds an internal procedure.
+fn add_procedure(parts: &mut Parts, made: Procedure, name: &Word) -> Result<(), BindFault>
+    ensures body { OnOk result (parts.new.body ≡ parts.old.body) }
+    ensures procedures { OnOk result (parts.new.procedures.items ≡ parts.old.procedures.items ++ made ∷ []) }
+    ensures names { OnOk result (parts.new.names ≡ parts.old.names ++ name.now.spelling ∷ []) }
+{
+    parts.procedures.push(made)?;
+    parts.names.push(name.spelling.copy()?)?;
+    Ok(())
+}
+
+/// One more item: Y3 at the name of an internal procedure that an earlier one has.
+fn item(
+    alloc: Global,
+    scene: &mut Scene<'_>,
+    parts: &mut Parts,
+    item: &Item,
+    notes: &mut Notes,
+) -> Result<(), BindFault>
+    ensures judged { OnOk result (IsOneMore (scene_of scene.old) (item_of item.now) parts.old parts.new scene.new.known notes.old notes.new) }
+    ensures scene { OnOk result (IsAfter scene.old scene.new) }
+{
+    match item {
+        Item::Alone(one) => {
+            let more = statement(alloc, scene, one, notes)?;
+            join(&mut parts.body, more)?;
+            Ok(())
+        }
+        Item::Procedure { at, name, body } => {
+            let taken = is_taken(parts.names.as_slice(), name.spelling.as_slice());
+            notes.unless(!taken, Rule::Y3, name.at);
+            let number = next_number(parts)?;
+            let made = internal(alloc, scene, number, at.line, name, body, notes)?;
+            add_procedure(parts, made, name)?;
+            Ok(())
+        }
+    }
+}
+
+/// The source as it is judged where these are the namings of buffers in it.
+pub fn judged(
+    alloc: Global,
+    schema: &Schema,
+    program: &Program,
+    said: &[Naming],
+    procedures: &[Signature],
+    notes: &mut Notes,
+) -> Result<Bound, BindFault>
+    ensures { procedures.now ≡ signatures (program_of program.now) → IfOk result (λ r. IsJudged (judged schema.now (program_of program.now) said.now) (source_of r) notes.old notes.new) }
+{
+    let mut scene = beginning(alloc, schema, said, procedures)?;
+    let mut parts = Parts {
+        body: Vec::new(alloc),
+        procedures: Vec::new(alloc),
+        names: Items::empty(alloc),
+    };
+    for one in &program.items {
+        item(alloc, &mut scene, &mut parts, one, notes)?;
+    }
+    let made = source(alloc, scene, parts)?;
+    Ok(made)
+}
+
+/// The external procedure with the internal ones after it.
+fn all_procedures(
+    alloc: Global,
+    main: Procedure,
+    internal: Vec<Procedure>,
+) -> Result<Vec<Procedure>, BindFault>
+    ensures { IfOk result (λ r. r.items ≡ main ∷ internal.items) }
+{
+    let mut all = Vec::new(alloc);
+    all.push(main)?;
+    let mut internal = internal;
+    all.append(&mut internal)?;
+    Ok(all)
+}
+
+/// The source with its external procedure first.
+fn source(alloc: Global, scene: Scene<'_>, parts: Parts) -> Result<Bound, BindFault>
+    ensures { IfOk result (λ r. source_of r ≡ source_with (scene_of scene.entry) (record { body = body_of parts.body.items; procedures = map procedure_of parts.procedures.items; after = scene.entry.known })) }
+{
+    let frame = frame_of(alloc, &scene)?;
+    let Scene { known, .. } = scene;
+    let Known {
+        own,
+        streams,
+        inputs,
+        outputs,
+        ..
+    } = known;
+    let Parts {
+        body,
+        procedures,
+        ..
+    } = parts;
+    let main = procedure_with(alloc, frame, 1, Items::empty(alloc), own, body)?;
+    let procedures = all_procedures(alloc, main, procedures)?;
+    Ok(Bound {
+        procedures,
+        streams,
+        outputs: outputs.into_vec(),
+        inputs: inputs.into_vec(),
+    })
+}
