@@ -1,67 +1,51 @@
--- Each source of the form is built.
-use Rattle.std.proofs.Common.{◌≡◌, ℕ, List, true, refl, sym, ◌∙◌}
+-- What is compiled is built where its tree is.
+use Rattle.std.proofs.Common.{◌≡◌, ℕ, List, None, Ok, sym, ◌∙◌, subst}
+use Rattle.abl_base.specs.declared.place.Place.{Place}
+use Rattle.abl_base.specs.declared.rule.Rule.{Rule}
+use Rattle.abl_base.specs.declared.rule.Rule.TheVariants.{N1}
+use Rattle.abl_cli.specs.declared.source.SourceFault.{SourceFault}
+use Rattle.abl_cli.specs.declared.source.SourceFault.TheVariants.{Broken}
+use Rattle.abl_values.specs.Schema.{SchemaData}
 use Rattle.bound_tree.specs.declared.procedure.Bound.{Bound}
 use Rattle.bound_tree.specs.Bound.{source_of}
-use Rattle.bound_tree.specs.Tree.{Assignment, Item, Stmt, Body, Source as Tree}
-use Rattle.built_source.specs.declared.defined.NamedVariable.{NamedVariable}
-use Rattle.built_source.specs.Signs.{Sign}
-use Rattle.built_source.specs.Defined.{Defined}
-use Rattle.built_source.specs.Form.{IsPair, pair, ArePairs, pairs_end, pairs_more, IsShown, shown_name, shown_literal, IsItem, item_shown, item_skip, item_space, AreItems, items_end, items_more, IsSet, assigns, assigns_all, puts, IsInner, inner_statement, inner_undo, AreInner, inner_end, inner_more, IsStatement, statement_set, statement_block, AreStatements, statements_end, statements_more, StandsFor, states, defines}
-use Rattle.built_source.specs.Sources.{IsSourceOf}
+use Rattle.bound_tree.specs.Tree.{Source as Tree}
+use Rattle.abl_syntax.specs.Syntax.{Program as Syntax}
+use Rattle.abl_types.specs.Sources.{bound}
+use Rattle.block_rules.specs.Rules.{first_broken}
+use Rattle.txn_infer.specs.Flags.{with_flags}
 use Rattle.block_code.specs.Built.{IsBuilt}
-use Rattle.block_code.specs.BuiltTree.{pair_is_built, pairs_are_built, item_is_built, items_are_built, stmt_is_built, body_is_built, IsBuiltTree}
+use Rattle.block_code.specs.Code.{StandsFor}
+use Rattle.block_code.specs.declared.code.Code.{Code}
+use Rattle.block_code.specs.BuiltTree.{IsBuiltTree}
 use Rattle.block_code.proofs.Trees.{tree_is_built}
+use Rattle.abl_cli.specs.Sources.{HasSyntax, IsSourceOf, BreaksFirst, of_form}
+use Rattle.abl_cli.specs.Command.{IsCodeOf}
 
-pair_built : {names : List NamedVariable} {signs rest : List Sign} {x : Assignment} → IsPair names signs x rest → pair_is_built x.target x.right ≡ true
-pair_built (pair named goes) = refl
+-- a bound source is built where its tree is
+pub bound_is_built : (schema : SchemaData) (text : List ℕ) (bound : Bound) → IsSourceOf schema text (source_of bound) → IsBuilt bound
+bound_is_built schema text bound form = sym (tree_is_built bound) ∙ form.built
 
-pairs_built : {names : List NamedVariable} {signs rest : List Sign} {pairs : List Assignment} → ArePairs names signs pairs rest → pairs_are_built pairs ≡ true
-pairs_built pairs_end = refl
-pairs_built (pairs_more one more) = rw (pair_built one) (pairs_built more)
+-- the code of what is bound, with its flags, is that of the source
+pub code_is : (schema : SchemaData) (text : List ℕ) (syntax_of : Syntax) (plain : Tree) (flagged : Bound) (code : Code) → HasSyntax text syntax_of → bound schema syntax_of ≡ Ok plain → source_of flagged ≡ with_flags plain →
+    first_broken syntax_of ≡ None → IsBuilt flagged → StandsFor code flagged → IsCodeOf schema text code
+code_is schema text syntax_of plain flagged code has tree flags clean built stands = record {
+  bound = flagged;
+  form = record { syntax_of = syntax_of; has = has; plain = plain; is_bound = tree; flags = flags; clean = clean; built = tree_is_built flagged ∙ built };
+  stands = stands;
+}
 
-shown_built : {names : List NamedVariable} {signs rest : List Sign} {item : Item} → IsShown names signs item rest → item_is_built item ≡ true
-shown_built (shown_name named) = refl
-shown_built shown_literal = refl
+-- a tree that is not built breaks N1 first
+pub tree_is_broken : (schema : SchemaData) (text : List ℕ) (syntax_of : Syntax) (plain : Tree) (flagged : Bound) → HasSyntax text syntax_of → bound schema syntax_of ≡ Ok plain → source_of flagged ≡ with_flags plain → first_broken syntax_of ≡ None → ¬ IsBuilt flagged →
+    BreaksFirst schema text N1 (record { line = 1; column = 1 })
+tree_is_broken schema text syntax_of plain flagged has tree flags clean unbuilt =
+    of_form syntax_of plain has tree clean (λ built. unbuilt (sym (tree_is_built flagged) ∙ subst IsBuiltTree (sym flags) built))
 
-item_built : {names : List NamedVariable} {signs rest : List Sign} {item : Item} → IsItem names signs item rest → item_is_built item ≡ true
-item_built (item_shown shown) = shown_built shown
-item_built (item_skip times) = refl
-item_built (item_space times) = refl
-
-items_built : {names : List NamedVariable} {signs rest : List Sign} {items : List Item} → AreItems names signs items rest → items_are_built items ≡ true
-items_built items_end = refl
-items_built (items_more item more) = rw (item_built item) (items_built more)
-
-set_built : {names : List NamedVariable} {signs rest : List Sign} {stmt : Stmt} → IsSet names signs stmt rest → stmt_is_built stmt ≡ true
-set_built (assigns one) = rw (pair_built one) refl
-set_built (assigns_all pairs) = pairs_built pairs
-set_built (puts items) = items_built items
-
-mutual
-  statement_built : {names : List NamedVariable} {number after : ℕ} {signs rest : List Sign} {stmt : Stmt} → IsStatement names number signs stmt after rest → stmt_is_built stmt ≡ true
-  statement_built (statement_set set) = set_built set
-  statement_built (statement_block inner) = all_inner_built inner
-
-  inner_built : {names : List NamedVariable} {block number after : ℕ} {signs rest : List Sign} {stmt : Stmt} → IsInner names block number signs stmt after rest → stmt_is_built stmt ≡ true
-  inner_built (inner_statement statement) = statement_built statement
-  inner_built inner_undo = refl
-
-  all_inner_built : {names : List NamedVariable} {block number after : ℕ} {signs rest : List Sign} {body : Body} → AreInner names block number signs body after rest → body_is_built body ≡ true
-  all_inner_built inner_end = refl
-  all_inner_built (inner_more inner more) = rw (inner_built inner) (all_inner_built more)
-
-statements_built : {names : List NamedVariable} {number : ℕ} {signs : List Sign} {body : Body} → AreStatements names number signs body → body_is_built body ≡ true
-statements_built statements_end = refl
-statements_built (statements_more statement more) = rw (statement_built statement) (statements_built more)
-
-stands_built : {d : Defined} {signs : List Sign} {tree : Tree} → StandsFor d signs tree → IsBuiltTree tree
-stands_built (states statements) = statements_built statements
-stands_built (defines definition free rest) = stands_built rest
-
--- the tree that a text denotes is supported
-pub form_is_built : (text : List ℕ) (tree : Tree) → IsSourceOf text tree → IsBuiltTree tree
-form_is_built text tree form = stands_built form.stands_for
-
--- and so is a bound source whose tree it is
-pub bound_is_built : (text : List ℕ) (bound : Bound) → IsSourceOf text (source_of bound) → IsBuilt bound
-bound_is_built text bound form = sym (tree_is_built bound) ∙ form_is_built text (source_of bound) form
+-- the fault that names a rule names the rule that is broken first
+pub told_at : (schema : SchemaData) (text : List ℕ) (fault : SourceFault) (rule : Rule) (place : Place) → fault ≡ Broken N1 (record { line = 1; column = 1 }) → fault ≡ Broken rule place →
+    BreaksFirst schema text N1 (record { line = 1; column = 1 }) → BreaksFirst schema text rule place
+told_at schema text fault rule place is also breaks =
+    let first : Place = record { line = 1; column = 1 } in
+    let both : Broken N1 first ≡ Broken rule place = sym is ∙ also in
+    let r : N1 ≡ rule = cc both in
+    let p : first ≡ place = cc both in
+    subst (λ x. BreaksFirst schema text x place) r (subst (λ q. BreaksFirst schema text N1 q) p breaks)

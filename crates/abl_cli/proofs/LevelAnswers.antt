@@ -8,7 +8,6 @@ use Rattle.database_meaning.specs.declared.contents.Contents.{Contents}
 use Rattle.client_database.specs.declared.operation.Op.{Op}
 use Rattle.client_database.specs.declared.operation.Op.TheVariants.{Enter, Leave, Back, End}
 use Rattle.client_database.specs.declared.answer.Answer.{Answer}
-use Rattle.client_database.specs.declared.answer.Answer.TheVariants as answer
 use Rattle.client_database.specs.declared.event.Event.{Event}
 use Rattle.database_interface.specs.Step.{event_of}
 use Rattle.level_machine.specs.Turns.{IsLevelOp}

@@ -9,5 +9,7 @@ pub mod Numbers
 pub mod Prevented
 pub mod Rooms
 pub mod Splits
+pub mod Tokens
 pub mod TraceLines
+pub mod Violations
 pub mod Writing

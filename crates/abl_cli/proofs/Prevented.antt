@@ -7,8 +7,8 @@ use Rattle.abl_outside.specs.Files.{IsLonger}
 use Rattle.abl_schema.specs.declared.violation.Violation.{Violation}
 use Rattle.abl_schema.specs.Rules.{violation_of}
 use Rattle.bound_tree.specs.Tree.{Source as Tree}
-use Rattle.built_source.specs.Sources.{BreaksFirst, IsSourceOf}
-use Rattle.built_source.proofs.Violations.{one_is_first, sources_break_none}
+use Rattle.abl_cli.specs.Sources.{BreaksFirst, IsSourceOf}
+use Rattle.abl_cli.proofs.Violations.{one_is_first, sources_break_none}
 use Rattle.client_database.specs.declared.ends.ClientEnd.{ClientEnd}
 use Rattle.client_database.specs.declared.ends.ClientEnd.TheVariants as end
 use Rattle.abl_cli.specs.declared.refusal.Refusal.{Refusal}
@@ -18,7 +18,7 @@ use Rattle.abl_cli.specs.declared.load.TheConstants.{MAX_FILE_BYTES}
 use Rattle.abl_cli.specs.CommandLine.{Run, IsRun, arguments_of}
 use Rattle.abl_outside.specs.Out.{OutState}
 use Rattle.abl_outside.specs.Files.{FileState}
-use Rattle.abl_cli.specs.Command.{HasText, IsNotRead, is_missing, is_too_long, reading_wants, BreaksSchema, breaks_f, schema_wants, BreaksSource, breaks_rule, source_wants, Texts, Prevents, no_schema, no_source, schema_breaks, source_breaks, run_wants, wrong_argument, prevented, HasRun, CommandResult, Refused, Ran, refusal_after, status_after, IsRefusal, IsThere, NamesRun}
+use Rattle.abl_cli.specs.Command.{schema_in, HasText, IsNotRead, is_missing, is_too_long, reading_wants, BreaksSchema, breaks_f, schema_wants, BreaksSource, breaks_rule, source_wants, Texts, Prevents, no_schema, no_source, schema_breaks, source_breaks, run_wants, wrong_argument, prevented, HasRun, CommandResult, Refused, Ran, refusal_after, status_after, IsRefusal, IsThere, NamesRun}
 use Rattle.abl_cli.proofs.Splits.{split_once_only, no_sign}
 use Rattle.abl_cli.proofs.Judged.{wrong_or_formed, rose_in_report}
 
@@ -44,7 +44,7 @@ module _ (arguments : List (List ℕ)) (files : FileState) (faults : ℕ) (old n
   -- the outcome of the run that the arguments name
   data Outcome : Type 0 where
     was_prevented : (refusal : Refusal) → report.refusal ≡ Some refusal → report.status ≡ status_after (Some refusal) → Prevents files faults run.schema run.program refusal → Outcome
-    had_run : (texts : Texts files run.schema run.program) → violation_of texts.df ≡ None → (tree : Tree) → IsSourceOf texts.source tree → ((Rose old.faults new.faults → ⊥) → (report.status ≡ 0) ⊎ ((report.status ≡ 8) ⊎ (report.status ≡ 7))) → Outcome
+    had_run : (texts : Texts files run.schema run.program) → violation_of texts.df ≡ None → (tree : Tree) → IsSourceOf (schema_in texts.df) texts.source tree → ((Rose old.faults new.faults → ⊥) → (report.status ≡ 0) ⊎ ((report.status ≡ 8) ⊎ (report.status ≡ 7))) → Outcome
 
   done_well : (named : Run) (tree : Tree) (units : ℕ) → HasRun named.mode named.name units tree old new report → (Rose old.faults new.faults → ⊥) → (report.status ≡ 0) ⊎ ((report.status ≡ 8) ⊎ (report.status ≡ 7))
   done_well named tree units ran quiet =
@@ -140,8 +140,11 @@ module _ (arguments : List (List ℕ)) (files : FileState) (faults : ℕ) (old n
   long_source_by is there long run_wants = inr refl
 
   module _ (df text : List ℕ) (schema_is : IsThere files run.schema df) (source_is : IsThere files run.program text) where
+    schema_text : (texts : Texts files run.schema run.program) → texts.df ≡ df
+    schema_text texts = same_text texts.has_schema schema_is.there
+
     schema_read : (texts : Texts files run.schema run.program) → violation_of texts.df ≡ violation_of df
-    schema_read texts = ap violation_of (same_text texts.has_schema schema_is.there)
+    schema_read texts = ap violation_of (schema_text texts)
 
     schema_by : {refusal : Refusal} {rule : Rule} {line : ℕ} {read : List ℕ} → violation_of df ≡ Some (record { rule = rule; line = line }) → violation_of read ≡ violation_of df → BreaksSchema read refusal → IsRefusal (Some refusal) (Schema rule line)
     schema_by {rule} {line} broken same (breaks_f {rule = rule'} {line = line'} found) =
@@ -161,38 +164,42 @@ module _ (arguments : List (List ℕ)) (files : FileState) (faults : ℕ) (old n
     no_break clean (breaks_f found) = absurd (cc (clean, found))
     no_break clean schema_wants = refl
 
-    source_by : {refusal : Refusal} {rule : Rule} {place : Place} {read : List ℕ} → read ≡ text → BreaksFirst text rule place → BreaksSource read refusal → IsRefusal (Some refusal) (Source 0 rule place)
-    source_by same first (breaks_rule {rule} {place} found) =
-        let one = one_is_first text (subst (λ t. BreaksFirst t rule place) same found) first in
+    -- the rule is broken over the schema of the files
+    same_break : {rule : Rule} {place : Place} {was read : List ℕ} → was ≡ df → read ≡ text → BreaksFirst (schema_in was) read rule place → BreaksFirst (schema_in df) text rule place
+    same_break {rule} {place} {was} {read} from same found = subst (λ t. BreaksFirst (schema_in df) t rule place) same (subst (λ d. BreaksFirst (schema_in d) read rule place) from found)
+
+    source_by : {refusal : Refusal} {rule : Rule} {place : Place} {was read : List ℕ} → was ≡ df → read ≡ text → BreaksFirst (schema_in df) text rule place → BreaksSource (schema_in was) read refusal → IsRefusal (Some refusal) (Source 0 rule place)
+    source_by {was} from same first (breaks_rule {rule} {place} found) =
+        let one = one_is_first (schema_in df) text (same_break from same found) first in
         let e = one.rules in
         let p = one.places in
         inl (cc (e, p))
-    source_by same first source_wants = inr refl
+    source_by from same first source_wants = inr refl
 
-    broken_source_by : {refusal : Refusal} {rule : Rule} {place : Place} → violation_of df ≡ None → BreaksFirst text rule place → Prevents files faults run.schema run.program refusal → IsRefusal (Some refusal) (Source 0 rule place)
+    broken_source_by : {refusal : Refusal} {rule : Rule} {place : Place} → violation_of df ≡ None → BreaksFirst (schema_in df) text rule place → Prevents files faults run.schema run.program refusal → IsRefusal (Some refusal) (Source 0 rule place)
     broken_source_by clean first (no_schema h) = wants (unread schema_is h)
     broken_source_by clean first (no_source has h) = wants (unread source_is h)
     broken_source_by clean first (schema_breaks texts breaks) = wants (no_break (schema_read texts ∙ clean) breaks)
-    broken_source_by clean first (source_breaks texts fine breaks) = source_by (same_text texts.has_source source_is.there) first breaks
+    broken_source_by clean first (source_breaks texts fine breaks) = source_by (schema_text texts) (same_text texts.has_source source_is.there) first breaks
     broken_source_by clean first run_wants = inr refl
 
-    sound_source : {refusal : Refusal} {tree : Tree} {read : List ℕ} → read ≡ text → IsSourceOf text tree → BreaksSource read refusal → refusal ≡ NoMemory
-    sound_source same form (breaks_rule {rule} {place} found) = absurd (sources_break_none text form (subst (λ t. BreaksFirst t rule place) same found))
-    sound_source same form source_wants = refl
+    sound_source : {refusal : Refusal} {tree : Tree} {was read : List ℕ} → was ≡ df → read ≡ text → IsSourceOf (schema_in df) text tree → BreaksSource (schema_in was) read refusal → refusal ≡ NoMemory
+    sound_source from same form (breaks_rule found) = absurd (sources_break_none (schema_in df) text form (same_break from same found))
+    sound_source from same form source_wants = refl
 
     -- only out of memory prevents it
-    only_memory : {refusal : Refusal} {tree : Tree} → violation_of df ≡ None → IsSourceOf text tree → Prevents files faults run.schema run.program refusal → refusal ≡ NoMemory
+    only_memory : {refusal : Refusal} {tree : Tree} → violation_of df ≡ None → IsSourceOf (schema_in df) text tree → Prevents files faults run.schema run.program refusal → refusal ≡ NoMemory
     only_memory clean form (no_schema h) = unread schema_is h
     only_memory clean form (no_source has h) = unread source_is h
     only_memory clean form (schema_breaks texts breaks) = no_break (schema_read texts ∙ clean) breaks
-    only_memory clean form (source_breaks texts fine breaks) = sound_source (same_text texts.has_source source_is.there) form breaks
+    only_memory clean form (source_breaks texts fine breaks) = sound_source (schema_text texts) (same_text texts.has_source source_is.there) form breaks
     only_memory clean form run_wants = refl
 
-    fine_by : {tree : Tree} → violation_of df ≡ None → IsSourceOf text tree → Outcome → (Rose old.faults new.faults → ⊥) → (report.status ≡ 0) ⊎ ((report.status ≡ 8) ⊎ (report.status ≡ 7))
+    fine_by : {tree : Tree} → violation_of df ≡ None → IsSourceOf (schema_in df) text tree → Outcome → (Rose old.faults new.faults → ⊥) → (report.status ≡ 0) ⊎ ((report.status ≡ 8) ⊎ (report.status ≡ 7))
     fine_by clean form (was_prevented refusal given status prevents) quiet = inr (inr (status ∙ ap (λ r. status_after (Some r)) (only_memory clean form prevents)))
     fine_by clean form (had_run texts fine tree own well) quiet = well quiet
 
-    pub fine : {tree : Tree} → CommandResult arguments files faults old new report → violation_of df ≡ None → IsSourceOf text tree → (Rose old.faults new.faults → ⊥) → (report.status ≡ 0) ⊎ ((report.status ≡ 8) ⊎ (report.status ≡ 7))
+    pub fine : {tree : Tree} → CommandResult arguments files faults old new report → violation_of df ≡ None → IsSourceOf (schema_in df) text tree → (Rose old.faults new.faults → ⊥) → (report.status ≡ 0) ⊎ ((report.status ≡ 8) ⊎ (report.status ≡ 7))
     fine did clean form quiet = fine_by clean form (outcome did) quiet
 
     broken_schema_of : {rule : Rule} {line : ℕ} → violation_of df ≡ Some (record { rule = rule; line = line }) → Outcome → IsRefusal report.refusal (Schema rule line)
@@ -202,12 +209,15 @@ module _ (arguments : List (List ℕ)) (files : FileState) (faults : ℕ) (old n
     pub broken_schema_is_reported : {rule : Rule} {line : ℕ} → CommandResult arguments files faults old new report → violation_of df ≡ Some (record { rule = rule; line = line }) → IsRefusal report.refusal (Schema rule line)
     broken_schema_is_reported did broken = broken_schema_of broken (outcome did)
 
-    broken_source_of : {rule : Rule} {place : Place} → violation_of df ≡ None → BreaksFirst text rule place → Outcome → IsRefusal report.refusal (Source 0 rule place)
+    same_source : {tree : Tree} {was read : List ℕ} → was ≡ df → read ≡ text → IsSourceOf (schema_in was) read tree → IsSourceOf (schema_in df) text tree
+    same_source {tree} {was} {read} from same form = subst (λ t. IsSourceOf (schema_in df) t tree) same (subst (λ d. IsSourceOf (schema_in d) read tree) from form)
+
+    broken_source_of : {rule : Rule} {place : Place} → violation_of df ≡ None → BreaksFirst (schema_in df) text rule place → Outcome → IsRefusal report.refusal (Source 0 rule place)
     broken_source_of {rule} {place} clean first (was_prevented refusal given status prevents) = subst (λ r. IsRefusal r (Source 0 rule place)) (sym given) (broken_source_by clean first prevents)
     broken_source_of clean first (had_run texts fine tree form well) =
-        absurd (sources_break_none text (subst (λ t. IsSourceOf t tree) (same_text texts.has_source source_is.there) form) first)
+        absurd (sources_break_none (schema_in df) text (same_source (schema_text texts) (same_text texts.has_source source_is.there) form) first)
 
-    pub broken_source_is_reported : {rule : Rule} {place : Place} → CommandResult arguments files faults old new report → violation_of df ≡ None → BreaksFirst text rule place → IsRefusal report.refusal (Source 0 rule place)
+    pub broken_source_is_reported : {rule : Rule} {place : Place} → CommandResult arguments files faults old new report → violation_of df ≡ None → BreaksFirst (schema_in df) text rule place → IsRefusal report.refusal (Source 0 rule place)
     broken_source_is_reported did clean first = broken_source_of clean first (outcome did)
 
   -- ---- files that are not read

@@ -1,5 +1,5 @@
 -- What a client requests, and that it is active then.
-use Rattle.std.proofs.Common.{◌≡◌, ◌≢◌, ◌≤◌, ◌+◌, ◌⊎◌, inl, inr, ℕ, [], refl, sym, subst, arith}
+use Rattle.std.proofs.Common.{◌≡◌, ◌≢◌, ◌⊎◌, inl, inr, [], refl, sym, subst}
 use Rattle.block_vm.specs.Standing.{Standing}
 use Rattle.client_database.specs.declared.next_step.NextStep.{NextStep}
 use Rattle.client_database.specs.declared.next_step.NextStep.TheVariants.{Ask, Ended}

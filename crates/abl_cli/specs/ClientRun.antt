@@ -31,12 +31,11 @@ pub data RanAsMeant (m : List Answer → Progress) : List Event → ClientEnd �
       operations_of 0 before ≡ asked m (answers_of 0 before) → GaveUp m (answers_of 0 before) pieces →
       RanAsMeant m (before ++ end_event a ∷ []) end.NoMemory pieces
 
--- and the sections that it wrote; no section where it was out of memory before it began. A source that is built so far
--- names no output
-pub data ClientOutcome (m : List Answer → Progress) : List Event → ClientEnd → List Section → Type 0 where
-  NeverBegan : ClientOutcome m [] end.NoMemory []
+-- and the sections that it wrote, where its source names these outputs; no section where it was out of memory before it began
+pub data ClientOutcome (outputs : List (List ℕ)) (m : List Answer → Progress) : List Event → ClientEnd → List Section → Type 0 where
+  NeverBegan : ClientOutcome outputs m [] end.NoMemory []
   Began : (trace : List Event) (how : ClientEnd) (pieces : List Piece) → RanAsMeant m trace how pieces →
-      ClientOutcome m trace how (sections_of [] pieces)
+      ClientOutcome outputs m trace how (sections_of outputs pieces)
 
 -- ---- inside of a run
 

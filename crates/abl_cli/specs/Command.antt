@@ -4,6 +4,8 @@ use Rattle.fault_count.specs.Faults.{Rose}
 use Rattle.abl_base.specs.declared.rule.Rule.{Rule}
 use Rattle.abl_base.specs.declared.place.Place.{Place}
 use Rattle.abl_schema.specs.Rules.{violation_of}
+use Rattle.abl_schema.specs.Meaning.{schema_of}
+use Rattle.schema_lines.specs.Files.{items_of}
 use Rattle.abl_outside.specs.declared.out.Stream.TheVariants.{Output as Standard, Diagnostics}
 use Rattle.abl_outside.specs.Files.{FileState, IsLonger}
 use Rattle.database_meaning.specs.Setting.{Setting}
@@ -12,7 +14,7 @@ use Rattle.database_meaning.specs.declared.contents.Contents.{Contents}
 use Rattle.client_database.specs.declared.ends.ClientEnd.{ClientEnd}
 use Rattle.client_database.specs.declared.ends.ClientEnd.TheVariants as end
 use Rattle.bound_tree.specs.Tree.{Source as Tree}
-use Rattle.built_source.specs.Sources.{BreaksFirst, IsSourceOf}
+use Rattle.abl_cli.specs.Sources.{BreaksFirst, IsSourceOf}
 use Rattle.bound_tree.specs.Bound.{source_of}
 use Rattle.bound_tree.specs.declared.procedure.Bound.{Bound}
 use Rattle.block_code.specs.declared.code.Code.{Code}
@@ -47,10 +49,14 @@ pub data BreaksSchema (text : List ℕ) : Refusal → Type 0 where
   breaks_f : {rule : Rule} {line : ℕ} → violation_of text ≡ Some (record { rule = rule; line = line }) → BreaksSchema text (Schema rule line)
   schema_wants : BreaksSchema text NoMemory
 
--- why the text of the first client's source is refused, likewise
-pub data BreaksSource (text : List ℕ) : Refusal → Type 0 where
-  breaks_rule : {rule : Rule} {place : Place} → BreaksFirst text rule place → BreaksSource text (Source 0 rule place)
-  source_wants : BreaksSource text NoMemory
+-- the schema that the text of a schema file denotes
+abbrev pub schema_in : List ℕ → SchemaData
+schema_in text = schema_of (items_of text)
+
+-- why the text of the first client's source is refused over the schema, likewise
+pub data BreaksSource (schema : SchemaData) (text : List ℕ) : Refusal → Type 0 where
+  breaks_rule : {rule : Rule} {place : Place} → BreaksFirst schema text rule place → BreaksSource schema text (Source 0 rule place)
+  source_wants : BreaksSource schema text NoMemory
 
 -- the texts that were read for a run
 pub record Texts (files : FileState) (schema program : List ℕ) : Type 0 where
@@ -65,21 +71,20 @@ pub data Prevents (files : FileState) (faults : ℕ) (schema program : List ℕ)
   no_schema : {refusal : Refusal} → IsNotRead files faults schema refusal → Prevents files faults schema program refusal
   no_source : {refusal : Refusal} {df : List ℕ} → HasText files schema df → IsNotRead files faults program refusal → Prevents files faults schema program refusal
   schema_breaks : {refusal : Refusal} (texts : Texts files schema program) → BreaksSchema texts.df refusal → Prevents files faults schema program refusal
-  source_breaks : {refusal : Refusal} (texts : Texts files schema program) → violation_of texts.df ≡ None → BreaksSource texts.source refusal → Prevents files faults schema program refusal
+  source_breaks : {refusal : Refusal} (texts : Texts files schema program) → violation_of texts.df ≡ None → BreaksSource (schema_in texts.df) texts.source refusal → Prevents files faults schema program refusal
   run_wants : Prevents files faults schema program NoMemory
 
--- the code is that of the text
-pub record IsCodeOf (text : List ℕ) (code : Code) : Type 0 where
+-- the code is that of the text over the schema
+pub record IsCodeOf (schema : SchemaData) (text : List ℕ) (code : Code) : Type 0 where
   pub bound : Bound
-  pub form : IsSourceOf text (source_of bound)
+  pub form : IsSourceOf schema text (source_of bound)
   pub stands : StandsFor code bound
-  pub no_outputs : bound.outputs.items ≡ []
 
 -- both files are read, the schema breaks no rule, and the code is that of the source
 pub record IsReady (files : FileState) (schema program : List ℕ) (code : Code) : Type 0 where
   pub texts : Texts files schema program
   pub clean : violation_of texts.df ≡ None
-  pub is_code : IsCodeOf texts.source code
+  pub is_code : IsCodeOf (schema_in texts.df) texts.source code
 
 -- why a command was refused before a run began: the arguments have no form, or they name a run that is prevented
 pub data Cause (arguments : List (List ℕ)) (files : FileState) (faults : ℕ) : List ℕ → Refusal → Type 0 where
@@ -136,7 +141,7 @@ pub record IsReported (mode : Mode) (name : List ℕ) (end : ClientEnd) (section
 pub record HasRun (mode : Mode) (name : List ℕ) (units : ℕ) (tree : Tree) (old new : OutState) (report : Report) : Type 0 where
   pub end : ClientEnd
   pub sections : List Section
-  pub does : (p : Program) → p.source ≡ tree → ClientOutcome (run p units) report.trace end sections
+  pub does : (p : Program) → p.source ≡ tree → ClientOutcome tree.outputs (run p units) report.trace end sections
   pub legal : (f : Setting) (contents : Contents) → 0 < f.clients → IsSoundContents f contents → IsLegal f contents report.trace
   pub reported : IsReported mode name end sections old new report
 
@@ -148,7 +153,7 @@ pub data CommandResult (arguments : List (List ℕ)) (files : FileState) (faults
       CommandResult arguments files faults old new report
   -- it ran the source that the arguments name, over a schema that breaks no rule
   Ran : (named : Run) → IsRun named → arguments ≡ arguments_of named →
-      (texts : Texts files named.schema named.program) → violation_of texts.df ≡ None → (tree : Tree) → IsSourceOf texts.source tree →
+      (texts : Texts files named.schema named.program) → violation_of texts.df ≡ None → (tree : Tree) → IsSourceOf (schema_in texts.df) texts.source tree →
       HasRun named.mode named.name (number_of named.steps) tree old new report → CommandResult arguments files faults old new report
 
 -- ---- for laws

@@ -1,3 +1,4 @@
+pub mod Sources
 pub mod CommandLine
 pub mod Arguments
 pub mod Trace

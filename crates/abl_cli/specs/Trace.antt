@@ -1,8 +1,7 @@
 -- The lines of a trace: what each client asked, and what it was answered, in order.
-use Rattle.std.specs.Prelude.{◌≡◌, ℕ, ◌+◌, Bool, if◌then◌else◌, List, [], ◌∷◌, ◌++◌, length, codes, decimal, slice_index_or, pos}
+use Rattle.std.specs.Prelude.{◌≡◌, ℕ, ◌+◌, Bool, if◌then◌else◌, List, [], ◌∷◌, ◌++◌, length, codes, decimal, slice_index_or}
 use Rattle.std.specs.List.{flat_map}
 use Rattle.std.specs.Fmt.{signed_decimal}
-use Rattle.abl_values.specs.declared.schema.SequenceDef.{SequenceDef}
 use Rattle.abl_values.specs.Schema.{SchemaData, name_of}
 use Rattle.client_database.specs.declared.operation.Op.{Op}
 use Rattle.client_database.specs.declared.operation.Op.TheVariants.{Enter, Leave, Back, Next, Get, Lock, Insert, Put, Delete, Drop, NextValue, CurrentValue, End}

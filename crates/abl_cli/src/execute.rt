@@ -1,6 +1,7 @@
 //! A run: the client and its answers, the report, and the lines of the status.
 
 ghost use Rattle.std.specs.Prelude.{◌≡◌, ◌<◌, ◌⊎◌, ℕ, List, [], All, vec_capacity};
+ghost use Rattle.abl_values.specs.Schema.{SchemaData};
 ghost use Rattle.bound_tree.specs.Bound.{source_of};
 ghost use Rattle.abl_cli.specs.Trace.{IsLevelEvent};
 ghost use Rattle.abl_cli.specs.Command.{IsCodeOf, HasRun, IsReported, IsRefused, WritesStatus, refusal_after, output_refusal, status_after};
@@ -21,7 +22,7 @@ use std::alloc::Global;
 
 /// Runs the client, and writes its report and the lines of the status.
 pub fn execute<O: Out>(alloc: Global, out: &mut O, run: &RunArguments<'_>, code: Code) -> Report
-    ensures { (text : List ℕ) (is_code : IsCodeOf text code) → HasRun run.now.mode run.now.name.now run.now.steps (source_of is_code.bound) (O.state out.old) (O.state out.new) result ⊎ IsRefused run.now.name.now Refusal.NoMemory (O.state out.old) (O.state out.new) result }
+    ensures { (schema : SchemaData) (text : List ℕ) (is_code : IsCodeOf schema text code) → HasRun run.now.mode run.now.name.now run.now.steps (source_of is_code.bound) (O.state out.old) (O.state out.new) result ⊎ IsRefused run.now.name.now Refusal.NoMemory (O.state out.old) (O.state out.new) result }
 {
     let (Ok(mut database), Ok(ends)) = (LevelDatabase::new(alloc), Vec::with_capacity(alloc, 1))
     else {

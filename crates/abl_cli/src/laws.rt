@@ -8,7 +8,7 @@ ghost use Rattle.bound_tree.specs.Tree.{Source as Tree};
 ghost use Rattle.abl_base.specs.declared.rule.Rule.{Rule as TheRule};
 ghost use Rattle.abl_base.specs.declared.place.Place.{Place as ThePlace};
 ghost use Rattle.abl_schema.specs.Rules.{violation_of};
-ghost use Rattle.built_source.specs.Sources.{BreaksFirst, IsSourceOf};
+ghost use Rattle.abl_cli.specs.Sources.{BreaksFirst, IsSourceOf};
 ghost use Rattle.block_vm.specs.declared.output.Section.{Section as Part};
 ghost use Rattle.abl_cli.specs.declared.refusal.Refusal.TheVariants.{Usage, File, TooLong, Schema, Source, Output};
 ghost use Rattle.abl_cli.specs.declared.command.Report.{Report as Told};
@@ -19,7 +19,7 @@ ghost use Rattle.abl_cli.specs.CommandLine.{Run, HaveForm, IsWrong};
 ghost use Rattle.abl_cli.specs.Report.{run_text};
 ghost use Rattle.abl_outside.specs.Out.{OutState};
 ghost use Rattle.abl_outside.specs.Files.{FileState};
-ghost use Rattle.abl_cli.specs.Command.{CommandResult, IsRefusal, IsThere, IsUsage, NamesRun};
+ghost use Rattle.abl_cli.specs.Command.{CommandResult, IsRefusal, IsThere, IsUsage, NamesRun, schema_in};
 
 /// The refusal is Usage, with the number of the wrong argument, exactly where the arguments have no
 /// form.
@@ -55,7 +55,7 @@ pub fn the_first_cause_is_the_refusal()
     ensures broken_source { (arguments : List (List ℕ)) (files : FileState) (faults : ℕ) (old new : OutState) (report : Told) (run : Run) →
         CommandResult arguments files faults old new report → NamesRun arguments files run →
         (df text : List ℕ) → IsThere files run.schema df → IsThere files run.program text → violation_of df ≡ None →
-        (rule : TheRule) (place : ThePlace) → BreaksFirst text rule place → IsRefusal report.refusal (Source 0 rule place) }
+        (rule : TheRule) (place : ThePlace) → BreaksFirst (schema_in df) text rule place → IsRefusal report.refusal (Source 0 rule place) }
 {}
 
 /// Where the arguments name a run, the files are observable and sound, the schema file and the source are
@@ -65,7 +65,7 @@ pub fn a_run_without_faults_is_done()
     ensures { (arguments : List (List ℕ)) (files : FileState) (faults : ℕ) (old new : OutState) (report : Told) (run : Run) →
         CommandResult arguments files faults old new report → NamesRun arguments files run →
         (df text : List ℕ) → IsThere files run.schema df → IsThere files run.program text →
-        violation_of df ≡ None → (tree : Tree) → IsSourceOf text tree →
+        violation_of df ≡ None → (tree : Tree) → IsSourceOf (schema_in df) text tree →
         (Rose old.faults new.faults → ⊥) →
         (report.status ≡ 0) ⊎ ((report.status ≡ 8) ⊎ (report.status ≡ 7)) }
 {}
@@ -82,4 +82,19 @@ pub fn status_0_says_that_the_report_is_whole()
 pub fn output_is_at_fault_where_its_count_rose()
     ensures { (arguments : List (List ℕ)) (files : FileState) (faults : ℕ) (old new : OutState) (report : Told) →
         CommandResult arguments files faults old new report → report.refusal ≡ Some Output → Rose old.faults new.faults }
+{}
+
+/// A text has at most one tree over a schema.
+pub fn one_tree()
+    ensures { (schema : SchemaData) (text : List ℕ) (a b : Tree) → IsSourceOf schema text a → IsSourceOf schema text b → a ≡ b }
+{}
+
+/// A text breaks at most one rule first over a schema, at one place.
+pub fn one_rule_is_first()
+    ensures { (schema : SchemaData) (text : List ℕ) (rule other : TheRule) (place spot : ThePlace) → BreaksFirst schema text rule place → BreaksFirst schema text other spot → (rule ≡ other) × (place ≡ spot) }
+{}
+
+/// A text that has a tree over a schema breaks no rule over it.
+pub fn sources_break_no_rule()
+    ensures { (schema : SchemaData) (text : List ℕ) (tree : Tree) (rule : TheRule) (place : ThePlace) → IsSourceOf schema text tree → ¬ BreaksFirst schema text rule place }
 {}

@@ -10,9 +10,11 @@ mod load;
 pub mod refusal;
 mod report;
 mod run_client;
+mod source;
 mod trace;
 
 pub use arguments::{Arg, Mode};
 pub use command::{Ends, Report, run_abl};
 pub use load::MAX_FILE_BYTES;
 pub use refusal::Refusal;
+pub use source::{SourceFault, compile_source, read_syntax};

@@ -2,16 +2,17 @@
 
 ghost use Rattle.std.specs.Prelude.{◌≡◌, ◌≤◌, None, IsTrue, IfErr, IfOk, OnOk, length};
 ghost use Rattle.abl_schema.specs.Rules.{violation_of};
-ghost use Rattle.abl_cli.specs.Command.{BreaksSchema, BreaksSource, HasText, IsCodeOf, IsNotRead, IsReady, Prevents};
+ghost use Rattle.abl_cli.specs.Command.{BreaksSchema, BreaksSource, HasText, IsCodeOf, IsNotRead, IsReady, Prevents, schema_in};
 ghost use Rattle.abl_cli.specs.declared.refusal.Refusal.{Refusal as TheRefusal};
 
 use crate::arguments::RunArguments;
 use crate::refusal::Refusal;
+use crate::source::{SourceFault, compile_source};
 use abl_base::Bytes;
 use abl_outside::{FileFault, Files};
 use abl_schema::{SchemaRefusal, read_df};
-use block_code::{Code, CompileFault, compile};
-use built_source::{SourceFault, read_source};
+use abl_values::Schema;
+use block_code::Code;
 use std::alloc::Global;
 
 /// The most bytes that a schema file or a source may have.
@@ -23,10 +24,10 @@ pub fn load<F: Files>(alloc: Global, files: &mut F, run: &RunArguments<'_>) -> R
     ensures code { IfOk result (IsReady (F.state files.old) run.now.schema.now run.now.program.now) }
     ensures prevented { IfErr result (Prevents (F.state files.old) (F.state files.new).faults run.now.schema.now run.now.program.now) }
 {
-    let schema = read(alloc, files, run.schema)?;
+    let df = read(alloc, files, run.schema)?;
     let source = read(alloc, files, run.program)?;
-    check_schema(alloc, schema.as_slice())?;
-    code_of(alloc, source.as_slice())
+    let schema = schema_of(alloc, df.as_slice())?;
+    code_of(alloc, &schema, source.as_slice())
 }
 
 /// The text of the file of this name.
@@ -52,32 +53,27 @@ fn read<F: Files>(alloc: Global, files: &mut F, name: &[u8]) -> Result<Bytes, Re
     }
 }
 
-/// Checks the schema file: refused by the first rule that it breaks. No statement that is built names
-/// a part of the schema yet.
-fn check_schema(alloc: Global, text: &[u8]) -> Result<(), Refusal>
+/// The schema that the text of a schema file denotes, or the first rule that it breaks.
+fn schema_of(alloc: Global, text: &[u8]) -> Result<Schema, Refusal>
+    ensures schema { IfOk result (λ schema. schema ≡ schema_in text.now) }
     ensures clean { OnOk result (violation_of text.now ≡ None) }
     ensures refused { IfErr result (BreaksSchema text.now) }
 {
     match read_df(alloc, text) {
-        Ok(_schema) => Ok(()),
+        Ok(schema) => Ok(schema),
         Err(SchemaRefusal::Broken { rule, line }) => Err(Refusal::Schema { rule, line }),
         Err(SchemaRefusal::NoMemory) => Err(Refusal::NoMemory),
     }
 }
 
-/// The code of the first client's source.
-fn code_of(alloc: Global, text: &[u8]) -> Result<Code, Refusal>
+/// The code of the first client's source over the schema.
+fn code_of(alloc: Global, schema: &Schema, text: &[u8]) -> Result<Code, Refusal>
     requires { length text.now ≤ MAX_FILE_BYTES }
-    ensures code { IfOk result (IsCodeOf text.now) }
-    ensures refused { IfErr result (BreaksSource text.now) }
+    ensures code { IfOk result (IsCodeOf schema.now text.now) }
+    ensures refused { IfErr result (BreaksSource schema.now text.now) }
 {
-    match read_source(alloc, text) {
-        Ok(bound) => match compile(alloc, bound) {
-            Ok(code) => Ok(code),
-            // Each source that is read has forms that are built alone.
-            Err(CompileFault::NotBuilt) => unreachable!(),
-            Err(CompileFault::NoMemory) => Err(Refusal::NoMemory),
-        },
+    match compile_source(alloc, schema, text) {
+        Ok(code) => Ok(code),
         Err(SourceFault::Broken { rule, place }) => Err(Refusal::Source {
             client: 0,
             rule,

@@ -3,12 +3,13 @@ use Rattle.std.proofs.Common.{ℕ, List, subst, inl, inr, ◌⊎◌}
 use Rattle.abl_cli.specs.declared.refusal.Refusal.TheVariants.{NoMemory}
 use Rattle.abl_cli.specs.declared.command.Report.{Report}
 use Rattle.abl_cli.specs.declared.arguments.RunArguments.{RunArguments}
+use Rattle.abl_values.specs.Schema.{SchemaData}
 use Rattle.bound_tree.specs.Bound.{source_of}
 use Rattle.block_code.specs.declared.code.Code.{Code}
 use Rattle.abl_cli.specs.CommandLine.{Names}
 use Rattle.abl_outside.specs.Out.{OutState}
 use Rattle.abl_outside.specs.Files.{FileState}
-use Rattle.abl_cli.specs.Command.{CommandResult, Refused, Ran, IsReady, IsCodeOf, HasRun, IsRefused, wrong_argument, run_wants}
+use Rattle.abl_cli.specs.Command.{CommandResult, Refused, Ran, IsReady, IsCodeOf, HasRun, IsRefused, schema_in, wrong_argument, run_wants}
 use Rattle.abl_cli.proofs.Causes.{run_of, cause_of_prevented}
 use Rattle.abl_cli.proofs.command.run_abl.Goals as goal
 
@@ -23,9 +24,9 @@ returns-in-Err-load g c =
 executed :
     (arguments : List (List ℕ)) (files : FileState) (faults : ℕ) (old new : OutState) (report : Report) (read : RunArguments) →
     Names arguments read → (code : Code) → IsReady files read.schema.now read.program.now code →
-    ((text : List ℕ) (is_code : IsCodeOf text code) → HasRun read.mode read.name.now read.steps (source_of is_code.bound) old new report ⊎ IsRefused read.name.now NoMemory old new report) →
+    ((schema : SchemaData) (text : List ℕ) (is_code : IsCodeOf schema text code) → HasRun read.mode read.name.now read.steps (source_of is_code.bound) old new report ⊎ IsRefused read.name.now NoMemory old new report) →
     CommandResult arguments files faults old new report
-executed arguments files faults old new report read names code ready ensured = by_case (ensured ready.texts.source ready.is_code)
+executed arguments files faults old new report read names code ready ensured = by_case (ensured (schema_in ready.texts.df) ready.texts.source ready.is_code)
   where
     by_case : HasRun read.mode read.name.now read.steps (source_of ready.is_code.bound) old new report ⊎ IsRefused read.name.now NoMemory old new report → CommandResult arguments files faults old new report
     by_case (inl ran) =

@@ -2,36 +2,38 @@
 use Rattle.std.proofs.Common.{◌≡◌, inl, [], sym, ◌∙◌, subst}
 use Rattle.client_database.specs.declared.ends.ClientEnd.TheVariants.{NoMemory}
 use Rattle.block_meaning.specs.Meaning.{run}
+use Rattle.bound_tree.specs.Bound.{source_of}
 use Rattle.database_meaning.specs.Traces.{IsLegal}
-use Rattle.block_vm.specs.Does.{Does}
 use Rattle.abl_cli.specs.ClientRun.{ClientOutcome, NeverBegan, Began}
 use Rattle.abl_cli.proofs.BuiltForms.{bound_is_built}
 use Rattle.abl_cli.proofs.execute.execute.Goals as goal
 
 pub returns-in-Ok : goal.returns-in-Ok
-returns-in-Ok g c text code =
+returns-in-Ok g c schema text code =
     let trace : c.report.result.trace ≡ c.run_client-end.new.database.trace.items = c.report.ensures.trace ∙ c.into_trace.ensures in
+    let names = (source_of code.bound).outputs in
     inl (record {
       end = c.run_client-end.result;
       sections = c.output.result.now;
       does =
           λ p source.
-          let done = c.run_client-end.ensures.does [] (run p c.args.run.now.steps) c.in-Ok.ensures.begins (c.written_only_grows.ensures p c.args.run.now.steps)
-          (subst (λ names. Does c.in-Ok.client names (run p c.args.run.now.steps) []) code.no_outputs (c.in-Ok.ensures.does code.bound p code.stands (bound_is_built text code.bound code.form) source)) in
-          subst (λ events. ClientOutcome (run p c.args.run.now.steps) events c.run_client-end.result c.output.result.now) (sym trace)
-          (subst (ClientOutcome (run p c.args.run.now.steps) c.run_client-end.new.database.trace.items c.run_client-end.result) (sym (c.output.ensures [] done.pieces done.has))
+          let does = c.in-Ok.ensures.does code.bound p code.stands (bound_is_built schema text code.bound code.form) source in
+          let done = c.run_client-end.ensures.does names (run p c.args.run.now.steps) c.in-Ok.ensures.begins (c.written_only_grows.ensures p c.args.run.now.steps) does in
+          subst (λ events. ClientOutcome names (run p c.args.run.now.steps) events c.run_client-end.result c.output.result.now) (sym trace)
+          (subst (ClientOutcome names (run p c.args.run.now.steps) c.run_client-end.new.database.trace.items c.run_client-end.result) (sym (c.output.ensures names done.pieces done.has))
           (Began c.run_client-end.new.database.trace.items c.run_client-end.result done.pieces done.did));
       legal = λ f contents clients sound. subst (IsLegal f contents) (sym trace) (c.run_client-end.ensures.legal f contents (c.in-Ok-Ok.ensures.opened f contents clients sound));
       reported = c.report.ensures.reported;
     })
 
 pub returns-in-Err : goal.returns-in-Err
-returns-in-Err g c text code =
+returns-in-Err g c schema text code =
     let none : c.report-in-Err.result.trace ≡ [] = c.report-in-Err.ensures.trace ∙ c.into_trace-in-Err.ensures ∙ c.in-Ok-Ok.ensures.empty in
+    let names = (source_of code.bound).outputs in
     inl (record {
       end = NoMemory;
       sections = [];
-      does = λ p source. subst (λ events. ClientOutcome (run p c.args.run.now.steps) events NoMemory []) (sym none) NeverBegan;
+      does = λ p source. subst (λ events. ClientOutcome names (run p c.args.run.now.steps) events NoMemory []) (sym none) NeverBegan;
       legal = λ f contents clients sound. subst (IsLegal f contents) (sym none) (sound, tt);
       reported = c.report-in-Err.ensures.reported;
     })

@@ -1,11 +1,6 @@
--- What encodes a tree is supported.
 use Rattle.std.proofs.Common.{ap, Err}
 use Rattle.abl_cli.specs.Command.{breaks_rule, source_wants}
-use Rattle.abl_cli.proofs.BuiltForms.{bound_is_built}
 use Rattle.abl_cli.proofs.load.code_of.Goals as goal
-
-pub returns-in-Err-NoMemory-compile-clause-refused : goal.returns-in-Err-NoMemory-compile-clause-refused
-returns-in-Err-NoMemory-compile-clause-refused c = source_wants
 
 pub returns-in-Err-Broken-clause-refused : goal.returns-in-Err-Broken-clause-refused
 returns-in-Err-Broken-clause-refused c =
@@ -14,7 +9,3 @@ returns-in-Err-Broken-clause-refused c =
 
 pub returns-in-Err-NoMemory-clause-refused : goal.returns-in-Err-NoMemory-clause-refused
 returns-in-Err-NoMemory-clause-refused c = source_wants
-
-pub unreachable-requires : goal.unreachable-requires
-unreachable-requires c =
-    c.in-Err-NotBuilt.ensures.not_built (ap Err c.in-Err-NotBuilt.field-0-is) (bound_is_built c.args.text.now c.in-Ok.bound c.in-Ok.ensures.tree)

@@ -1,7 +1,7 @@
 -- Each answer takes an operation off those that the client still requests, and keeps its trace beside its meaning.
 use Rattle.std.specs.Prelude.{All}
 use Rattle.std.proofs.lemmas.List.Elements.{All-nil, All-push}
-use Rattle.std.proofs.Common.{◌++◌, ◌∷◌, [], refl, ◌∙◌, ◌≡◌, ◌≢◌, subst, sym, ap}
+use Rattle.std.proofs.Common.{◌++◌, ◌∷◌, [], refl, ◌∙◌, ◌≡◌, subst, sym, ap}
 use Rattle.block_vm.specs.Work.{ShowsWants}
 use Rattle.block_vm.specs.Does.{Came}
 use Rattle.client_database.specs.declared.next_step.NextStep.TheVariants.{Ask}

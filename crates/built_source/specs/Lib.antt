@@ -1,5 +1,0 @@
-pub mod Signs
-pub mod Defined
-pub mod Form
-pub mod Sources
-pub mod Examples
