@@ -1,5 +1,5 @@
 -- Slots that hold a row's bytes, over writes of other slots, and what is read from them.
-use Rattle.std.proofs.Common.{◌≡◌, ◌≢◌, ◌⊎◌, inl, inr, ℕ, zero, suc, ◌+◌, ◌*◌, ◌<◌, ◌≤◌, ◌^◌, ◌&&◌, not, Bool, true, false, cond, eqb, eq-eqb, Some, None, List, [], ◌∷◌, ◌++◌, length, take, drop, replicate, refl, sym, ap, ◌∙◌, subst, arith}
+use Rattle.std.proofs.Common.{◌≡◌, ◌≢◌, ◌⊎◌, inl, inr, ℕ, zero, suc, ◌+◌, ◌<◌, ◌≤◌, ◌^◌, ◌&&◌, not, Bool, true, false, cond, eqb, eq-eqb, Some, None, List, [], ◌∷◌, ◌++◌, length, take, drop, replicate, refl, sym, ap, ◌∙◌, subst, arith}
 use Rattle.std.proofs.lemmas.Bool.{cases_eq}
 use Rattle.std.specs.List.{Contains}
 use Rattle.std.proofs.lemmas.Bool.Decides.{nat_tests}
@@ -10,7 +10,7 @@ use Rattle.row_chain.proofs.Within.{none_in, head_in, tail_in, only, not_only}
 use Rattle.row_chain.proofs.Composes.{readable_on, wrote_both}
 use Rattle.row_chain.proofs.Encoded.{kind_read, next_read, table_read, content_read}
 use Rattle.abl_storage.specs.Slots.{SlotState, Transaction, IsReadable}
-use Rattle.std.proofs.lemmas.List.{length-drop, length-take}
+use Rattle.std.proofs.lemmas.List.{length-take}
 
 clear_on : (old new : ℕ → List ℕ) (at : ℕ) (rest : List ℕ) → ((k : ℕ) → k ≢ at → new k ≡ old k) → new at ≡ replicate 256 0 → AreClear old rest → AreClear new rest
 clear_on old new at [] same here h = tt

@@ -5,12 +5,12 @@ use Rattle.std.specs.List.{Contains}
 use Rattle.std.proofs.lemmas.Bool.{cases_eq}
 use Rattle.std.proofs.lemmas.Bool.Decides.{nat_tests}
 use Rattle.fault_count.specs.Faults.{Rose}
-use Rattle.abl_storage.specs.Slots.{SlotState, Transaction, IsReadable, KeepsCommitted, Rests, Grows, Writes, Goes, HasCause, IsStop, undone, wrote, put, is_low}
+use Rattle.abl_storage.specs.Slots.{SlotState, IsReadable, KeepsCommitted, Rests, Grows, Writes, Goes, HasCause, IsStop, undone, wrote, put, is_low}
 use Rattle.abl_storage.specs.declared.slots.Undo.{Undo}
 use Rattle.abl_storage.specs.declared.slots.SlotFault.{SlotFault}
 use Rattle.abl_storage.specs.declared.slots.SlotFault.TheVariants.{Disk}
 use Rattle.row_chain.specs.Calls.{Covers, Looked, Touched, Wrote}
-use Rattle.row_chain.proofs.Within.{head_in, only, not_only}
+use Rattle.row_chain.proofs.Within.{head_in}
 
 splits : (a b : ℕ) → (a ≤ b) ⊎ (b < a)
 splits zero b = inl (omega arith)

@@ -8,3 +8,4 @@ pub mod Listing
 pub mod Parts
 pub mod Ties
 pub mod StopRows
+pub mod FurtherKinds

@@ -1,10 +1,10 @@
 -- A chain is written, and then zeros into other slots.
-use Rattle.std.proofs.Common.{◌≡◌, ◌≢◌, ℕ, zero, suc, ◌+◌, ◌<◌, ◌≤◌, List, [], ◌∷◌, ◌++◌, length, Some, None, refl, sym, ap, ◌∙◌, subst, arith, length-append}
+use Rattle.std.proofs.Common.{◌≡◌, ◌≢◌, ℕ, zero, suc, ◌+◌, ◌<◌, ◌≤◌, List, [], ◌∷◌, ◌++◌, length, Some, None, sym, ap, ◌∙◌, subst, arith, length-append}
 use Rattle.std.specs.List.{Contains}
 use Rattle.abl_storage.specs.Slots.{SlotState, Transaction, IsReadable}
 use Rattle.row_chain.specs.Fragments.{AreClear, AreDistinct, AreRowSlots, BeginsAs, Holds, IsClear, first_or_zero, kind_in, row_at, table_in}
 use Rattle.row_chain.specs.Calls.{CanTouch, Wrote}
-use Rattle.row_chain.proofs.Within.{none_in, head_in, tail_in, left_in, right_in}
+use Rattle.row_chain.proofs.Within.{none_in, head_in, left_in, right_in}
 use Rattle.row_chain.proofs.Composes.{readable_on, wrote_both}
 use Rattle.row_chain.proofs.Chained.{holds_same, none_of_zeros, row_same, row_written}
 

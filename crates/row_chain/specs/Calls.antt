@@ -1,10 +1,10 @@
 -- What calls on chains leave of the slots.
-use Rattle.std.specs.Prelude.{◌≡◌, ◌≢◌, ◌⊎◌, ℕ, ◌+◌, ◌<◌, ◌≤◌, Bool, List, [], ◌∷◌, ◌++◌, length, IsTrue, true, false, Result, IsErrOf}
+use Rattle.std.specs.Prelude.{◌≡◌, ◌≢◌, ◌⊎◌, ℕ, ◌+◌, ◌≤◌, List, [], ◌∷◌, ◌++◌, length, true, false, Result}
 use Rattle.std.specs.List.{Contains}
 use Rattle.abl_storage.specs.Slots.{SlotState, IsReadable, IsAlone, KeepsCommitted, Rests, Goes, HasCause, undone, wrote}
 use Rattle.abl_storage.specs.declared.slots.Undo.{Undo}
 use Rattle.abl_storage.specs.declared.slots.SlotFault.{SlotFault}
-use Rattle.row_chain.specs.Fragments.{AreDistinct, AreRowSlots, HasRoomFor}
+use Rattle.row_chain.specs.Fragments.{AreDistinct, AreRowSlots}
 
 -- one of these writes replaced these bytes of the slot
 abbrev pub Covers : List Undo → ℕ → List ℕ → Type 0

@@ -2,3 +2,4 @@ pub mod Fragments
 pub mod Calls
 pub mod Tied
 pub mod Stops
+pub mod Kinds

@@ -5,6 +5,7 @@ ghost use Rattle.abl_storage.specs.Slots.{IsReadable, OnlyDisk};
 ghost use Rattle.abl_values.specs.Rows.{number_bytes};
 ghost use Rattle.row_chain.specs.Calls.{CanTouch, Touched, Wrote};
 ghost use Rattle.row_chain.specs.Fragments.{HasRoomFor, Holds, BeginsAs, first_or_zero, fragment_bytes, head_bytes, row_bytes};
+ghost use Rattle.row_chain.specs.Kinds.{HaveKinds};
 
 use abl_storage::{SlotFault, Slots};
 use byteorder::{BigEndian, ByteOrder};
@@ -121,6 +122,7 @@ pub fn write_chain<S: Slots>(
     ensures room { OnOk result (((S.Slots.state slots.old).transaction client).room ≤ ((S.Slots.state slots.new).transaction client).room + length drawn.now) }
     ensures holds { OnOk result (IsReadable (S.Slots.state slots.old) → Holds (S.Slots.state slots.new).reads drawn.now bytes.now) }
     ensures first { OnOk result (IsReadable (S.Slots.state slots.old) → BeginsAs (S.Slots.state slots.new).reads drawn.now kind table) }
+    ensures kinds { OnOk result (IsReadable (S.Slots.state slots.old) → HaveKinds (S.Slots.state slots.new).reads drawn.now kind) }
     ensures only { OnlyDisk result }
 {
     match drawn.split_first() {

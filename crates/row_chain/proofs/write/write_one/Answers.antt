@@ -1,7 +1,3 @@
-use Rattle.std.proofs.Common.{◌∷◌, [], Ok, Err, OnOk, Result}
-use Rattle.abl_storage.specs.Slots.{Writes, SlotState}
-use Rattle.abl_storage.specs.declared.slots.SlotFault.{SlotFault}
-use Rattle.row_chain.specs.Calls.{Wrote}
 use Rattle.row_chain.proofs.Composes.{written_one}
 use Rattle.row_chain.proofs.write.write_one.Goals as goal
 
