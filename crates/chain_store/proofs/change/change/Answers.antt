@@ -1,0 +1,46 @@
+use Rattle.std.proofs.Common.{ℕ, ◌<◌, List, [], length, sym, ap, ◌∙◌, subst, arith}
+use Rattle.std.specs.List.{Contains}
+use Rattle.row_chain.specs.Fragments.{row_at}
+use Rattle.row_chain.proofs.Composes.{on_ok, readable_on, wrote_after_grows}
+use Rattle.chain_store.specs.declared.places.Place.{Place}
+use Rattle.chain_store.specs.Places.{IsKept}
+use Rattle.chain_store.proofs.Kept.{laying_keeps}
+use Rattle.chain_store.proofs.Turns.{grows_kept}
+use Rattle.chain_store.proofs.Rewrites.{ready_owner}
+use Rattle.std.proofs.Common.{◌+◌, length-append}
+use Rattle.std.proofs.lemmas.List.{length-drop, length-take}
+use Rattle.chain_store.proofs.change.change.Goals as goal
+
+pub rewrite-requires-clause-known : goal.rewrite-requires-clause-known
+rewrite-requires-clause-known g c =
+    let s = g.S.Slots.state c.args.slots.now in
+    let t = g.S.Slots.state c.prepare.new.slots in
+    let known : IsKept t c.args.places.now.items = grows_kept s t c.args.places.now.items c.requires.known (c.in_ok-prepare.ensures.cause.stays (λ e. cc e)) c.args.client (length c.args.chain.now) c.requires.begun c.in_ok-prepare.ensures.grows in
+    subst (IsKept t) (sym c.deref_mut.ensures.value)
+    (laying_keeps t c.args.places.now.items c.prepare.new.places.items [] 1 0 c.args.client (omega arith) tt tt (λ k out. c.prepare.ensures.places k) known)
+
+pub rewrite-requires-clause-within : goal.rewrite-requires-clause-within
+rewrite-requires-clause-within g c = subst (λ (ps : List Place). (k : ℕ) → Contains c.args.chain.now k → k < length ps) (sym c.deref_mut.ensures.value) c.in_ok-prepare.ensures.within
+
+pub returns-clause-wrote : goal.returns-clause-wrote
+returns-clause-wrote g c = on_ok c.rewrite.result c.rewrite.ensures.wrote (λ w.
+    wrote_after_grows (g.S.Slots.state c.args.slots.now) (g.S.Slots.state c.prepare.new.slots) (g.S.Slots.state c.rewrite.new.slots) c.args.client (length c.args.chain.now) c.args.chain.now (c.in_ok-prepare.ensures.cause.stays (λ e. cc e)) c.in_ok-prepare.ensures.grows w)
+
+pub returns-clause-others : goal.returns-clause-others
+returns-clause-others g c = on_ok c.rewrite.result c.rewrite.ensures.others (λ stays readable other ne.
+    let s = g.S.Slots.state c.args.slots.now in
+    let t = g.S.Slots.state c.prepare.new.slots in
+    stays (readable_on s t c.in_ok-prepare.ensures.grows.keeps.observable (c.in_ok-prepare.ensures.cause.stays (λ e. cc e)) readable) other ne
+    ∙ ap (λ (f : ℕ → List ℕ). row_at f other) (c.in_ok-prepare.ensures.grows.reads readable))
+
+pub returns-clause-inside : goal.returns-clause-inside
+returns-clause-inside g c = on_ok c.rewrite.result c.rewrite.ensures.wrote (λ w k there.
+    (ready_owner c.prepare.new.places.items c.args.chain.now c.args.row 0 (c.args.client + 1) c.in_ok-prepare.ensures.ready k there).0)
+
+pub returns-clause-within : goal.returns-clause-within
+returns-clause-within g c = on_ok c.rewrite.result c.rewrite.ensures.wrote (λ w k there.
+    let low = c.in_ok-prepare.ensures.within k there in
+    let same = c.rewrite.ensures.long in
+    let value = ap length c.deref_mut.ensures.value in
+    let many = c.prepare.new.places.ok.0 in
+    omega (arith, low, same, value, many, length-take {A = Place}, length-append {A = Place}, length-drop {A = Place}))

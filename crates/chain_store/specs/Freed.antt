@@ -1,0 +1,15 @@
+-- Which slots are free for rows.
+use Rattle.std.specs.Prelude.{◌≡◌, ◌≢◌, ℕ, ◌==◌, ◌||◌, Bool, false, List, [], ◌∷◌}
+use Rattle.row_chain.specs.Fragments.{ends}
+use Rattle.chain_store.specs.declared.places.Place.{Place}
+use Rattle.chain_store.specs.Places.{row_in}
+
+-- the free slots are the slots for rows that belong to no row
+pub record IsFreed (free : ℕ → ℕ) (places : List Place) : Type 0 where
+  pub taken : (k : ℕ) → row_in places k ≢ 0 → free k ≡ 0
+  pub every : (k : ℕ) → ends k ≡ false → row_in places k ≡ 0 → free k ≡ 1
+
+-- whether the slot is among these
+abbrev pub has : List ℕ → ℕ → Bool
+has [] k = false
+has (slot ∷ later) k = (k == slot) || has later k
