@@ -1,0 +1,5 @@
+pub mod Walk
+pub mod Sets
+pub mod Joined
+pub mod Filled
+pub mod Buffers
