@@ -66,8 +66,3 @@ named names s = record { name = name_in names s.output; bytes = s.bytes }
 -- the sections of these pieces: the default one, and the named outputs in the order of their first opening
 abbrev pub sections_of : List (List ℕ) → List Piece → List Section
 sections_of names pieces = map (named names) (with_pieces pieces (first_section ∷ []))
-
--- appends a text to the first section
-abbrev pub first_longer : List ℕ → List Section → List Section
-first_longer text [] = []
-first_longer text (s ∷ ss) = record s { bytes = s.bytes ++ text } ∷ ss

@@ -4,8 +4,7 @@
 
 pub mod output;
 pub mod section;
-pub mod writing;
+mod writing;
 
 pub use output::Output;
 pub use section::Section;
-pub use writing::write_default;

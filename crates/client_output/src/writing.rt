@@ -1,27 +1,28 @@
-//! Writing to the default section.
+//! Changes of one section among several.
 
-ghost use Rattle.std.specs.Prelude.{◌≡◌, ℕ, List, [], ◌∷◌, ◌++◌, None, OnOk, OnErr};
-ghost use Rattle.block_meaning.specs.declared.wants.Piece.{Piece};
-ghost use Rattle.client_output.specs.Sections.{sections_of, first_longer};
+ghost use Rattle.std.specs.Prelude.{◌≡◌, OnOk, OnErr};
+ghost use Rattle.client_output.specs.Written.{longer_at, emptied_at};
 
 use crate::section::Section;
-use std::alloc::AllocError;
+use abl_base::Bytes;
+use std::alloc::{AllocError, Global};
 
-/// Appends a text to the default section, which is the first one.
-pub fn write_default(sections: &mut [Section], text: &[u8]) -> Result<(), AllocError>
-    ensures ok { OnOk result ((names : List (List ℕ)) (pieces : List Piece) → sections.old ≡ sections_of names pieces → sections.new ≡ sections_of names (pieces ++ Piece.Wrote None text.now ∷ [])) }
-    ensures err { OnErr result (sections.new ≡ sections.old) }
+/// Appends a text to the section at the place.
+pub fn append_at(sections: &mut Vec<Section>, place: usize, text: &[u8]) -> Result<(), AllocError>
+    ensures ok { OnOk result (sections.new.items ≡ longer_at place text.now sections.old.items) }
+    ensures err { OnErr result (sections.new.items ≡ sections.old.items) }
 {
-    write_first(sections, text)
+    match sections.get_mut(place) {
+        Some(section) => section.bytes.extend_from_slice(text),
+        None => Ok(()),
+    }
 }
 
-/// Appends a text to the first section.
-fn write_first(sections: &mut [Section], text: &[u8]) -> Result<(), AllocError>
-    ensures ok { OnOk result (sections.new ≡ first_longer text.now sections.old) }
-    ensures err { OnErr result (sections.new ≡ sections.old) }
+/// Empties the section at the place.
+pub fn empty_at(alloc: Global, sections: &mut Vec<Section>, place: usize)
+    ensures { sections.new.items ≡ emptied_at place sections.old.items }
 {
-    match sections {
-        [] => Ok(()),
-        [first, ..] => first.bytes.extend_from_slice(text),
+    if let Some(section) = sections.get_mut(place) {
+        section.bytes = Bytes::empty(alloc);
     }
 }
