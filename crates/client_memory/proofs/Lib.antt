@@ -1,2 +1,3 @@
 pub mod Remembers
 pub mod Levels
+pub mod Ended

@@ -108,7 +108,7 @@ remembered_left old_values vss no_undo ms m =
 
 -- ---- restoring
 
-last_more : (cs : List Copy) (c : Copy) → last_copy (cs ++ c ∷ []) ≡ Some c
+pub last_more : (cs : List Copy) (c : Copy) → last_copy (cs ++ c ∷ []) ≡ Some c
 last_more [] c = refl
 last_more (a ∷ []) c = refl
 last_more (a ∷ b ∷ cs) c = last_more (b ∷ cs) c
@@ -137,7 +137,7 @@ variables_are m vss n R e1 e2 =
     ∙ ap (λ css. map (λ (x : Saved). x.undoable) (saved_of_all back css)) (e1 ∙ ap (λ n. replicate n []) len)
     ∙ variables_saved back
 
-length_saved_plain : (n : ℕ) (vss : Values) → n ≤ length vss → length (saved_of_all vss (replicate n [])) ≡ n
+pub length_saved_plain : (n : ℕ) (vss : Values) → n ≤ length vss → length (saved_of_all vss (replicate n [])) ≡ n
 length_saved_plain zero [] le = refl
 length_saved_plain zero (vs ∷ vss) le = refl
 length_saved_plain (suc n) [] le = absurd (omega (arith, le))
@@ -309,12 +309,12 @@ split_last {A = A} (x ∷ xs) lt =
     (r.0, r.1 ∙ ap (λ n. take n (x ∷ xs) ++ r.0 ∷ []) (let e : length xs ≡ length (x ∷ xs) - 1 = omega arith in e))
 
 -- no savepoint has more procedures than the innermost one
-fewer_frames : (old_values frames n low few : ℕ) (ms : List SavepointRs) (m : SavepointRs) → m.frames ≤ n → AreInOrder old_values frames low few (ms ++ m ∷ []) → AreInOrder old_values n low few (ms ++ m ∷ [])
+pub fewer_frames : (old_values frames n low few : ℕ) (ms : List SavepointRs) (m : SavepointRs) → m.frames ≤ n → AreInOrder old_values frames low few (ms ++ m ∷ []) → AreInOrder old_values n low few (ms ++ m ∷ [])
 fewer_frames old_values frames n low few [] m le h = (h.0, h.1, (h.2.0, le))
 fewer_frames old_values frames n low few (k ∷ ms) m le h = (h.0, h.1, fewer_frames old_values frames n k.old_values k.frames ms m le h.2)
 
 -- there is no savepoint, or an innermost one
-data Ends : List SavepointRs → Type 0 where
+pub data Ends : List SavepointRs → Type 0 where
   none_open : Ends []
   one_open : (ms : List SavepointRs) (m : SavepointRs) → Ends (ms ++ m ∷ [])
 
@@ -322,7 +322,7 @@ ends_more : (k : SavepointRs) (ms : List SavepointRs) → Ends ms → Ends (k �
 ends_more k ms none_open = one_open [] k
 ends_more k ms (one_open ns m) = one_open (k ∷ ns) m
 
-ends_in : (ms : List SavepointRs) → Ends ms
+pub ends_in : (ms : List SavepointRs) → Ends ms
 ends_in [] = none_open
 ends_in (k ∷ ms) = ends_more k ms (ends_in ms)
 

@@ -23,3 +23,9 @@ remembered undoable no_undo old_values ms = record { undoable = undoable; no_und
 abbrev pub AreInOrder : ℕ → ℕ → ℕ → ℕ → List SavepointRs → Type 0
 AreInOrder old_values frames low few [] = (low ≤ old_values) × (few ≤ frames)
 AreInOrder old_values frames low few (m ∷ ms) = (low ≤ m.old_values) × (few ≤ m.frames) × AreInOrder old_values frames m.old_values m.frames ms
+
+-- the number of procedures that were open when the innermost level began
+abbrev pub innermost_frames : List SavepointRs → ℕ
+innermost_frames [] = 0
+innermost_frames (m ∷ []) = m.frames
+innermost_frames (m ∷ k ∷ ms) = innermost_frames (k ∷ ms)

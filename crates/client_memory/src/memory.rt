@@ -6,6 +6,7 @@ ghost use Rattle.bound_tree.specs.declared.expression.Variable.{Variable};
 ghost use Rattle.client_undo.specs.Undo.{Values, with_value, value_at, restored_to, old_values_before, copy_at};
 ghost use Rattle.client_memory.specs.Memory.{Remembered, begun, ended, IsOuter, frame_of as procedure_of, value_now, set_variable, entered, left, left_to, restored, last_copy, IsWhole, HasVariablesOnly};
 ghost use Rattle.client_memory.specs.OldValues.{old_values_of};
+ghost use Rattle.client_memory.specs.Savepoints.{innermost_frames};
 
 use crate::slots::Slots;
 use abl_base::Value;
@@ -71,6 +72,16 @@ fn restore(frames: &mut Vec<Slots>, old_values: &mut Vec<OldValue>, at: usize)
     }
 }
 
+/// The number of procedures that were open when the innermost level began.
+fn outer_procedures(savepoints: &[Savepoint]) -> usize
+    ensures { result ≡ innermost_frames savepoints.now }
+{
+    match savepoints.last() {
+        Some(savepoint) => savepoint.frames,
+        None => 0,
+    }
+}
+
 /// The variables of the open procedures, and the open levels.
 #[derive(Drop)]
 pub struct Memory {
@@ -120,14 +131,16 @@ impl Memory {
         Ok(())
     }
 
-    /// The innermost procedure ends; no level was opened in it. The copies stay the same.
+    /// The innermost procedure ends, where no level is open that began in it. The copies stay the
+    /// same.
     pub fn end(&mut self)
-        requires { IsOuter self.old }
-        ensures { self.new ≡ ended self.old }
+        ensures { IsOuter self.old → self.new ≡ ended self.old }
     {
         let count = self.undoable.len().saturating_sub(1);
-        self.undoable.truncate(count);
-        self.no_undo.truncate(count);
+        if outer_procedures(&self.savepoints) <= count {
+            self.undoable.truncate(count);
+            self.no_undo.truncate(count);
+        }
     }
 
     /// The number of open levels.
