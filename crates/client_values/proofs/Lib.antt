@@ -1,0 +1,4 @@
+pub mod Scopes
+pub mod Assigned
+pub mod Each
+pub mod Headers
