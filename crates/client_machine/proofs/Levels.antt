@@ -1,0 +1,109 @@
+-- A level that begins: what is open keeps its copies, and the new one is the whole copy of the state.
+use Rattle.std.proofs.Common.{◌≡◌, ℕ, ◌+◌, ◌-◌, List, [], ◌∷◌, ◌++◌, length, Bool, Option, Some, None, refl, sym, ap, ◌∙◌, arith}
+use Rattle.std.specs.Prelude.{map, reverse}
+use Rattle.std.proofs.lemmas.List.{get_or_append_left, get_or_at, length-append}
+use Rattle.block_meaning.specs.State as state
+use Rattle.block_meaning.specs.State.{State, CallFrame, Copy, Saved}
+use Rattle.block_meaning.specs.Frames.{saved_of, copy_of}
+use Rattle.block_meaning.specs.Blocks as blocks
+use Rattle.block_flat.specs.Flat as flat
+use Rattle.bound_tree.specs.Tree.{Header}
+use Rattle.client_undo.specs.Undo.{Values}
+use Rattle.client_undo.proofs.Copies.{map_reverse}
+use Rattle.client_memory.specs.Memory.{Remembered, saved_now, entered}
+use Rattle.block_code.specs.declared.code.Instr.{Instr}
+use Rattle.client_machine.specs.declared.mode.IterationData.{IterationData}
+use Rattle.client_machine.specs.declared.mode.PassedLevels.{PassedLevels}
+use Rattle.client_machine.specs.declared.mode.Completion.{Completion}
+use Rattle.client_machine.specs.declared.mode.Completion.TheVariants as completion
+use Rattle.client_machine.specs.declared.mode.Task.{Task}
+use Rattle.client_machine.specs.declared.mode.Task.TheVariants as task
+use Rattle.client_machine.specs.declared.mode.StackEntry.{StackEntry}
+use Rattle.client_machine.specs.declared.mode.StackEntry.TheVariants as stack
+use Rattle.client_machine.specs.Config.{header_at, body_at, no_copy, copy_in, turn_of, iteration_of, after_undo_of, passed_of, completion_of, task_of, entry_of, stack_of, frames_out, state_of, IsBelow, WayBelow, TaskBelow, OpenBelow, AllBelow, AreEven}
+
+-- ---- one more copy
+
+copy_same : (cs : List Copy) (c : Copy) (d : Option ℕ) → IsBelow (length cs) d → copy_in (cs ++ c ∷ []) d ≡ copy_in cs d
+copy_same cs c None below = refl
+copy_same cs c (Some d) below = ap (λ (x : Copy). Some x) (get_or_append_left cs (c ∷ []) no_copy (d - 1) (omega (arith, below.0, below.1)))
+
+iteration_same : (cs : List Copy) (c : Copy) (o : IterationData) → IsBelow (length cs) o.depth → iteration_of (cs ++ c ∷ []) o ≡ iteration_of cs o
+iteration_same cs c o below = ap (λ (x : Option Copy). let i : blocks.Iteration = record { copy = x; turn = turn_of o.turn } in i) (copy_same cs c o.depth below)
+
+behind_same : (cs : List Copy) (c : Copy) (x : PassedLevels) → IsBelow (length cs) x.first → passed_of (cs ++ c ∷ []) x ≡ passed_of cs x
+behind_same cs c x below = ap (λ (k : Option Copy). let b : state.Passed = record { first = k; buffers = [] } in b) (copy_same cs c x.first below)
+
+way_same : (code : List Instr) (cs : List Copy) (c : Copy) (w : Completion) → WayBelow (length cs) w → completion_of code (cs ++ c ∷ []) w ≡ completion_of code cs w
+way_same code cs c (completion.Undoes block a retry x) below = ap (state.Undoes block (after_undo_of code a) retry) (behind_same cs c x below)
+way_same code cs c (completion.Raises x) below = ap state.Raises (behind_same cs c x below)
+way_same code cs c (completion.EndKeys x) below = ap state.EndKeys (behind_same cs c x below)
+way_same code cs c completion.Normal below = refl
+way_same code cs c (completion.Again t) below = refl
+way_same code cs c (completion.Leaves l) below = refl
+way_same code cs c (completion.Nexts l) below = refl
+way_same code cs c (completion.Faults f) below = refl
+way_same code cs c (completion.Returns error) below = refl
+way_same code cs c (completion.Stops why) below = refl
+
+task_same : (code : List Instr) (cs : List Copy) (c : Copy) (t : Task) → TaskBelow (length cs) t → task_of code (cs ++ c ∷ []) t ≡ task_of code cs t
+task_same code cs c (task.RunsFrom k d retry) below = refl
+task_same code cs c (task.Blocks k outer d) below = refl
+task_same code cs c (task.Turns n k outer d t) below = refl
+task_same code cs c (task.EntersLevel k t retry d) below = refl
+task_same code cs c (task.Begins k depth t retry d) below = ap (λ x. flat.Begins (header_at code k) x (turn_of t) retry (body_at code k) d) (copy_same cs c depth below)
+task_same code cs c (task.Iterates k outer d t) below = refl
+task_same code cs c (task.UndoComes k o block a retry x) below =
+    ap (λ i. flat.UndoComes (header_at code k) i block (after_undo_of code a) retry (passed_of (cs ++ c ∷ []) x)) (iteration_same cs c o below.0)
+    ∙ ap (λ b. flat.UndoComes (header_at code k) (iteration_of cs o) block (after_undo_of code a) retry b) (behind_same cs c x below.1)
+task_same code cs c (task.GoesBack depth) below = ap (λ x. flat.GoesBack x []) (copy_same cs c depth below)
+task_same code cs c (task.Acts k t a retry) below = refl
+task_same code cs c task.LeavesNow below = refl
+task_same code cs c (task.Calls k d vs) below = refl
+task_same code cs c (task.Completes w) below = ap flat.Completes (way_same code cs c w below)
+task_same code cs c (task.EndsWith k o w) below =
+    ap (λ i. flat.EndsWith (header_at code k) i (completion_of code (cs ++ c ∷ []) w)) (iteration_same cs c o below.0)
+    ∙ ap (λ x. flat.EndsWith (header_at code k) (iteration_of cs o) x) (way_same code cs c w below.1)
+
+open_same : (code : List Instr) (cs : List Copy) (c : Copy) (k : StackEntry) → OpenBelow (length cs) k → entry_of code (cs ++ c ∷ []) k ≡ entry_of code cs k
+open_same code cs c (stack.Then t) below = ap flat.ThenDo (task_same code cs c t below)
+open_same code cs c (stack.Handles quiet) below = refl
+open_same code cs c (stack.In k o) below = ap (flat.In (header_at code k)) (iteration_same cs c o below)
+open_same code cs c (stack.AndAgain n k outer d) below = refl
+open_same code cs c (stack.Called k) below = refl
+
+pub opens_same : (code : List Instr) (cs : List Copy) (c : Copy) (ks : List StackEntry) → AllBelow (length cs) ks → stack_of code (cs ++ c ∷ []) ks ≡ stack_of code cs ks
+opens_same code cs c [] below = refl
+opens_same code cs c (k ∷ ks) below =
+    ap (λ x. x ∷ stack_of code (cs ++ c ∷ []) ks) (open_same code cs c k below.0)
+    ∙ ap (λ xs. entry_of code cs k ∷ xs) (opens_same code cs c ks below.1)
+
+-- ---- the copy
+
+saved_frames : (ns : List ℕ) (uss kss : Values) → length ns ≡ length uss → length ns ≡ length kss → map saved_of (frames_out ns uss kss) ≡ map saved_now uss
+saved_frames [] [] kss e1 e2 = refl
+saved_frames [] (us ∷ uss) kss e1 e2 = absurd (omega (arith, e1))
+saved_frames (n ∷ ns) [] kss e1 e2 = absurd (omega (arith, e1))
+saved_frames (n ∷ ns) (us ∷ uss) [] e1 e2 = absurd (omega (arith, e2))
+saved_frames (n ∷ ns) (us ∷ uss) (ks ∷ kss) e1 e2 = ap (λ xs. saved_now us ∷ xs) (saved_frames ns uss kss (omega (arith, e1)) (omega (arith, e2)))
+
+abbrev copy_with : ℕ → ℕ → List Saved → Copy
+copy_with d made fs = record { depth = d; made = made; frames = fs }
+
+pub the_copy : (rest : State) (ns : List ℕ) (m : Remembered) (units : ℕ) → AreEven ns m → rest.made ≡ 0 → copy_with (length m.copies + 1) 0 (reverse (map saved_now m.undoable)) ≡ copy_of (state_of rest ns m units)
+the_copy rest ns m units even none =
+    ap (λ fs. copy_with (length m.copies + 1) 0 fs) (ap reverse (sym (saved_frames ns m.undoable m.no_undo even.0 even.1)) ∙ sym (map_reverse saved_of (frames_out ns m.undoable m.no_undo)))
+    ∙ ap (λ n. copy_with (length m.copies + 1) n (map saved_of (reverse (frames_out ns m.undoable m.no_undo)))) (sym none)
+
+-- a level begins
+pub level_begins : (rest : State) (code : List Instr) (ks : List StackEntry) (ns : List ℕ) (m m' : Remembered) (units depth : ℕ) (b : Header) (body d : ℕ) (t : state.Turn) (retry : Bool) → m' ≡ entered 0 m → AllBelow (length m.copies) ks → AreEven ns m → rest.made ≡ 0 → depth ≡ length m.copies + 1 →
+    flat.config (flat.Execute (flat.Begins b (copy_in m'.copies (Some depth)) t retry body d)) (stack_of code m'.copies ks) (state_of rest ns m' units)
+    ≡ flat.config (flat.Execute (flat.Begins b (Some (copy_of (state_of rest ns m units))) t retry body d)) (stack_of code m.copies ks) (blocks.deeper (state_of rest ns m units))
+level_begins rest code ks ns m m' units depth b body d t retry is below even none deep =
+    let c = copy_with (length m.copies + 1) 0 (reverse (map saved_now m.undoable)) in
+    let found : copy_in (m.copies ++ c ∷ []) (Some depth) ≡ Some (copy_of (state_of rest ns m units)) =
+    ap (λ (x : Copy). Some x) (get_or_at m.copies c [] no_copy (depth - 1) (omega (arith, deep)) ∙ the_copy rest ns m units even none) in
+    ap (λ (x : Remembered). flat.config (flat.Execute (flat.Begins b (copy_in x.copies (Some depth)) t retry body d)) (stack_of code x.copies ks) (state_of rest ns x units)) is
+    ∙ ap (λ x. flat.config (flat.Execute (flat.Begins b x t retry body d)) (stack_of code (m.copies ++ c ∷ []) ks) (state_of rest ns (entered 0 m) units)) found
+    ∙ ap (λ xs. flat.config (flat.Execute (flat.Begins b (Some (copy_of (state_of rest ns m units))) t retry body d)) xs (state_of rest ns (entered 0 m) units)) (opens_same code m.copies c ks below)
+    ∙ ap (λ n. flat.config (flat.Execute (flat.Begins b (Some (copy_of (state_of rest ns m units))) t retry body d)) (stack_of code m.copies ks) (record (state_of rest ns m units) { level = n })) (length-append m.copies (c ∷ []))

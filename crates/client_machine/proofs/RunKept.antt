@@ -1,0 +1,181 @@
+-- What is kept, from one mode to another.
+use Rattle.std.proofs.Common.{◌≤◌, ◌<◌, length, ◌≡◌, ◌⊎◌, Bool, ℕ, ◌+◌, ◌-◌, List, [], ◌∷◌, ◌++◌, Some, None, refl, sym, ap, ◌∙◌, subst, arith}
+use Rattle.std.specs.Prelude.{Result, Ok, Err, OnOk, reverse, slice_get}
+use Rattle.client_database.specs.declared.answer.Answer.{Answer}
+use Rattle.client_database.specs.declared.operation.Op.TheVariants as op
+use Rattle.bound_tree.specs.Tree.{Body, Header}
+use Rattle.client_database.specs.declared.next_step.NextStep.TheVariants.{Ask}
+use Rattle.block_meaning.specs.State.{State, Copy, Progress, Turn, Done, and_then}
+use Rattle.block_meaning.specs.Program.{Program}
+use Rattle.block_meaning.specs.Meaning.{finished}
+use Rattle.block_flat.specs.Flat as flat
+use Rattle.block_flat.specs.Flat.{IsCodeOf}
+use Rattle.block_flat.proofs.Machine.{asks_means, step_means}
+use Rattle.block_meaning.proofs.Continues.{begins_itself}
+use Rattle.std.proofs.lemmas.List.{reverse-append}
+use Rattle.client_machine.specs.declared.machine.Machine.{Machine}
+use Rattle.client_machine.specs.declared.mode.Mode.{Mode}
+use Rattle.client_machine.specs.declared.mode.Mode.TheVariants as mode
+use Rattle.client_machine.specs.declared.mode.Task.{Task}
+use Rattle.client_machine.specs.declared.mode.Completion.{Completion}
+use Rattle.client_machine.specs.declared.mode.Completion.TheVariants as completion
+use Rattle.client_database.specs.declared.ends.StopWhy.TheVariants as why
+use Rattle.client_machine.proofs.Orders.{ask_order}
+use Rattle.client_machine.proofs.Nestings.{depth_at, level_count, level_open}
+use Rattle.block_meaning.specs.Blocks.{retry_in, closes, after_iteration}
+use Rattle.block_meaning.specs.Buffers.{releases_all}
+use Rattle.client_machine.specs.declared.mode.OnAnswer.{OnAnswer}
+use Rattle.client_machine.specs.declared.mode.OnAnswer.TheVariants as on_answer
+use Rattle.block_code.specs.declared.code.Instr.{Instr}
+use Rattle.client_machine.specs.declared.mode.Task.TheVariants as task
+use Rattle.block_meaning.specs.State as state
+use Rattle.block_meaning.specs.Blocks as blocks
+use Rattle.client_machine.specs.Config.{instr_or, instr_at, mode_of, task_of, completion_of, on_answer_of, op_of, AreEven}
+use Rattle.block_code.specs.Code.{instr_of, header_in, body_in}
+use Rattle.client_machine.specs.Machine.{config_of, stack_in, state_in}
+use Rattle.client_machine.specs.Order.{Nesting, nesting_of, InOrder, HaveDepths, AskingInOrder, ModeInOrder, TaskInOrder, CompletesInOrder}
+use Rattle.client_machine.proofs.Fits.{refits, refit, same_code, has_same}
+use Rattle.client_machine.specs.Step.{code_in, FitsIn, RunKept, KeepsRun, KeepsTask, KeepsCompletion, Wants, IsOfOpenLevels, AsksOpenLevels, asked_op}
+
+pub on_ok : {A E : Type 0} {P Q : Type 0} (r : Result A E) → (P → Q) → OnOk r P → OnOk r Q
+on_ok (Ok x) f p = f p
+on_ok (Err e) f p = p
+
+pub on_two : {A E : Type 0} {P Q S : Type 0} (r : Result A E) → (P → Q → S) → OnOk r P → OnOk r Q → OnOk r S
+on_two (Ok x) f p q = f p q
+on_two (Err e) f p q = p
+
+pub on_three : {A E : Type 0} {P Q R S : Type 0} (r : Result A E) → (P → Q → R → S) → OnOk r P → OnOk r Q → OnOk r R → OnOk r S
+on_three (Ok x) f p q s = f p q s
+on_three (Err e) f p q s = p
+
+rekept : (tree : ℕ → Body) (p : Program) (c : flat.Config) (rest : State) (x : Mode) (old new : Machine) → RunKept tree p c [] rest.written (record old { mode = x }) new → RunKept tree p c [] rest.written old new
+rekept tree p c rest x old new k = record { rest = k.rest; code = k.code; fits = k.fits; more = k.more; has = k.has; same = k.same }
+
+pub execute_keeps : (task : Task) (x : Mode) (old new : Machine) → mode.Execute task ≡ old.mode → KeepsTask task (record old { mode = x }) new → KeepsRun [] old new
+execute_keeps task x old new e task_kept = λ tree p rest is fits.
+    subst (λ m. RunKept tree p (flat.config (mode_of old.code.instrs.items old.memory.copies m) (stack_in old) (state_in rest old)) [] rest.written old new) e
+    (rekept tree p (flat.config (mode_of old.code.instrs.items old.memory.copies (mode.Execute task)) (stack_in old) (state_in rest old)) rest x old new
+    (task_kept tree p rest is (refit p rest (mode.Execute task) x old (subst (λ m. FitsIn p rest m old) (sym e) fits))))
+
+pub unwind_keeps : (completion : Completion) (x : Mode) (old new : Machine) → mode.Unwind completion ≡ old.mode → KeepsCompletion completion (record old { mode = x }) new → KeepsRun [] old new
+unwind_keeps completion x old new e task_kept = λ tree p rest is fits.
+    subst (λ m. RunKept tree p (flat.config (mode_of old.code.instrs.items old.memory.copies m) (stack_in old) (state_in rest old)) [] rest.written old new) e
+    (rekept tree p (flat.config (mode_of old.code.instrs.items old.memory.copies (mode.Unwind completion)) (stack_in old) (state_in rest old)) rest x old new
+    (task_kept tree p rest is (refit p rest (mode.Unwind completion) x old (subst (λ m. FitsIn p rest m old) (sym e) fits))))
+
+-- ---- the operation that is asked
+
+asked_is : (k : OnAnswer) (p : Program) (rest : State) (m : Machine) → FitsIn p rest (mode.Await k) m → op_of m.memory.copies k ≡ asked_op k
+asked_is (on_answer.WasEntered k t retry d) p rest m f = refl
+asked_is (on_answer.WasBack depth) p rest m f =
+    ap op.Back (depth_at 0 m.memory.copies (depth - 1) f.whole (let le = level_open m.memory depth f.order.0 in omega (arith, f.order.0.0, le)) ∙ (let e : 0 + (depth - 1) + 1 ≡ depth = omega (arith, f.order.0.0) in e))
+asked_is on_answer.WasLeft p rest m f = refl
+
+shows_by : (k : OnAnswer) (m : Machine) (x : Mode) → x ≡ mode.Await k → (tree : ℕ → Body) (p : Program) (rest : State) → FitsIn p rest x m →
+    finished (flat.means tree p (flat.config (mode_of m.code.instrs.items m.memory.copies x) (stack_in m) (state_in rest m)) []) ≡ (let d : Progress = record { written = rest.written; wants = Ask (asked_op k) } in d)
+shows_by k m x e tree p rest f =
+    ap (λ x. finished (flat.means tree p (flat.config (mode_of m.code.instrs.items m.memory.copies x) (stack_in m) (state_in rest m)) [])) e
+    ∙ ap finished (asks_means tree p (op_of m.memory.copies k) (on_answer_of m.code.instrs.items m.memory.copies k) (stack_in m) (state_in rest m))
+    ∙ ap (λ o. let d : Progress = record { written = rest.written; wants = Ask o } in d) (asked_is k p rest m (subst (λ x. FitsIn p rest x m) e f))
+
+pub shows_asked : (k : OnAnswer) (m : Machine) → m.mode ≡ mode.Await k → Wants (Ask (asked_op k)) m
+shows_asked k m e = λ tree p rest f. shows_by k m m.mode e tree p rest f
+
+-- with these levels open
+levels_by : (k : OnAnswer) (m : Machine) → AskingInOrder (nesting_of m.memory) k (reverse m.stack.items) → IsOfOpenLevels (length m.memory.copies) (Ask (asked_op k))
+levels_by (on_answer.WasEntered k t retry d) m o = tt
+levels_by (on_answer.WasBack depth) m o = (o.0.0, subst (λ n. depth ≤ n) (level_count m.memory) o.0.1)
+levels_by on_answer.WasLeft m o = (refl, subst (λ n. 0 < n) (level_count m.memory) o.0)
+
+pub asks_open_levels : (k : OnAnswer) (m : Machine) → m.mode ≡ mode.Await k → AsksOpenLevels (Ask (asked_op k)) m
+asks_open_levels k m e = λ p rest f. levels_by k m (subst (λ x. ModeInOrder (nesting_of m.memory) x (reverse m.stack.items)) e f.order)
+
+-- ---- a task, by the step of the machine
+
+pub task_kept_same : (task : Task) (old new : Machine) → (let m : Machine = record old { mode = new.mode; stack = new.stack; units = new.units } in new ≡ m) →
+    (TaskInOrder (nesting_of old.memory) task (reverse old.stack.items) → ModeInOrder (nesting_of old.memory) new.mode (reverse new.stack.items)) →
+    ((tree : ℕ → Body) (p : Program) (rest : State) → IsCodeOf (code_in old) p tree → FitsIn p rest (mode.Execute task) old → (ans : List Answer) → flat.means tree p (flat.config (flat.Execute (task_of old.code.instrs.items old.memory.copies task)) (stack_in old) (state_in rest old)) ans ≡ flat.means tree p (config_of rest new) ans) →
+    KeepsTask task old new
+task_kept_same task old new moved order means_same = λ tree p rest is f.
+    let moved' = moved ∙ ap (λ k. record old { mode = new.mode; stack = new.stack; units = new.units; memory = k }) (sym (ap (λ (m : Machine). m.memory) moved)) in
+    record {
+      rest = rest;
+      code = same_code old new moved';
+      fits = refits p rest (mode.Execute task) new.mode old new moved' f
+          (subst (λ (m : Machine). AreEven m.procedures.items m.memory) (sym moved) f.even)
+          (subst (λ (m : Machine). HaveDepths 0 m.memory.copies) (sym moved) f.whole)
+          (subst (λ (m : Machine). ModeInOrder (nesting_of m.memory) new.mode (reverse new.stack.items)) (sym moved) (order f.order));
+      more = begins_itself rest.written;
+      has = has_same old new rest.written moved';
+      same = means_same tree p rest is f;
+    }
+
+pub task_kept : (task : Task) (old new : Machine) → (let m : Machine = record old { mode = new.mode; stack = new.stack; units = new.units } in new ≡ m) →
+    (TaskInOrder (nesting_of old.memory) task (reverse old.stack.items) → ModeInOrder (nesting_of old.memory) new.mode (reverse new.stack.items)) →
+    ((tree : ℕ → Body) (p : Program) (rest : State) → FitsIn p rest (mode.Execute task) old → config_of rest new ≡ flat.task_step (code_in old) p (task_of old.code.instrs.items old.memory.copies task) (stack_in old) (state_in rest old)) →
+    KeepsTask task old new
+task_kept task old new moved order steps =
+    task_kept_same task old new moved order (λ tree p rest is f ans.
+    step_means (code_in old) tree p is (flat.config (flat.Execute (task_of old.code.instrs.items old.memory.copies task)) (stack_in old) (state_in rest old)) ans ∙ ap (λ c. flat.means tree p c ans) (sym (steps tree p rest f)))
+
+pub completion_kept : (completion : Completion) (old new : Machine) → (let m : Machine = record old { mode = new.mode; stack = new.stack; units = new.units } in new ≡ m) →
+    (CompletesInOrder (nesting_of old.memory) completion (reverse old.stack.items) → ModeInOrder (nesting_of old.memory) new.mode (reverse new.stack.items)) →
+    ((p : Program) (rest : State) → config_of rest new ≡ flat.over_step p (stack_in old) (completion_of old.code.instrs.items old.memory.copies completion) (state_in rest old)) →
+    KeepsCompletion completion old new
+completion_kept completion old new moved order steps = λ tree p rest is f.
+    let moved' = moved ∙ ap (λ k. record old { mode = new.mode; stack = new.stack; units = new.units; memory = k }) (sym (ap (λ (m : Machine). m.memory) moved)) in
+    record {
+      rest = rest;
+      code = same_code old new moved';
+      fits = refits p rest (mode.Unwind completion) new.mode old new moved' f
+          (subst (λ (m : Machine). AreEven m.procedures.items m.memory) (sym moved) f.even)
+          (subst (λ (m : Machine). HaveDepths 0 m.memory.copies) (sym moved) f.whole)
+          (subst (λ (m : Machine). ModeInOrder (nesting_of m.memory) new.mode (reverse new.stack.items)) (sym moved) (order f.order));
+      more = begins_itself rest.written;
+      has = has_same old new rest.written moved';
+      same = λ ans. step_means (code_in old) tree p is (flat.config (flat.Unwind (completion_of old.code.instrs.items old.memory.copies completion)) (stack_in old) (state_in rest old)) ans ∙ ap (λ c. flat.means tree p c ans) (sym (steps p rest));
+    }
+
+-- ---- an entry more
+
+pub pushed : {A : Type 0} (xs ys : List A) (x : A) → ys ≡ xs ++ x ∷ [] → reverse ys ≡ x ∷ reverse xs
+pushed xs ys x e = ap reverse e ∙ reverse-append xs (x ∷ [])
+
+-- where it asks
+pub task_kept_ask : (task : Task) (k : OnAnswer) (old new : Machine) → (let m : Machine = record old { mode = new.mode; units = new.units } in new ≡ m) → (new.mode ≡ mode.Await k) ⊎ (new.mode ≡ mode.Unwind (completion.Stops why.Budget)) →
+    (TaskInOrder (nesting_of old.memory) task (reverse old.stack.items) → AskingInOrder (nesting_of old.memory) k (reverse old.stack.items)) →
+    ((tree : ℕ → Body) (p : Program) (rest : State) → FitsIn p rest (mode.Execute task) old → config_of rest new ≡ flat.task_step (code_in old) p (task_of old.code.instrs.items old.memory.copies task) (stack_in old) (state_in rest old)) →
+    KeepsTask task old new
+task_kept_ask task k old new moved is order steps =
+    let same : new.stack ≡ old.stack = ap (λ (m : Machine). m.stack) moved in
+    task_kept task old new (moved ∙ ap (λ o. record old { mode = new.mode; stack = o; units = new.units }) (sym same))
+    (λ x. ask_order (nesting_of old.memory) k new.mode (reverse new.stack.items) is (subst (λ o. AskingInOrder (nesting_of old.memory) k (reverse o.items)) (sym same) (order x))) steps
+
+-- a turn
+pub task_kept_turn : (task : Task) (old new : Machine) → (let m : Machine = record old { mode = new.mode; stack = new.stack } in new ≡ m) →
+    (TaskInOrder (nesting_of old.memory) task (reverse old.stack.items) → ModeInOrder (nesting_of old.memory) new.mode (reverse new.stack.items)) →
+    ((tree : ℕ → Body) (p : Program) (rest : State) → FitsIn p rest (mode.Execute task) old → config_of rest new ≡ flat.task_step (code_in old) p (task_of old.code.instrs.items old.memory.copies task) (stack_in old) (state_in rest old)) →
+    KeepsTask task old new
+task_kept_turn task old new moved order steps = task_kept task old new (moved ∙ ap (λ u. record old { mode = new.mode; stack = new.stack; units = u }) (sym (ap (λ (m : Machine). m.units) moved))) order steps
+
+-- ---- an instruction
+
+pub instr_is : (code : List Instr) (k : ℕ) (i : Instr) → slice_get code k ≡ Some i → instr_at code k ≡ instr_of i
+instr_is code k i e = ap instr_or e
+
+pub opens_is : (x : flat.Instr) (b : Header) (body next : ℕ) → x ≡ flat.Opens b body next → x ≡ flat.Opens (header_in x) (body_in x) next
+opens_is x b body next e = e ∙ ap (λ y. flat.Opens (header_in y) (body_in y) next) (sym e)
+
+pub runs_by : (old new : Machine) (place left : ℕ) (retry : Bool) (i : flat.Instr) → instr_at old.code.instrs.items place ≡ i →
+    (let m : Machine = record old { mode = new.mode; stack = new.stack; units = new.units } in new ≡ m) →
+    ((n : Nesting) → InOrder n (reverse old.stack.items) → ModeInOrder n new.mode (reverse new.stack.items)) →
+    ((rest : State) (p : Program) → config_of rest new ≡ flat.instr_step p i left retry (stack_in old) (state_in rest old)) →
+    KeepsTask (task.RunsFrom place left retry) old new
+runs_by old new place left retry i e moved order steps =
+    task_kept (task.RunsFrom place left retry) old new moved (λ o. order (nesting_of old.memory) o.1) (λ tree p rest f. steps rest p ∙ ap (λ x. flat.instr_step p x left retry (stack_in old) (state_in rest old)) (sym e))
+
+-- ---- a block that is over
+
+pub closes_over : (p : Program) (b : Header) (o : blocks.Iteration) (w : state.Completion) (s : State) (ans : List Answer) → b.scoped ≡ [] → closes p b o w s ans ≡ Done (after_iteration b o w) s ans
+closes_over p b o w s ans none = ap (λ bs. and_then (releases_all p bs s ans) (state.completes (after_iteration b o w))) none

@@ -1,0 +1,17 @@
+use Rattle.std.proofs.Common.{sym, ap, ◌∙◌}
+use Rattle.client_database.specs.declared.operation.Op.TheVariants as op
+use Rattle.block_flat.specs.Flat as flat
+use Rattle.client_machine.specs.declared.mode.Task.TheVariants as task
+use Rattle.client_machine.specs.declared.mode.OnAnswer.TheVariants as on_answer
+use Rattle.client_machine.specs.Machine.{stack_in, state_in}
+use Rattle.client_machine.proofs.Left.{nothing_kept}
+use Rattle.client_machine.proofs.RunKept.{task_kept_ask}
+use Rattle.client_machine.proofs.machine.Machine.leaves_now.Goals as goal
+
+pub returns-clause-ok : goal.returns-clause-ok
+returns-clause-ok c =
+    let old = c.args.self.now in
+    task_kept_ask task.LeavesNow on_answer.WasLeft old c.ask.new.self c.ask.ensures.moved c.ask.ensures.mode (λ o. o)
+    (λ tree p rest f.
+    c.ask.ensures.asks rest
+    ∙ ap (λ rows. flat.ask (op.Leave rows) flat.WasLeft (stack_in old) (state_in rest old)) (sym (nothing_kept rest old.procedures.items old.memory old.units)))

@@ -1,0 +1,11 @@
+pub mod Actions
+pub mod Config
+pub mod Machine
+pub mod Inputs
+pub mod Order
+pub mod Undone
+pub mod Step
+pub mod Shows
+pub mod KeepsFrom
+pub mod InstrClasses
+pub mod AnswerClass

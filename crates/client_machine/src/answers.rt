@@ -1,0 +1,179 @@
+//! What follows an answer.
+
+ghost use Rattle.std.specs.Prelude.{Bool, Option, ◌≡◌, ◌⊎◌, ◌∷◌, [], ℕ, List, None, Some, OnOk, OnErr, IfSome, true, false, reverse};
+ghost use Rattle.client_database.specs.declared.answer.Answer.{Answer};
+ghost use Rattle.client_database.specs.declared.operation.Op.{Op};
+ghost use Rattle.client_database.specs.declared.next_step.NextStep.{NextStep};
+ghost use Rattle.bound_tree.specs.Tree.{Body};
+ghost use Rattle.block_meaning.specs.State.{State};
+ghost use Rattle.block_meaning.specs.Program.{Program};
+ghost use Rattle.block_meaning.specs.Meaning.{finished};
+ghost use Rattle.block_flat.specs.Flat.{means};
+ghost use Rattle.block_flat.specs.Works.{IsRunning};
+ghost use Rattle.block_flat.specs.Flat as flat;
+ghost use Rattle.block_meaning.specs.State.{Copy, Done};
+ghost use Rattle.block_meaning.specs.Blocks.{own_or_outer, after_iteration, iterates, acts, instead_of_retry};
+ghost use Rattle.bound_tree.specs.Bound.{action_of};
+ghost use Rattle.block_code.specs.declared.code.Instr.{Instr};
+ghost use Rattle.client_machine.specs.declared.mode.StackEntry.{StackEntry};
+ghost use Rattle.client_machine.specs.InstrClasses.{IsOfClass};
+ghost use Rattle.client_machine.specs.Order.{outer_of, ClosesIteration, InOrder, Named, first_in, ModeInOrder};
+ghost use Rattle.client_machine.specs.Config.{mode_of, entry_of, completion_of, turn_of, after_undo_of, instr_at, header_at, body_at};
+ghost use Rattle.client_output.specs.Written.{IsUnchanged};
+ghost use Rattle.client_machine.specs.Machine.{config_of, stack_in, state_in};
+ghost use Rattle.client_machine.specs.AnswerClass.{IsOfAnswerClass, KeepsAnswer};
+ghost use Rattle.client_machine.specs.declared.answers.AnswerClass.{AnswerClass};
+ghost use Rattle.client_machine.specs.declared.mode.OnAnswer.{OnAnswer};
+ghost use Rattle.client_machine.specs.Step.{Fits, KeepsRun, KeepsTask, KeepsCompletion, Wants, IsAwaiting, IsAtEnd, asked_op};
+ghost use Rattle.client_machine.specs.declared.mode.Mode.{Mode};
+ghost use Rattle.client_machine.specs.declared.mode.Task.{Task};
+ghost use Rattle.client_machine.specs.declared.mode.Completion.{Completion};
+
+use crate::machine::{Machine, mode_again, mode_then};
+use crate::mode::{
+    AfterUndo, Completion, IterationData, Mode, OnAnswer, PassedLevels, StackEntry, Task, TurnData,
+};
+use abl_base::{Bytes, Value};
+use block_code::Instr;
+use bound_tree::{Action, BlockKind, Stmt};
+use client_database::{Answer, ClientEnd, NextStep, Op, RowIds, StopWhy};
+use std::alloc::{AllocError, Global};
+use std::mem;
+
+/// How a client treats an answer.
+#[derive(Clone, Copy, Debug)]
+pub enum AnswerClass {
+    Blocked,
+    Stops(StopWhy),
+    NoMemory,
+    Done,
+}
+
+/// How a client treats an answer.
+fn answer_class(answer: &Answer) -> AnswerClass
+    ensures { IsOfAnswerClass result answer.now }
+{
+    match answer {
+        Answer::Blocked { .. } => AnswerClass::Blocked,
+        Answer::NoMemory => AnswerClass::NoMemory,
+        Answer::Closed => AnswerClass::Stops(StopWhy::Closed),
+        Answer::Deadlock { .. } => AnswerClass::Stops(StopWhy::Deadlock),
+        Answer::TxFull => AnswerClass::Stops(StopWhy::TxFull),
+        Answer::TraceFull => AnswerClass::Stops(StopWhy::TraceFull),
+        Answer::Refused => AnswerClass::Done,
+        Answer::Gone => AnswerClass::Done,
+        Answer::KeyTooLong { .. } => AnswerClass::Done,
+        Answer::Busy { .. } => AnswerClass::Done,
+        Answer::Duplicate { .. } => AnswerClass::Done,
+        Answer::Full => AnswerClass::Done,
+        Answer::SequenceEnd => AnswerClass::Done,
+        Answer::AtEnd => AnswerClass::Done,
+        Answer::Done => AnswerClass::Done,
+        Answer::Committed { .. } => AnswerClass::Done,
+        Answer::Found { .. } => AnswerClass::Done,
+        Answer::Row(_) => AnswerClass::Done,
+        Answer::Granted => AnswerClass::Done,
+        Answer::Inserted { .. } => AnswerClass::Done,
+        Answer::Value(_) => AnswerClass::Done,
+    }
+}
+
+impl Machine {
+    /// Takes the answer to the operation that it awaits.
+    pub fn answer(&mut self, answer: Answer) -> Result<(), AllocError>
+        ensures ok { OnOk result (IsAwaiting self.old.mode → KeepsRun (answer ∷ []) self.old self.new) }
+        ensures err { OnErr result (IsUnchanged self.old.output self.new.output) }
+    {
+        match mem::replace(&mut self.mode, Mode::Unwind(Completion::Normal)) {
+            Mode::Await(on_answer) => self.answered(on_answer, &answer),
+            Mode::Execute(_) => Err(AllocError),
+            Mode::Unwind(_) => Err(AllocError),
+        }
+    }
+
+    /// Takes the answer to this one.
+    pub fn answered(&mut self, on_answer: OnAnswer, answer: &Answer) -> Result<(), AllocError>
+        ensures ok { OnOk result (KeepsAnswer on_answer answer.now self.old self.new) }
+        ensures err { OnErr result (IsUnchanged self.old.output self.new.output) }
+    {
+        match answer_class(answer) {
+            AnswerClass::NoMemory => Err(AllocError),
+            AnswerClass::Blocked => self.await_again(on_answer, answer),
+            AnswerClass::Stops(why) => self.stop(on_answer, answer, why),
+            AnswerClass::Done => match on_answer {
+                OnAnswer::WasEntered {
+                    place,
+                    turn,
+                    retry,
+                    left,
+                } => self.on_entered(answer, place, turn, retry, left),
+                OnAnswer::WasBack(depth) => self.on_back(answer, depth),
+                OnAnswer::WasLeft => self.on_left(answer),
+            },
+        }
+    }
+
+    /// Blocked: asks for the same operation again.
+    pub fn await_again(&mut self, on_answer: OnAnswer, answer: &Answer) -> Result<(), AllocError>
+        requires { IsOfAnswerClass AnswerClass.Blocked answer.now }
+        ensures ok { OnOk result (KeepsAnswer on_answer answer.now self.old self.new) }
+        ensures err { OnErr result (IsUnchanged self.old.output self.new.output) }
+    {
+        self.set_mode(Mode::Await(on_answer));
+        Ok(())
+    }
+
+    /// The client stops.
+    pub fn stop(
+        &mut self,
+        on_answer: OnAnswer,
+        answer: &Answer,
+        why: StopWhy,
+    ) -> Result<(), AllocError>
+        requires { IsOfAnswerClass (AnswerClass.Stops why) answer.now }
+        ensures ok { OnOk result (KeepsAnswer on_answer answer.now self.old self.new) }
+        ensures err { OnErr result (IsUnchanged self.old.output self.new.output) }
+    {
+        let _ = on_answer;
+        self.set_mode(Mode::Unwind(Completion::Stops(why)));
+        Ok(())
+    }
+
+    /// After Enter: the level begins.
+    pub fn on_entered(
+        &mut self,
+        answer: &Answer,
+        place: usize,
+        turn: TurnData,
+        retry: bool,
+        left: u32,
+    ) -> Result<(), AllocError>
+        requires { IsOfAnswerClass AnswerClass.Done answer.now }
+        ensures ok { OnOk result (KeepsAnswer (OnAnswer.WasEntered place turn retry left) answer.now self.old self.new) }
+        ensures err { OnErr result (IsUnchanged self.old.output self.new.output) }
+    {
+        self.entered(place, turn, retry, left)
+    }
+
+    /// After Back: restores the copy of the level, and leaves the level next.
+    pub fn on_back(&mut self, answer: &Answer, depth: u32) -> Result<(), AllocError>
+        requires { IsOfAnswerClass AnswerClass.Done answer.now }
+        ensures ok { OnOk result (KeepsAnswer (OnAnswer.WasBack depth) answer.now self.old self.new) }
+        ensures err { OnErr result (IsUnchanged self.old.output self.new.output) }
+    {
+        self.memory.leave_to(depth);
+        self.memory.back();
+        self.set_mode(Mode::Execute(Task::LeavesNow));
+        Ok(())
+    }
+
+    /// After Leave: the level is left.
+    pub fn on_left(&mut self, answer: &Answer) -> Result<(), AllocError>
+        requires { IsOfAnswerClass AnswerClass.Done answer.now }
+        ensures ok { OnOk result (KeepsAnswer OnAnswer.WasLeft answer.now self.old self.new) }
+        ensures err { OnErr result (IsUnchanged self.old.output self.new.output) }
+    {
+        self.was_left();
+        Ok(())
+    }
+}

@@ -1,0 +1,197 @@
+//! What a machine does next, and the entries of its stack.
+
+use abl_base::{Row, Value};
+use abl_expr::RunFault;
+use block_meaning::StopWhy;
+
+/// The data with which an iteration, or a retry of one, begins.
+#[derive(Drop)]
+pub struct TurnData {
+    pub retry: bool,
+    /// The start value of TO, until it is set.
+    pub start: Option<Value>,
+    pub by: Value,
+}
+
+/// An iteration: the level that it opened, if any, and its data.
+#[derive(Drop)]
+pub struct IterationData {
+    pub depth: Option<u32>,
+    pub turn: TurnData,
+}
+
+/// Where an expression of RETURN stands in the instruction at a place.
+#[derive(Clone, Copy, Debug)]
+pub enum ReturnSource {
+    /// The statement RETURN or RETURN ERROR.
+    Statement,
+    /// The statement UNDO.
+    Undo,
+    /// ON ERROR of the header.
+    OnError,
+    /// ON ENDKEY of the header.
+    OnEndKey,
+}
+
+/// What happens after a block was undone.
+#[derive(Clone, Copy, Debug)]
+pub enum AfterUndo {
+    Retry,
+    Leave(u32),
+    Next(u32),
+    /// RETURN, or RETURN ERROR: its expression, if it has one, stands in the code.
+    Return {
+        error: bool,
+        place: usize,
+        source: ReturnSource,
+    },
+    /// The client, or the RUN, ends with ERROR; RETURN-VALUE is set already.
+    Error,
+}
+
+/// What an unwinding has passed: the outermost level that was opened there.
+#[derive(Clone, Copy, Debug)]
+pub struct PassedLevels {
+    pub first: Option<u32>,
+}
+
+/// What a statement or a header fails with, where it has a line.
+#[derive(Clone, Copy, Debug)]
+pub enum LineFault {
+    /// An expression, or a value that is assigned.
+    Expression(RunFault),
+    /// The field of this number in a line of input.
+    BadField(u32),
+}
+
+/// How a statement, an iteration or a block completes.
+#[derive(Drop)]
+pub enum Completion {
+    Normal,
+    Again(TurnData),
+    Leaves(u32),
+    Nexts(u32),
+    Undoes {
+        block: u32,
+        after_undo: AfterUndo,
+        retry: bool,
+        passed: PassedLevels,
+    },
+    /// None: without a line, as RETURN ERROR of a procedure that was RUN.
+    Faults(Option<LineFault>),
+    Raises(PassedLevels),
+    EndKeys(PassedLevels),
+    Returns(bool),
+    Stops(StopWhy),
+}
+
+/// What a machine is about to do. A block is named by the place of its `Block`; `left` is the number
+/// of procedures that may still be opened.
+#[derive(Drop)]
+pub enum Task {
+    RunsFrom {
+        place: usize,
+        left: u32,
+        retry: bool,
+    },
+    Blocks {
+        place: usize,
+        outer: bool,
+        left: u32,
+    },
+    Turns {
+        fuel: u64,
+        place: usize,
+        outer: bool,
+        left: u32,
+        turn: TurnData,
+    },
+    EntersLevel {
+        place: usize,
+        turn: TurnData,
+        retry: bool,
+        left: u32,
+    },
+    Begins {
+        place: usize,
+        depth: Option<u32>,
+        turn: TurnData,
+        retry: bool,
+        left: u32,
+    },
+    Iterates {
+        place: usize,
+        outer: bool,
+        left: u32,
+        turn: TurnData,
+    },
+    UndoComes {
+        place: usize,
+        iteration: IterationData,
+        block: u32,
+        after_undo: AfterUndo,
+        retry: bool,
+        passed: PassedLevels,
+    },
+    GoesBack(Option<u32>),
+    /// After the block at the place was undone. It names no level, since the level is left then.
+    Acts {
+        place: usize,
+        turn: TurnData,
+        after_undo: AfterUndo,
+        retry: bool,
+    },
+    LeavesNow,
+    Completes(Completion),
+    EndsWith {
+        place: usize,
+        iteration: IterationData,
+        completion: Completion,
+    },
+    /// The RUN at the place, with the values that its arguments pass in.
+    Calls {
+        place: usize,
+        left: u32,
+        values: Row,
+    },
+}
+
+/// An entry of the stack: what follows when the task above it has completed.
+#[derive(Drop)]
+pub enum StackEntry {
+    Then(Task),
+    Handles(bool),
+    In {
+        place: usize,
+        iteration: IterationData,
+    },
+    AndAgain {
+        fuel: u64,
+        place: usize,
+        outer: bool,
+        left: u32,
+    },
+    /// The procedure that the RUN at the place runs.
+    Called(usize),
+}
+
+/// What follows an answer.
+#[derive(Drop)]
+pub enum OnAnswer {
+    WasEntered {
+        place: usize,
+        turn: TurnData,
+        retry: bool,
+        left: u32,
+    },
+    WasBack(u32),
+    WasLeft,
+}
+
+/// What a machine does next.
+#[derive(Drop)]
+pub enum Mode {
+    Execute(Task),
+    Unwind(Completion),
+    Await(OnAnswer),
+}
