@@ -1,0 +1,4 @@
+pub mod Paid
+pub mod Effects
+pub mod Imported
+pub mod StateRead

@@ -1,0 +1,22 @@
+use Rattle.std.proofs.Common.{Some, refl, sym, ap, ◌∙◌}
+use Rattle.std.specs.Prelude.{map}
+use Rattle.bound_tree.specs.Tree.{InputFrom}
+use Rattle.block_meaning.specs.State as state
+use Rattle.client_machine.specs.declared.inputs.Stream.{Stream}
+use Rattle.client_machine.specs.Inputs.{stream_of}
+use Rattle.client_streams.proofs.Paid.{paid_kept, unpaid_kept}
+use Rattle.client_streams.proofs.Effects.{changed_is, redirected_kept}
+use Rattle.client_streams.proofs.closes.open_input.Goals as goal
+
+pub returns-then-not-charge-clause-ok : goal.returns-then-not-charge-clause-ok
+returns-then-not-charge-clause-ok c =
+    unpaid_kept c.args.machine.now c.charge.new.self c.args.place c.in-Some.opening.next c.args.left c.args.retry (InputFrom c.in-Some.opening.stream c.in-Some.opening.input) c.in-Some.ensures (c.if-not-charge.ensures.stopped refl) (λ rest go. c.if-not-charge.ensures.stops refl rest go)
+
+pub returns-clause-ok : goal.returns-clause-ok
+returns-clause-ok c =
+    let m = c.charge.new.self in
+    let change = λ (x : state.Stream). (let y : state.Stream = record x { input = Some c.in-Some.opening.input; at = 0 } in y) in
+    let to = λ (x : Stream). (let y : Stream = record x { input = Some c.in-Some.opening.input; at = 0 } in y) in
+    paid_kept c.args.machine.now m c.go_on.new.machine c.args.place c.in-Some.opening.next c.args.left c.args.retry (InputFrom c.in-Some.opening.stream c.in-Some.opening.input) c.in-Some.ensures (c.if-not-charge.ensures.same refl) (λ rest ks go. c.if-not-charge.ensures.paid refl rest ks go)
+    (redirected_kept c.in-Some.opening.stream change m c.go_on.new.machine c.set_input.new.streams c.in-Some.opening.next c.args.left c.args.retry c.go_on.ensures
+    (changed_is to change (λ x. refl) m.streams.items c.in-Some.opening.stream ∙ ap (map stream_of) (sym c.set_input.ensures)))

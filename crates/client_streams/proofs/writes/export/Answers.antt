@@ -1,0 +1,33 @@
+use Rattle.std.proofs.Common.{false, refl, subst}
+use Rattle.bound_tree.specs.Tree.{Export}
+use Rattle.block_meaning.specs.Program.{Program}
+use Rattle.block_meaning.specs.State.{State}
+use Rattle.block_meaning.specs.Values.{values_now, export_line}
+use Rattle.client_texts.specs.Writes.{WritesText, line_text}
+use Rattle.client_machine.specs.declared.machine.Machine.{Machine}
+use Rattle.client_machine.specs.declared.mode.Mode.TheVariants as mode
+use Rattle.client_machine.specs.declared.mode.Completion.TheVariants as completion
+use Rattle.client_machine.specs.Config.{instr_at}
+use Rattle.client_machine.specs.Machine.{state_in}
+use Rattle.client_machine.specs.Step.{FitsIn}
+use Rattle.client_machine.proofs.RunKept.{on_ok}
+use Rattle.client_streams.specs.Statements.{values_in, under}
+use Rattle.client_streams.proofs.Paid.{paid_kept, unpaid_kept}
+use Rattle.client_streams.proofs.Effects.{line_kept}
+use Rattle.client_streams.proofs.writes.export.Goals as goal
+
+pub returns-then-not-charge-clause-ok : goal.returns-then-not-charge-clause-ok
+returns-then-not-charge-clause-ok c =
+    let old = c.args.machine.now in
+    unpaid_kept old c.charge.new.self c.args.place c.in-Some.writer.next c.args.left c.args.retry (Export c.in-Some.writer.stream (values_in (instr_at old.code.instrs.items c.args.place))) c.in-Some.ensures (c.if-not-charge.ensures.stopped refl) (λ rest go. c.if-not-charge.ensures.stops refl rest go)
+
+pub returns-clause-ok : goal.returns-clause-ok
+returns-clause-ok c =
+    let old = c.args.machine.now in
+    let m = c.charge.new.self in
+    let same = c.if-not-charge.ensures.same refl in
+    let text = λ (x : Machine) (p : Program) (s : State). line_text export_line (values_now p (values_in (instr_at x.code.instrs.items c.args.place)) c.args.retry s) in
+    let gives = subst (λ (x : Machine). (p : Program) (rest : State) → FitsIn p rest (mode.Unwind completion.Normal) m → WritesText c.export_line_at-text.result (text x p (state_in rest m))) same c.export_line_at-text.ensures in
+    on_ok c.write_or_fail.result (λ keeps.
+    paid_kept old m c.write_or_fail.new.machine c.args.place c.in-Some.writer.next c.args.left c.args.retry (Export c.in-Some.writer.stream (values_in (instr_at old.code.instrs.items c.args.place))) c.in-Some.ensures same (λ rest ks go. c.if-not-charge.ensures.paid refl rest ks go)
+    (line_kept export_line (λ p s. values_now p (values_in (instr_at old.code.instrs.items c.args.place)) c.args.retry s) m c.write_or_fail.new.machine c.in-Some.writer.stream (under m false c.in-Some.writer.next c.args.left c.args.retry) (keeps (text old) gives))) c.write_or_fail.ensures.ok
