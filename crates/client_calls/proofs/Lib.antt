@@ -1,0 +1,4 @@
+pub mod Passed
+pub mod States
+pub mod Found
+pub mod RunSteps

@@ -1,0 +1,23 @@
+use Rattle.std.proofs.Common.{rules, ◌≡◌, suc, sym, ap, ◌∙◌, arith, false}
+use Rattle.std.specs.Prelude.{reverse}
+use Rattle.client_machine.specs.declared.machine.Machine.{Machine}
+use Rattle.client_machine.specs.declared.mode.Mode.TheVariants as mode
+use Rattle.client_machine.specs.declared.mode.Task.TheVariants as task
+use Rattle.client_machine.specs.declared.mode.StackEntry.TheVariants as stack
+use Rattle.client_machine.proofs.RunKept.{pushed}
+use Rattle.client_calls.proofs.RunSteps.{call_kept}
+use Rattle.client_calls.proofs.steps.call.Goals as goal
+
+pub returns-clause-ok : goal.returns-clause-ok
+returns-clause-ok c =
+    let old = c.args.machine.now in
+    let new = c.set_mode-2.new.self in
+    let mem = c.begin_procedure.new.memory in
+    let m = mode.Execute (task.Blocks c.in_ok-begun.begun.place false c.in-Some.left) in
+    let e = c.set_mode-2.ensures in
+    let is : c.args.left ≡ suc c.in-Some.left = first_of (omega (arith, c.in-Some.ensures), search (rules, c.in-Some.is, c.in-Some.ensures, c.checked_sub.ensures)) in
+    call_kept c.args.place c.args.left c.in-Some.left c.args.values c.in_ok-begun.begun old new mem is c.in_ok-begun.ensures
+    (ap (λ (x : Machine). x.procedures.items) e ∙ c.in_ok-push.ensures.items)
+    (ap (λ (x : Machine). reverse x.stack.items) e ∙ pushed old.stack.items c.push-2.new.self.items (stack.Called c.args.place) c.in_ok-push-2.ensures.items)
+    (e ∙ ap (λ ps. record old { mode = m; stack = c.push-2.new.self; procedures = ps; memory = mem }) (sym (ap (λ (x : Machine). x.procedures) e))
+    ∙ ap (λ st. record old { mode = m; stack = st; procedures = new.procedures; memory = mem }) (sym (ap (λ (x : Machine). x.stack) e)))
