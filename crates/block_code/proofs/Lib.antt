@@ -1,4 +1,4 @@
-pub mod Behind
+pub mod Grows
+pub mod Emits
+pub mod Procedures
 pub mod Builds
-pub mod Empty_chains
-pub mod Trees

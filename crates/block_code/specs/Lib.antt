@@ -1,3 +1,3 @@
 pub mod Code
 pub mod Built
-pub mod BuiltTree
+pub mod Emitted

@@ -1,34 +1,34 @@
-//! What of a bound tree is built so far.
+//! Which bound sources are built so far.
 
-ghost use Rattle.std.specs.Prelude.{◌≡◌};
-ghost use Rattle.block_code.specs.Built.{is_built_header, is_built_assignment, are_built_assignments, is_built_action, is_built_item, are_built_items, is_literal, is_nil, is_simple, stripped, is_built_stmt, is_built_body, is_built_procedure, is_built};
+ghost use Rattle.std.specs.Prelude.{◌≡◌, map};
+ghost use Rattle.bound_tree.specs.Bound.{assignment_of, body_of, procedure_of, right_of, source_of, stmt_of};
+ghost use Rattle.block_code.specs.Built.{body_is_built, is_nil, procedure_is_built, procedures_are_built, read_no_sequence, reads_no_sequence, stmt_is_built};
 
-use bound_tree::{
-    Action, Assignment, BlockKind, Bound, Expr, Header, Link, Procedure, PutItem, Right, Stmt,
-    Target,
-};
+use bound_tree::{Assignment, Bound, Procedure, Right, Stmt};
 
-/// Whether the source is built: it has the external procedure alone.
+/// Whether the source is built: it names no record and no sequence.
 pub fn is_built(bound: &Bound) -> bool
-    ensures { result ≡ is_built bound.now }
+    ensures { result ≡ procedures_are_built (source_of bound.now).procedures }
 {
-    match bound.procedures.as_slice() {
-        [main] => is_built_procedure(main),
-        [] | [_, _, ..] => false,
+    for procedure in &bound.procedures {
+        if !is_built_procedure(procedure) {
+            return false;
+        }
     }
+    true
 }
 
-/// Whether the external procedure is built: it has no buffers.
-fn is_built_procedure(main: &Procedure) -> bool
-    ensures { result ≡ is_built_procedure main.now }
+/// Whether the procedure has no buffer, and reads no sequence.
+fn is_built_procedure(procedure: &Procedure) -> bool
+    ensures { result ≡ procedure_is_built (procedure_of procedure.now) }
 {
-    main.buffers.is_empty() && is_built_header(&main.header) && is_built_body(&main.body)
+    procedure.buffers.is_empty() && is_built_body(&procedure.body)
 }
 
-/// Whether the statements are built.
+/// Whether no assignment in the statements reads a sequence.
 #[cycle(built)]
 fn is_built_body(body: &[Stmt]) -> bool
-    ensures { result ≡ is_built_body body.now }
+    ensures { result ≡ body_is_built (body_of body.now) }
 {
     for stmt in body {
         if !is_built_stmt(stmt) {
@@ -38,124 +38,41 @@ fn is_built_body(body: &[Stmt]) -> bool
     true
 }
 
-/// Whether the statement is built: a block, an assignment without NO-ERROR, PUT to the unnamed
-/// stream, and UNDO with LEAVE.
+/// Whether no assignment in the statement reads a sequence.
 #[cycle(built)]
 fn is_built_stmt(stmt: &Stmt) -> bool
-    ensures { result ≡ is_built_stmt stmt.now }
+    ensures { result ≡ stmt_is_built (stmt_of stmt.now) }
 {
     match stmt {
-        Stmt::Block { header, body } => is_built_header(header) && is_built_body(body.as_slice()),
-        Stmt::Assign { pairs, no_error } => !*no_error && are_built_assignments(pairs),
-        Stmt::Put { stream, items } => *stream == 0 && are_built_items(items),
-        Stmt::Undo { action, .. } => is_built_action(action),
-        _ => false,
+        Stmt::Block { body, .. } => is_built_body(body.as_slice()),
+        Stmt::If {
+            then_body,
+            else_body,
+            ..
+        } => is_built_body(then_body.as_slice()) && is_built_body(else_body.as_slice()),
+        Stmt::Assign { pairs, .. } => read_no_sequence(pairs),
+        _ => true,
     }
 }
 
-/// Whether what comes after an UNDO is built: LEAVE.
-fn is_built_action(action: &Action) -> bool
-    ensures { result ≡ is_built_action action.now }
-{
-    match action {
-        Action::Leave(_) => true,
-        _ => false,
-    }
-}
-
-/// Whether blocks with this header are built: the external procedure's, and DO without TO, WHILE,
-/// ON and buffers, that do not ask RETRY.
-fn is_built_header(header: &Header) -> bool
-    ensures { result ≡ is_built_header header.now }
-{
-    let kind = matches!(header.kind, BlockKind::Procedure | BlockKind::Do);
-    kind && !header.flags.retry_seen
-        && header.scoped.is_empty()
-        && header.to.is_none()
-        && header.while_test.is_none()
-        && header.fetch.is_none()
-        && header.on_error.is_none()
-        && header.on_endkey.is_none()
-}
-
-/// Whether the assignments are built.
-fn are_built_assignments(pairs: &[Assignment]) -> bool
-    ensures { result ≡ are_built_assignments pairs.now }
+/// Whether no assignment reads a sequence.
+fn read_no_sequence(pairs: &[Assignment]) -> bool
+    ensures { result ≡ read_no_sequence (map assignment_of pairs.now) }
 {
     for pair in pairs {
-        if !is_built_assignment(pair) {
+        if !reads_no_sequence(&pair.right) {
             return false;
         }
     }
     true
 }
 
-/// Whether the assignment is built: a literal to a variable.
-fn is_built_assignment(pair: &Assignment) -> bool
-    ensures { result ≡ is_built_assignment pair.now }
+/// Whether the right side of an assignment is no value of a sequence.
+fn reads_no_sequence(right: &Right) -> bool
+    ensures { result ≡ reads_no_sequence (right_of right.now) }
 {
-    match (&pair.target, &pair.right) {
-        (Target::Variable(_), Right::Value(value)) => is_literal(stripped(value)),
-        _ => false,
-    }
-}
-
-/// Whether it is a literal.
-fn is_literal(value: &Expr) -> bool
-    ensures { result ≡ is_literal value.now }
-{
-    matches!(value, Expr::Literal(_))
-}
-
-/// Whether it is a literal or a variable.
-fn is_simple(value: &Expr) -> bool
-    ensures { result ≡ is_simple value.now }
-{
-    matches!(value, Expr::Literal(_) | Expr::Variable(_))
-}
-
-/// The expression without chains around it that have no links.
-pub fn stripped(value: &Expr) -> &Expr
-    ensures { result.now ≡ stripped value.now }
-{
-    match value {
-        Expr::Chain { first, rest } => {
-            if is_alone(rest.as_slice()) {
-                stripped(first)
-            } else {
-                value
-            }
-        }
-        _ => value,
-    }
-}
-
-/// Whether a chain has no links.
-fn is_alone(rest: &[Link]) -> bool
-    ensures { result ≡ is_nil rest.now }
-{
-    rest.is_empty()
-}
-
-/// Whether the items are built.
-fn are_built_items(items: &[PutItem]) -> bool
-    ensures { result ≡ are_built_items items.now }
-{
-    for item in items {
-        if !is_built_item(item) {
-            return false;
-        }
-    }
-    true
-}
-
-/// Whether the item is built: a literal or a variable without FORMAT, SKIP and SPACE.
-fn is_built_item(item: &PutItem) -> bool
-    ensures { result ≡ is_built_item item.now }
-{
-    match item {
-        PutItem::Shows { value, mask: None } => is_simple(stripped(value)),
-        PutItem::Shows { .. } => false,
-        PutItem::Skip(_) | PutItem::Space(_) => true,
+    match right {
+        Right::Value(_) => true,
+        Right::NextValue(_) | Right::CurrentValue(_) => false,
     }
 }

@@ -1,154 +1,167 @@
-//! From the bound tree to block code.
+//! From the bound tree to flat code. The code of a body is written from its end: the place that an
+//! instruction names is known when the instruction is written, so nothing is patched.
 
-ghost use Rattle.std.specs.Prelude.{◌≡◌, ◌++◌, ◌∷◌, [], ◌+◌, ◌<◌, length, vec_len, slice_set, OnOk, IfOk};
-ghost use Rattle.block_code.specs.Code.{code_of, body_code, block_code, StandsFor};
+ghost use Rattle.std.specs.Prelude.{◌≡◌, ◌++◌, ◌∷◌, [], Err, IfOk, OnOk, length, true};
+ghost use Rattle.bound_tree.specs.Bound.{source_of};
 ghost use Rattle.block_code.specs.Built.{IsBuilt};
-ghost use Rattle.block_code.specs.declared.code.Instr.TheVariants.{Open, Close};
-ghost use Rattle.block_code.specs.declared.compiler.CompileFault.{CompileFault};
+ghost use Rattle.block_code.specs.Emitted.{EmittedBody, EmittedStmt, EmittedProcedure, EmittedProcedures};
+ghost use Rattle.block_code.specs.Code.{IsCompiled, is_simple};
 
 use crate::built::is_built;
-use crate::code::{Code, Instr};
+use crate::code::{Code, Instr, ProcedureCode};
 use bound_tree::{Bound, Header, Procedure, Stmt};
-use std::alloc::{AllocError, AllocFailed, Global};
+use std::alloc::{AllocError, Global};
 
-/// Why a bound tree was not compiled.
-#[derive(Debug, Drop)]
+/// Why a source was not compiled.
+#[derive(Clone, Copy, Debug, PartialEq, Eq)]
 pub enum CompileFault {
-    /// It has a form that is not built yet.
+    /// It names a record or a sequence, which is not built yet.
     NotBuilt,
-    /// Memory is wanting.
+    /// Out of memory.
     NoMemory,
 }
 
-impl From<AllocError> for CompileFault {
-    ghost use Rattle.std.specs.Prelude.{◌≡◌};
-    ghost use Rattle.block_code.specs.declared.compiler.CompileFault.TheVariants.{NoMemory};
-
-    ghost from_gives = { λ _ fault. fault ≡ NoMemory };
-
-    fn from(_: AllocError) -> CompileFault {
-        CompileFault::NoMemory
-    }
-}
-
-impl<T: Drop> From<AllocFailed<T>> for CompileFault {
-    ghost use Rattle.std.specs.Prelude.{◌≡◌};
-    ghost use Rattle.block_code.specs.declared.compiler.CompileFault.TheVariants.{NoMemory};
-
-    ghost from_gives = { λ _ fault. fault ≡ NoMemory };
-
-    fn from(_: AllocFailed<T>) -> CompileFault {
-        CompileFault::NoMemory
-    }
-}
-
-/// The code of a bound source. `NotBuilt` comes exactly where some statement or header has a form
-/// that is not built yet; want of memory may come at any time.
+/// The code of a bound source. `NotBuilt` comes exactly where the source names a record or a
+/// sequence; out of memory is the only other error.
 pub fn compile(alloc: Global, bound: Bound) -> Result<Code, CompileFault>
-    ensures stands { IfOk result (λ code. StandsFor code bound) }
-    ensures built { OnOk result (IsBuilt bound) }
-    ensures not_built { result ≡ Err CompileFault.NotBuilt → ¬ IsBuilt bound }
+    ensures code { IfOk result (λ code. IsCompiled code bound) }
+    ensures built { OnOk result (IsBuilt (source_of bound)) }
+    ensures not_built { result ≡ Err CompileFault.NotBuilt → ¬ IsBuilt (source_of bound) }
+    ensures refused { ¬ IsBuilt (source_of bound) → result ≡ Err CompileFault.NotBuilt }
 {
     if !is_built(&bound) {
         return Err(CompileFault::NotBuilt);
     }
-    match emit_bound(alloc, bound) {
+    match emit_source(alloc, bound) {
         Ok(code) => Ok(code),
         Err(_) => Err(CompileFault::NoMemory),
     }
 }
 
-/// The code of a bound source with one procedure.
-fn emit_bound(alloc: Global, bound: Bound) -> Result<Code, CompileFault>
-    ensures { IfOk result (λ code. StandsFor code bound) }
+/// The code of a bound source. Out of memory is the only error.
+fn emit_source(alloc: Global, bound: Bound) -> Result<Code, AllocError>
+    ensures { IfOk result (λ code. IsCompiled code bound) }
 {
     let Bound {
-        mut procedures,
+        procedures,
+        streams,
+        outputs,
         inputs,
-        ..
     } = bound;
-    let (Some(main), None) = (procedures.pop(), procedures.pop()) else {
-        return Err(CompileFault::NotBuilt);
-    };
-    let Procedure {
-        undoable,
-        no_undo,
-        header,
-        body,
-        ..
-    } = main;
     let mut instrs = Vec::new(alloc);
-    emit_block(&mut instrs, header, body)?;
+    instrs.push(Instr::End)?;
+    let procedures = emit_procedures(alloc, &mut instrs, procedures)?;
     Ok(Code {
         instrs,
-        undoable,
-        no_undo,
+        procedures,
+        streams,
+        outputs,
         inputs,
     })
 }
 
-/// The code of a block, behind the code that is there.
-#[cycle(emit)]
-fn emit_block(
+/// Writes the code of procedures.
+fn emit_procedures(
+    alloc: Global,
     code: &mut Vec<Instr>,
-    header: Box<Header>,
-    body: Vec<Stmt>,
-) -> Result<(), CompileFault>
-    ensures { OnOk result (code.new.items ≡ code.old.items ++ block_code (length code.old.items) header.value (body_code (length code.old.items + 1) body.items)) }
+    procedures: Vec<Procedure>,
+) -> Result<Vec<ProcedureCode>, AllocError>
+    ensures { IfOk result (λ all. EmittedProcedures code.old.items code.new.items procedures.items all.items) }
 {
-    let at = code.len();
-    // Its place is kept for the Open, which knows the place behind the Close.
-    code.push(Instr::Close)?;
-    emit_all(code, body)?;
-    close_block(code, at, header)
-}
-
-/// A Close behind the code that is there, and the Open of its block at the place.
-fn close_block(code: &mut Vec<Instr>, at: usize, header: Box<Header>) -> Result<(), CompileFault>
-    requires { at < vec_len code.old }
-    ensures { OnOk result (code.new.items ≡ slice_set (code.old.items ++ Close ∷ []) at (Open header.value (length code.old.items + 1))) }
-{
-    code.push(Instr::Close)?;
-    code[at] = Instr::Open {
-        header: Box::into_inner(header),
-        after: code.len(),
-    };
-    Ok(())
-}
-
-/// The code of statements, one behind the other, behind the code that is there.
-#[cycle(emit)]
-fn emit_all(code: &mut Vec<Instr>, body: Vec<Stmt>) -> Result<(), CompileFault>
-    ensures { OnOk result (code.new.items ≡ code.old.items ++ body_code (length code.old.items) body.items) }
-{
-    for stmt in body {
-        emit(code, stmt)?;
+    let mut all = Vec::new(alloc);
+    for procedure in procedures {
+        let one = emit_procedure(code, procedure)?;
+        all.push(one)?;
     }
-    Ok(())
+    Ok(all)
 }
 
-/// The code of a statement, behind the code that is there. A statement that is not built has none.
+/// Writes the code of a procedure: its body, and then the `Block` that is its own.
+fn emit_procedure(code: &mut Vec<Instr>, procedure: Procedure) -> Result<ProcedureCode, AllocError>
+    ensures { IfOk result (λ one. EmittedProcedure code.old.items code.new.items procedure one) }
+{
+    let Procedure {
+        undoable,
+        no_undo,
+        buffers,
+        parameters,
+        header,
+        body,
+        ..
+    } = procedure;
+    let body = emit_body(code, body, 0)?;
+    let place = code.len();
+    code.push(Instr::Block {
+        header,
+        body,
+        next: 0,
+    })?;
+    Ok(ProcedureCode {
+        place,
+        undoable,
+        no_undo,
+        buffers,
+        parameters,
+    })
+}
+
+/// Writes the code of a body whose last statement is followed by the place `next`, and returns the
+/// place where it begins.
 #[cycle(emit)]
-fn emit(code: &mut Vec<Instr>, stmt: Stmt) -> Result<(), CompileFault>
-    ensures { OnOk result (code.new.items ≡ code.old.items ++ code_of (length code.old.items) stmt) }
+fn emit_body(code: &mut Vec<Instr>, body: Vec<Stmt>, next: usize) -> Result<usize, AllocError>
+    ensures { IfOk result (λ place. EmittedBody code.old.items code.new.items body.items next place) }
+{
+    let mut place = next;
+    for stmt in body.into_iter().rev() {
+        place = emit(code, stmt, place)?;
+    }
+    Ok(place)
+}
+
+/// Writes the code of a statement that is followed by the place `next`, and returns the place where
+/// it begins.
+#[cycle(emit)]
+fn emit(code: &mut Vec<Instr>, stmt: Stmt, next: usize) -> Result<usize, AllocError>
+    ensures { IfOk result (λ place. EmittedStmt code.old.items code.new.items stmt next place) }
 {
     match stmt {
         Stmt::Block { header, body } => {
-            emit_block(code, header, body)?;
-            Ok(())
+            let body = emit_body(code, body, 0)?;
+            push(code, Instr::Block { header, body, next })
         }
-        Stmt::Assign { pairs, no_error } => {
-            code.push(Instr::Assign { pairs, no_error })?;
-            Ok(())
+        Stmt::If {
+            test,
+            then_body,
+            else_body,
+        } => {
+            let then_place = emit_body(code, then_body, next)?;
+            let else_place = emit_body(code, else_body, next)?;
+            push(
+                code,
+                Instr::If {
+                    test,
+                    then_place,
+                    else_place,
+                },
+            )
         }
-        Stmt::Put { stream, items } => {
-            code.push(Instr::Put { stream, items })?;
-            Ok(())
-        }
-        Stmt::Undo { block, action } => {
-            code.push(Instr::Undo { block, action })?;
-            Ok(())
-        }
-        _ => Ok(()),
+        stmt => push_simple(code, stmt, next),
     }
+}
+
+/// Writes the instruction of a statement that is neither a block nor an IF, and returns its place.
+fn push_simple(code: &mut Vec<Instr>, stmt: Stmt, next: usize) -> Result<usize, AllocError>
+    requires { is_simple stmt ≡ true }
+    ensures { IfOk result (λ place. EmittedStmt code.old.items code.new.items stmt next place) }
+{
+    push(code, Instr::Simple { stmt, next })
+}
+
+/// Writes one instruction, and returns its place.
+fn push(code: &mut Vec<Instr>, instr: Instr) -> Result<usize, AllocError>
+    ensures { IfOk result (λ place. (place ≡ length code.old.items) × (code.new.items ≡ code.old.items ++ instr ∷ [])) }
+{
+    let place = code.len();
+    code.push(instr)?;
+    Ok(place)
 }

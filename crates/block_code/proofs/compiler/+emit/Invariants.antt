@@ -1,7 +1,6 @@
-use Rattle.std.proofs.Common.{◌≡◌, ◌++◌, length}
-use Rattle.block_code.specs.Code.{body_code}
+use Rattle.std.proofs.Common.{reverse}
+use Rattle.block_code.specs.Emitted.{EmittedBody}
 use Rattle.block_code.proofs.compiler.+emit.Given as goal
 
-abbrev pub invariant-emit_all-loop-stmt : goal.invariant-emit_all-loop-stmt
-invariant-emit_all-loop-stmt l =
-    l.code.items ≡ l.fn.code.items ++ body_code (length l.fn.code.items) l.yielded
+abbrev pub invariant-emit_body-loop-stmt : goal.invariant-emit_body-loop-stmt
+invariant-emit_body-loop-stmt l = EmittedBody l.fn.code.items l.code.items (reverse l.yielded) l.fn.next l.place

@@ -1,10 +1,10 @@
 use Rattle.std.proofs.Common.{◌++◌, ◌∷◌, [], ◌∙◌, sym, subst}
 use Rattle.std.proofs.lemmas.Iterator.Adapters.{YieldsList-from_vec}
 use Rattle.std.proofs.lemmas.Iterator.Consumers.{YieldsList-end}
-use Rattle.flat_code.specs.Emitted.{EmittedProcedures}
-use Rattle.flat_code.proofs.Emits.{map_same}
-use Rattle.flat_code.proofs.Procedures.{no_procedures, one_more_procedure}
-use Rattle.flat_code.proofs.compiler.emit_procedures.Goals as goal
+use Rattle.block_code.specs.Emitted.{EmittedProcedures}
+use Rattle.block_code.proofs.Emits.{map_same}
+use Rattle.block_code.proofs.Procedures.{no_procedures, one_more_procedure}
+use Rattle.block_code.proofs.compiler.emit_procedures.Goals as goal
 
 pub loop-procedure-init : goal.loop-procedure-init
 loop-procedure-init c = subst (λ cs. EmittedProcedures c.args.code.now.items c.args.code.now.items [] cs) (sym c.new-all.ensures.items) (no_procedures c.args.code.now.items)

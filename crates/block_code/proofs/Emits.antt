@@ -20,11 +20,11 @@ use Rattle.block_flat.specs.Code.{before, IsSimple}
 use Rattle.block_flat.specs.Code as flat
 use Rattle.block_flat.specs.Written.{tree_at, NamesBelow, DenotesNext}
 use Rattle.block_flat.proofs.Written.{opens_next, tests_next, plain_next}
-use Rattle.flat_code.specs.declared.code.Instr.{Instr}
-use Rattle.flat_code.specs.declared.code.Instr.TheVariants as instr
-use Rattle.flat_code.specs.Code.{instr_of, is_simple}
-use Rattle.flat_code.specs.Emitted.{Emitted, EmittedBody, EmittedStmt}
-use Rattle.flat_code.proofs.Grows.{before_nothing, stays, below_later, end_stays, grown_further, grown_one, emitted_then}
+use Rattle.block_code.specs.declared.code.Instr.{Instr}
+use Rattle.block_code.specs.declared.code.Instr.TheVariants as instr
+use Rattle.block_code.specs.Code.{instr_of, is_simple}
+use Rattle.block_code.specs.Emitted.{Emitted, EmittedBody, EmittedStmt}
+use Rattle.block_code.proofs.Grows.{before_nothing, stays, below_later, end_stays, grown_further, grown_one, emitted_then}
 
 -- the statements inside a statement are the list that its Vec has
 pub row_is : (n : Count) (k : Row_of-Stmt n) → row_of k ≡ body_of (items-the_row-Stmt n k)

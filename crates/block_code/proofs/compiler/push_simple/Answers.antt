@@ -1,8 +1,8 @@
 use Rattle.std.proofs.Common.{◌≡◌, ◌++◌, ◌∷◌, [], length}
-use Rattle.flat_code.specs.declared.code.Instr.TheVariants as instr
-use Rattle.flat_code.specs.Emitted.{EmittedStmt}
-use Rattle.flat_code.proofs.Emits.{if_ok, simple_emitted, simple_is}
-use Rattle.flat_code.proofs.compiler.push_simple.Goals as goal
+use Rattle.block_code.specs.declared.code.Instr.TheVariants as instr
+use Rattle.block_code.specs.Emitted.{EmittedStmt}
+use Rattle.block_code.proofs.Emits.{if_ok, simple_emitted, simple_is}
+use Rattle.block_code.proofs.compiler.push_simple.Goals as goal
 
 pub returns : goal.returns
 returns c =

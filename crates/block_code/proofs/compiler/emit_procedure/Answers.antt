@@ -1,7 +1,7 @@
 use Rattle.std.proofs.Common.{◌∙◌, refl}
-use Rattle.flat_code.specs.declared.code.Instr.TheVariants as instr
-use Rattle.flat_code.proofs.Procedures.{procedure_emitted}
-use Rattle.flat_code.proofs.compiler.emit_procedure.Goals as goal
+use Rattle.block_code.specs.declared.code.Instr.TheVariants as instr
+use Rattle.block_code.proofs.Procedures.{procedure_emitted}
+use Rattle.block_code.proofs.compiler.emit_procedure.Goals as goal
 
 pub returns : goal.returns
 returns c =

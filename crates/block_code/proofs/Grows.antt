@@ -5,9 +5,9 @@ use Rattle.bound_tree.specs.Tree.{Body, Nothing, Then}
 use Rattle.block_flat.specs.Code.{before}
 use Rattle.block_flat.specs.Written.{tree_at, NamesBelow, Encodes, DenotesNext}
 use Rattle.block_flat.proofs.Written.{one_more}
-use Rattle.flat_code.specs.declared.code.Instr.{Instr}
-use Rattle.flat_code.specs.Code.{instr_of, instrs_of}
-use Rattle.flat_code.specs.Emitted.{HasEnd, Grown, GrownTo, Emitted}
+use Rattle.block_code.specs.declared.code.Instr.{Instr}
+use Rattle.block_code.specs.Code.{instr_of, instrs_of}
+use Rattle.block_code.specs.Emitted.{HasEnd, Grown, GrownTo, Emitted}
 
 -- a body followed by nothing
 pub before_nothing : (b : Body) → before b Nothing ≡ b

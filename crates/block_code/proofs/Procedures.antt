@@ -10,13 +10,13 @@ use Rattle.block_meaning.specs.Program.{no_procedure}
 use Rattle.block_flat.specs.Code as flat
 use Rattle.block_flat.specs.Written.{instr_at, tree_at, NamesBelow, Encodes, DenotesNext}
 use Rattle.block_flat.proofs.Written.{one_more, ends_next, opens_next, all_stand}
-use Rattle.flat_code.specs.declared.code.Instr.{Instr}
-use Rattle.flat_code.specs.declared.code.Instr.TheVariants as instr
-use Rattle.flat_code.specs.declared.code.ProcedureCode.{ProcedureCode}
-use Rattle.flat_code.specs.declared.code.Code.{Code}
-use Rattle.flat_code.specs.Code.{instr_of, instrs_of, header_in, body_in, place_of, IsProcedure, AreProcedures, IsCompiled}
-use Rattle.flat_code.specs.Emitted.{HasEnd, Grown, EmittedBody, EmittedProcedure, EmittedProcedures}
-use Rattle.flat_code.proofs.Grows.{before_nothing, stays, below_later, end_stays, grown_none, grown_twice, grown_one}
+use Rattle.block_code.specs.declared.code.Instr.{Instr}
+use Rattle.block_code.specs.declared.code.Instr.TheVariants as instr
+use Rattle.block_code.specs.declared.code.ProcedureCode.{ProcedureCode}
+use Rattle.block_code.specs.declared.code.Code.{Code}
+use Rattle.block_code.specs.Code.{instr_of, instrs_of, header_in, body_in, place_of, IsProcedure, AreProcedures, IsCompiled}
+use Rattle.block_code.specs.Emitted.{HasEnd, Grown, EmittedBody, EmittedProcedure, EmittedProcedures}
+use Rattle.block_code.proofs.Grows.{before_nothing, stays, below_later, end_stays, grown_none, grown_twice, grown_one}
 
 -- ---- one procedure
 

@@ -6,9 +6,9 @@ use Rattle.bound_tree.specs.declared.statement.Stmt.{Stmt}
 use Rattle.bound_tree.specs.declared.procedure.Procedure.{Procedure}
 use Rattle.block_flat.specs.Code.{before}
 use Rattle.block_flat.specs.Written.{Encodes, tree_at}
-use Rattle.flat_code.specs.declared.code.Instr.{Instr}
-use Rattle.flat_code.specs.declared.code.ProcedureCode.{ProcedureCode}
-use Rattle.flat_code.specs.Code.{instrs_of, IsProcedure, AreProcedures}
+use Rattle.block_code.specs.declared.code.Instr.{Instr}
+use Rattle.block_code.specs.declared.code.ProcedureCode.{ProcedureCode}
+use Rattle.block_code.specs.Code.{instrs_of, IsProcedure, AreProcedures}
 
 -- place 0 has the end of a body
 pub record HasEnd (ts : List Body) : Type 0 where
