@@ -1,12 +1,4 @@
-pub mod Restores
-pub mod Opened
-pub mod Statements
-pub mod Simulates
-pub mod Falls
-pub mod Finishes
-pub mod Hears
+pub mod Asks
+pub mod Works
 pub mod Resumes
-pub mod Steps
-pub mod Stands
-pub mod Starts
-pub mod Written
+pub mod Begins

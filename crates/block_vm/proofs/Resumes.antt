@@ -1,196 +1,261 @@
 -- A call of a client, from an answer to what it wants next.
-use Rattle.std.proofs.Common.{◌≡◌, ℕ, ◌⊎◌, inl, inr, List, [], ◌∷◌, ◌++◌, Some, refl, sym, ap, ◌∙◌, subst, append_assoc, append-nil}
+use Rattle.std.proofs.Common.{◌≡◌, ℕ, ◌⊎◌, inl, inr, List, [], ◌∷◌, ◌++◌, Some, None, refl, sym, ap, ◌∙◌, subst, append_assoc, append-nil, Bool, true, false}
+use Rattle.std.specs.Prelude.{◌==◌}
+use Rattle.client_database.specs.declared.operation.Op.{Op}
 use Rattle.client_database.specs.declared.operation.Op.TheVariants.{End}
 use Rattle.client_database.specs.declared.answer.Answer.{Answer}
+use Rattle.client_database.specs.declared.answer.Answer.TheVariants as answer
+use Rattle.bound_tree.specs.Tree.{Body}
+use Rattle.client_database.specs.declared.ends.ClientEnd.{ClientEnd}
 use Rattle.client_database.specs.declared.ends.ClientEnd.TheVariants as client
 use Rattle.block_meaning.specs.declared.wants.Piece.{Piece}
 use Rattle.client_database.specs.declared.next_step.NextStep.{NextStep}
-use Rattle.client_database.specs.declared.next_step.NextStep.TheVariants.{Ask, Ended as HasEndedAs}
-use Rattle.block_meaning.specs.State.{Progress}
+use Rattle.client_database.specs.declared.next_step.NextStep.TheVariants.{Ask, Ended}
+use Rattle.block_meaning.specs.State.{State, Progress}
+use Rattle.block_meaning.specs.Buffers.{left, left_if}
+use Rattle.block_meaning.specs.Program.{Program}
+use Rattle.block_meaning.specs.Meaning.{finished}
 use Rattle.block_meaning.specs.GivesUp.{Begins, IsAsked, before_last, written_at, GaveUp}
-use Rattle.block_meaning.proofs.Continues.{begins_further}
-use Rattle.block_vm.specs.declared.mode.Ending.{Ending}
-use Rattle.block_vm.specs.declared.mode.Ending.TheVariants.{NoMemory}
-use Rattle.block_vm.specs.declared.mode.Mode.{Mode}
-use Rattle.block_vm.specs.declared.mode.Mode.TheVariants.{Runs, Turns, Over, AsksEnter, AsksBack, AsksLeave, AsksEnd, Ended}
-use Rattle.block_vm.specs.declared.machine.Machine.{Machine}
-use Rattle.block_vm.specs.Machine.{Config, class_in, hears, end_of, asked_in}
-use Rattle.block_vm.specs.Work.{AsksOwn}
-use Rattle.block_vm.specs.Follows.{Follows, FollowsIn}
-use Rattle.block_vm.specs.Client.{config_of, standing_of}
-use Rattle.block_vm.specs.Standing.{HasWritten}
-use Rattle.block_vm.specs.Does.{after, Does, Came, GoesOnIn, IsUnendedIn, GivesUp, Stands, GoesOn}
-use Rattle.block_vm.proofs.Simulates.{heard_follows}
-use Rattle.block_vm.proofs.Falls.{IsUnended}
-use Rattle.block_vm.proofs.Finishes.{finishes, wants_is}
-use Rattle.block_vm.proofs.Hears.{hears_keeps}
+use Rattle.block_meaning.proofs.Continues.{begins_itself, begins_further, begins_same}
+use Rattle.block_flat.specs.Flat as flat
+use Rattle.block_flat.specs.Flat.{IsCodeOf, Config, means, config, answered, answer_step}
+use Rattle.block_flat.specs.Works.{IsRunning}
+use Rattle.block_flat.proofs.Machine.{asks_means, answered_means}
+use Rattle.block_flat.proofs.Continues.{written_continues, something_is_asked}
+use Rattle.client_output.specs.Written.{HasWritten as Wrote, IsUnchanged}
+use Rattle.client_output.proofs.Unchanged.{still_written}
+use Rattle.block_code.specs.declared.code.Code.{Code as SourceCode}
+use Rattle.block_code.specs.Code.{place_of}
+use Rattle.client_machine.specs.Inputs.{names_of}
+use Rattle.block_code.specs.declared.code.Instr.{Instr}
+use Rattle.client_machine.specs.declared.machine.Machine.{Machine}
+use Rattle.client_machine.specs.declared.mode.Mode.{Mode}
+use Rattle.client_machine.specs.declared.mode.Mode.TheVariants as mode
+use Rattle.client_machine.specs.declared.mode.OnAnswer.{OnAnswer}
+use Rattle.client_machine.specs.declared.mode.OnAnswer.TheVariants as on_answer
+use Rattle.client_machine.specs.Config.{instr_at, body_at, on_answer_of, op_of, mode_of}
+use Rattle.client_machine.specs.Machine.{config_of, stack_in, state_in}
+use Rattle.client_machine.specs.Step.{code_in, Fits, RunKept, KeepsRun as StepKeeps, Wants, IsAwaiting}
+use Rattle.block_vm.specs.declared.client.Client.{Client}
+use Rattle.block_vm.specs.declared.client.Phase.{Phase}
+use Rattle.block_vm.specs.declared.client.Phase.TheVariants as phase
+use Rattle.block_vm.specs.Refines.{after, Follows, HasEnded, FollowsIn, Refines, HasGivenUp, AfterResume, HasNotBegun, RunsFrom, IsAt, GaveIn, RunsOn}
 
--- a client in the midst of a call that began where this was written
-pub record Going (m : List Answer → Progress) (names : List (List ℕ)) (written : List Piece) (client : Machine) : Type 0 where
-  pub pieces : List Piece
-  pub has : HasWritten (standing_of client) names pieces
-  pub more : Begins written pieces
-  pub unended : IsUnendedIn client.mode
-  pub follows : Follows m (config_of pieces client)
+-- ---- any configuration
+
+-- what was written stays, and something is asked, whatever the mode
+written_in : (tree : ℕ → Body) (p : Program) (m : flat.Mode) (ks : List flat.StackEntry) (s : State) → Begins s.written (finished (means tree p (config m ks s) [])).written
+written_in tree p (flat.Execute t) ks s = written_continues tree p (config (flat.Execute t) ks s) tt []
+written_in tree p (flat.Unwind completion) ks s = written_continues tree p (config (flat.Unwind completion) ks s) tt []
+written_in tree p (flat.Await o k) ks s = begins_same _ _ (ap (λ r. (finished r).written) (sym (asks_means tree p o k ks s)))
+
+asked_in : (tree : ℕ → Body) (p : Program) (m : flat.Mode) (ks : List flat.StackEntry) (s : State) → IsAsked (finished (means tree p (config m ks s) [])).wants
+asked_in tree p (flat.Execute t) ks s = something_is_asked tree p (config (flat.Execute t) ks s) tt
+asked_in tree p (flat.Unwind completion) ks s = something_is_asked tree p (config (flat.Unwind completion) ks s) tt
+asked_in tree p (flat.Await o k) ks s = subst (λ r. IsAsked (finished r).wants) (sym (asks_means tree p o k ks s)) tt
+
+-- ---- what an answer writes
+
+left_writes : (b : Bool) (s : State) → (left_if b s).written ≡ s.written
+left_writes true s = refl
+left_writes false s = refl
+
+heard_writes : (code : List Instr) (cs : List _) (p : Program) (k : OnAnswer) (a : Answer) (ks : List flat.StackEntry) (s : State) → (answer_step p (on_answer_of code cs k) a ks s).state.written ≡ s.written
+heard_writes code cs p (on_answer.WasEntered k t retry d) a ks s = refl
+heard_writes code cs p (on_answer.WasBack depth) a ks s = refl
+heard_writes code cs p on_answer.WasLeft a ks s = left_writes (s.level == 1) s
+
+answer_writes : (p : Program) (a : Answer) (o : Op) (k : flat.OnAnswer) (ks : List flat.StackEntry) (s : State) → (answer_step p k a ks s).state.written ≡ s.written → (answered p a o k ks s).state.written ≡ s.written
+answer_writes p (answer.Blocked holders) o k ks s e = refl
+answer_writes p answer.NoMemory o k ks s e = refl
+answer_writes p answer.Closed o k ks s e = refl
+answer_writes p (answer.Deadlock cycle) o k ks s e = refl
+answer_writes p answer.TxFull o k ks s e = refl
+answer_writes p answer.TraceFull o k ks s e = refl
+answer_writes p a o k ks s e = e
 
 -- ---- runs after answers
 
 same_runs : (f g : List Answer → Progress) → ((ans : List Answer) → f ans ≡ g ans) → f ≡ g
 same_runs f g h = λ i ans. h ans i
 
-one_more : (heard : List Answer) (a : Answer) (m : List Answer → Progress) → (λ (ans : List Answer). after heard m (a ∷ ans)) ≡ after (heard ++ a ∷ []) m
-one_more heard a m = same_runs _ _ (λ ans. ap m (sym (append_assoc heard (a ∷ []) ans)))
+one_more : (answers : List Answer) (a : Answer) (m : List Answer → Progress) (ans : List Answer) → after (answers ++ a ∷ []) m ans ≡ after answers m (a ∷ ans)
+one_more answers a m ans = ap m (append_assoc answers (a ∷ []) ans)
 
-now : (heard : List Answer) (m : List Answer → Progress) → after heard m [] ≡ m heard
-now heard m = ap m (append-nil heard)
+now : (answers : List Answer) (m : List Answer → Progress) → after answers m [] ≡ m answers
+now answers m = ap m (append-nil answers)
 
 before_one : (b a : Answer) (bs : List Answer) → before_last b (bs ++ a ∷ []) ≡ b ∷ bs
 before_one b a [] = refl
 before_one b a (c ∷ bs) = ap (λ l. b ∷ l) (before_one c a bs)
 
-written_before : (m : List Answer → Progress) (heard : List Answer) (a : Answer) → written_at m (heard ++ a ∷ []) ≡ (m heard).written
+written_before : (m : List Answer → Progress) (answers : List Answer) (a : Answer) → written_at m (answers ++ a ∷ []) ≡ (m answers).written
 written_before m [] a = refl
 written_before m (b ∷ bs) a = ap (λ l. (m l).written) (before_one b a bs)
 
+-- ---- going on
+
+-- the same code
+recode : (tree : ℕ → Body) (p : Program) (a b : Machine) → b.code ≡ a.code → IsCodeOf (code_in a) p tree → IsCodeOf (code_in b) p tree
+recode tree p a b e is = subst (λ (k : SourceCode). IsCodeOf (record { instr = instr_at k.instrs.items; entry = λ n. body_at k.instrs.items (place_of k.procedures.items n) }) p tree) (sym e) is
+
+pub begin_going : (m : List Answer → Progress) (names : List (List ℕ)) (from : List Piece) (c : Machine) → Follows m names from c → RunsFrom m names from c
+begin_going m names from c f = record { pieces = from; more = begins_itself from; follows = f }
+
+-- a machine that went on, and has heard these answers
+went : (m m' : List Answer → Progress) (names : List (List ℕ)) (from : List Piece) (answers : List Answer) (c c' : Machine) → ((ans : List Answer) → m' ans ≡ m (answers ++ ans)) → Follows m names from c → StepKeeps answers c c' → RunsFrom m' names from c'
+went m m' names from answers c c' is f k =
+    let x = k f.tree f.program f.rest f.code f.fits in
+    record {
+      pieces = x.rest.written;
+      more = subst (λ w. Begins w x.rest.written) f.is x.more;
+      follows = record {
+        tree = f.tree;
+        program = f.program;
+        rest = x.rest;
+        code = recode f.tree f.program c c' x.code f.code;
+        names_are = f.names_are ∙ ap names_of (sym x.code);
+        fits = x.fits;
+        is = refl;
+        has = subst (λ ns. Wrote c'.output ns x.rest.written) (sym f.names_are) (x.has (subst (λ ns. Wrote c.output ns f.rest.written) f.names_are (subst (λ ps. Wrote c.output names ps) (sym f.is) f.has)));
+        same = λ ans. is ans ∙ f.same (answers ++ ans) ∙ ap finished (x.same ans);
+      };
+    }
+
+pub step_going : (m : List Answer → Progress) (names : List (List ℕ)) (from : List Piece) (c c' : Machine) → StepKeeps [] c c' → RunsFrom m names from c → RunsFrom m names from c'
+step_going m names from c c' k g =
+    let x = went m m names g.pieces [] c c' (λ ans. refl) g.follows k in
+    record { pieces = x.pieces; more = begins_further from g.pieces x.pieces g.more x.more; follows = x.follows }
+
+pub stands_going : (m : List Answer → Progress) (names : List (List ℕ)) (from : List Piece) (c : Client) (wants : NextStep) → c.phase ≡ phase.Running → Wants wants c.machine → RunsFrom m names from c.machine → RunsOn m names from c wants
+stands_going m names from c wants run_from shows g =
+    let f = g.follows in
+    let refines : m [] ≡ (let d : Progress = record { written = g.pieces; wants = wants } in d) =
+    f.same [] ∙ shows f.tree f.program f.rest f.fits ∙ ap (λ ps. let d : Progress = record { written = ps; wants = wants } in d) f.is in
+    record { pieces = g.pieces; more = g.more; has = f.has; at = inl (record { run_from = run_from; follows = f; refines = refines }) }
+
+-- memory is wanting; the sections are as they were
+pub fails_going : (m : List Answer → Progress) (names : List (List ℕ)) (from : List Piece) (c : Machine) (new : Client) (wants : NextStep) → new.phase ≡ phase.GivingUp → wants ≡ Ask End → IsUnchanged c.output new.machine.output → RunsFrom m names from c → RunsOn m names from new wants
+fails_going m names from c new wants gives asks same g =
+    let f = g.follows in
+    let k = mode_of c.code.instrs.items c.memory.copies c.mode in
+    record {
+      pieces = g.pieces;
+      more = g.more;
+      has = still_written c.output new.machine.output names g.pieces same f.has;
+      at = inr (record {
+        gives_up = gives;
+        asks = asks;
+        op_asked = subst (λ (d : Progress). IsAsked d.wants) (sym (f.same [])) (asked_in f.tree f.program k (stack_in c) (state_in f.rest c));
+        to = subst (λ (d : Progress). Begins g.pieces d.written) (sym (f.same [])) (subst (λ ps. Begins ps (finished (means f.tree f.program (config_of f.rest c) [])).written) f.is (written_in f.tree f.program k (stack_in c) (state_in f.rest c)));
+      });
+    }
+
 -- ---- what comes of going on
 
-came_by : (m : List Answer → Progress) (names : List (List ℕ)) (heard : List Answer) (from : List Piece) (c : Machine) (w : NextStep) → Begins (written_at m heard) from → (g : GoesOn (after heard m) names from (standing_of c) w) → Stands (after heard m) g.pieces (standing_of c) w ⊎ GivesUp (after heard m) g.pieces c.mode w → Came (standing_of c) names m heard w
-came_by m names heard from c w least g (inl s) =
+runs_does : (ph : Phase) (c : Machine) (m : List Answer → Progress) (names : List (List ℕ)) (written : List Piece) → ph ≡ phase.Running → Follows m names written c → FollowsIn ph m names written c
+runs_does ph c m names written e f = subst (λ x. FollowsIn x m names written c) (sym e) f
+
+came_by : (m : List Answer → Progress) (names : List (List ℕ)) (answers : List Answer) (from : List Piece) (c : Client) (w : NextStep) → Begins (written_at m answers) from → (g : RunsOn (after answers m) names from c w) → IsAt (after answers m) names g.pieces c w ⊎ GaveIn (after answers m) g.pieces c w → AfterResume c names m answers w
+came_by m names answers from c w least g (inl s) =
     inl (record {
-      does = record { written = g.pieces; has = g.has; follows = s.follows };
+      refines = record { written = g.pieces; follows = runs_does c.phase c.machine (after answers m) names g.pieces s.run_from s.follows };
       pieces = g.pieces;
       has = g.has;
-      meant = sym (now heard m) ∙ s.does;
+      meant = sym (now answers m) ∙ s.refines;
     })
-came_by m names heard from c w least g (inr u) =
-    let gave : GaveUp m heard g.pieces = record {
-      asked = subst (λ (d : Progress). IsAsked d.wants) (now heard m) u.asked;
-      from = begins_further (written_at m heard) from g.pieces least g.more;
-      to = subst (λ (d : Progress). Begins g.pieces d.written) (now heard m) u.more;
+came_by m names answers from c w least g (inr u) =
+    let gave : GaveUp m answers g.pieces = record {
+      asked = subst (λ (d : Progress). IsAsked d.wants) (now answers m) u.op_asked;
+      from = begins_further (written_at m answers) from g.pieces least g.more;
+      to = subst (λ (d : Progress). Begins g.pieces d.written) (now answers m) u.to;
     } in
-    inr (record { pieces = g.pieces; given_up = record { ends = u.ends; has = g.has; gave = gave }; asks = u.asks })
+    inr (record { pieces = g.pieces; given_up = record { ends = u.gives_up; has = g.has; gave = gave }; asks = u.asks })
 
-pub came : (m : List Answer → Progress) (names : List (List ℕ)) (heard : List Answer) (from : List Piece) (c : Machine) (w : NextStep) → Begins (written_at m heard) from → GoesOn (after heard m) names from (standing_of c) w → Came (standing_of c) names m heard w
-came m names heard from c w least g = came_by m names heard from c w least g g.stands
+came : (m : List Answer → Progress) (names : List (List ℕ)) (answers : List Answer) (from : List Piece) (c : Client) (w : NextStep) → Begins (written_at m answers) from → RunsOn (after answers m) names from c w → AfterResume c names m answers w
+came m names answers from c w least g = came_by m names answers from c w least g g.at
 
 -- ---- the first call
 
-going_unended : (mode : Mode) → GoesOnIn mode → IsUnendedIn mode
-going_unended (Runs p) going = tt
-going_unended (Turns p) going = tt
-going_unended (Over way) going = tt
-going_unended (AsksEnter p) going = tt
-going_unended (AsksBack mark way p) going = tt
-going_unended (AsksLeave d way p) going = tt
-going_unended (AsksEnd ending) going = tt
-going_unended Ended going = going
-
 -- what `go_on` ensures
-abbrev pub WillGoOn : Machine → Machine → NextStep → Type 0
-WillGoOn old new w = (names : List (List ℕ)) (m : List Answer → Progress) (written : List Piece) → IsUnendedIn old.mode → HasWritten (standing_of old) names written → Follows m (config_of written old) → GoesOn m names written (standing_of new) w
+abbrev pub WillGoOn : Phase → Machine → Client → NextStep → Type 0
+WillGoOn ph old new w = (names : List (List ℕ)) (m : List Answer → Progress) (from : List Piece) → ph ≡ phase.Running → Follows m names from old → RunsOn m names from new w
 
-first_by : (names : List (List ℕ)) (m : List Answer → Progress) (old new : Machine) (w : NextStep) → GoesOnIn old.mode → WillGoOn old new w → Does (standing_of old) names m [] → Came (standing_of new) names m [] w
-first_by names m old new w going will d = came m names [] d.written new w (d.written, refl) (will names (after [] m) d.written (going_unended old.mode going) d.has d.follows)
+followed : (ph : Phase) (c : Machine) (m : List Answer → Progress) (names : List (List ℕ)) (written : List Piece) → ph ≡ phase.Running → FollowsIn ph m names written c → Follows m names written c
+followed ph c m names written e f = subst (λ x. FollowsIn x m names written c) e f
 
-pub first_call : (names : List (List ℕ)) (m : List Answer → Progress) (heard : List Answer) (old new : Machine) (w : NextStep) → GoesOnIn old.mode → heard ≡ [] → WillGoOn old new w → Does (standing_of old) names m heard → Came (standing_of new) names m heard w
-first_call names m heard old new w going none will d =
-    subst (λ heard. Came (standing_of new) names m heard w) (sym none) (first_by names m old new w going will (subst (λ heard. Does (standing_of old) names m heard) none d))
+pub first_call : (names : List (List ℕ)) (m : List Answer → Progress) (answers : List Answer) (old new : Client) (w : NextStep) → HasNotBegun old → answers ≡ [] → WillGoOn old.phase old.machine new w → Refines old names m answers → AfterResume new names m answers w
+first_call names m answers old new w begun none will d =
+    came m names answers d.written new w (subst (λ (l : List Answer). Begins (written_at m l) d.written) (sym none) (d.written, refl))
+    (will names (after answers m) d.written begun.0 (followed old.phase old.machine (after answers m) names d.written begun.0 d.follows))
 
--- ---- the answer to an operation other than End
+-- ---- an answer
 
-own_wants : (mode : Mode) → AsksOwn mode → (want : NextStep) × (asked_in mode ≡ Some want)
-own_wants (AsksEnter p) own = (_, refl)
-own_wants (AsksBack mark way p) own = (_, refl)
-own_wants (AsksLeave d way p) own = (_, refl)
-own_wants (AsksEnd ending) own = (_, refl)
-own_wants (Runs p) own = absurd own
-own_wants (Turns p) own = absurd own
-own_wants (Over way) own = absurd own
-own_wants Ended own = absurd own
+-- what was written before it
+asking_now : (x : Mode) (m : List Answer → Progress) (names : List (List ℕ)) (written : List Piece) (c : Machine) → x ≡ c.mode → IsAwaiting x → Follows m names written c → (m []).written ≡ written
+asking_now (mode.Execute t) m names written c e waits f = absurd waits
+asking_now (mode.Unwind w) m names written c e waits f = absurd waits
+asking_now (mode.Await k) m names written c e waits f =
+    ap (λ (d : Progress). d.written) (f.same [])
+    ∙ ap (λ x. (finished (means f.tree f.program (config (mode_of c.code.instrs.items c.memory.copies x) (stack_in c) (state_in f.rest c)) [])).written) (sym e)
+    ∙ ap (λ r. (finished r).written) (asks_means f.tree f.program (op_of c.memory.copies k) (on_answer_of c.code.instrs.items c.memory.copies k) (stack_in c) (state_in f.rest c))
+    ∙ f.is
 
-pub unended_in : (mode : Mode) → IsUnended mode → IsUnendedIn mode
-unended_in (Runs p) u = tt
-unended_in (Turns p) u = tt
-unended_in (Over way) u = tt
-unended_in (AsksEnter p) u = tt
-unended_in (AsksBack mark way p) u = tt
-unended_in (AsksLeave d way p) u = tt
-unended_in (AsksEnd ending) u = tt
-unended_in Ended u = u
+least_at : (m : List Answer → Progress) (answers : List Answer) (a : Answer) (written : List Piece) → (after answers m []).written ≡ written → Begins (written_at m (answers ++ a ∷ [])) written
+least_at m answers a written e = begins_same _ _ (written_before m answers a ∙ ap (λ (d : Progress). d.written) (sym (now answers m)) ∙ e)
 
-pub unended_of : (mode : Mode) → IsUnendedIn mode → IsUnended mode
-unended_of (Runs p) u = tt
-unended_of (Turns p) u = tt
-unended_of (Over way) u = tt
-unended_of (AsksEnter p) u = tt
-unended_of (AsksBack mark way p) u = tt
-unended_of (AsksLeave d way p) u = tt
-unended_of (AsksEnd ending) u = tt
-unended_of Ended u = u
+-- it was heard, and the client went on
+pub heard_call : (names : List (List ℕ)) (a : Answer) (m : List Answer → Progress) (answers : List Answer) (old new : Client) (mid : Machine) (w : NextStep) → old.phase ≡ phase.Running → IsAwaiting old.machine.mode → StepKeeps (a ∷ []) old.machine mid → WillGoOn old.phase mid new w → Refines old names m answers → AfterResume new names m (answers ++ a ∷ []) w
+heard_call names a m answers old new mid w run_from waits k will d =
+    let f = followed old.phase old.machine (after answers m) names d.written run_from d.follows in
+    let g = went (after answers m) (after (answers ++ a ∷ []) m) names d.written (a ∷ []) old.machine mid (one_more answers a m) f k in
+    let least = least_at m answers a d.written (asking_now old.machine.mode (after answers m) names d.written old.machine refl waits f) in
+    came m names (answers ++ a ∷ []) g.pieces new w (begins_further _ d.written g.pieces least g.more) (will names (after (answers ++ a ∷ []) m) g.pieces run_from g.follows)
 
--- what `hear` ensures, and then `go_on`
-pub record HearsAnd (a : Answer) (old mid new : Machine) (w : NextStep) : Type 0 where
-  pub config : ((written : List Piece) → config_of written mid ≡ hears (class_in a) (config_of written old)) ⊎ (mid.mode ≡ AsksEnd NoMemory)
-  pub sections : mid.state.sections.items ≡ old.state.sections.items
-  pub goes_on : WillGoOn mid new w
-  pub stays : mid.mode ≡ AsksEnd NoMemory → (new ≡ mid) × (w ≡ Ask End)
+-- memory was wanting where it was to be heard
+fails_by : (x : Mode) (a : Answer) (m : List Answer → Progress) (names : List (List ℕ)) (written : List Piece) (c : Machine) → x ≡ c.mode → IsAwaiting x → Follows m names written c → IsAsked (m (a ∷ [])).wants × Begins written (m (a ∷ [])).written
+fails_by (mode.Execute t) a m names written c e waits f = absurd waits
+fails_by (mode.Unwind w) a m names written c e waits f = absurd waits
+fails_by (mode.Await k) a m names written c e waits f =
+    let ks = stack_in c in
+    let s = state_in f.rest c in
+    let x = answered f.program a (op_of c.memory.copies k) (on_answer_of c.code.instrs.items c.memory.copies k) ks s in
+    let is : m (a ∷ []) ≡ finished (means f.tree f.program x []) =
+    f.same (a ∷ []) ∙ ap (λ x. finished (means f.tree f.program (config (mode_of c.code.instrs.items c.memory.copies x) ks s) (a ∷ []))) (sym e)
+    ∙ ap finished (answered_means f.tree f.program a (op_of c.memory.copies k) (on_answer_of c.code.instrs.items c.memory.copies k) ks s []) in
+    let stays : x.state.written ≡ written = answer_writes f.program a (op_of c.memory.copies k) (on_answer_of c.code.instrs.items c.memory.copies k) ks s (heard_writes c.code.instrs.items c.memory.copies f.program k a ks s) ∙ f.is in
+    (subst (λ (d : Progress). IsAsked d.wants) (sym is) (asked_in f.tree f.program x.mode x.stack x.state), subst (λ (d : Progress). Begins written d.written) (sym is) (subst (λ ps. Begins ps (finished (means f.tree f.program x [])).written) stays (written_in f.tree f.program x.mode x.stack x.state)))
 
-hears_follows : (a : Answer) (m : List Answer → Progress) (heard : List Answer) (c : Config) → AsksOwn c.mode → Follows (after heard m) c → Follows (after (heard ++ a ∷ []) m) (hears (class_in a) c)
-hears_follows a m heard c own f =
-    subst (λ r. Follows r (hears (class_in a) c)) (one_more heard a m)
-    (record { w = f.w; streams = f.streams; unopened = f.unopened; stands = heard_follows f.w f.streams (after heard m) c c.mode a refl own f.stands })
-
-answered_by : (names : List (List ℕ)) (a : Answer) (m : List Answer → Progress) (heard : List Answer) (old mid new : Machine) (w : NextStep) → AsksOwn old.mode → HearsAnd a old mid new w → (written : List Piece) → HasWritten (standing_of old) names written → Follows (after heard m) (config_of written old) → ((written : List Piece) → config_of written mid ≡ hears (class_in a) (config_of written old)) ⊎ (mid.mode ≡ AsksEnd NoMemory) → Came (standing_of new) names m (heard ++ a ∷ []) w
-answered_by names a m heard old mid new w own h written has f (inl e) =
-    let k = hears_keeps (class_in a) (config_of written old) own in
-    let want = own_wants old.mode own in
-    let at_old : (m heard).written ≡ written = ap (λ (d : Progress). d.written) (sym (now heard m) ∙ wants_is (after heard m) (config_of written old) want.0 f want.1) in
-    let least : Begins (written_at m (heard ++ a ∷ [])) written = ([], append-nil (written_at m (heard ++ a ∷ [])) ∙ written_before m heard a ∙ at_old) in
-    let f1 : Follows (after (heard ++ a ∷ []) m) (config_of written mid) = subst (Follows (after (heard ++ a ∷ []) m)) (sym (e written)) (hears_follows a m heard (config_of written old) own f) in
-    came m names (heard ++ a ∷ []) written new w least
-    (h.goes_on names (after (heard ++ a ∷ []) m) written (unended_in mid.mode (subst (λ (c : Config). IsUnended c.mode) (sym (e written)) k.unended)) (h.sections ∙ has) f1)
-answered_by names a m heard old mid new w own h written has f (inr e) =
-    let k = hears_keeps (class_in a) (config_of written old) own in
-    let want = own_wants old.mode own in
-    let at_old : (m heard).written ≡ written = ap (λ (d : Progress). d.written) (sym (now heard m) ∙ wants_is (after heard m) (config_of written old) want.0 f want.1) in
-    let least : Begins (written_at m (heard ++ a ∷ [])) written = ([], append-nil (written_at m (heard ++ a ∷ [])) ∙ written_before m heard a ∙ at_old) in
-    let will = finishes (after (heard ++ a ∷ []) m) (hears (class_in a) (config_of written old)) k.unended (hears_follows a m heard (config_of written old) own f) in
-    let stays = h.stays e in
-    came m names (heard ++ a ∷ []) written new w least
-    (record {
-      pieces = written;
-      has = subst (λ c. HasWritten (standing_of c) names written) (sym stays.0) (h.sections ∙ has);
-      more = ([], append-nil written);
-      stands = inr (record {
-        ends = ap (λ (c : Machine). c.mode) stays.0 ∙ e;
-        asks = stays.1;
-        asked = will.asked;
-        more = subst (λ ps. Begins ps (after (heard ++ a ∷ []) m []).written) k.written will.more;
-      });
+pub failed_call : (names : List (List ℕ)) (a : Answer) (m : List Answer → Progress) (answers : List Answer) (old new : Client) (w : NextStep) → old.phase ≡ phase.Running → IsAwaiting old.machine.mode → new.phase ≡ phase.GivingUp → w ≡ Ask End → IsUnchanged old.machine.output new.machine.output → Refines old names m answers → AfterResume new names m (answers ++ a ∷ []) w
+failed_call names a m answers old new w run_from waits gives asks same d =
+    let f = followed old.phase old.machine (after answers m) names d.written run_from d.follows in
+    let least = least_at m answers a d.written (asking_now old.machine.mode (after answers m) names d.written old.machine refl waits f) in
+    let x = fails_by old.machine.mode a (after answers m) names d.written old.machine refl waits f in
+    inr (record {
+      pieces = d.written;
+      given_up = record {
+        ends = gives;
+        has = still_written old.machine.output new.machine.output names d.written same f.has;
+        gave = record { asked = x.0; from = least; to = x.1 };
+      };
+      asks = asks;
     })
-
-pub own_call : (names : List (List ℕ)) (a : Answer) (m : List Answer → Progress) (heard : List Answer) (old mid new : Machine) (w : NextStep) → AsksOwn old.mode → HearsAnd a old mid new w → Does (standing_of old) names m heard → Came (standing_of new) names m (heard ++ a ∷ []) w
-own_call names a m heard old mid new w own h d = answered_by names a m heard old mid new w own h d.written d.has d.follows h.config
 
 -- ---- the answer to End
 
-end_follows : (a : Answer) (m : List Answer → Progress) (heard : List Answer) (c : Config) (ending : Ending) → c.mode ≡ AsksEnd ending → Follows (after heard m) c → (ans : List Answer) → after (heard ++ a ∷ []) m ans ≡ record { written = c.written; wants = HasEndedAs (end_of ending) }
-end_follows a m heard c ending e f ans =
-    let stands : FollowsIn f.w f.streams (AsksEnd ending) (after heard m) c = subst (λ mode. FollowsIn f.w f.streams mode (after heard m) c) e f.stands in
-    ap m (append_assoc heard (a ∷ []) ans) ∙ stands (a ∷ ans)
+-- what `end` ensures
+abbrev pub WillEnd : Machine → ClientEnd → Type 0
+WillEnd c end = (tree : ℕ → Body) (p : Program) (rest : State) → Fits p rest c → (a : Answer) (ans : List Answer) → finished (means tree p (config_of rest c) (a ∷ ans)) ≡ record { written = rest.written; wants = Ended end }
 
-pub end_call : (names : List (List ℕ)) (a : Answer) (m : List Answer → Progress) (heard : List Answer) (old new : Machine) (ending : Ending) → old.mode ≡ AsksEnd ending → ((written : List Piece) → (let c : Config = record (config_of written old) { mode = Ended } in config_of written new ≡ c)) → new.state.sections.items ≡ old.state.sections.items → Does (standing_of old) names m heard → Came (standing_of new) names m (heard ++ a ∷ []) (HasEndedAs (end_of ending))
-end_call names a m heard old new ending e is same d =
-    let does = end_follows a m heard (config_of d.written old) ending e d.follows in
-    let c : Config = record (config_of d.written old) { mode = Ended } in
-    let f1 : Follows (after (heard ++ a ∷ []) m) c = record { w = d.follows.w; streams = d.follows.streams; unopened = d.follows.unopened; stands = (end_of ending, does) } in
+pub end_call : (names : List (List ℕ)) (a : Answer) (m : List Answer → Progress) (answers : List Answer) (old new : Client) (end : ClientEnd) → old.phase ≡ phase.Running → new.phase ≡ phase.Ended → WillEnd old.machine end → IsUnchanged old.machine.output new.machine.output → Refines old names m answers → AfterResume new names m (answers ++ a ∷ []) (Ended end)
+end_call names a m answers old new end run_from ended will same d =
+    let f = followed old.phase old.machine (after answers m) names d.written run_from d.follows in
+    let refines : (ans : List Answer) → after (answers ++ a ∷ []) m ans ≡ (let d : Progress = record { written = d.written; wants = Ended end } in d) =
+    λ ans. one_more answers a m ans ∙ f.same (a ∷ ans) ∙ will f.tree f.program f.rest f.fits a ans ∙ ap (λ ps. let d : Progress = record { written = ps; wants = Ended end } in d) f.is in
+    let e : HasEnded (after (answers ++ a ∷ []) m) names d.written new.machine = record { has = still_written old.machine.output new.machine.output names d.written same f.has; end = end; same = refines } in
     inl (record {
-      does = record { written = d.written; has = same ∙ d.has; follows = subst (Follows (after (heard ++ a ∷ []) m)) (sym (is d.written)) f1 };
+      refines = record { written = d.written; follows = subst (λ x. FollowsIn x (after (answers ++ a ∷ []) m) names d.written new.machine) (sym ended) e };
       pieces = d.written;
-      has = same ∙ d.has;
-      meant = sym (now (heard ++ a ∷ []) m) ∙ does [];
+      has = still_written old.machine.output new.machine.output names d.written same f.has;
+      meant = sym (now (answers ++ a ∷ []) m) ∙ refines [];
     })
-
--- a client that asks End for want of memory ends so
-pub end_given_up : (ending : Ending) (mode : Mode) → mode ≡ AsksEnd NoMemory → mode ≡ AsksEnd ending → end_of ending ≡ client.NoMemory
-end_given_up ending mode gave is = let e : ending ≡ NoMemory = cc (gave, is) in ap end_of e

@@ -1,9 +1,5 @@
 pub mod NextStep
-pub mod Sections
-pub mod Machine
 pub mod Standing
-pub mod Client
 pub mod Work
-pub mod Follows
-pub mod Does
-pub mod Examples
+pub mod Refines
+pub mod Begins

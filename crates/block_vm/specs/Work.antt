@@ -1,80 +1,59 @@
--- How much a client has still to do.
-use Rattle.std.specs.Prelude.{◌≡◌, ◌+◌, ◌*◌, ℕ, [], length}
-use Rattle.block_vm.specs.declared.mode.Mode.{Mode}
-use Rattle.block_vm.specs.declared.mode.Mode.TheVariants.{Runs, Turns, Over, AsksEnter, AsksBack, AsksLeave, AsksEnd, Ended}
-use Rattle.block_vm.specs.declared.machine.Machine.{Machine}
-use Rattle.block_vm.specs.Standing.{Standing}
+-- How much a client has still to do, and what it waits for.
+use Rattle.std.specs.Prelude.{◌≡◌, ◌+◌, ℕ, List, [], ◌∷◌}
+use Rattle.client_database.specs.declared.operation.Op.TheVariants.{End}
 use Rattle.client_database.specs.declared.next_step.NextStep.{NextStep}
 use Rattle.client_database.specs.declared.next_step.NextStep.TheVariants.{Ask}
+use Rattle.client_machine.specs.declared.mode.Mode.{Mode}
+use Rattle.client_machine.specs.declared.mode.Mode.TheVariants as mode
+use Rattle.client_machine.specs.declared.mode.StackEntry.{StackEntry}
+use Rattle.client_machine.specs.Shows.{Shows}
+use Rattle.block_vm.specs.declared.client.Phase.{Phase}
+use Rattle.block_vm.specs.declared.client.Phase.TheVariants as phase
+use Rattle.block_vm.specs.Standing.{Standing}
 use Rattle.block_vm.specs.NextStep.{IsEnded}
-use Rattle.client_database.specs.declared.operation.Op.TheVariants.{Enter, Back, Leave, End}
 
--- a mode that goes on by itself, by how near it is to the next operation
-abbrev pub rank : Mode → ℕ
-rank (Runs place) = 2
-rank (Turns place) = 2
-rank (Over way) = 1
-rank (AsksEnter place) = 0
-rank (AsksBack mark way place) = 0
-rank (AsksLeave depth way place) = 0
-rank (AsksEnd ending) = 0
-rank Ended = 0
-
--- what falls at each step that asks nothing
-abbrev pub weight_in : ℕ → ℕ → Mode → ℕ
-weight_in units opened mode = 3 * units + 2 * opened + rank mode
-
-abbrev pub weight : Machine → ℕ
-weight c = weight_in c.state.units (length c.opened.items) c.mode
-
--- the most operations that a client in this mode will still ask, the one that it asks included and beside those
--- it asks again after Blocked: each one but End costs a unit
-abbrev pub operations_in : Mode → ℕ → ℕ
-operations_in (Runs place) units = units + 1
-operations_in (Turns place) units = units + 1
-operations_in (Over way) units = units + 1
-operations_in (AsksEnter place) units = units + 2
-operations_in (AsksBack mark way place) units = units + 2
-operations_in (AsksLeave depth way place) units = units + 2
-operations_in (AsksEnd ending) units = 1
-operations_in Ended units = 0
+-- the most operations that a client will still ask, the one that it asks included and beside those it asks again after
+-- Blocked: each one but End costs a unit
+abbrev pub operations_in : Phase → Mode → List StackEntry → ℕ → ℕ
+operations_in phase.Running (mode.Execute t) ks units = units + 2
+operations_in phase.Running (mode.Await k) ks units = units + 2
+operations_in phase.Running (mode.Unwind w) [] units = 1
+operations_in phase.Running (mode.Unwind w) (k ∷ ks) units = units + 2
+operations_in phase.GivingUp m ks units = 1
+operations_in phase.Ended m ks units = 0
 
 abbrev pub most_operations : Standing → ℕ
-most_operations s = operations_in s.config.mode s.config.units
-
--- it waits for the answer to an operation other than End
-abbrev pub AsksOwn : Mode → Type 0
-AsksOwn (AsksEnter place) = Unit {0}
-AsksOwn (AsksBack mark way place) = Unit {0}
-AsksOwn (AsksLeave depth way place) = Unit {0}
-AsksOwn mode = ⊥
+most_operations c = operations_in c.phase c.machine.mode c.machine.stack.items c.machine.units
 
 -- it waits for an answer
-abbrev pub Waits : Mode → Type 0
-Waits (AsksEnd ending) = Unit {0}
-Waits mode = AsksOwn mode
+abbrev pub WaitsIn : Phase → Mode → List StackEntry → Type 0
+WaitsIn phase.Running (mode.Execute t) ks = ⊥
+WaitsIn phase.Running (mode.Await k) ks = Unit {0}
+WaitsIn phase.Running (mode.Unwind w) [] = Unit {0}
+WaitsIn phase.Running (mode.Unwind w) (k ∷ ks) = ⊥
+WaitsIn phase.GivingUp m ks = Unit {0}
+WaitsIn phase.Ended m ks = ⊥
 
 abbrev pub IsWaiting : Standing → Type 0
-IsWaiting s = Waits s.config.mode
+IsWaiting c = WaitsIn c.phase c.machine.mode c.machine.stack.items
 
 -- it waits for the answer to End
-abbrev pub AsksTheEnd : Mode → Type 0
-AsksTheEnd (AsksEnd ending) = Unit {0}
-AsksTheEnd mode = ⊥
+abbrev pub EndsIn : Phase → Mode → List StackEntry → Type 0
+EndsIn phase.Running (mode.Execute t) ks = ⊥
+EndsIn phase.Running (mode.Await k) ks = ⊥
+EndsIn phase.Running (mode.Unwind w) [] = Unit {0}
+EndsIn phase.Running (mode.Unwind w) (k ∷ ks) = ⊥
+EndsIn phase.GivingUp m ks = Unit {0}
+EndsIn phase.Ended m ks = ⊥
 
 abbrev pub IsEnding : Standing → Type 0
-IsEnding s = AsksTheEnd s.config.mode
+IsEnding c = EndsIn c.phase c.machine.mode c.machine.stack.items
 
--- what a client in this mode wants
-abbrev pub Shows : Mode → NextStep → Type 0
-Shows (Runs place) wants = ⊥
-Shows (Turns place) wants = ⊥
-Shows (Over way) wants = ⊥
-Shows (AsksEnter place) wants = wants ≡ Ask Enter
-Shows (AsksBack mark way place) wants = wants ≡ Ask (Back mark.depth)
-Shows (AsksLeave depth way place) wants = wants ≡ Ask (Leave [])
-Shows (AsksEnd ending) wants = wants ≡ Ask End
-Shows Ended wants = IsEnded wants
+-- what it wants
+abbrev pub ShowsIn : Phase → Mode → List StackEntry → NextStep → Type 0
+ShowsIn phase.Running m ks wants = Shows m ks wants
+ShowsIn phase.GivingUp m ks wants = wants ≡ Ask End
+ShowsIn phase.Ended m ks wants = IsEnded wants
 
 abbrev pub ShowsWants : Standing → NextStep → Type 0
-ShowsWants s wants = Shows s.config.mode wants
+ShowsWants c wants = ShowsIn c.phase c.machine.mode c.machine.stack.items wants

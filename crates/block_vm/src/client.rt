@@ -1,66 +1,70 @@
-//! The client: a machine that its callers see as where it stands and what it has written.
+//! The client: a machine from one answer to the next.
 
-ghost use Rattle.std.specs.Prelude.{◌≡◌, ◌<◌, ℕ, List, [], ◌⊎◌, Some, IfOk, IfSome};
+ghost use Rattle.std.specs.Prelude.{◌≡◌, ◌⊎◌, ◌∷◌, ◌++◌, ◌<◌, ◌+◌, ℕ, List, [], Some, false, IfOk, IfSome};
 ghost use Rattle.client_database.specs.declared.answer.Answer.{Answer};
+ghost use Rattle.client_database.specs.declared.operation.Op.{Op};
+ghost use Rattle.client_database.specs.declared.ends.ClientEnd.{ClientEnd};
+ghost use Rattle.client_database.specs.declared.next_step.NextStep.{NextStep};
 ghost use Rattle.bound_tree.specs.declared.procedure.Bound.{Bound};
 ghost use Rattle.bound_tree.specs.Bound.{source_of};
-ghost use Rattle.block_code.specs.Code.{StandsFor};
-ghost use Rattle.block_code.specs.Built.{IsBuilt};
-ghost use Rattle.client_database.specs.declared.ends.ClientEnd.{ClientEnd};
+ghost use Rattle.abl_eval.specs.Forms.{AreForms};
+ghost use Rattle.abl_format.specs.Imports.{line_at};
 ghost use Rattle.block_meaning.specs.declared.wants.Piece.{Piece};
-ghost use Rattle.client_database.specs.declared.next_step.NextStep.{NextStep};
-ghost use Rattle.block_meaning.specs.Program.{Program};
 ghost use Rattle.block_meaning.specs.State.{Progress};
+ghost use Rattle.block_meaning.specs.Program.{Program};
 ghost use Rattle.block_meaning.specs.Meaning.{run as run_of};
+ghost use Rattle.block_code.specs.Code.{IsCompiled};
+ghost use Rattle.client_output.specs.Sections.{sections_of};
+ghost use Rattle.client_machine.specs.Step.{IsAwaiting};
+ghost use Rattle.block_vm.specs.declared.client.Phase.{Phase};
 ghost use Rattle.block_vm.specs.NextStep.{IsAsking, IsEnded, IsPlain, IsLevelOp};
-ghost use Rattle.block_vm.specs.Sections.{sections_of};
 ghost use Rattle.block_vm.specs.Standing.{HasWritten};
 ghost use Rattle.block_vm.specs.Work.{most_operations, IsWaiting, IsEnding, ShowsWants};
-ghost use Rattle.block_vm.specs.Does.{Does, HasGivenUp, Came, HasNotBegun, IsExpected, heard_too};
+ghost use Rattle.block_vm.specs.Refines.{HasNoBuffers, Refines, HasGivenUp, AfterResume, HasNotBegun, IsExpected, answers_with, Follows, RunsOn};
 
-use crate::machine::Machine;
-use crate::output::Section;
+use crate::begin::first_machine;
+use crate::steps::step;
 use block_code::Code;
-use block_meaning::NextStep;
-use client_database::Answer;
+use client_database::{Answer, ClientEnd, NextStep, Op};
+use client_machine::inputs::Inputs;
+use client_machine::machine::Machine;
+use client_output::Section;
 use std::alloc::{AllocError, Global};
-use std::marker::Model;
+
+/// Where a client is between two calls.
+#[derive(Clone, Copy, Debug)]
+pub enum Phase {
+    Running,
+    /// Memory was wanting: End was asked.
+    GivingUp,
+    Ended,
+}
 
 /// A client in the midst of its run.
 #[derive(Drop)]
 pub struct Client {
-    machine: Machine,
-}
-
-impl Model for Client {
-    ghost use Rattle.std.specs.Coded.{codes};
-    ghost use Rattle.bound_tree.specs.contracts.expression.Expr as expression;
-    ghost use Rattle.block_vm.specs.Standing.{Standing};
-
-    ghost Value = { Standing };
-
-    ghost coded = { Prim.hlevel (codes, expression.the_row.coded) };
-
-    ghost use Rattle.block_vm.specs.Client.{standing_of};
-
-    ghost view = { λ client. standing_of client.machine };
+    pub machine: Machine,
+    pub phase: Phase,
 }
 
 impl Client {
     /// A client that has not begun, with so many units. Want of memory is the only refusal.
-    pub fn new(alloc: Global, code: Code, units: u64) -> Result<Client, AllocError>
-        ensures does { IfOk result (λ client. (bound : Bound) (p : Program) → StandsFor code bound → IsBuilt bound → p.source ≡ source_of bound → Does client bound.outputs.items (run_of p units) []) }
+    pub fn new(alloc: Global, code: Code, inputs: Inputs, units: u64) -> Result<Client, AllocError>
+        ensures refines { IfOk result (λ client. (bound : Bound) (p : Program) → IsCompiled code bound → HasNoBuffers bound → p.source ≡ source_of bound → p.input ≡ inputs.own → p.inputs ≡ inputs.named.items → AreForms p.forms → p.forms.line_at ≡ line_at → Refines client bound.outputs.items (run_of p units) []) }
         ensures begins { IfOk result (λ client. HasNotBegun client) }
     {
-        let machine = Machine::new(alloc, code, units)?;
-        Ok(Client { machine })
+        let machine = first_machine(alloc, code, inputs, units)?;
+        Ok(Client {
+            machine,
+            phase: Phase::Running,
+        })
     }
 
     /// The answer to what was asked last, none at the first call; then what the client asks next,
     /// or how it has ended. Blocked makes it ask the same operation again.
     pub fn resume(&mut self, answer: Option<Answer>) -> NextStep
-        ensures does { (names : List (List ℕ)) (m : List Answer → Progress) (heard : List Answer) → IsExpected answer self.old heard → Does self.old names m heard → Came self.new names m (heard_too heard answer) result }
-        ensures given_up { (names : List (List ℕ)) (m : List Answer → Progress) (heard : List Answer) (pieces : List Piece) → HasGivenUp self.old names m heard pieces → IfSome answer (λ _. (result ≡ NextStep.Ended ClientEnd.NoMemory) × HasWritten self.new names pieces) }
+        ensures refines { (names : List (List ℕ)) (m : List Answer → Progress) (answers : List Answer) → IsExpected answer self.old answers → Refines self.old names m answers → AfterResume self.new names m (answers_with answers answer) result }
+        ensures given_up { (names : List (List ℕ)) (m : List Answer → Progress) (answers : List Answer) (pieces : List Piece) → HasGivenUp self.old names m answers pieces → IfSome answer (λ _. (result ≡ NextStep.Ended ClientEnd.NoMemory) × HasWritten self.new names pieces) }
         ensures waits { IsAsking result → IsWaiting self.new }
         ensures level { IsLevelOp result }
         ensures fewer { IfSome answer (λ a. IsPlain a → IsWaiting self.old → most_operations self.new < most_operations self.old) }
@@ -68,13 +72,124 @@ impl Client {
         ensures gives_up { answer ≡ Some Answer.NoMemory → IsWaiting self.old → IsEnding self.new ⊎ IsEnded result }
         ensures ended { IsEnding self.old → IfSome answer (λ _. IsEnded result) }
     {
-        self.machine.resume(answer)
+        match answer {
+            Some(answer) => self.resume_with(answer),
+            None => self.begin(),
+        }
+    }
+
+    /// The first call.
+    fn begin(&mut self) -> NextStep
+        ensures refines { (names : List (List ℕ)) (m : List Answer → Progress) (answers : List Answer) → HasNotBegun self.old → answers ≡ [] → Refines self.old names m answers → AfterResume self.new names m answers result }
+        ensures wants { ShowsWants self.new result }
+    {
+        match self.phase {
+            Phase::Running => self.run_on(u64::MAX),
+            Phase::GivingUp | Phase::Ended => self.give_up(),
+        }
+    }
+
+    /// The answer to what was asked last, and what comes after it.
+    fn resume_with(&mut self, answer: Answer) -> NextStep
+        ensures refines { (names : List (List ℕ)) (m : List Answer → Progress) (answers : List Answer) → IsWaiting self.old → Refines self.old names m answers → AfterResume self.new names m (answers ++ answer ∷ []) result }
+        ensures given_up { (names : List (List ℕ)) (m : List Answer → Progress) (answers : List Answer) (pieces : List Piece) → HasGivenUp self.old names m answers pieces → (result ≡ NextStep.Ended ClientEnd.NoMemory) × HasWritten self.new names pieces }
+        ensures fewer { IsPlain answer → IsWaiting self.old → most_operations self.new < most_operations self.old }
+        ensures wants { ShowsWants self.new result }
+        ensures gives_up { answer ≡ Answer.NoMemory → IsWaiting self.old → IsEnding self.new ⊎ IsEnded result }
+        ensures ended { IsEnding self.old → IsEnded result }
+    {
+        match self.phase {
+            Phase::Running => self.run_with(answer),
+            Phase::GivingUp => {
+                self.phase = Phase::Ended;
+                NextStep::Ended(ClientEnd::NoMemory)
+            }
+            Phase::Ended => NextStep::Ended(ClientEnd::NoMemory),
+        }
+    }
+
+    /// The answer to what the machine asked last, and what comes after it.
+    fn run_with(&mut self, answer: Answer) -> NextStep
+        requires running { self.old.phase ≡ Phase.Running }
+        ensures refines { (names : List (List ℕ)) (m : List Answer → Progress) (answers : List Answer) → IsWaiting self.old → Refines self.old names m answers → AfterResume self.new names m (answers ++ answer ∷ []) result }
+        ensures fewer { IsPlain answer → IsWaiting self.old → most_operations self.new < most_operations self.old }
+        ensures wants { ShowsWants self.new result }
+        ensures gives_up { answer ≡ Answer.NoMemory → IsWaiting self.old → IsEnding self.new ⊎ IsEnded result }
+        ensures ended { IsEnding self.old → IsEnded result }
+    {
+        if !self.machine.is_awaiting() {
+            self.phase = Phase::Ended;
+            return NextStep::Ended(self.machine.end());
+        }
+        if is_no_memory(&answer) {
+            return self.give_up();
+        }
+        let limit = limit_after(&answer, self.machine.units);
+        match self.machine.answer(answer) {
+            Ok(()) => self.run_on(limit),
+            Err(_) => self.give_up(),
+        }
+    }
+
+    /// Steps until there is something to ask. An operation costs a unit, so that fewer than `limit`
+    /// are left where it asks one.
+    fn run_on(&mut self, limit: u64) -> NextStep
+        ensures follows { (names : List (List ℕ)) (m : List Answer → Progress) (from : List Piece) → self.old.phase ≡ Phase.Running → Follows m names from self.old.machine → RunsOn m names from self.new result }
+        ensures fewer { self.old.phase ≡ Phase.Running → most_operations self.new < limit + 2 }
+        ensures wants { self.old.phase ≡ Phase.Running → ShowsWants self.new result }
+    {
+        for _ in 0..u64::MAX {
+            if let Some(wants) = self.machine.next_step() {
+                if self.asks_too_much(limit) {
+                    return self.give_up();
+                }
+                return wants;
+            }
+            match step(&mut self.machine) {
+                Ok(()) => {}
+                Err(_) => return self.give_up(),
+            }
+        }
+        self.give_up()
+    }
+
+    /// Whether it asks an operation with at least so many units left.
+    fn asks_too_much(&self, limit: u64) -> bool
+        ensures { result ≡ false → IsAwaiting self.now.machine.mode → self.now.machine.units < limit }
+    {
+        self.machine.is_awaiting() && self.machine.units >= limit
+    }
+
+    /// Memory is wanting.
+    fn give_up(&mut self) -> NextStep
+        ensures asks { result ≡ NextStep.Ask Op.End }
+        ensures new { self.new ≡ record self.old { phase = Phase.GivingUp } }
+    {
+        self.phase = Phase::GivingUp;
+        NextStep::Ask(Op::End)
     }
 
     /// What it has written, the default output first.
     pub fn output(&self) -> &[Section]
         ensures { (names : List (List ℕ)) (pieces : List Piece) → HasWritten self.now names pieces → result.now ≡ sections_of names pieces }
     {
-        self.machine.sections()
+        &self.machine.output.sections
+    }
+}
+
+/// Whether the database had no memory for the operation.
+fn is_no_memory(answer: &Answer) -> bool
+    ensures { result ≡ false → answer.now ≡ Answer.NoMemory → ⊥ }
+{
+    matches!(answer, Answer::NoMemory)
+}
+
+/// After Blocked the same operation is asked again, which costs nothing.
+fn limit_after(answer: &Answer, units: u64) -> u64
+    ensures { IsPlain answer.now → result ≡ units }
+{
+    match answer {
+        Answer::Blocked { .. } => u64::MAX,
+        _ => units,
     }
 }

@@ -1,0 +1,12 @@
+use Rattle.std.proofs.Common.{◌≡◌, [], ◌∷◌, ap, ◌∙◌, reverse}
+use Rattle.std.proofs.lemmas.List.{reverse-append}
+use Rattle.client_machine.specs.declared.machine.Machine.{Machine}
+use Rattle.client_machine.proofs.RunKept.{on_ok}
+use Rattle.client_machine.proofs.Entries.{unwound}
+use Rattle.block_vm.proofs.steps.unwind.Goals as goal
+
+pub returns-in-Some-clause-ok : goal.returns-in-Some-clause-ok
+returns-in-Some-clause-ok c =
+    let old = c.args.machine.now in
+    let mid : Machine = record old { stack = c.pop.new.self } in
+    on_ok c.unwind_to.result (unwound c.in-Some.entry c.args.completion old mid c.unwind_to.new.machine (ap reverse c.in-Some.ensures.items ∙ reverse-append c.pop.new.self.items (c.in-Some.entry ∷ []))) c.unwind_to.ensures.ok
