@@ -16,7 +16,7 @@ use Rattle.block_meaning.specs.State.{Progress}
 use Rattle.block_meaning.specs.Meaning.{asked, op_of}
 use Rattle.block_meaning.specs.GivesUp.{Begins, IsAsked, before_last, written_at}
 use Rattle.block_vm.specs.Standing.{Standing, HasWritten}
-use Rattle.block_vm.specs.Does.{Does, HasGivenUp, Keeps, Came}
+use Rattle.block_vm.specs.Refines.{Refines, HasGivenUp, Agrees, AfterResume}
 use Rattle.abl_cli.specs.ClientRun.{RanAsMeant, ToItsEnd, GivingUp, Finished, OnlyGrows}
 
 -- ---- one event more
@@ -38,7 +38,7 @@ asked_more m (b ∷ heard) a =
 -- a client that has heard the answers of the trace, and requests this next
 pub data Along (client : Standing) (names : List (List ℕ)) (m : List Answer → Progress) (trace : List Event) (wants : NextStep) : Type 0 where
   -- it does as m says
-  AsMeant : Keeps client names m (answers_of 0 trace) wants → operations_of 0 trace ≡ asked m (answers_of 0 trace) → Along client names m trace wants
+  AsMeant : Agrees client names m (answers_of 0 trace) wants → operations_of 0 trace ≡ asked m (answers_of 0 trace) → Along client names m trace wants
   -- out of memory, it requests End
   AsksEnd : (pieces : List Piece) → HasGivenUp client names m (answers_of 0 trace) pieces → wants ≡ Ask End → operations_of 0 trace ≡ asked m (answers_of 0 trace) → Along client names m trace wants
   -- and it has ended so
@@ -47,24 +47,24 @@ pub data Along (client : Standing) (names : List (List ℕ)) (m : List Answer �
 -- what came of a call, where the operations so far are those asked
 pub along_after :
     (client : Standing) (names : List (List ℕ)) (m : List Answer → Progress) (trace : List Event) (wants : NextStep) →
-    Came client names m (answers_of 0 trace) wants → operations_of 0 trace ≡ asked m (answers_of 0 trace) → Along client names m trace wants
-along_after client names m trace wants (inl keeps) same = AsMeant keeps same
+    AfterResume client names m (answers_of 0 trace) wants → operations_of 0 trace ≡ asked m (answers_of 0 trace) → Along client names m trace wants
+along_after client names m trace wants (inl agrees) same = AsMeant agrees same
 along_after client names m trace wants (inr gives) same = AsksEnd gives.pieces gives.given_up gives.asks same
 
 -- what the calls of a client ensure, from one answer to the next request
 pub record Answered (old new : Standing) (a : Answer) (wants : NextStep) : Type 0 where
-  pub does : (names : List (List ℕ)) (m : List Answer → Progress) (heard : List Answer) → Does old names m heard → Came new names m (heard ++ a ∷ []) wants
+  pub refines : (names : List (List ℕ)) (m : List Answer → Progress) (heard : List Answer) → Refines old names m heard → AfterResume new names m (heard ++ a ∷ []) wants
   pub given_up : (names : List (List ℕ)) (m : List Answer → Progress) (heard : List Answer) (pieces : List Piece) → HasGivenUp old names m heard pieces → (wants ≡ Ended NoMemory) × HasWritten new names pieces
 
 -- the operation is answered
 pub along_more :
     (old new : Standing) (names : List (List ℕ)) (m : List Answer → Progress) (trace : List Event) (op : Op) (a : Answer) (wants : NextStep) →
     Answered old new a wants → Along old names m trace (Ask op) → Along new names m (trace ++ event_of 0 op a ∷ []) wants
-along_more old new names m trace op a wants answered (AsMeant keeps same) =
+along_more old new names m trace op a wants answered (AsMeant agrees same) =
     along_after new names m (trace ++ event_of 0 op a ∷ []) wants
-    (subst (λ heard. Came new names m heard wants) (sym (answers_more trace op a)) (answered.does names m (answers_of 0 trace) keeps.does))
+    (subst (λ heard. AfterResume new names m heard wants) (sym (answers_more trace op a)) (answered.refines names m (answers_of 0 trace) agrees.refines))
     (operations_more trace op a ∙ ap (λ os. os ++ op ∷ []) same
-    ∙ ap (λ (d : Progress). asked m (answers_of 0 trace) ++ op_of d.wants) (sym keeps.meant) ∙ sym (asked_more m (answers_of 0 trace) a)
+    ∙ ap (λ (d : Progress). asked m (answers_of 0 trace) ++ op_of d.wants) (sym agrees.meant) ∙ sym (asked_more m (answers_of 0 trace) a)
     ∙ ap (asked m) (sym (answers_more trace op a)))
 along_more old new names m trace op a wants answered (AsksEnd pieces given is_end same) =
     let over = answered.given_up names m (answers_of 0 trace) pieces given in
@@ -75,7 +75,7 @@ along_more old new names m trace op a wants answered (IsOver pieces has is_ended
 
 -- it has ended
 pub done_at_its_end : (client : Standing) (names : List (List ℕ)) (m : List Answer → Progress) (trace : List Event) (how : ClientEnd) → Along client names m trace (Ended how) → Finished client names m trace how
-done_at_its_end client names m trace how (AsMeant keeps same) = record { pieces = keeps.pieces; has = keeps.has; did = ToItsEnd trace how keeps.pieces same keeps.meant }
+done_at_its_end client names m trace how (AsMeant agrees same) = record { pieces = agrees.pieces; has = agrees.has; did = ToItsEnd trace how agrees.pieces same agrees.meant }
 done_at_its_end client names m trace how (AsksEnd pieces given is_end same) = absurd (cc is_end)
 done_at_its_end client names m trace how (IsOver pieces has is_ended did) =
     let is : NoMemory ≡ how = cc is_ended in record { pieces = pieces; has = has; did = subst (λ e. RanAsMeant m trace e pieces) is did }
@@ -96,16 +96,16 @@ begins_at m (a ∷ ans) grows =
 pub done_without_room :
     (client : Standing) (names : List (List ℕ)) (m : List Answer → Progress) (trace : List Event) (op : Op) (a : Answer) →
     OnlyGrows m → (op ≡ End → ⊥) → Along client names m trace (Ask op) → Finished client names m (trace ++ event_of 0 End a ∷ []) NoMemory
-done_without_room client names m trace op a grows other (AsMeant keeps same) =
-    let written : (m (answers_of 0 trace)).written ≡ keeps.pieces = ap (λ (d : Progress). d.written) keeps.meant in
+done_without_room client names m trace op a grows other (AsMeant agrees same) =
+    let written : (m (answers_of 0 trace)).written ≡ agrees.pieces = ap (λ (d : Progress). d.written) agrees.meant in
     record {
-      pieces = keeps.pieces;
-      has = keeps.has;
-      did = GivingUp trace a keeps.pieces same
+      pieces = agrees.pieces;
+      has = agrees.has;
+      did = GivingUp trace a agrees.pieces same
           (record {
-            asked = subst (λ (d : Progress). IsAsked d.wants) (sym keeps.meant) tt;
+            asked = subst (λ (d : Progress). IsAsked d.wants) (sym agrees.meant) tt;
             from = subst (Begins (written_at m (answers_of 0 trace))) written (begins_at m (answers_of 0 trace) grows);
-            to = ([], append-nil keeps.pieces ∙ sym written);
+            to = ([], append-nil agrees.pieces ∙ sym written);
           });
     }
 done_without_room client names m trace op a grows other (AsksEnd pieces given is_end same) = absurd (other (cc is_end))

@@ -1,5 +1,5 @@
--- What is compiled is built where its tree is.
-use Rattle.std.proofs.Common.{◌≡◌, ℕ, List, None, Ok, sym, ◌∙◌, subst}
+-- What is compiled is built.
+use Rattle.std.proofs.Common.{◌≡◌, ℕ, Bool, true, false, ◌&&◌, List, [], ◌∷◌, None, Ok, refl, sym, ap, ◌∙◌, subst, map}
 use Rattle.abl_base.specs.declared.place.Place.{Place}
 use Rattle.abl_base.specs.declared.rule.Rule.{Rule}
 use Rattle.abl_base.specs.declared.rule.Rule.TheVariants.{N1}
@@ -7,38 +7,58 @@ use Rattle.abl_cli.specs.declared.source.SourceFault.{SourceFault}
 use Rattle.abl_cli.specs.declared.source.SourceFault.TheVariants.{Broken}
 use Rattle.abl_values.specs.Schema.{SchemaData}
 use Rattle.bound_tree.specs.declared.procedure.Bound.{Bound}
-use Rattle.bound_tree.specs.Bound.{source_of}
+use Rattle.bound_tree.specs.declared.procedure.Procedure.{Procedure}
+use Rattle.bound_tree.specs.Bound.{source_of, procedure_of}
 use Rattle.bound_tree.specs.Tree.{Source as Tree}
 use Rattle.abl_syntax.specs.Syntax.{Program as Syntax}
 use Rattle.abl_types.specs.Sources.{bound}
-use Rattle.block_rules.specs.Rules.{first_broken}
+use Rattle.buffer_scope.specs.Scoped.{with_scopes, first_broken as first_broken_scope}
+use Rattle.block_rules.specs.Rules.{first_broken as first_broken_label}
 use Rattle.txn_infer.specs.Flags.{with_flags}
-use Rattle.block_code.specs.Built.{IsBuilt}
-use Rattle.block_code.specs.Code.{StandsFor}
+use Rattle.block_code.specs.Built.{IsBuilt, is_nil, procedure_is_built, procedures_are_built, body_is_built}
+use Rattle.block_code.specs.Code.{IsCompiled}
 use Rattle.block_code.specs.declared.code.Code.{Code}
-use Rattle.block_code.specs.BuiltTree.{IsBuiltTree}
-use Rattle.block_code.proofs.Trees.{tree_is_built}
-use Rattle.abl_cli.specs.Sources.{HasSyntax, IsSourceOf, BreaksFirst, of_form}
+use Rattle.block_vm.specs.Refines.{AreBufferless, HasNoBuffers}
+use Rattle.abl_cli.specs.Sources.{HasSyntax, BreaksFirst, of_form}
 use Rattle.abl_cli.specs.Command.{IsCodeOf}
 
--- a bound source is built where its tree is
-pub bound_is_built : (schema : SchemaData) (text : List ℕ) (bound : Bound) → IsSourceOf schema text (source_of bound) → IsBuilt bound
-bound_is_built schema text bound form = sym (tree_is_built bound) ∙ form.built
+-- ---- a source that is built has no buffers
 
--- the code of what is bound, with its flags, is that of the source
-pub code_is : (schema : SchemaData) (text : List ℕ) (syntax_of : Syntax) (plain : Tree) (flagged : Bound) (code : Code) → HasSyntax text syntax_of → bound schema syntax_of ≡ Ok plain → source_of flagged ≡ with_flags plain →
-    first_broken syntax_of ≡ None → IsBuilt flagged → StandsFor code flagged → IsCodeOf schema text code
-code_is schema text syntax_of plain flagged code has tree flags clean built stands = record {
+both : (a b : Bool) → a && b ≡ true → (a ≡ true) × (b ≡ true)
+both true true e = (refl, refl)
+both true false e = absurd (cc e)
+both false b e = absurd (cc e)
+
+is_empty : {A : Type 0} (xs : List A) → is_nil xs ≡ true → xs ≡ []
+is_empty [] e = refl
+is_empty (x ∷ xs) e = absurd (cc e)
+
+are_bufferless : (qs : List Procedure) → procedures_are_built (map procedure_of qs) ≡ true → AreBufferless qs
+are_bufferless [] built = tt
+are_bufferless (q ∷ qs) built =
+    let all = both (procedure_is_built (procedure_of q)) (procedures_are_built (map procedure_of qs)) built in
+    let first = both (is_nil q.buffers.items) (body_is_built (procedure_of q).body) all.0 in
+    (is_empty q.buffers.items first.0, are_bufferless qs all.1)
+
+pub has_no_buffers : (bound : Bound) → IsBuilt (source_of bound) → HasNoBuffers bound
+has_no_buffers bound built = are_bufferless bound.procedures.items built
+
+-- ---- what is compiled
+
+-- the code of what is bound, with its scopes and flags, is that of the source
+pub code_is : (schema : SchemaData) (text : List ℕ) (syntax_of : Syntax) (plain scoped : Tree) (flagged : Bound) (code : Code) → HasSyntax text syntax_of → bound schema syntax_of ≡ Ok plain → first_broken_scope syntax_of plain ≡ None →
+    scoped ≡ with_scopes syntax_of plain → first_broken_label syntax_of ≡ None → source_of flagged ≡ with_flags scoped → IsBuilt (source_of flagged) → IsCompiled code flagged → IsCodeOf schema text code
+code_is schema text syntax_of plain scoped flagged code has tree scopes scoping clean flags built compiled = record {
   bound = flagged;
-  form = record { syntax_of = syntax_of; has = has; plain = plain; is_bound = tree; flags = flags; clean = clean; built = tree_is_built flagged ∙ built };
-  stands = stands;
+  form = record { syntax_of = syntax_of; has = has; plain = plain; is_bound = tree; scopes = scopes; clean = clean; flags = flags ∙ ap with_flags scoping; built = built };
+  compiled = compiled;
 }
 
 -- a tree that is not built breaks N1 first
-pub tree_is_broken : (schema : SchemaData) (text : List ℕ) (syntax_of : Syntax) (plain : Tree) (flagged : Bound) → HasSyntax text syntax_of → bound schema syntax_of ≡ Ok plain → source_of flagged ≡ with_flags plain → first_broken syntax_of ≡ None → ¬ IsBuilt flagged →
-    BreaksFirst schema text N1 (record { line = 1; column = 1 })
-tree_is_broken schema text syntax_of plain flagged has tree flags clean unbuilt =
-    of_form syntax_of plain has tree clean (λ built. unbuilt (sym (tree_is_built flagged) ∙ subst IsBuiltTree (sym flags) built))
+pub tree_is_broken : (schema : SchemaData) (text : List ℕ) (syntax_of : Syntax) (plain scoped : Tree) (flagged : Bound) → HasSyntax text syntax_of → bound schema syntax_of ≡ Ok plain → first_broken_scope syntax_of plain ≡ None →
+    scoped ≡ with_scopes syntax_of plain → first_broken_label syntax_of ≡ None → source_of flagged ≡ with_flags scoped → ¬ IsBuilt (source_of flagged) → BreaksFirst schema text N1 (record { line = 1; column = 1 })
+tree_is_broken schema text syntax_of plain scoped flagged has tree scopes scoping clean flags unbuilt =
+    of_form syntax_of plain has tree scopes clean (λ built. unbuilt (subst IsBuilt (sym (flags ∙ ap with_flags scoping)) built))
 
 -- the fault that names a rule names the rule that is broken first
 pub told_at : (schema : SchemaData) (text : List ℕ) (fault : SourceFault) (rule : Rule) (place : Place) → fault ≡ Broken N1 (record { line = 1; column = 1 }) → fault ≡ Broken rule place →

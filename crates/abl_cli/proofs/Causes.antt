@@ -1,43 +1,80 @@
 -- What prevents the run that arguments name is the cause of the command's refusal.
-use Rattle.std.proofs.Common.{◌≡◌, ℕ, List, Result, Err, sym, ap, ◌∙◌, subst}
+use Rattle.std.proofs.Common.{◌≡◌, ◌<◌, ℕ, zero, suc, List, [], ◌∷◌, ◌++◌, Option, Some, None, Result, Err, refl, sym, ap, ◌∙◌, subst, length, take, get_or, arith}
 use Rattle.std.specs.Prelude.{IsTrue, IfErr}
 use Rattle.fault_count.specs.Faults.{Rose}
-use Rattle.abl_outside.specs.Files.{IsLonger}
+use Rattle.abl_outside.specs.Files.{IsLonger, FileState}
 use Rattle.abl_cli.specs.declared.load.TheConstants.{MAX_FILE_BYTES}
 use Rattle.abl_cli.specs.declared.refusal.Refusal.{Refusal}
 use Rattle.abl_cli.specs.declared.arguments.RunArguments.{RunArguments}
-use Rattle.abl_cli.specs.CommandLine.{Run, Names}
-use Rattle.abl_outside.specs.Files.{FileState}
-use Rattle.abl_cli.specs.Command.{HasText, IsNotRead, is_missing, is_too_long, reading_wants, Texts, Prevents, Cause, prevented}
-
--- the run that the arguments name
-abbrev pub run_of : (arguments : List (List ℕ)) (read : RunArguments) → Names arguments read → Run
-run_of arguments read names = record { schema = read.schema.now; steps = names.steps; mode = read.mode; name = read.name.now; program = read.program.now }
+use Rattle.abl_cli.specs.CommandLine.{Names, files_of, run_of}
+use Rattle.abl_cli.specs.Command.{HasText, HasInput, HaveTexts, IsNotRead, is_missing, is_too_long, reading_wants, IsInputNotRead, OneIsNotRead, this_one, later_one, AreSame, Prevents, Cause, prevented}
 
 pub cause_of_prevented :
     (arguments : List (List ℕ)) (files : FileState) (faults : ℕ) (read : RunArguments) → Names arguments read →
-    (refusal : Refusal) → Prevents files faults read.schema.now read.program.now refusal → Cause arguments files faults read.name.now refusal
-cause_of_prevented arguments files faults read names refusal prevents = prevented (run_of arguments read names) names.is_run names.arguments_are prevents
+    (refusal : Refusal) → Prevents files faults (files_of read) refusal → Cause arguments files faults read.name.now refusal
+cause_of_prevented arguments files faults read names refusal prevents = prevented (run_of read names.steps) names.is_run names.arguments_are prevents
 
 -- what holds of an error holds of the result that has it
 pub of_error : {A : Type 0} {result : Result A Refusal} {refusal : Refusal} (P : Refusal → Type 0) → result ≡ Err refusal → P refusal → IfErr result P
 of_error P is holds = subst (λ r. IfErr r P) (sym is) holds
 
--- the state of the files is the same at a later read, where none failed before it
-module _ (files later : FileState)
-    (same_observable : later.observable ≡ files.observable) (sound : later.sound ≡ files.sound) (same_files : IsTrue files.observable → later.file ≡ files.file) (quiet : later.faults ≡ files.faults) (sound_observable : IsTrue files.sound → IsTrue files.observable) where
+-- ---- a later read, where none failed before it
+
+pub same_further : {old mid new : FileState} → AreSame old mid → AreSame mid new → AreSame old new
+same_further p q = record {
+  observable = q.observable ∙ p.observable;
+  sound = q.sound ∙ p.sound;
+  file = λ t. q.file (subst IsTrue (sym p.observable) t) ∙ p.file t;
+  faults = q.faults ∙ p.faults;
+}
+
+pub same_files : (files : FileState) → AreSame files files
+same_files files = record { observable = refl; sound = refl; file = λ t. refl; faults = refl }
+
+module _ (files later : FileState) (same : AreSame files later) (sound_observable : IsTrue files.sound → IsTrue files.observable) where
   pub still_has : {name text : List ℕ} → HasText later name text → HasText files name text
   still_has {name} has = record {
-    content = λ t. ap (λ file. file name) (sym (same_files t)) ∙ has.content (subst IsTrue (sym same_observable) t);
+    content = λ t. ap (λ file. file name) (sym (same.file t)) ∙ has.content (subst IsTrue (sym same.observable) t);
     short = has.short;
   }
 
   pub still_not_read : {faults : ℕ} {name : List ℕ} {refusal : Refusal} → IsNotRead later faults name refusal → IsNotRead files faults name refusal
-  still_not_read {faults} {name} (is_missing rose missing) = is_missing (subst (λ n. Rose n faults) quiet rose)
-      (λ s. ap (λ file. file name) (sym (same_files (sound_observable s))) ∙ missing (subst IsTrue (sym sound) s))
-  still_not_read {name} (is_too_long longer) = is_too_long (λ t. subst (λ file. IsLonger (file name) MAX_FILE_BYTES) (same_files t) (longer (subst IsTrue (sym same_observable) t)))
+  still_not_read {faults} {name} (is_missing rose missing) = is_missing (subst (λ n. Rose n faults) same.faults rose)
+      (λ s. ap (λ file. file name) (sym (same.file (sound_observable s))) ∙ missing (subst IsTrue (sym same.sound) s))
+  still_not_read {name} (is_too_long longer) = is_too_long (λ t. subst (λ file. IsLonger (file name) MAX_FILE_BYTES) (same.file t) (longer (subst IsTrue (sym same.observable) t)))
   still_not_read reading_wants = reading_wants
 
-  -- the texts of two files, of which the later read gave the second
-  abbrev pub both_texts : {schema program df source : List ℕ} → HasText files schema df → HasText later program source → Texts files schema program
-  both_texts {df} {source} first second = record { df = df; source = source; has_schema = first; has_source = still_has second }
+  pub still_has_input : (input : Option (List ℕ)) (text : List ℕ) → HasInput later input text → HasInput files input text
+  still_has_input None text has = has
+  still_has_input (Some name) text has = still_has has
+
+  pub still_no_input : (input : Option (List ℕ)) (faults : ℕ) (refusal : Refusal) → IsInputNotRead later faults input refusal → IsInputNotRead files faults input refusal
+  still_no_input None faults refusal h = h
+  still_no_input (Some name) faults refusal h = still_not_read h
+
+  pub still_have : (names texts : List (List ℕ)) → HaveTexts later names texts → HaveTexts files names texts
+  still_have [] [] have = tt
+  still_have [] (text ∷ texts) have = have
+  still_have (name ∷ names) [] have = have
+  still_have (name ∷ names) (text ∷ texts) have = (still_has have.0, still_have names texts have.1)
+
+  pub still_one : {faults : ℕ} {names : List (List ℕ)} {refusal : Refusal} → OneIsNotRead later faults names refusal → OneIsNotRead files faults names refusal
+  still_one (this_one h) = this_one (still_not_read h)
+  still_one (later_one has h) = later_one (still_has has) (still_one h)
+
+-- ---- files one after the other
+
+-- one more of them is read
+pub have_more : (files : FileState) (names texts : List (List ℕ)) (i : ℕ) (name text : List ℕ) → i < length names → HaveTexts files (take i names) texts → name ≡ get_or names i name → HasText files name text → HaveTexts files (take (suc i) names) (texts ++ text ∷ [])
+have_more files [] texts i name text below have is has = absurd (omega (arith, below))
+have_more files (n ∷ names) [] zero name text below have is has = (subst (λ x. HasText files x text) is has, tt)
+have_more files (n ∷ names) (t ∷ texts) zero name text below have is has = absurd have
+have_more files (n ∷ names) [] (suc i) name text below have is has = absurd have
+have_more files (n ∷ names) (t ∷ texts) (suc i) name text below have is has = (have.0, have_more files names texts i name text (omega (arith, below)) have.1 is has)
+
+-- one of them is not
+pub one_unread : (files : FileState) (faults : ℕ) (names texts : List (List ℕ)) (i : ℕ) (name : List ℕ) (refusal : Refusal) → i < length names → HaveTexts files (take i names) texts → name ≡ get_or names i name → IsNotRead files faults name refusal → OneIsNotRead files faults names refusal
+one_unread files faults [] texts i name refusal below have is h = absurd (omega (arith, below))
+one_unread files faults (n ∷ names) texts zero name refusal below have is h = this_one (subst (λ x. IsNotRead files faults x refusal) is h)
+one_unread files faults (n ∷ names) [] (suc i) name refusal below have is h = absurd have
+one_unread files faults (n ∷ names) (t ∷ texts) (suc i) name refusal below have is h = later_one have.0 (one_unread files faults names texts i name refusal (omega (arith, below)) have.1 is h)

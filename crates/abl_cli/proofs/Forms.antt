@@ -1,5 +1,5 @@
 -- Arguments that begin the form are those that fit their places.
-use Rattle.std.proofs.Common.{◌≡◌, ◌≢◌, ◌<◌, ◌≤◌, ◌+◌, ℕ, List, [], ◌∷◌, ◌++◌, refl, ap, sym, ◌∙◌, subst, arith, length, take, inr, length-take-le}
+use Rattle.std.proofs.Common.{◌≡◌, ◌≢◌, ◌<◌, ◌≤◌, ◌+◌, ℕ, List, [], ◌∷◌, ◌++◌, refl, ap, sym, ◌∙◌, subst, arith, length, take, inr, None, length-take-le}
 use Rattle.std.proofs.lemmas.List.{take_all}
 use Rattle.std.proofs.lemmas.List.Elements.{All-cons, All-nil}
 use Rattle.std.specs.Prelude.{codes}
@@ -7,8 +7,8 @@ use Rattle.std.specs.Char.{IsAsciiDigit, IsAsciiAlphanumeric}
 use Rattle.abl_cli.specs.declared.arguments.Mode.{Mode}
 use Rattle.abl_cli.specs.declared.arguments.Mode.TheVariants.{Quiet}
 use Rattle.abl_cli.specs.declared.arguments.Argument.{Argument}
-use Rattle.abl_cli.specs.CommandLine.{Run, IsRun, IsSteps, IsName, IsProgram, arguments_of, mode_argument, HaveForm, Begin, IsWrong, at_argument, missing}
-use Rattle.abl_cli.specs.Arguments.{form, FitAll}
+use Rattle.abl_cli.specs.CommandLine.{Run, RunFiles, IsRun, IsSteps, IsName, IsFileName, IsInput, arguments_of, input_part, mode_argument, HaveForm, Begin, IsWrong, at_argument, missing}
+use Rattle.abl_cli.specs.Arguments.{form, FitAll, AreFiles}
 
 -- ---- arguments of the form that some others begin
 
@@ -29,16 +29,16 @@ a_is_name =
       short = omega arith;
     }
 
-p_is_program : IsProgram (112 ∷ [])
+p_is_program : IsFileName (112 ∷ [])
 p_is_program = record { some = omega arith; plain = All-cons (λ byte. byte ≢ 60) 112 [] (λ e. omega arith) (All-nil (λ byte. byte ≢ 60)) }
 
 -- the arguments `run SCHEMA STEPS MODE a=p`, whose first ones are these
 run_with : List ℕ → List ℕ → Mode → Run
-run_with schema steps mode = record { schema = schema; steps = steps; mode = mode; name = 97 ∷ []; program = 112 ∷ [] }
+run_with schema steps mode = record { files = record { schema = schema; program = 112 ∷ []; input = None }; steps = steps; mode = mode; name = 97 ∷ [] }
 
 is_run_with : (schema steps : List ℕ) (mode : Mode) → 0 < length schema → IsSteps steps → IsRun (run_with schema steps mode)
 unfolding run_with
-is_run_with schema steps mode some is_steps = record { schema = some; steps = is_steps; name = a_is_name; program = p_is_program }
+is_run_with schema steps mode some is_steps = record { schema = some; steps = is_steps; name = a_is_name; program = p_is_program; input = tt }
 
 -- arguments that fit their places begin the form
 pub begin_of_fit : (arguments : List (List ℕ)) → FitAll form arguments → Begin arguments
@@ -69,11 +69,11 @@ begin_of_fit (a ∷ b ∷ c ∷ d ∷ e ∷ []) fit =
     let client = fit.1.1.1.1.0 in (
       [],
       (
-        record { schema = b; steps = c; mode = mode.0; name = client.name; program = client.program },
+        record { files = record { schema = b; program = client.files.program; input = client.files.input }; steps = c; mode = mode.0; name = client.name },
         (
-          record { schema = fit.1.0; steps = fit.1.1.0; name = client.is_name; program = client.is_program },
+          record { schema = fit.1.0; steps = fit.1.1.0; name = client.is_name; program = client.files.is_program; input = client.files.is_input },
           ap (λ w. w ∷ b ∷ c ∷ d ∷ e ∷ []) fit.0 ∙ ap (λ w. codes "run" ∷ b ∷ c ∷ w ∷ e ∷ []) mode.1
-              ∙ ap (λ w. codes "run" ∷ b ∷ c ∷ mode_argument mode.0 ∷ w ∷ []) client.joined,
+              ∙ ap (λ w. codes "run" ∷ b ∷ c ∷ mode_argument mode.0 ∷ w ∷ []) (client.joined ∙ ap (λ part. client.name ++ 61 ∷ part) client.files.joined),
         ),
       ),
     )
@@ -87,9 +87,12 @@ first_fit places [] more fit = tt
 first_fit [] (w ∷ arguments) more fit = fit
 first_fit (s ∷ places) (w ∷ arguments) more fit = (fit.0, first_fit places arguments more fit.1)
 
+files_fit : (files : RunFiles) → IsFileName files.program → IsInput files.input → AreFiles (files.program ++ input_part files.input)
+files_fit files is_program is_input = record { program = files.program; input = files.input; is_program = is_program; is_input = is_input; joined = refl }
+
 form_fits : (run : Run) → IsRun run → FitAll form (arguments_of run)
 form_fits run is_run =
-    (refl, (is_run.schema, (is_run.steps, ((run.mode, refl), (record { name = run.name; program = run.program; is_name = is_run.name; is_program = is_run.program; joined = refl }, tt)))))
+    (refl, (is_run.schema, (is_run.steps, ((run.mode, refl), (record { name = run.name; part = run.files.program ++ input_part run.files.input; is_name = is_run.name; files = files_fit run.files is_run.program is_run.input; joined = refl }, tt)))))
 
 -- arguments that begin the form fit their places
 pub fit_of_begin : (arguments : List (List ℕ)) → Begin arguments → FitAll form arguments
@@ -124,6 +127,6 @@ few_are_missing arguments n is few fit =
     let all : FitAll form arguments = subst (FitAll form) (take_all n arguments (omega arith)) fit in
     subst (IsWrong arguments) (sym is) (missing arguments (begin_of_fit arguments all) (λ has. absurd (omega (arith, few, form_is_five arguments has))))
 
--- a argument number is small
+-- an argument number is small
 pub misfit_is_small : (arguments : List (List ℕ)) (n : ℕ) → n ≤ length arguments → FitAll form (take n arguments) → n ≤ 5
 misfit_is_small arguments n within fit = let few = fit_is_short (take n arguments) fit in let same : length (take n arguments) ≡ n = length-take-le n arguments within in omega (arith, few, same)

@@ -7,17 +7,17 @@ use Rattle.abl_outside.specs.Out.{appended}
 use Rattle.abl_outside.specs.declared.out.Stream.TheVariants.{Output as Standard}
 use Rattle.client_database.specs.declared.ends.ClientEnd.{ClientEnd}
 use Rattle.client_database.specs.declared.ends.ClientEnd.TheVariants as end
-use Rattle.block_vm.specs.declared.output.Section.{Section}
+use Rattle.client_output.specs.declared.section.Section.{Section}
 use Rattle.abl_cli.specs.declared.refusal.Refusal.{Refusal}
 use Rattle.abl_cli.specs.declared.refusal.Refusal.TheVariants.{Usage, File, TooLong, Schema, Source, Client, Output, NoMemory}
 use Rattle.abl_cli.specs.declared.command.Report.{Report}
-use Rattle.abl_cli.specs.CommandLine.{HaveForm, Begin, IsWrong, at_argument, missing}
+use Rattle.abl_cli.specs.CommandLine.{RunFiles, HaveForm, Begin, IsWrong, at_argument, missing}
 use Rattle.abl_values.specs.Schema.{SchemaData}
 use Rattle.abl_cli.specs.declared.arguments.Mode.{Mode}
 use Rattle.abl_cli.specs.Report.{run_text, status_of}
 use Rattle.abl_outside.specs.Out.{OutState}
 use Rattle.abl_outside.specs.Files.{FileState}
-use Rattle.abl_cli.specs.Command.{IsNotRead, Prevents, no_schema, no_source, schema_breaks, source_breaks, Cause, wrong_argument, prevented, IsReported, CommandResult, Refused, Ran, WritesStatus, refusal_after, status_after, IsUsage}
+use Rattle.abl_cli.specs.Command.{IsNotRead, Prevents, no_schema, no_source, no_input, schema_breaks, source_breaks, no_named_input, IsInputNotRead, OneIsNotRead, this_one, later_one, Cause, wrong_argument, prevented, IsReported, CommandResult, Refused, Ran, WritesStatus, refusal_after, status_after, IsUsage}
 
 -- ---- arguments
 
@@ -58,29 +58,52 @@ module _ (arguments : List (List ℕ)) (files : FileState) (faults : ℕ) (old n
   no_unread_usage : {file : List ℕ} {arg : ℕ} → IsNotRead files faults file (Usage arg) → ⊥
   no_unread_usage h = elim h [ ]
 
-  no_prevents_usage : {schema program : List ℕ} {arg : ℕ} → Prevents files faults schema program (Usage arg) → ⊥
-  no_prevents_usage (no_schema h) = no_unread_usage h
-  no_prevents_usage (no_source has h) = no_unread_usage h
-  no_prevents_usage (schema_breaks texts h) = elim h [ ]
-  no_prevents_usage (source_breaks texts clean h) = elim h [ ]
+  no_input_usage : (input : Option (List ℕ)) (arg : ℕ) → IsInputNotRead files faults input (Usage arg) → ⊥
+  no_input_usage None arg h = h
+  no_input_usage (Some file) arg h = no_unread_usage h
 
-  no_prevents_output : {schema program : List ℕ} → Prevents files faults schema program Output → ⊥
-  no_prevents_output (no_schema h) = elim h [ ]
-  no_prevents_output (no_source has h) = elim h [ ]
-  no_prevents_output (schema_breaks texts h) = elim h [ ]
-  no_prevents_output (source_breaks texts clean h) = elim h [ ]
+  no_named_usage : {inputs : List (List ℕ)} {arg : ℕ} → OneIsNotRead files faults inputs (Usage arg) → ⊥
+  no_named_usage (this_one h) = no_unread_usage h
+  no_named_usage (later_one has h) = no_named_usage h
+
+  no_prevents_usage : (named : RunFiles) {arg : ℕ} → Prevents files faults named (Usage arg) → ⊥
+  no_prevents_usage named (no_schema h) = no_unread_usage h
+  no_prevents_usage named (no_source has h) = no_unread_usage h
+  no_prevents_usage named {arg} (no_input has too h) = no_input_usage named.input arg h
+  no_prevents_usage named (schema_breaks texts h) = elim h [ ]
+  no_prevents_usage named (source_breaks texts clean h) = elim h [ ]
+  no_prevents_usage named (no_named_input texts clean tree form h) = no_named_usage h
+
+  no_unread_output : {file : List ℕ} → IsNotRead files faults file Output → ⊥
+  no_unread_output h = elim h [ ]
+
+  no_input_output : (input : Option (List ℕ)) → IsInputNotRead files faults input Output → ⊥
+  no_input_output None h = h
+  no_input_output (Some file) h = no_unread_output h
+
+  no_named_output : {inputs : List (List ℕ)} → OneIsNotRead files faults inputs Output → ⊥
+  no_named_output (this_one h) = no_unread_output h
+  no_named_output (later_one has h) = no_named_output h
+
+  no_prevents_output : (named : RunFiles) → Prevents files faults named Output → ⊥
+  no_prevents_output named (no_schema h) = elim h [ ]
+  no_prevents_output named (no_source has h) = elim h [ ]
+  no_prevents_output named (no_input has too h) = no_input_output named.input h
+  no_prevents_output named (schema_breaks texts h) = elim h [ ]
+  no_prevents_output named (source_breaks texts clean h) = elim h [ ]
+  no_prevents_output named (no_named_input texts clean tree form h) = no_named_output h
 
   usage_is_wrong : (name : List ℕ) (arg : ℕ) → Cause arguments files faults name (Usage arg) → IsWrong arguments arg
   usage_is_wrong name arg (wrong_argument wrong) = wrong
-  usage_is_wrong name arg (prevented run is_run are prevents) = absurd (no_prevents_usage prevents)
+  usage_is_wrong name arg (prevented run is_run are prevents) = absurd (no_prevents_usage run.files prevents)
 
   no_output_cause : (name : List ℕ) → Cause arguments files faults name Output → ⊥
-  no_output_cause name (prevented run is_run are prevents) = no_prevents_output prevents
+  no_output_cause name (prevented run is_run are prevents) = no_prevents_output run.files prevents
 
   pub wrong_is_reported : (arg : ℕ) → CommandResult arguments files faults old new report → report.refusal ≡ Some (Usage arg) → IsWrong arguments arg
   wrong_is_reported arg (Refused name refusal cause is) given =
       let same : refusal ≡ Usage arg = cc (is.refusal, given) in usage_is_wrong name arg (subst (λ r. Cause arguments files faults name r) same cause)
-  wrong_is_reported arg (Ran named is_run are texts clean tree form ran) given =
+  wrong_is_reported arg (Ran named is_run are texts clean tree form inputs have ran) given =
       absurd (no_usage ran.reported.whole ran.end arg (sym ran.reported.refusal ∙ given))
 
   formless_is_usage : (name : List ℕ) (refusal : Refusal) → Cause arguments files faults name refusal → (HaveForm arguments → ⊥) → IsUsage (Some refusal)
@@ -89,7 +112,7 @@ module _ (arguments : List (List ℕ)) (files : FileState) (faults : ℕ) (old n
 
   pub formless_is_reported : CommandResult arguments files faults old new report → (HaveForm arguments → ⊥) → IsUsage report.refusal
   formless_is_reported (Refused name refusal cause is) formless = subst IsUsage (sym is.refusal) (formless_is_usage name refusal cause formless)
-  formless_is_reported (Ran named is_run are texts clean tree form ran) formless = absurd (formless (named, (is_run, are)))
+  formless_is_reported (Ran named is_run are texts clean tree form inputs have ran) formless = absurd (formless (named, (is_run, are)))
 
   pub formed_is_no_usage : CommandResult arguments files faults old new report → HaveForm arguments → IsUsage report.refusal → ⊥
   formed_is_no_usage did form usage = let arg = is_usage report.refusal usage in wrong_or_formed arguments arg.0 (wrong_is_reported arg.0 did arg.1) form
@@ -125,7 +148,7 @@ module _ (arguments : List (List ℕ)) (files : FileState) (faults : ℕ) (old n
   pub output_rose : CommandResult arguments files faults old new report → report.refusal ≡ Some Output → Rose old.faults new.faults
   output_rose (Refused name refusal cause is) given =
       let same : refusal ≡ Output = cc (is.refusal, given) in absurd (no_output_cause name (subst (λ r. Cause arguments files faults name r) same cause))
-  output_rose (Ran named is_run are texts clean tree form ran) given =
+  output_rose (Ran named is_run are texts clean tree form inputs have ran) given =
       rose_in_report named.mode named.name ran.end ran.sections ran.reported (output_breaks ran.reported.whole ran.end (sym ran.reported.refusal ∙ given))
 
   -- ---- status 0
@@ -151,7 +174,7 @@ module _ (arguments : List (List ℕ)) (files : FileState) (faults : ℕ) (old n
 
   pub whole_at_0 : CommandResult arguments files faults old new report → report.status ≡ 0 → IsTrue old.observable → (mode : Mode) × (name : List ℕ) × (sections : List Section) × ((schema : SchemaData) → new.texts ≡ appended Standard (run_text mode schema name sections report.trace) old.texts)
   whole_at_0 (Refused name refusal cause is) zero given = absurd (no_status_0 refusal (sym is.status ∙ zero))
-  whole_at_0 (Ran named is_run are texts clean tree form ran) zero given =
+  whole_at_0 (Ran named is_run are texts clean tree form inputs have ran) zero given =
       let r = ran.reported in
       let ok = status_of_run r.whole ran.end (ap status_after (sym r.refusal) ∙ sym r.status ∙ zero) in
       let same : new ≡ r.between = subst (λ refusal. WritesStatus named.name report.ends refusal r.between new) (r.refusal ∙ ok.1) r.lines in

@@ -4,6 +4,7 @@ pub mod Causes
 pub mod Endings
 pub mod Forms
 pub mod Judged
+pub mod Loads
 pub mod LevelAnswers
 pub mod Numbers
 pub mod Prevented

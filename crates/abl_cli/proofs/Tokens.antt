@@ -1,5 +1,5 @@
 -- From tokens to rules that a text breaks.
-use Rattle.std.proofs.Common.{ℕ, suc, ◌<◌, ◌≡◌, List, [], ◌∷◌, length, Some, Ok, Err, refl, ap, subst}
+use Rattle.std.proofs.Common.{ℕ, suc, ◌<◌, ◌≡◌, List, [], ◌∷◌, length, None, Some, Ok, Err, refl, ap, subst}
 use Rattle.std.specs.Prelude.{slice_get}
 use Rattle.abl_base.specs.declared.place.Place.{Place}
 use Rattle.abl_base.specs.declared.rule.Rule.{Rule}
@@ -12,8 +12,9 @@ use Rattle.abl_syntax.specs.Syntax.{Program as Syntax}
 use Rattle.bind_names.specs.declared.violation.Violation.{Violation}
 use Rattle.abl_types.specs.Sources.{bound}
 use Rattle.bound_tree.specs.Tree.{Source as Tree}
-use Rattle.block_rules.specs.Rules.{first_broken}
-use Rattle.abl_cli.specs.Sources.{HasCleanTokens, HasSyntax, BreaksFirst, of_grammar, of_types, of_blocks}
+use Rattle.buffer_scope.specs.Scoped.{first_broken as first_broken_scope}
+use Rattle.block_rules.specs.Rules.{first_broken as first_broken_label}
+use Rattle.abl_cli.specs.Sources.{HasCleanTokens, HasSyntax, BreaksFirst, of_grammar, of_types, of_scopes, of_blocks}
 
 kinds_length : (tokens : List Token) → length (kinds tokens) ≡ length tokens
 kinds_length [] = refl
@@ -29,5 +30,5 @@ broken_at schema text tokens rule other at token place h f s p e = subst (λ r. 
 pub types_at : (schema : SchemaData) (text : List ℕ) (syntax_of : Syntax) (v : Violation) (rule : Rule) (place : Place) → HasSyntax text syntax_of → bound schema syntax_of ≡ Err v → v.rule ≡ rule → v.place ≡ place → BreaksFirst schema text rule place
 types_at schema text syntax_of v rule place has broken e f = subst (λ r. BreaksFirst schema text r place) e (subst (λ x. BreaksFirst schema text v.rule x) f (of_types syntax_of has broken))
 
-pub blocks_at : (schema : SchemaData) (text : List ℕ) (syntax_of : Syntax) (plain : Tree) (v : Violation) (rule : Rule) (place : Place) → HasSyntax text syntax_of → bound schema syntax_of ≡ Ok plain → first_broken syntax_of ≡ Some v → v.rule ≡ rule → v.place ≡ place → BreaksFirst schema text rule place
-blocks_at schema text syntax_of plain v rule place has tree broken e f = subst (λ r. BreaksFirst schema text r place) e (subst (λ x. BreaksFirst schema text v.rule x) f (of_blocks syntax_of plain has tree broken))
+pub scopes_at : (schema : SchemaData) (text : List ℕ) (syntax_of : Syntax) (plain : Tree) (v : Violation) (rule : Rule) (place : Place) → HasSyntax text syntax_of → bound schema syntax_of ≡ Ok plain → first_broken_scope syntax_of plain ≡ Some v → v.rule ≡ rule → v.place ≡ place → BreaksFirst schema text rule place
+scopes_at schema text syntax_of plain v rule place has tree broken e f = subst (λ r. BreaksFirst schema text r place) e (subst (λ x. BreaksFirst schema text v.rule x) f (of_scopes syntax_of plain has tree broken))

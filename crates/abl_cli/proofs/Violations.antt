@@ -20,12 +20,13 @@ use Rattle.abl_syntax_reader.specs.Nodes.{Source as TreeOf}
 use Rattle.abl_syntax_reader.specs.Statements.{IsProgram as Denotes}
 use Rattle.abl_syntax_reader.proofs.SameStatements.{same_program}
 use Rattle.abl_types.specs.Sources.{bound}
-use Rattle.block_rules.specs.Rules.{first_broken}
-use Rattle.block_code.specs.BuiltTree.{IsBuiltTree}
+use Rattle.buffer_scope.specs.Scoped.{with_scopes, first_broken as first_broken_scope}
+use Rattle.block_rules.specs.Rules.{first_broken as first_broken_label}
+use Rattle.block_code.specs.Built.{IsBuilt}
 use Rattle.bind_names.specs.declared.violation.Violation.{Violation}
 use Rattle.bound_tree.specs.Tree.{Source}
 use Rattle.txn_infer.specs.Flags.{with_flags}
-use Rattle.abl_cli.specs.Sources.{HasCleanTokens, IsSyntaxTree, HasSyntax, IsSourceOf, BreaksFirst, of_tokens, of_grammar, of_types, of_blocks, of_form}
+use Rattle.abl_cli.specs.Sources.{HasCleanTokens, IsSyntaxTree, HasSyntax, IsSourceOf, BreaksFirst, of_tokens, of_grammar, of_types, of_scopes, of_blocks, of_form}
 
 -- L1 to L5
 data IsTokenRule : Rule → Type 0 where
@@ -146,78 +147,92 @@ module _ (text : List ℕ) where
       let same : x ≡ y = cc (tokens, nodes) in
       same_program (subst (λ c. Denotes c p) same a.denotes) b.denotes (λ z. z ≡ q) refl
 
-  one_broken : {p q : Syntax} {x y : Option Violation} → HasSyntax text p → HasSyntax text q → first_broken p ≡ x → first_broken q ≡ y → x ≡ y
-  one_broken {p} {q} a b e f = sym e ∙ ap first_broken (one_syntax a b) ∙ f
+  one_label : {p q : Syntax} {x y : Option Violation} → HasSyntax text p → HasSyntax text q → first_broken_label p ≡ x → first_broken_label q ≡ y → x ≡ y
+  one_label {p} {q} a b e f = sym e ∙ ap first_broken_label (one_syntax a b) ∙ f
 
-  not_broken : {p q : Syntax} {v : Violation} → HasSyntax text p → HasSyntax text q → first_broken p ≡ None → first_broken q ≡ Some v → ⊥
-  not_broken has is e f = let both = one_broken has is e f in cc both
+  not_broken : {p q : Syntax} {v : Violation} → HasSyntax text p → HasSyntax text q → first_broken_label p ≡ None → first_broken_label q ≡ Some v → ⊥
+  not_broken has is e f = let both = one_label has is e f in cc both
 
-  same_of_blocks : {p q : Syntax} {rule other : Rule} {place spot : Place} → HasSyntax text p → HasSyntax text q →
-      first_broken p ≡ Some (record { rule = rule; place = place }) → first_broken q ≡ Some (record { rule = other; place = spot }) → Same rule other place spot
-  same_of_blocks {rule = rule} {other = other} {place = place} {spot = spot} has is e f =
-      let both = one_broken has is e f in
-      let v : Violation = record { rule = rule; place = place } in
-      let w : Violation = record { rule = other; place = spot } in
-      let one : v ≡ w = cc both in
-      record { rules = ap (λ (x : Violation). x.rule) one; places = ap (λ (x : Violation). x.place) one }
+-- two that are one violation
+same_violation : {v w : Violation} → v ≡ w → Same v.rule w.rule v.place w.place
+same_violation one = record { rules = ap (λ (x : Violation). x.rule) one; places = ap (λ (x : Violation). x.place) one }
+
+one_some : {v w : Violation} → Some v ≡ Some w → v ≡ w
+one_some e = cc e
+
+one_err : {v w : Violation} → ◌≡◌ {A = Result Source Violation} (Err v) (Err w) → v ≡ w
+one_err e = cc e
 
 module _ (schema : SchemaData) (text : List ℕ) where
   one_bound : {p q : Syntax} {x y : Result Source Violation} → HasSyntax text p → HasSyntax text q → bound schema p ≡ x → bound schema q ≡ y → x ≡ y
   one_bound {p} {q} a b e f = sym e ∙ ap (λ s. bound schema s) (one_syntax text a b) ∙ f
 
-  same_of_types : {p q : Syntax} {rule other : Rule} {place spot : Place} → HasSyntax text p → HasSyntax text q →
-      bound schema p ≡ Err (record { rule = rule; place = place }) → bound schema q ≡ Err (record { rule = other; place = spot }) → Same rule other place spot
-  same_of_types {rule = rule} {other = other} {place = place} {spot = spot} has is e f =
-      let both = one_bound has is e f in
-      let v : Violation = record { rule = rule; place = place } in
-      let w : Violation = record { rule = other; place = spot } in
-      let one : v ≡ w = cc both in
-      record { rules = ap (λ (x : Violation). x.rule) one; places = ap (λ (x : Violation). x.place) one }
-
-  same_tree : {p q : Syntax} {a b : Source} → HasSyntax text p → HasSyntax text q → bound schema p ≡ Ok a → bound schema q ≡ Ok b → with_flags a ≡ with_flags b
-  same_tree has is e f = let both = one_bound has is e f in cc both
+  one_plain : {p q : Syntax} {a b : Source} → HasSyntax text p → HasSyntax text q → bound schema p ≡ Ok a → bound schema q ≡ Ok b → a ≡ b
+  one_plain has is e f = let both = one_bound has is e f in cc both
 
   not_bound : {p q : Syntax} {a : Source} {v : Violation} → HasSyntax text p → HasSyntax text q → bound schema p ≡ Ok a → bound schema q ≡ Err v → ⊥
   not_bound has is e f = let both = one_bound has is e f in cc both
 
+  -- one tree, before and after its buffers are scoped
+  one_scoping : {p q : Syntax} {a b : Source} {x y : Option Violation} → HasSyntax text p → HasSyntax text q → bound schema p ≡ Ok a → bound schema q ≡ Ok b → first_broken_scope p a ≡ x → first_broken_scope q b ≡ y → x ≡ y
+  one_scoping {p} {q} {a} {b} has is e f g h = sym g ∙ ap (λ s. first_broken_scope s a) (one_syntax text has is) ∙ ap (first_broken_scope q) (one_plain has is e f) ∙ h
+
+  not_scoped : {p q : Syntax} {a b : Source} {v : Violation} → HasSyntax text p → HasSyntax text q → bound schema p ≡ Ok a → bound schema q ≡ Ok b → first_broken_scope p a ≡ None → first_broken_scope q b ≡ Some v → ⊥
+  not_scoped has is e f g h = let both = one_scoping has is e f g h in cc both
+
+  same_tree : {p q : Syntax} {a b : Source} → HasSyntax text p → HasSyntax text q → bound schema p ≡ Ok a → bound schema q ≡ Ok b → with_flags (with_scopes p a) ≡ with_flags (with_scopes q b)
+  same_tree {q = q} {a = a} has is e f = ap (λ s. with_flags (with_scopes s a)) (one_syntax text has is) ∙ ap (λ t. with_flags (with_scopes q t)) (one_plain has is e f)
+
   -- THE FIRST RULE IS ONE
   pub one_is_first : {rule other : Rule} {place spot : Place} → BreaksFirst schema text rule place → BreaksFirst schema text other spot → Same rule other place spot
   one_is_first (of_tokens a) (of_tokens b) = one_of_tokens text a b
-  one_is_first (of_tokens a) (of_grammar tokens has first token) = absurd (not_clean text a has)
-  one_is_first (of_tokens a) (of_types syntax_of has broken) = absurd (not_clean text a has.has_tree.tokens_of)
-  one_is_first (of_tokens a) (of_blocks syntax_of plain has is broken) = absurd (not_clean text a has.has_tree.tokens_of)
-  one_is_first (of_tokens a) (of_form syntax_of plain has is clean unbuilt) = absurd (not_clean text a has.has_tree.tokens_of)
+  one_is_first (of_tokens a) (of_grammar more have next there) = absurd (not_clean text a have)
+  one_is_first (of_tokens a) (of_types q is violated) = absurd (not_clean text a is.has_tree.tokens_of)
+  one_is_first (of_tokens a) (of_scopes q y is f violated) = absurd (not_clean text a is.has_tree.tokens_of)
+  one_is_first (of_tokens a) (of_blocks q y is f scoping violated) = absurd (not_clean text a is.has_tree.tokens_of)
+  one_is_first (of_tokens a) (of_form q y is f scoping sound unmade) = absurd (not_clean text a is.has_tree.tokens_of)
   one_is_first (of_grammar tokens has first token) (of_tokens b) = absurd (not_clean text b has)
   one_is_first (of_grammar {rule} {at} {token} tokens has first here') (of_grammar more have next there) =
       let same : tokens ≡ more = tokens_one text tokens more has.has have.has in
       same_of_grammar text more (subst (λ ts. IsFirstOfGrammar (kinds ts) rule at) same first) (subst (λ ts. slice_get ts at ≡ Some token) same here') next there
-  one_is_first (of_grammar tokens has first token) (of_types syntax_of is broken) = absurd (no_program text tokens has first is.has_tree)
-  one_is_first (of_grammar tokens has first token) (of_blocks syntax_of plain is tree broken) = absurd (no_program text tokens has first is.has_tree)
-  one_is_first (of_grammar tokens has first token) (of_form syntax_of plain is tree clean unbuilt) = absurd (no_program text tokens has first is.has_tree)
-  one_is_first (of_types syntax_of has broken) (of_tokens b) = absurd (not_clean text b has.has_tree.tokens_of)
-  one_is_first (of_types syntax_of is broken) (of_grammar tokens has first token) = absurd (no_program text tokens has first is.has_tree)
-  one_is_first (of_types syntax_of has broken) (of_types other_syntax is violated) = same_of_types has is broken violated
-  one_is_first (of_types syntax_of has broken) (of_blocks other_syntax plain is tree violated) = absurd (not_bound is has tree broken)
-  one_is_first (of_types syntax_of has broken) (of_form other_syntax plain is tree clean unbuilt) = absurd (not_bound is has tree broken)
-  one_is_first (of_blocks syntax_of plain has tree broken) (of_tokens b) = absurd (not_clean text b has.has_tree.tokens_of)
-  one_is_first (of_blocks syntax_of plain is tree broken) (of_grammar tokens has first token) = absurd (no_program text tokens has first is.has_tree)
-  one_is_first (of_blocks syntax_of plain is tree violated) (of_types other_syntax has broken) = absurd (not_bound is has tree broken)
-  one_is_first (of_blocks syntax_of plain has tree broken) (of_blocks other_syntax other is other_tree violated) = same_of_blocks text has is broken violated
-  one_is_first (of_blocks syntax_of plain has tree broken) (of_form other_syntax other is other_tree clean unbuilt) = absurd (not_broken text is has clean broken)
-  one_is_first (of_form syntax_of plain has tree clean unbuilt) (of_tokens b) = absurd (not_clean text b has.has_tree.tokens_of)
-  one_is_first (of_form syntax_of plain is tree clean unbuilt) (of_grammar tokens has first token) = absurd (no_program text tokens has first is.has_tree)
-  one_is_first (of_form syntax_of plain is tree clean unbuilt) (of_types other_syntax has broken) = absurd (not_bound is has tree broken)
-  one_is_first (of_form syntax_of plain is tree clean unbuilt) (of_blocks other_syntax other has other_tree broken) = absurd (not_broken text is has clean broken)
-  one_is_first (of_form syntax_of plain has tree clean unbuilt) (of_form other_syntax other is other_tree other_clean not_built) = record { rules = refl; places = refl }
+  one_is_first (of_grammar tokens has first token) (of_types q is violated) = absurd (no_program text tokens has first is.has_tree)
+  one_is_first (of_grammar tokens has first token) (of_scopes q y is f violated) = absurd (no_program text tokens has first is.has_tree)
+  one_is_first (of_grammar tokens has first token) (of_blocks q y is f scoping violated) = absurd (no_program text tokens has first is.has_tree)
+  one_is_first (of_grammar tokens has first token) (of_form q y is f scoping sound unmade) = absurd (no_program text tokens has first is.has_tree)
+  one_is_first (of_types p has broken) (of_tokens b) = absurd (not_clean text b has.has_tree.tokens_of)
+  one_is_first (of_types p has broken) (of_grammar more have next there) = absurd (no_program text more have next has.has_tree)
+  one_is_first (of_types p has broken) (of_types q is violated) = same_violation (one_err (one_bound has is broken violated))
+  one_is_first (of_types p has broken) (of_scopes q y is f violated) = absurd (not_bound is has f broken)
+  one_is_first (of_types p has broken) (of_blocks q y is f scoping violated) = absurd (not_bound is has f broken)
+  one_is_first (of_types p has broken) (of_form q y is f scoping sound unmade) = absurd (not_bound is has f broken)
+  one_is_first (of_scopes p x has e broken) (of_tokens b) = absurd (not_clean text b has.has_tree.tokens_of)
+  one_is_first (of_scopes p x has e broken) (of_grammar more have next there) = absurd (no_program text more have next has.has_tree)
+  one_is_first (of_scopes p x has e broken) (of_types q is violated) = absurd (not_bound has is e violated)
+  one_is_first (of_scopes p x has e broken) (of_scopes q y is f violated) = same_violation (one_some (one_scoping has is e f broken violated))
+  one_is_first (of_scopes p x has e broken) (of_blocks q y is f scoping violated) = absurd (not_scoped is has f e scoping broken)
+  one_is_first (of_scopes p x has e broken) (of_form q y is f scoping sound unmade) = absurd (not_scoped is has f e scoping broken)
+  one_is_first (of_blocks p x has e scopes broken) (of_tokens b) = absurd (not_clean text b has.has_tree.tokens_of)
+  one_is_first (of_blocks p x has e scopes broken) (of_grammar more have next there) = absurd (no_program text more have next has.has_tree)
+  one_is_first (of_blocks p x has e scopes broken) (of_types q is violated) = absurd (not_bound has is e violated)
+  one_is_first (of_blocks p x has e scopes broken) (of_scopes q y is f violated) = absurd (not_scoped has is e f scopes violated)
+  one_is_first (of_blocks p x has e scopes broken) (of_blocks q y is f scoping violated) = same_violation (one_some (one_label text has is broken violated))
+  one_is_first (of_blocks p x has e scopes broken) (of_form q y is f scoping sound unmade) = absurd (not_broken text is has sound broken)
+  one_is_first (of_form p x has e scopes clean unbuilt) (of_tokens b) = absurd (not_clean text b has.has_tree.tokens_of)
+  one_is_first (of_form p x has e scopes clean unbuilt) (of_grammar more have next there) = absurd (no_program text more have next has.has_tree)
+  one_is_first (of_form p x has e scopes clean unbuilt) (of_types q is violated) = absurd (not_bound has is e violated)
+  one_is_first (of_form p x has e scopes clean unbuilt) (of_scopes q y is f violated) = absurd (not_scoped has is e f scopes violated)
+  one_is_first (of_form p x has e scopes clean unbuilt) (of_blocks q y is f scoping violated) = absurd (not_broken text has is clean violated)
+  one_is_first (of_form p x has e scopes clean unbuilt) (of_form q y is f scoping sound unmade) = record { rules = refl; places = refl }
 
   -- A SOURCE BREAKS NO RULE
   pub sources_break_none : {rule : Rule} {place : Place} {tree : Source} → IsSourceOf schema text tree → BreaksFirst schema text rule place → ⊥
   sources_break_none source (of_tokens a) = not_clean text a source.has.has_tree.tokens_of
   sources_break_none source (of_grammar tokens has first token) = no_program text tokens has first source.has.has_tree
   sources_break_none source (of_types syntax_of has broken) = not_bound source.has has source.is_bound broken
-  sources_break_none source (of_blocks syntax_of plain has tree broken) = not_broken text source.has has source.clean broken
-  sources_break_none source (of_form syntax_of plain has tree clean unbuilt) =
-      unbuilt (subst IsBuiltTree (source.flags ∙ same_tree source.has has source.is_bound tree) source.built)
+  sources_break_none source (of_scopes syntax_of plain has tree broken) = not_scoped source.has has source.is_bound tree source.scopes broken
+  sources_break_none source (of_blocks syntax_of plain has tree scopes broken) = not_broken text source.has has source.clean broken
+  sources_break_none source (of_form syntax_of plain has tree scopes clean unbuilt) =
+      unbuilt (subst IsBuilt (source.flags ∙ same_tree source.has has source.is_bound tree) source.built)
 
   -- A TEXT HAS ONE TREE
   pub one_source : {a b : Source} → IsSourceOf schema text a → IsSourceOf schema text b → a ≡ b

@@ -1,20 +1,28 @@
 -- The form of the command line, argument by argument.
-use Rattle.std.specs.Prelude.{◌≡◌, ℕ, ◌<◌, List, [], ◌∷◌, ◌++◌, length, codes}
+use Rattle.std.specs.Prelude.{◌≡◌, ℕ, ◌<◌, List, [], ◌∷◌, ◌++◌, length, codes, Option}
 use Rattle.abl_cli.specs.declared.arguments.Argument.{Argument}
 use Rattle.abl_cli.specs.declared.arguments.Argument.TheVariants.{Command, Schema, Steps, Mode, Client}
-use Rattle.abl_cli.specs.CommandLine.{IsMode, IsSteps, IsName, IsProgram}
+use Rattle.abl_cli.specs.CommandLine.{IsMode, IsSteps, IsName, IsFileName, IsInput, input_part}
 
 -- the places of the form, in order
 abbrev pub form : List Argument
 form = Command ∷ Schema ∷ Steps ∷ Mode ∷ Client ∷ []
 
--- `NAME=PROG`
+-- `PROG` or `PROG<INPUT`
+pub record AreFiles (part : List ℕ) : Type 0 where
+  pub program : List ℕ
+  pub input : Option (List ℕ)
+  pub is_program : IsFileName program
+  pub is_input : IsInput input
+  pub joined : part ≡ program ++ input_part input
+
+-- `NAME=PROG` or `NAME=PROG<INPUT`
 pub record IsClient (arg : List ℕ) : Type 0 where
   pub name : List ℕ
-  pub program : List ℕ
+  pub part : List ℕ
   pub is_name : IsName name
-  pub is_program : IsProgram program
-  pub joined : arg ≡ name ++ 61 ∷ program
+  pub files : AreFiles part
+  pub joined : arg ≡ name ++ 61 ∷ part
 
 -- the argument fits the place
 abbrev pub Fits : Argument → List ℕ → Type 0

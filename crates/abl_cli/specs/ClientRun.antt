@@ -11,9 +11,9 @@ use Rattle.client_database.specs.declared.next_step.NextStep.TheVariants.{Ended}
 use Rattle.block_meaning.specs.State.{Progress}
 use Rattle.block_meaning.specs.Meaning.{asked}
 use Rattle.block_meaning.specs.GivesUp.{Begins, GaveUp}
-use Rattle.block_vm.specs.declared.output.Section.{Section}
+use Rattle.client_output.specs.declared.section.Section.{Section}
 use Rattle.block_vm.specs.Standing.{Standing, HasWritten}
-use Rattle.block_vm.specs.Sections.{sections_of}
+use Rattle.client_output.specs.Sections.{sections_of}
 
 -- End, asked by the only client, and its answer
 abbrev pub end_event : Answer → Event

@@ -18,15 +18,18 @@ use Rattle.abl_cli.specs.Sources.{BreaksFirst, IsSourceOf}
 use Rattle.bound_tree.specs.Bound.{source_of}
 use Rattle.bound_tree.specs.declared.procedure.Bound.{Bound}
 use Rattle.block_code.specs.declared.code.Code.{Code}
-use Rattle.block_code.specs.Code.{StandsFor}
+use Rattle.block_code.specs.Code.{IsCompiled}
+use Rattle.abl_eval.specs.Forms.{AreForms}
+use Rattle.abl_format.specs.Imports.{line_at}
 use Rattle.block_meaning.specs.Program.{Program}
 use Rattle.block_meaning.specs.Meaning.{run}
-use Rattle.block_vm.specs.declared.output.Section.{Section}
+use Rattle.client_output.specs.declared.section.Section.{Section}
 use Rattle.abl_cli.specs.declared.refusal.Refusal.{Refusal}
 use Rattle.abl_cli.specs.declared.refusal.Refusal.TheVariants.{Usage, File, TooLong, Schema, Source, Client, Output, NoMemory}
 use Rattle.abl_cli.specs.declared.command.Report.{Report}
 use Rattle.abl_cli.specs.declared.load.TheConstants.{MAX_FILE_BYTES}
-use Rattle.abl_cli.specs.CommandLine.{Run, IsRun, arguments_of, IsWrong, number_of}
+use Rattle.abl_cli.specs.declared.load.Loaded.{Loaded}
+use Rattle.abl_cli.specs.CommandLine.{Run, RunFiles, IsRun, arguments_of, IsWrong, number_of}
 use Rattle.abl_cli.specs.declared.arguments.Mode.{Mode}
 use Rattle.abl_values.specs.Schema.{SchemaData}
 use Rattle.abl_cli.specs.Report.{run_text, status_lines, status_of}
@@ -38,11 +41,33 @@ pub record HasText (files : FileState) (name text : List ℕ) : Type 0 where
   pub content : IsTrue files.observable → files.file name ≡ Some text
   pub short : length text ≤ MAX_FILE_BYTES
 
+-- the client's input is this text: that of its file, and empty without one
+abbrev pub HasInput : FileState → Option (List ℕ) → List ℕ → Type 0
+HasInput files None text = text ≡ []
+HasInput files (Some name) text = HasText files name text
+
+-- the files of these names have these texts
+abbrev pub HaveTexts : FileState → List (List ℕ) → List (List ℕ) → Type 0
+HaveTexts files [] [] = Unit {0}
+HaveTexts files [] (text ∷ texts) = ⊥
+HaveTexts files (name ∷ names) [] = ⊥
+HaveTexts files (name ∷ names) (text ∷ texts) = HasText files name text × HaveTexts files names texts
+
 -- why the file of this name was not read; the files' count of faults is now `faults`
 pub data IsNotRead (files : FileState) (faults : ℕ) (name : List ℕ) : Refusal → Type 0 where
   is_missing : Rose files.faults faults → (IsTrue files.sound → files.file name ≡ None) → IsNotRead files faults name (File name)
   is_too_long : (IsTrue files.observable → IsLonger (files.file name) MAX_FILE_BYTES) → IsNotRead files faults name (TooLong name MAX_FILE_BYTES)
   reading_wants : IsNotRead files faults name NoMemory
+
+-- why the client's input was not read
+abbrev pub IsInputNotRead : FileState → ℕ → Option (List ℕ) → Refusal → Type 0
+IsInputNotRead files faults None refusal = ⊥
+IsInputNotRead files faults (Some name) refusal = IsNotRead files faults name refusal
+
+-- why the first of these files that was not read was not
+pub data OneIsNotRead (files : FileState) (faults : ℕ) : List (List ℕ) → Refusal → Type 0 where
+  this_one : {name : List ℕ} {names : List (List ℕ)} {refusal : Refusal} → IsNotRead files faults name refusal → OneIsNotRead files faults (name ∷ names) refusal
+  later_one : {name text : List ℕ} {names : List (List ℕ)} {refusal : Refusal} → HasText files name text → OneIsNotRead files faults names refusal → OneIsNotRead files faults (name ∷ names) refusal
 
 -- why the text of a schema file is refused: the first rule that it breaks, or out of memory
 pub data BreaksSchema (text : List ℕ) : Refusal → Type 0 where
@@ -58,38 +83,45 @@ pub data BreaksSource (schema : SchemaData) (text : List ℕ) : Refusal → Type
   breaks_rule : {rule : Rule} {place : Place} → BreaksFirst schema text rule place → BreaksSource schema text (Source 0 rule place)
   source_wants : BreaksSource schema text NoMemory
 
--- the texts that were read for a run
-pub record Texts (files : FileState) (schema program : List ℕ) : Type 0 where
+-- the texts that were read for a run, before the rules were looked at
+pub record Texts (files : FileState) (named : RunFiles) : Type 0 where
   pub df : List ℕ
   pub source : List ℕ
-  pub has_schema : HasText files schema df
-  pub has_source : HasText files program source
+  pub input : List ℕ
+  pub has_schema : HasText files named.schema df
+  pub has_source : HasText files named.program source
+  pub has_input : HasInput files named.input input
 
 -- The first thing that prevents the run of these files, in the order in which they are looked for: the schema file, the source, the
--- rules of the schema, those of the source. Out of memory may come at any time
-pub data Prevents (files : FileState) (faults : ℕ) (schema program : List ℕ) : Refusal → Type 0 where
-  no_schema : {refusal : Refusal} → IsNotRead files faults schema refusal → Prevents files faults schema program refusal
-  no_source : {refusal : Refusal} {df : List ℕ} → HasText files schema df → IsNotRead files faults program refusal → Prevents files faults schema program refusal
-  schema_breaks : {refusal : Refusal} (texts : Texts files schema program) → BreaksSchema texts.df refusal → Prevents files faults schema program refusal
-  source_breaks : {refusal : Refusal} (texts : Texts files schema program) → violation_of texts.df ≡ None → BreaksSource (schema_in texts.df) texts.source refusal → Prevents files faults schema program refusal
-  run_wants : Prevents files faults schema program NoMemory
+-- client's input, the rules of the schema, those of the source, the files after INPUT FROM in text order. Out of memory may come at any time
+pub data Prevents (files : FileState) (faults : ℕ) (named : RunFiles) : Refusal → Type 0 where
+  no_schema : {refusal : Refusal} → IsNotRead files faults named.schema refusal → Prevents files faults named refusal
+  no_source : {refusal : Refusal} {df : List ℕ} → HasText files named.schema df → IsNotRead files faults named.program refusal → Prevents files faults named refusal
+  no_input : {refusal : Refusal} {df source : List ℕ} → HasText files named.schema df → HasText files named.program source → IsInputNotRead files faults named.input refusal → Prevents files faults named refusal
+  schema_breaks : {refusal : Refusal} (texts : Texts files named) → BreaksSchema texts.df refusal → Prevents files faults named refusal
+  source_breaks : {refusal : Refusal} (texts : Texts files named) → violation_of texts.df ≡ None → BreaksSource (schema_in texts.df) texts.source refusal → Prevents files faults named refusal
+  no_named_input : {refusal : Refusal} (texts : Texts files named) → violation_of texts.df ≡ None → (tree : Tree) → IsSourceOf (schema_in texts.df) texts.source tree →
+      OneIsNotRead files faults tree.inputs refusal → Prevents files faults named refusal
+  run_wants : Prevents files faults named NoMemory
 
 -- the code is that of the text over the schema
 pub record IsCodeOf (schema : SchemaData) (text : List ℕ) (code : Code) : Type 0 where
   pub bound : Bound
   pub form : IsSourceOf schema text (source_of bound)
-  pub stands : StandsFor code bound
+  pub compiled : IsCompiled code bound
 
--- both files are read, the schema breaks no rule, and the code is that of the source
-pub record IsReady (files : FileState) (schema program : List ℕ) (code : Code) : Type 0 where
-  pub texts : Texts files schema program
+-- the files are read, the schema breaks no rule, the code is that of the source, and the inputs are those that it names
+pub record IsReady (files : FileState) (named : RunFiles) (loaded : Loaded) : Type 0 where
+  pub texts : Texts files named
   pub clean : violation_of texts.df ≡ None
-  pub is_code : IsCodeOf (schema_in texts.df) texts.source code
+  pub is_code : IsCodeOf (schema_in texts.df) texts.source loaded.code
+  pub own : loaded.inputs.own ≡ texts.input
+  pub inputs : HaveTexts files (source_of is_code.bound).inputs loaded.inputs.named.items
 
 -- why a command was refused before a run began: the arguments have no form, or they name a run that is prevented
 pub data Cause (arguments : List (List ℕ)) (files : FileState) (faults : ℕ) : List ℕ → Refusal → Type 0 where
   wrong_argument : {name : List ℕ} {arg : ℕ} → IsWrong arguments arg → Cause arguments files faults name (Usage arg)
-  prevented : {refusal : Refusal} (run : Run) → IsRun run → arguments ≡ arguments_of run → Prevents files faults run.schema run.program refusal → Cause arguments files faults run.name refusal
+  prevented : {refusal : Refusal} (run : Run) → IsRun run → arguments ≡ arguments_of run → Prevents files faults run.files refusal → Cause arguments files faults run.name refusal
 
 -- the lines of the status of a refusal were appended to standard error, or a prefix of them where a write failed;
 -- standard output is as it was
@@ -135,13 +167,21 @@ pub record IsReported (mode : Mode) (name : List ℕ) (end : ClientEnd) (section
   pub status : report.status ≡ status_after report.refusal
   pub lines : WritesStatus name report.ends report.refusal between new
 
--- a run of the client of this name and source in this mode, with this number of units, and its report. It does as its source means, whatever
--- its inputs are and whatever the forms of values in texts, which no source that is built so far speaks of. The trace is
--- legal whatever the schema and the contents of the database, which no operation of levels looks at
-pub record HasRun (mode : Mode) (name : List ℕ) (units : ℕ) (tree : Tree) (old new : OutState) (report : Report) : Type 0 where
+-- what a client runs: this source with these inputs, its own and the named ones, and the forms of values in texts that `docs/formats.md` has.
+-- Its tables may be any, since no source that is built so far names one
+pub record IsProgram (tree : Tree) (input : List ℕ) (inputs : List (List ℕ)) (p : Program) : Type 0 where
+  pub source : p.source ≡ tree
+  pub input_is : p.input ≡ input
+  pub inputs_are : p.inputs ≡ inputs
+  pub forms : AreForms p.forms
+  pub lines : p.forms.line_at ≡ line_at
+
+-- a run of the client of this name, source and inputs in this mode, with this number of units, and its report. It does as its source means. The
+-- trace is legal whatever the schema and the contents of the database, which no operation of levels looks at
+pub record HasRun (mode : Mode) (name : List ℕ) (units : ℕ) (tree : Tree) (input : List ℕ) (inputs : List (List ℕ)) (old new : OutState) (report : Report) : Type 0 where
   pub end : ClientEnd
   pub sections : List Section
-  pub does : (p : Program) → p.source ≡ tree → ClientOutcome tree.outputs (run p units) report.trace end sections
+  pub does : (p : Program) → IsProgram tree input inputs p → ClientOutcome tree.outputs (run p units) report.trace end sections
   pub legal : (f : Setting) (contents : Contents) → 0 < f.clients → IsSoundContents f contents → IsLegal f contents report.trace
   pub reported : IsReported mode name end sections old new report
 
@@ -151,10 +191,11 @@ pub data CommandResult (arguments : List (List ℕ)) (files : FileState) (faults
   -- it was refused before a run began
   Refused : (name : List ℕ) (refusal : Refusal) → Cause arguments files faults name refusal → IsRefused name refusal old new report →
       CommandResult arguments files faults old new report
-  -- it ran the source that the arguments name, over a schema that breaks no rule
+  -- it ran the source that the arguments name with its inputs, over a schema that breaks no rule
   Ran : (named : Run) → IsRun named → arguments ≡ arguments_of named →
-      (texts : Texts files named.schema named.program) → violation_of texts.df ≡ None → (tree : Tree) → IsSourceOf (schema_in texts.df) texts.source tree →
-      HasRun named.mode named.name (number_of named.steps) tree old new report → CommandResult arguments files faults old new report
+      (texts : Texts files named.files) → violation_of texts.df ≡ None → (tree : Tree) → IsSourceOf (schema_in texts.df) texts.source tree →
+      (inputs : List (List ℕ)) → HaveTexts files tree.inputs inputs →
+      HasRun named.mode named.name (number_of named.steps) tree texts.input inputs old new report → CommandResult arguments files faults old new report
 
 -- ---- for laws
 
@@ -178,3 +219,26 @@ pub record NamesRun (arguments : List (List ℕ)) (files : FileState) (run : Run
 pub record IsThere (files : FileState) (name text : List ℕ) : Type 0 where
   pub there : files.file name ≡ Some text
   pub short : length text ≤ MAX_FILE_BYTES
+
+-- the client's input likewise, if it is a file
+abbrev pub IsInputThere : FileState → Option (List ℕ) → Type 0
+IsInputThere files None = Unit {0}
+IsInputThere files (Some name) = (text : List ℕ) × IsThere files name text
+
+-- each of these files likewise
+abbrev pub AreThere : FileState → List (List ℕ) → Type 0
+AreThere files [] = Unit {0}
+AreThere files (name ∷ names) = ((text : List ℕ) × IsThere files name text) × AreThere files names
+
+-- the schema file, the source and the client's input are there, with these texts of the first two
+pub record AllThere (files : FileState) (named : RunFiles) (df source : List ℕ) : Type 0 where
+  pub schema : IsThere files named.schema df
+  pub program : IsThere files named.program source
+  pub input : IsInputThere files named.input
+
+-- what holds inside of a call: no read has failed, and what is known of the files is as it was
+pub record AreSame (old new : FileState) : Type 0 where
+  pub observable : new.observable ≡ old.observable
+  pub sound : new.sound ≡ old.sound
+  pub file : IsTrue old.observable → new.file ≡ old.file
+  pub faults : new.faults ≡ old.faults

@@ -1,5 +1,5 @@
 -- The arguments of the command line: their form, and the number of the wrong one.
-use Rattle.std.specs.Prelude.{◌≡◌, ℕ, ◌+◌, ◌*◌, ◌-◌, ◌<◌, ◌≤◌, ◌≢◌, List, [], ◌∷◌, ◌++◌, length, All, take, codes, fold, slice_index}
+use Rattle.std.specs.Prelude.{◌≡◌, ℕ, ◌+◌, ◌*◌, ◌-◌, ◌<◌, ◌≤◌, ◌≢◌, List, [], ◌∷◌, ◌++◌, length, All, take, codes, fold, slice_index, Option, Some, None, option_copied}
 use Rattle.abl_cli.specs.declared.arguments.Mode.{Mode}
 use Rattle.abl_cli.specs.declared.arguments.Mode.TheVariants.{Trace, Quiet}
 use Rattle.abl_cli.specs.declared.arguments.RunArguments.{RunArguments}
@@ -30,29 +30,49 @@ pub record IsName (name : List ℕ) : Type 0 where
   pub some : 0 < length name
   pub short : length name ≤ 16
 
--- PROG: not empty, and without `<`
-pub record IsProgram (program : List ℕ) : Type 0 where
-  pub some : 0 < length program
-  pub plain : All (λ byte. byte ≢ 60) program
+-- PROG and INPUT: not empty, and without `<`
+pub record IsFileName (name : List ℕ) : Type 0 where
+  pub some : 0 < length name
+  pub plain : All (λ byte. byte ≢ 60) name
 
--- what the arguments `run SCHEMA STEPS MODE NAME=PROG` name
-pub record Run : Type 0 where
+-- INPUT may be left out
+abbrev pub IsInput : Option (List ℕ) → Type 0
+IsInput None = Unit {0}
+IsInput (Some name) = IsFileName name
+
+-- the files that a run reads first: the schema file, the source, and the client's input, if it is named
+pub record RunFiles : Type 0 where
   pub schema : List ℕ
+  pub program : List ℕ
+  pub input : Option (List ℕ)
+
+-- what the arguments `run SCHEMA STEPS MODE NAME=PROG` or `run SCHEMA STEPS MODE NAME=PROG<INPUT` name
+pub record Run : Type 0 where
+  pub files : RunFiles
   pub steps : List ℕ
   pub mode : Mode
   pub name : List ℕ
-  pub program : List ℕ
+
+-- `<INPUT`, or nothing
+abbrev pub input_part : Option (List ℕ) → List ℕ
+input_part None = []
+input_part (Some name) = 60 ∷ name
+
+-- `NAME=PROG` or `NAME=PROG<INPUT`
+abbrev pub client_argument : List ℕ → RunFiles → List ℕ
+client_argument name files = name ++ 61 ∷ (files.program ++ input_part files.input)
 
 -- the arguments that name it
 abbrev pub arguments_of : Run → List (List ℕ)
-arguments_of run = codes "run" ∷ run.schema ∷ run.steps ∷ mode_argument run.mode ∷ (run.name ++ 61 ∷ run.program) ∷ []
+arguments_of run = codes "run" ∷ run.files.schema ∷ run.steps ∷ mode_argument run.mode ∷ client_argument run.name run.files ∷ []
 
 -- each part has its form
 pub record IsRun (run : Run) : Type 0 where
-  pub schema : 0 < length run.schema
+  pub schema : 0 < length run.files.schema
   pub steps : IsSteps run.steps
   pub name : IsName run.name
-  pub program : IsProgram run.program
+  pub program : IsFileName run.files.program
+  pub input : IsInput run.files.input
 
 -- the arguments have the form
 abbrev pub HaveForm : List (List ℕ) → Type 0
@@ -68,9 +88,17 @@ pub data IsWrong : List (List ℕ) → ℕ → Type 0 where
   at_argument : (arguments : List (List ℕ)) (n : ℕ) → n < length arguments → Begin (take n arguments) → ¬ Begin (take (n + 1) arguments) → IsWrong arguments n
   missing : (arguments : List (List ℕ)) → Begin arguments → ¬ HaveForm arguments → IsWrong arguments (length arguments)
 
+-- the files that were read off the arguments
+abbrev pub files_of : RunArguments → RunFiles
+files_of read = record { schema = read.schema.now; program = read.program.now; input = option_copied read.input }
+
+-- and the run, where STEPS is this argument
+abbrev pub run_of : RunArguments → List ℕ → Run
+run_of read steps = record { files = files_of read; steps = steps; mode = read.mode; name = read.name.now }
+
 -- the arguments name what was read
 pub record Names (arguments : List (List ℕ)) (read : RunArguments) : Type 0 where
   pub steps : List ℕ
-  pub is_run : IsRun (record { schema = read.schema.now; steps = steps; mode = read.mode; name = read.name.now; program = read.program.now })
-  pub arguments_are : arguments ≡ arguments_of (record { schema = read.schema.now; steps = steps; mode = read.mode; name = read.name.now; program = read.program.now })
+  pub is_run : IsRun (run_of read steps)
+  pub arguments_are : arguments ≡ arguments_of (run_of read steps)
   pub number : read.steps ≡ number_of steps

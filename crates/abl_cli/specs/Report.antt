@@ -7,7 +7,7 @@ use Rattle.client_database.specs.declared.ends.ClientEnd.{ClientEnd}
 use Rattle.client_database.specs.declared.ends.ClientEnd.TheVariants as end
 use Rattle.abl_values.specs.Schema.{SchemaData}
 use Rattle.client_database.specs.declared.event.Event.{Event}
-use Rattle.block_vm.specs.declared.output.Section.{Section}
+use Rattle.client_output.specs.declared.section.Section.{Section}
 use Rattle.abl_cli.specs.declared.arguments.Mode.{Mode}
 use Rattle.abl_cli.specs.declared.arguments.Mode.TheVariants.{Trace, Quiet}
 use Rattle.abl_cli.specs.Trace.{trace_part}

@@ -1,8 +1,8 @@
 //! The arguments of the command line (this project's choice).
 
-ghost use Rattle.std.specs.Prelude.{◌≡◌, ◌≤◌, ◌<◌, ◌+◌, ◌++◌, ◌∷◌, ◌↔◌, ℕ, List, length, take, drop, All, ◌≢◌, IsTrue, IfOk, IfErr, IfSome, IfNone, slice_get};
-ghost use Rattle.abl_cli.specs.CommandLine.{IsMode, IsSteps, IsName, IsProgram, IsWrong, Names, mode_argument, number_of};
-ghost use Rattle.abl_cli.specs.Arguments.{Fits, FitAll, IsClient, form};
+ghost use Rattle.std.specs.Prelude.{◌≡◌, ◌≤◌, ◌<◌, ◌+◌, ◌++◌, ◌∷◌, ◌↔◌, ℕ, List, length, take, drop, All, ◌≢◌, IsTrue, IfOk, IfErr, IfSome, IfNone, slice_get, option_copied};
+ghost use Rattle.abl_cli.specs.CommandLine.{IsMode, IsSteps, IsName, IsFileName, IsInput, IsWrong, Names, input_part, mode_argument, number_of};
+ghost use Rattle.abl_cli.specs.Arguments.{AreFiles, Fits, FitAll, IsClient, form};
 ghost use Rattle.std.specs.Char.{IsAsciiDigit, IsAsciiAlphanumeric};
 
 use abl_base::Bytes;
@@ -19,7 +19,8 @@ pub enum Mode {
     Quiet,
 }
 
-/// What the arguments `run SCHEMA STEPS MODE NAME=PROG` name.
+/// What the arguments `run SCHEMA STEPS MODE NAME=PROG` or `run SCHEMA STEPS MODE NAME=PROG<INPUT`
+/// name.
 #[derive(Clone, Copy)]
 pub struct RunArguments<'a> {
     /// The name of the schema file, not empty.
@@ -32,6 +33,9 @@ pub struct RunArguments<'a> {
     pub name: &'a [u8],
     /// The name of the source file, not empty and without `<`.
     pub program: &'a [u8],
+    /// The name of the file that is the client's input, in the same form; without one the input is
+    /// empty.
+    pub input: Option<&'a [u8]>,
 }
 
 /// A place of the form.
@@ -88,11 +92,11 @@ fn is_name(arg: &[u8]) -> bool
     !arg.is_empty() && arg.len() <= 16 && arg.iter().all(|byte| byte.is_ascii_alphanumeric())
 }
 
-/// Whether the argument has the form of PROG.
-fn is_program(arg: &[u8]) -> bool
-    ensures { IsTrue result ↔ IsProgram arg.now }
+/// Whether the text has the form of PROG and INPUT.
+fn is_file_name(text: &[u8]) -> bool
+    ensures { IsTrue result ↔ IsFileName text.now }
 {
-    !arg.is_empty() && arg.iter().all(|byte| *byte != b'<')
+    !text.is_empty() && text.iter().all(|byte| *byte != b'<')
 }
 
 /// The mode that the argument names.
@@ -109,29 +113,73 @@ fn mode_of(arg: &[u8]) -> Option<Mode>
     }
 }
 
-/// The index of the first `=` of the argument.
-fn equals_sign_at(arg: &[u8]) -> Option<usize>
-    ensures some { IfSome result (λ at. (at < length arg.now) × All (λ byte. byte ≢ 61) (take at arg.now) × (arg.now ≡ take at arg.now ++ 61 ∷ drop (at + 1) arg.now)) }
-    ensures none { IfNone result (All (λ byte. byte ≢ 61) arg.now) }
+/// The index of the first such byte of the text.
+fn index_of(sought: u8, text: &[u8]) -> Option<usize>
+    ensures some { IfSome result (λ at. (at < length text.now) × All (λ byte. byte ≢ sought) (take at text.now) × (text.now ≡ take at text.now ++ sought ∷ drop (at + 1) text.now)) }
+    ensures none { IfNone result (All (λ byte. byte ≢ sought) text.now) }
 {
-    for (at, byte) in arg.iter().enumerate() {
-        if *byte == b'=' {
+    for (at, byte) in text.iter().enumerate() {
+        if *byte == sought {
             return Some(at);
         }
     }
     None
 }
 
-/// The parts of `NAME=PROG`.
-fn client_of(arg: &[u8]) -> Option<(&[u8], &[u8])>
-    ensures some { IfSome result (λ parts. IsName parts.0.now × IsProgram parts.1.now × (arg.now ≡ parts.0.now ++ 61 ∷ parts.1.now)) }
+/// The files of a client.
+#[derive(Clone, Copy)]
+struct ClientFiles<'a> {
+    program: &'a [u8],
+    input: Option<&'a [u8]>,
+}
+
+/// The files that `PROG` or `PROG<INPUT` names.
+fn files_in(part: &[u8]) -> Option<ClientFiles<'_>>
+    ensures some { IfSome result (λ files. IsFileName files.program.now × IsInput (option_copied files.input) × (part.now ≡ files.program.now ++ input_part (option_copied files.input))) }
+    ensures none { IfNone result (¬ AreFiles part.now) }
+{
+    let Some(at) = index_of(b'<', part) else {
+        return program_alone(part);
+    };
+    let program = &part[..at];
+    let (_, input) = part.split_at(at + 1);
+    if is_file_name(program) && is_file_name(input) {
+        Some(ClientFiles {
+            program,
+            input: Some(input),
+        })
+    } else {
+        None
+    }
+}
+
+/// The files that `PROG` names, where there is no `<`.
+fn program_alone(part: &[u8]) -> Option<ClientFiles<'_>>
+    requires { All (λ byte. byte ≢ 60) part.now }
+    ensures some { IfSome result (λ files. IsFileName files.program.now × IsInput (option_copied files.input) × (part.now ≡ files.program.now ++ input_part (option_copied files.input))) }
+    ensures none { IfNone result (¬ AreFiles part.now) }
+{
+    if is_file_name(part) {
+        Some(ClientFiles {
+            program: part,
+            input: None,
+        })
+    } else {
+        None
+    }
+}
+
+/// The name and the files of `NAME=PROG` or `NAME=PROG<INPUT`.
+fn client_of(arg: &[u8]) -> Option<(&[u8], ClientFiles<'_>)>
+    ensures some { IfSome result (λ parts. IsName parts.0.now × IsFileName parts.1.program.now × IsInput (option_copied parts.1.input) × (arg.now ≡ parts.0.now ++ 61 ∷ (parts.1.program.now ++ input_part (option_copied parts.1.input)))) }
     ensures none { IfNone result (¬ IsClient arg.now) }
 {
-    let at = equals_sign_at(arg)?;
+    let at = index_of(b'=', arg)?;
     let name = &arg[..at];
-    let (_, program) = arg.split_at(at + 1);
-    if is_name(name) && is_program(program) {
-        Some((name, program))
+    let (_, part) = arg.split_at(at + 1);
+    let files = files_in(part)?;
+    if is_name(name) {
+        Some((name, files))
     } else {
         None
     }
@@ -168,8 +216,9 @@ fn first_misfit(arguments: &[Arg]) -> usize
     arguments.len()
 }
 
-/// What the arguments name, where they have the form `run SCHEMA STEPS MODE NAME=PROG`; else the
-/// number of the wrong argument, from 0, which is the count of arguments where more are missing.
+/// What the arguments name, where they have the form `run SCHEMA STEPS MODE NAME=PROG` or
+/// `run SCHEMA STEPS MODE NAME=PROG<INPUT`; else the number of the wrong argument, from 0, which is
+/// the count of arguments where more are missing.
 pub fn read_run(arguments: &[Arg]) -> Result<RunArguments<'_>, u32>
     ensures form { IfOk result (λ run. Names arguments.now run) }
     ensures wrong { IfErr result (IsWrong arguments.now) }
@@ -184,7 +233,7 @@ pub fn read_run(arguments: &[Arg]) -> Result<RunArguments<'_>, u32>
     let Some(mode) = mode_of(arguments[3].as_slice()) else {
         unreachable!()
     };
-    let Some((name, program)) = client_of(arguments[4].as_slice()) else {
+    let Some((name, files)) = client_of(arguments[4].as_slice()) else {
         unreachable!()
     };
     Ok(RunArguments {
@@ -192,6 +241,7 @@ pub fn read_run(arguments: &[Arg]) -> Result<RunArguments<'_>, u32>
         steps: number_in(arguments[2].as_slice()),
         mode,
         name,
-        program,
+        program: files.program,
+        input: files.input,
     })
 }

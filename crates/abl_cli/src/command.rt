@@ -10,8 +10,7 @@ use crate::refusal::Refusal;
 use crate::report::write_status;
 use abl_base::Items;
 use abl_outside::{Files, Out};
-use block_meaning::ClientEnd;
-use client_database::Trace;
+use client_database::{ClientEnd, Trace};
 use std::alloc::Global;
 
 /// How clients ended, in client order.
@@ -29,8 +28,9 @@ pub struct Report {
     pub refusal: Option<Refusal>,
 }
 
-/// Does what the arguments say: reads the schema file and the source, compiles the source, runs the
-/// client, writes the report to standard output and the lines of the status to standard error.
+/// Does what the arguments say: reads the schema file, the source and its inputs, compiles the source,
+/// runs the client, writes the report to standard output and the lines of the status to standard
+/// error.
 pub fn run_abl<F: Files, O: Out>(
     alloc: Global,
     arguments: &[Arg],
@@ -43,7 +43,7 @@ pub fn run_abl<F: Files, O: Out>(
         Err(argument) => refused(alloc, out, b"", Refusal::Usage { argument }),
         Ok(run) => match load(alloc, files, &run) {
             Err(refusal) => refused(alloc, out, run.name, refusal),
-            Ok(code) => execute(alloc, out, &run, code),
+            Ok(loaded) => execute(alloc, out, &run, loaded),
         },
     }
 }

@@ -8,28 +8,29 @@ ghost use Rattle.abl_cli.specs.Command.{IsCodeOf, HasRun, IsReported, IsRefused,
 
 use crate::arguments::RunArguments;
 use crate::command::{Ends, Report, refused};
+use crate::load::Loaded;
 use crate::refusal::Refusal;
 use crate::report::{write_run, write_status};
 use crate::run_client::run_client;
 use abl_outside::Out;
-use block_code::Code;
-use block_meaning::ClientEnd;
 use block_meaning::laws::written_only_grows;
-use block_vm::{Client, Section};
-use client_database::Trace;
+use block_vm::Client;
+use client_database::{ClientEnd, Trace};
+use client_output::Section;
 use level_machine::LevelDatabase;
 use std::alloc::Global;
 
 /// Runs the client, and writes its report and the lines of the status.
-pub fn execute<O: Out>(alloc: Global, out: &mut O, run: &RunArguments<'_>, code: Code) -> Report
-    ensures { (schema : SchemaData) (text : List ℕ) (is_code : IsCodeOf schema text code) → HasRun run.now.mode run.now.name.now run.now.steps (source_of is_code.bound) (O.state out.old) (O.state out.new) result ⊎ IsRefused run.now.name.now Refusal.NoMemory (O.state out.old) (O.state out.new) result }
+pub fn execute<O: Out>(alloc: Global, out: &mut O, run: &RunArguments<'_>, loaded: Loaded) -> Report
+    ensures { (schema : SchemaData) (text : List ℕ) (is_code : IsCodeOf schema text loaded.code) → HasRun run.now.mode run.now.name.now run.now.steps (source_of is_code.bound) loaded.inputs.own loaded.inputs.named.items (O.state out.old) (O.state out.new) result ⊎ IsRefused run.now.name.now Refusal.NoMemory (O.state out.old) (O.state out.new) result }
 {
     let (Ok(mut database), Ok(ends)) = (LevelDatabase::new(alloc), Vec::with_capacity(alloc, 1))
     else {
         return refused(alloc, out, run.name, Refusal::NoMemory);
     };
     written_only_grows();
-    match Client::new(alloc, code, run.steps) {
+    let Loaded { code, inputs } = loaded;
+    match Client::new(alloc, code, inputs, run.steps) {
         Ok(mut client) => {
             let end = run_client(&mut client, &mut database);
             report(out, run, client.output(), database.into_trace(), ends, end)

@@ -1,6 +1,6 @@
 //! What follows from what a command did. Each law is what its function ensures.
 
-ghost use Rattle.std.specs.Prelude.{◌≡◌, ◌<◌, ◌⊎◌, ℕ, IsTrue, List, None, Some, length};
+ghost use Rattle.std.specs.Prelude.{◌≡◌, ◌<◌, ◌⊎◌, ◌∷◌, ◌++◌, ℕ, IsTrue, List, None, Some, length};
 ghost use Rattle.fault_count.specs.Faults.{Rose};
 ghost use Rattle.abl_outside.specs.Out.{appended};
 ghost use Rattle.abl_outside.specs.declared.out.Stream.TheVariants.{Output as Standard};
@@ -9,7 +9,7 @@ ghost use Rattle.abl_base.specs.declared.rule.Rule.{Rule as TheRule};
 ghost use Rattle.abl_base.specs.declared.place.Place.{Place as ThePlace};
 ghost use Rattle.abl_schema.specs.Rules.{violation_of};
 ghost use Rattle.abl_cli.specs.Sources.{BreaksFirst, IsSourceOf};
-ghost use Rattle.block_vm.specs.declared.output.Section.{Section as Part};
+ghost use Rattle.client_output.specs.declared.section.Section.{Section as Part};
 ghost use Rattle.abl_cli.specs.declared.refusal.Refusal.TheVariants.{Usage, File, TooLong, Schema, Source, Output};
 ghost use Rattle.abl_cli.specs.declared.command.Report.{Report as Told};
 ghost use Rattle.abl_cli.specs.declared.load.TheConstants.{MAX_FILE_BYTES as MOST};
@@ -19,7 +19,7 @@ ghost use Rattle.abl_cli.specs.CommandLine.{Run, HaveForm, IsWrong};
 ghost use Rattle.abl_cli.specs.Report.{run_text};
 ghost use Rattle.abl_outside.specs.Out.{OutState};
 ghost use Rattle.abl_outside.specs.Files.{FileState};
-ghost use Rattle.abl_cli.specs.Command.{CommandResult, IsRefusal, IsThere, IsUsage, NamesRun, schema_in};
+ghost use Rattle.abl_cli.specs.Command.{AllThere, AreThere, CommandResult, IsRefusal, IsThere, IsUsage, NamesRun, schema_in};
 
 /// The refusal is Usage, with the number of the wrong argument, exactly where the arguments have no
 /// form.
@@ -30,42 +30,61 @@ pub fn usage_names_the_wrong_argument()
 {}
 
 /// Over files that are observable and sound, and arguments that name a run, the refusal is the first cause
-/// that prevents the run, exactly: the schema file is missing or too long, then the source, then a rule that
-/// the schema breaks first, then one that the source breaks first. In each case it may be
-/// out of memory instead.
+/// that prevents the run, exactly: the schema file is missing or too long, then the source, then the client's
+/// input, then a rule that the schema breaks first, then one that the source breaks first, then a file
+/// after INPUT FROM that is missing or too long. In each case it may be out of memory instead.
 pub fn the_first_cause_is_the_refusal()
     ensures no_schema { (arguments : List (List ℕ)) (files : FileState) (faults : ℕ) (old new : OutState) (report : Told) (run : Run) →
         CommandResult arguments files faults old new report → NamesRun arguments files run →
-        files.file run.schema ≡ None → IsRefusal report.refusal (File run.schema) }
+        files.file run.files.schema ≡ None → IsRefusal report.refusal (File run.files.schema) }
     ensures long_schema { (arguments : List (List ℕ)) (files : FileState) (faults : ℕ) (old new : OutState) (report : Told) (run : Run) →
         CommandResult arguments files faults old new report → NamesRun arguments files run →
-        (df : List ℕ) → files.file run.schema ≡ Some df → MOST < length df → IsRefusal report.refusal (TooLong run.schema MOST) }
+        (df : List ℕ) → files.file run.files.schema ≡ Some df → MOST < length df → IsRefusal report.refusal (TooLong run.files.schema MOST) }
     ensures no_source { (arguments : List (List ℕ)) (files : FileState) (faults : ℕ) (old new : OutState) (report : Told) (run : Run) →
         CommandResult arguments files faults old new report → NamesRun arguments files run →
-        (df : List ℕ) → IsThere files run.schema df →
-        files.file run.program ≡ None → IsRefusal report.refusal (File run.program) }
+        (df : List ℕ) → IsThere files run.files.schema df →
+        files.file run.files.program ≡ None → IsRefusal report.refusal (File run.files.program) }
     ensures long_source { (arguments : List (List ℕ)) (files : FileState) (faults : ℕ) (old new : OutState) (report : Told) (run : Run) →
         CommandResult arguments files faults old new report → NamesRun arguments files run →
-        (df text : List ℕ) → IsThere files run.schema df → files.file run.program ≡ Some text →
-        MOST < length text → IsRefusal report.refusal (TooLong run.program MOST) }
+        (df text : List ℕ) → IsThere files run.files.schema df → files.file run.files.program ≡ Some text →
+        MOST < length text → IsRefusal report.refusal (TooLong run.files.program MOST) }
+    ensures no_input { (arguments : List (List ℕ)) (files : FileState) (faults : ℕ) (old new : OutState) (report : Told) (run : Run) →
+        CommandResult arguments files faults old new report → NamesRun arguments files run →
+        (df text name : List ℕ) → IsThere files run.files.schema df → IsThere files run.files.program text →
+        run.files.input ≡ Some name → files.file name ≡ None → IsRefusal report.refusal (File name) }
+    ensures long_input { (arguments : List (List ℕ)) (files : FileState) (faults : ℕ) (old new : OutState) (report : Told) (run : Run) →
+        CommandResult arguments files faults old new report → NamesRun arguments files run →
+        (df text name input : List ℕ) → IsThere files run.files.schema df → IsThere files run.files.program text →
+        run.files.input ≡ Some name → files.file name ≡ Some input → MOST < length input → IsRefusal report.refusal (TooLong name MOST) }
     ensures broken_schema { (arguments : List (List ℕ)) (files : FileState) (faults : ℕ) (old new : OutState) (report : Told) (run : Run) →
         CommandResult arguments files faults old new report → NamesRun arguments files run →
-        (df text : List ℕ) → IsThere files run.schema df → IsThere files run.program text →
+        (df text : List ℕ) → AllThere files run.files df text →
         (rule : TheRule) (line : ℕ) → violation_of df ≡ Some (record { rule = rule; line = line }) → IsRefusal report.refusal (Schema rule line) }
     ensures broken_source { (arguments : List (List ℕ)) (files : FileState) (faults : ℕ) (old new : OutState) (report : Told) (run : Run) →
         CommandResult arguments files faults old new report → NamesRun arguments files run →
-        (df text : List ℕ) → IsThere files run.schema df → IsThere files run.program text → violation_of df ≡ None →
+        (df text : List ℕ) → AllThere files run.files df text → violation_of df ≡ None →
         (rule : TheRule) (place : ThePlace) → BreaksFirst (schema_in df) text rule place → IsRefusal report.refusal (Source 0 rule place) }
+    ensures no_named_input { (arguments : List (List ℕ)) (files : FileState) (faults : ℕ) (old new : OutState) (report : Told) (run : Run) →
+        CommandResult arguments files faults old new report → NamesRun arguments files run →
+        (df text : List ℕ) → AllThere files run.files df text → violation_of df ≡ None → (tree : Tree) → IsSourceOf (schema_in df) text tree →
+        (before after : List (List ℕ)) (name : List ℕ) → tree.inputs ≡ before ++ name ∷ after → AreThere files before →
+        files.file name ≡ None → IsRefusal report.refusal (File name) }
+    ensures long_named_input { (arguments : List (List ℕ)) (files : FileState) (faults : ℕ) (old new : OutState) (report : Told) (run : Run) →
+        CommandResult arguments files faults old new report → NamesRun arguments files run →
+        (df text : List ℕ) → AllThere files run.files df text → violation_of df ≡ None → (tree : Tree) → IsSourceOf (schema_in df) text tree →
+        (before after : List (List ℕ)) (name input : List ℕ) → tree.inputs ≡ before ++ name ∷ after → AreThere files before →
+        files.file name ≡ Some input → MOST < length input → IsRefusal report.refusal (TooLong name MOST) }
 {}
 
-/// Where the arguments name a run, the files are observable and sound, the schema file and the source are
-/// there, short enough and break no rule, and no write fails, the client runs: the status is 0 or 8
-/// by its end, or 7, for out of memory.
+/// Where the arguments name a run, the files are observable and sound, the schema file, the source, the
+/// client's input and the files after INPUT FROM are there and short enough, the schema and the source
+/// break no rule, and no write fails, the client runs: the status is 0 or 8 by its end, or 7, for out
+/// of memory.
 pub fn a_run_without_faults_is_done()
     ensures { (arguments : List (List ℕ)) (files : FileState) (faults : ℕ) (old new : OutState) (report : Told) (run : Run) →
         CommandResult arguments files faults old new report → NamesRun arguments files run →
-        (df text : List ℕ) → IsThere files run.schema df → IsThere files run.program text →
-        violation_of df ≡ None → (tree : Tree) → IsSourceOf (schema_in df) text tree →
+        (df text : List ℕ) → AllThere files run.files df text →
+        violation_of df ≡ None → (tree : Tree) → IsSourceOf (schema_in df) text tree → AreThere files tree.inputs →
         (Rose old.faults new.faults → ⊥) →
         (report.status ≡ 0) ⊎ ((report.status ≡ 8) ⊎ (report.status ≡ 7)) }
 {}

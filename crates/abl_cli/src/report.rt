@@ -13,9 +13,8 @@ use crate::refusal::Refusal;
 use crate::trace::write_trace;
 use abl_base::Place;
 use abl_outside::{Out, OutFailed, Stream};
-use block_meaning::ClientEnd;
-use block_vm::Section;
-use client_database::Event;
+use client_database::{ClientEnd, Event};
+use client_output::Section;
 use itoa::Buffer;
 
 /// Writes the piece. After an error a prefix of it was written.

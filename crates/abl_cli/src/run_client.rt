@@ -2,7 +2,7 @@
 
 ghost use Rattle.std.specs.Prelude.{◌≡◌, [], ℕ, List, All};
 ghost use Rattle.block_meaning.specs.State.{Progress};
-ghost use Rattle.block_vm.specs.Does.{Does, HasNotBegun};
+ghost use Rattle.block_vm.specs.Refines.{Refines, HasNotBegun};
 ghost use Rattle.abl_cli.specs.ClientRun.{Finished, OnlyGrows};
 ghost use Rattle.client_database.specs.declared.answer.Answer.{Answer};
 ghost use Rattle.database_meaning.specs.Setting.{Setting};
@@ -12,9 +12,8 @@ ghost use Rattle.client_database.specs.declared.operation.Op.{Op};
 ghost use Rattle.level_machine.specs.Turns.{IsLevelOp};
 ghost use Rattle.abl_cli.specs.Trace.{IsLevelEvent};
 
-use block_meaning::ClientEnd;
-use block_vm::{Client, NextStep};
-use client_database::Op;
+use block_vm::Client;
+use client_database::{ClientEnd, NextStep, Op};
 use database_interface::Database;
 
 /// Hands the client, client 0 of the database, the answers to its operations one after the other,
@@ -25,7 +24,7 @@ pub fn run_client<D: Database>(client: &mut Client, database: &mut D) -> ClientE
     requires empty { D.trace database.old ≡ [] }
     requires active { D.active database.old 0 }
     requires serves { (op : Op) → IsLevelOp op → D.serves database.old 0 op }
-    ensures does { (names : List (List ℕ)) (m : List Answer → Progress) → HasNotBegun client.old → OnlyGrows m → Does client.old names m [] → Finished client.new names m (D.trace database.new) result }
+    ensures refines { (names : List (List ℕ)) (m : List Answer → Progress) → HasNotBegun client.old → OnlyGrows m → Refines client.old names m [] → Finished client.new names m (D.trace database.new) result }
     ensures legal { (f : Setting) (contents : Contents) → D.opened database.old f contents → IsLegal f contents (D.trace database.new) }
     ensures levels { All IsLevelEvent (D.trace database.new) }
 {

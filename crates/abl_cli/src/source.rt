@@ -8,7 +8,8 @@ ghost use Rattle.abl_values.specs.Schema.{SchemaData};
 ghost use Rattle.abl_syntax.specs.Typed.{program_of};
 ghost use Rattle.bound_tree.specs.Bound.{source_of};
 ghost use Rattle.abl_types.specs.Sources.{bound};
-ghost use Rattle.block_rules.specs.Rules.{first_broken};
+ghost use Rattle.buffer_scope.specs.Scoped.{with_scopes, first_broken as first_broken_scope};
+ghost use Rattle.block_rules.specs.Rules.{first_broken as first_broken_label};
 ghost use Rattle.txn_infer.specs.Flags.{with_flags};
 ghost use Rattle.abl_cli.specs.Sources.{BreaksFirst, HasCleanTokens, HasSyntax, IsSyntaxTree};
 ghost use Rattle.abl_cli.specs.Command.{IsCodeOf};
@@ -24,6 +25,7 @@ use abl_values::Schema;
 use block_code::{Code, CompileFault, compile};
 use block_rules::first_broken;
 use bound_tree::Bound;
+use buffer_scope::{ScopeRefusal, scopes};
 use std::alloc::Global;
 use txn_infer::infer;
 
@@ -31,16 +33,17 @@ use txn_infer::infer;
 #[derive(Debug, Drop)]
 pub enum SourceFault {
     /// The first rule that it breaks, and its place: L1 to L5 of its tokens, G1 or G2 of the
-    /// grammar, Y1 to Y14 of names and types, U1 to U7 of labels and blocks, and N1 at its first byte where it breaks none of these
-    /// and has a form that is not built yet.
+    /// grammar, Y1 to Y14 of names and types, S1 to S4 of the scopes of buffers, U1 to U7 of labels and
+    /// blocks, and N1 at its first byte where it breaks none of these and names a record or a sequence,
+    /// which is not built yet.
     Broken { rule: Rule, place: Place },
     /// Out of memory, or of numbers for what the source defines.
     NoMemory,
 }
 
 /// The code of a source over the schema, or the first rule that the text breaks, and its place: a
-/// rule L, else G, else Y, else U, else N1 at 1:1 exactly where some form in it is not built. Out of memory
-/// may come at any time.
+/// rule L, else G, else Y, else S, else U, else N1 at 1:1 exactly where it names a record or a
+/// sequence. Out of memory may come at any time.
 pub fn compile_source(alloc: Global, schema: &Schema, text: &[u8]) -> Result<Code, SourceFault>
     requires { length text.now + 1 < 2 ^ 32 }
     ensures code { IfOk result (IsCodeOf schema.now text.now) }
@@ -48,26 +51,20 @@ pub fn compile_source(alloc: Global, schema: &Schema, text: &[u8]) -> Result<Cod
 {
     let program = read_syntax(alloc, text)?;
     let plain = bind_syntax(alloc, schema, text, &program)?;
-    judge_blocks(schema, text, &program, &plain)?;
-    match compile(alloc, flagged(plain)) {
+    let scoped = scope_buffers(alloc, schema, text, &program, plain)?;
+    judge_blocks(&program)?;
+    match compile(alloc, flagged(scoped)) {
         Ok(code) => Ok(code),
         Err(CompileFault::NotBuilt) => Err(not_built()),
         Err(CompileFault::NoMemory) => Err(SourceFault::NoMemory),
     }
 }
 
-/// Judges the labels of the text's syntax and the blocks that they name: the first rule U that it
-/// breaks, and its place. It takes no memory.
-fn judge_blocks(
-    schema: &Schema,
-    text: &[u8],
-    program: &Program,
-    plain: &Bound,
-) -> Result<(), SourceFault>
-    requires syntax_of { HasSyntax text.now (program_of program.now) }
-    requires tree { bound schema.now (program_of program.now) ≡ Ok (source_of plain.now) }
-    ensures clean { OnOk result (first_broken (program_of program.now) ≡ None) }
-    ensures broken { (rule : TheRule) (place : ThePlace) → result ≡ Err (SourceFault.Broken rule place) → BreaksFirst schema.now text.now rule place }
+/// Judges the labels of the syntax and the blocks that they name: the first rule U that it breaks, and
+/// its place. It takes no memory.
+fn judge_blocks(program: &Program) -> Result<(), SourceFault>
+    ensures clean { OnOk result (first_broken_label (program_of program.now) ≡ None) }
+    ensures broken { (rule : TheRule) (place : ThePlace) → result ≡ Err (SourceFault.Broken rule place) → first_broken_label (program_of program.now) ≡ Some (record { rule = rule; place = place }) }
 {
     match first_broken(program) {
         None => Ok(()),
@@ -75,6 +72,31 @@ fn judge_blocks(
             rule: violation.rule,
             place: violation.place,
         }),
+    }
+}
+
+/// The tree with the buffers scoped to each block, or the first rule S that the text breaks, and its
+/// place. Out of memory may come at any time.
+fn scope_buffers(
+    alloc: Global,
+    schema: &Schema,
+    text: &[u8],
+    program: &Program,
+    plain: Bound,
+) -> Result<Bound, SourceFault>
+    requires syntax_of { HasSyntax text.now (program_of program.now) }
+    requires tree { bound schema.now (program_of program.now) ≡ Ok (source_of plain) }
+    ensures clean { IfOk result (λ scoped. first_broken_scope (program_of program.now) (source_of plain) ≡ None) }
+    ensures tree { IfOk result (λ scoped. source_of scoped ≡ with_scopes (program_of program.now) (source_of plain)) }
+    ensures broken { (rule : TheRule) (place : ThePlace) → result ≡ Err (SourceFault.Broken rule place) → BreaksFirst schema.now text.now rule place }
+{
+    match scopes(alloc, program, plain) {
+        Ok(scoped) => Ok(scoped),
+        Err(ScopeRefusal::Broken(violation)) => Err(SourceFault::Broken {
+            rule: violation.rule,
+            place: violation.place,
+        }),
+        Err(ScopeRefusal::NoMemory) => Err(SourceFault::NoMemory),
     }
 }
 

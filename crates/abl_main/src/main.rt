@@ -15,12 +15,16 @@ use std::process::ExitCode;
 
 const HELP: &str = "\
 abl DATABASE run SCHEMA STEPS MODE NAME=PROG
+abl DATABASE run SCHEMA STEPS MODE NAME=PROG<INPUT
 
 Reads the schema file SCHEMA, compiles the ABL source PROG and runs it as client
-NAME, which may spend STEPS units (1 to 999999999). Each file may have 1 MiB
-(1048576 bytes). The client's output goes to standard output, and in MODE trace
-the lines of what it asked of the database and was answered too; in MODE quiet
-nothing else. How the command ended goes to standard error, with the status:
+NAME, which may spend STEPS units (1 to 999999999). IMPORT reads the file INPUT;
+without it the input is empty. Each file may have 1 MiB (1048576 bytes). Put an
+argument with < in quotation marks, so that a shell does not take it.
+
+The client's output goes to standard output, and in MODE trace the lines of what
+it asked of the database and was answered too; in MODE quiet nothing else. How
+the command ended goes to standard error, with the status:
 
   0  the client ended          6  standard output was not taken
   1  wrong words               7  memory was wanting
@@ -32,8 +36,10 @@ nothing else. How the command ended goes to standard error, with the status:
 missing, N is the number of those that are there. A rule that is broken has a
 letter and a number, and the line or the line:column where it is broken first:
 
-  F  the schema file           G   the grammar of the source
-  L  the tokens of the source  N1  correct ABL that is not supported yet
+  F  the schema file           Y   the names and types of the source
+  L  the tokens of the source  S   the scopes of its buffers
+  G  its grammar               U   its labels and blocks
+  N1 a record or a sequence, which are not supported yet
 
 DATABASE is not read yet.
 

@@ -5,7 +5,7 @@ use Rattle.block_meaning.specs.Meaning.{run}
 use Rattle.bound_tree.specs.Bound.{source_of}
 use Rattle.database_meaning.specs.Traces.{IsLegal}
 use Rattle.abl_cli.specs.ClientRun.{ClientOutcome, NeverBegan, Began}
-use Rattle.abl_cli.proofs.BuiltForms.{bound_is_built}
+use Rattle.abl_cli.proofs.BuiltForms.{has_no_buffers}
 use Rattle.abl_cli.proofs.execute.execute.Goals as goal
 
 pub returns-in-Ok : goal.returns-in-Ok
@@ -16,9 +16,9 @@ returns-in-Ok g c schema text code =
       end = c.run_client-end.result;
       sections = c.output.result.now;
       does =
-          λ p source.
-          let does = c.in-Ok.ensures.does code.bound p code.stands (bound_is_built schema text code.bound code.form) source in
-          let done = c.run_client-end.ensures.does names (run p c.args.run.now.steps) c.in-Ok.ensures.begins (c.written_only_grows.ensures p c.args.run.now.steps) does in
+          λ p is.
+          let refines = c.in-Ok.ensures.refines code.bound p code.compiled (has_no_buffers code.bound code.form.built) is.source is.input_is is.inputs_are is.forms is.lines in
+          let done = c.run_client-end.ensures.refines names (run p c.args.run.now.steps) c.in-Ok.ensures.begins (c.written_only_grows.ensures p c.args.run.now.steps) refines in
           subst (λ events. ClientOutcome names (run p c.args.run.now.steps) events c.run_client-end.result c.output.result.now) (sym trace)
           (subst (ClientOutcome names (run p c.args.run.now.steps) c.run_client-end.new.database.trace.items c.run_client-end.result) (sym (c.output.ensures names done.pieces done.has))
           (Began c.run_client-end.new.database.trace.items c.run_client-end.result done.pieces done.did));
@@ -33,7 +33,7 @@ returns-in-Err g c schema text code =
     inl (record {
       end = NoMemory;
       sections = [];
-      does = λ p source. subst (λ events. ClientOutcome names (run p c.args.run.now.steps) events NoMemory []) (sym none) NeverBegan;
+      does = λ p is. subst (λ events. ClientOutcome names (run p c.args.run.now.steps) events NoMemory []) (sym none) NeverBegan;
       legal = λ f contents clients sound. subst (IsLegal f contents) (sym none) (sound, tt);
       reported = c.report-in-Err.ensures.reported;
     })

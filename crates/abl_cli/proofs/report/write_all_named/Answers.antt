@@ -1,6 +1,6 @@
 use Rattle.std.proofs.Common.{◌++◌, ◌∷◌}
 use Rattle.std.proofs.lemmas.Result.{err_from_is_err_and}
-use Rattle.block_vm.specs.declared.output.Section.{Section}
+use Rattle.client_output.specs.declared.section.Section.{Section}
 use Rattle.abl_cli.specs.Report.{part_of}
 use Rattle.abl_cli.proofs.Writing.{writes_within}
 use Rattle.abl_cli.proofs.report.write_all_named.Goals as goal

@@ -3,7 +3,8 @@ use Rattle.std.specs.Prelude.{All}
 use Rattle.std.proofs.lemmas.List.Elements.{All-nil, All-push}
 use Rattle.std.proofs.Common.{◌++◌, ◌∷◌, [], refl, ◌∙◌, ◌≡◌, subst, sym, ap}
 use Rattle.block_vm.specs.Work.{ShowsWants}
-use Rattle.block_vm.specs.Does.{Came}
+use Rattle.block_vm.specs.Refines.{AfterResume}
+use Rattle.block_vm.proofs.Asks.{asking_waits, asking_end_ends}
 use Rattle.client_database.specs.declared.next_step.NextStep.TheVariants.{Ask}
 use Rattle.client_database.specs.declared.ends.ClientEnd.TheVariants.{NoMemory}
 use Rattle.block_meaning.specs.Meaning.{asked}
@@ -15,8 +16,13 @@ use Rattle.abl_cli.specs.ClientRun.{Finished}
 use Rattle.abl_cli.specs.Trace.{IsLevelEvent}
 use Rattle.abl_cli.proofs.Along.{Along, along_after, along_more, done_at_its_end, done_without_room}
 use Rattle.abl_cli.proofs.LevelAnswers.{IsBare, level_step_is_bare, level_event, end_is_answered}
-use Rattle.abl_cli.proofs.Rooms.{asking_waits, asking_end_ends, asks_levels, may_request_after, may_request_first}
+use Rattle.abl_cli.proofs.Rooms.{asks_levels, may_request_after, may_request_first}
 use Rattle.abl_cli.proofs.run_client.run_client.Goals as goal
+
+pub step-requires-clause-served : goal.step-requires-clause-served
+step-requires-clause-served g c =
+    let shows : ShowsWants c.loop-wants.client (Ask c.in-Ask.op) = subst (ShowsWants c.loop-wants.client) c.in-Ask.is c.loop-wants.invariant.shows in
+    c.loop-wants.invariant.serves c.in-Ask.op (asks_levels c.loop-wants.client c.in-Ask.op shows)
 
 pub loop-wants-smaller : goal.loop-wants-smaller
 loop-wants-smaller g c =
@@ -43,14 +49,14 @@ loop-wants-preserved g c =
       opened = λ f contents opened. c.step.ensures.opened f contents (c.loop-wants.invariant.opened f contents opened);
       serves = λ op level. c.step.ensures.serves 0 op (c.loop-wants.invariant.serves op level);
       along =
-          λ names m begins does.
+          λ names m begins refines.
           subst (λ trace. Along c.resume-wants-in-loop-wants.new.self names m trace c.resume-wants-in-loop-wants.result) (sym c.in-Some.ensures.event)
           (along_more c.loop-wants.client c.resume-wants-in-loop-wants.new.self names m _ c.in-Ask.op c.in-Some.answer c.resume-wants-in-loop-wants.result
           (record {
-            does = λ names m heard does. c.resume-wants-in-loop-wants.ensures.does names m heard (asking_waits c.loop-wants.client c.in-Ask.op shows) does;
+            refines = λ names m heard refines. c.resume-wants-in-loop-wants.ensures.refines names m heard (asking_waits c.loop-wants.client c.in-Ask.op shows) refines;
             given_up = λ names m heard pieces given. c.resume-wants-in-loop-wants.ensures.given_up names m heard pieces given;
           })
-          (subst (λ w. Along c.loop-wants.client names m (g.D.Database.trace c.loop-wants.database) w) c.in-Ask.is (c.loop-wants.invariant.along names m begins does)));
+          (subst (λ w. Along c.loop-wants.client names m (g.D.Database.trace c.loop-wants.database) w) c.in-Ask.is (c.loop-wants.invariant.along names m begins refines)));
       levels =
           subst (All IsLevelEvent) (sym c.in-Some.ensures.event)
           (All-push IsLevelEvent _ (event_of 0 c.in-Ask.op c.in-Some.answer) c.loop-wants.invariant.levels (level_event c.in-Ask.op c.in-Some.answer level bare));
@@ -64,33 +70,33 @@ loop-wants-init g c =
       opened = λ f contents opened. opened;
       serves = c.requires.serves;
       along =
-          λ names m begins does.
+          λ names m begins refines.
           let none : answers_of 0 (g.D.Database.trace c.args.database.now) ≡ [] = ap (answers_of 0) c.requires.empty in
           along_after c.resume-wants.new.self names m _ c.resume-wants.result
-          (subst (λ heard. Came c.resume-wants.new.self names m heard c.resume-wants.result) (sym none) (c.resume-wants.ensures.does names m [] (begins, refl) does))
+          (subst (λ heard. AfterResume c.resume-wants.new.self names m heard c.resume-wants.result) (sym none) (c.resume-wants.ensures.refines names m [] (begins, refl) refines))
           (ap (operations_of 0) c.requires.empty ∙ sym (ap (asked m) none));
       levels = subst (All IsLevelEvent) (sym c.requires.empty) (All-nil IsLevelEvent);
     }
 
-pub returns-in-Ended-clause-does : goal.returns-in-Ended-clause-does
-returns-in-Ended-clause-does g c =
-    λ names m begins grows does.
+pub returns-in-Ended-clause-refines : goal.returns-in-Ended-clause-refines
+returns-in-Ended-clause-refines g c =
+    λ names m begins grows refines.
     done_at_its_end c.loop-wants.client names m _ c.in-Ended.end
-    (subst (λ w. Along c.loop-wants.client names m (g.D.Database.trace c.loop-wants.database) w) c.in-Ended.is (c.loop-wants.invariant.along names m begins does))
+    (subst (λ w. Along c.loop-wants.client names m (g.D.Database.trace c.loop-wants.database) w) c.in-Ended.is (c.loop-wants.invariant.along names m begins refines))
 
 pub returns-in-Ended-clause-legal : goal.returns-in-Ended-clause-legal
 returns-in-Ended-clause-legal g c =
     λ f contents opened. g.met.D.Database.legal c.loop-wants.database f contents (c.loop-wants.invariant.opened f contents opened)
 
 -- out of memory for the event of the operation: End takes its place
-pub returns-in_default-clause-does : goal.returns-in_default-clause-does
-returns-in_default-clause-does g c =
-    λ names m begins grows does.
+pub returns-in_default-clause-refines : goal.returns-in_default-clause-refines
+returns-in_default-clause-refines g c =
+    λ names m begins grows refines.
     let ended = end_is_answered c.step-in_default.result c.step-in_default.ensures.event c.step-in_default.ensures.end in
     subst (λ trace. Finished c.loop-wants.client names m trace NoMemory)
     (ap (λ items. items ++ event_of 0 End ended.0 ∷ []) (sym (c.in_default.ensures.none refl)) ∙ sym ended.1)
     (done_without_room c.loop-wants.client names m (g.D.Database.trace c.loop-wants.database) c.in-Ask.op ended.0 grows (c.in_default.ensures.end refl)
-    (subst (λ w. Along c.loop-wants.client names m (g.D.Database.trace c.loop-wants.database) w) c.in-Ask.is (c.loop-wants.invariant.along names m begins does)))
+    (subst (λ w. Along c.loop-wants.client names m (g.D.Database.trace c.loop-wants.database) w) c.in-Ask.is (c.loop-wants.invariant.along names m begins refines)))
 
 pub returns-in_default-clause-legal : goal.returns-in_default-clause-legal
 returns-in_default-clause-legal g c =

@@ -5,7 +5,7 @@ use Rattle.database_meaning.specs.declared.contents.Contents.{Contents}
 use Rattle.client_database.specs.declared.answer.Answer.{Answer}
 use Rattle.client_database.specs.declared.operation.Op.{Op}
 use Rattle.block_meaning.specs.State.{Progress}
-use Rattle.block_vm.specs.Does.{Does, HasNotBegun}
+use Rattle.block_vm.specs.Refines.{Refines, HasNotBegun}
 use Rattle.block_vm.specs.Work.{ShowsWants, most_operations}
 use Rattle.level_machine.specs.Turns.{IsLevelOp}
 use Rattle.abl_cli.specs.Trace.{IsLevelEvent}
@@ -20,7 +20,7 @@ invariant-loop-wants g l =
       active : MayRequest l.wants (g.D.Database.active l.database 0);
       opened : (f : Setting) (contents : Contents) → g.D.Database.opened l.fn.database f contents → g.D.Database.opened l.database f contents;
       serves : (op : Op) → IsLevelOp op → g.D.Database.serves l.database 0 op;
-      along : (names : List (List ℕ)) (m : List Answer → Progress) → HasNotBegun l.fn.client → Does l.fn.client names m [] → Along l.client names m (g.D.Database.trace l.database) l.wants;
+      along : (names : List (List ℕ)) (m : List Answer → Progress) → HasNotBegun l.fn.client → Refines l.fn.client names m [] → Along l.client names m (g.D.Database.trace l.database) l.wants;
       levels : All IsLevelEvent (g.D.Database.trace l.database);
     }
 
