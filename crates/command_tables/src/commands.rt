@@ -7,15 +7,16 @@ use abl_outside::{MemFiles, MemOut, NamedFile, Stream};
 use std::alloc::{AllocError, Global};
 
 /// The most bytes that the streams take together, where the row does not say otherwise.
-const MOST_WRITTEN: u64 = 1_000_000;
+const MOST_WRITTEN: u64 = 20_000_000;
 
-/// The fields of a row: the arguments, the source, the schema file and the faults.
+/// The fields of a row: the arguments, the source, the schema file, the faults, and other files.
 #[derive(Clone, Copy)]
 struct Row<'a> {
     arguments: &'a str,
     source: &'a str,
     schema: &'a str,
     faults: &'a str,
+    files: &'a str,
 }
 
 /// The status of a row's command, and what is then on the two streams.
@@ -29,7 +30,7 @@ pub fn answer(alloc: Global, row: &str) -> Result<String, AllocError> {
         Some(most) => *most,
         None => MOST_WRITTEN,
     };
-    let mut files = files_with(alloc, row.source, row.schema, &reads)?;
+    let mut files = files_of(alloc, &row, &reads)?;
     let mut out = MemOut::new(alloc, most, &writes)?;
     let report = run_abl(alloc, &arguments, &mut files, &mut out);
     let output = shown(alloc, out.text(Stream::Output))?;
@@ -41,12 +42,14 @@ pub fn answer(alloc: Global, row: &str) -> Result<String, AllocError> {
 fn fields_of(row: &str) -> Row<'_> {
     let (arguments, rest) = row.split_once('\t').unwrap_or((row, ""));
     let (source, rest) = rest.split_once('\t').unwrap_or((rest, ""));
-    let (schema, faults) = rest.split_once('\t').unwrap_or((rest, ""));
+    let (schema, rest) = rest.split_once('\t').unwrap_or((rest, ""));
+    let (faults, files) = rest.split_once('\t').unwrap_or((rest, ""));
     Row {
         arguments,
         source,
         schema,
         faults,
+        files,
     }
 }
 
@@ -74,21 +77,24 @@ fn numbers_after(alloc: Global, faults: &str, word: &str) -> Result<Vec<u64>, Al
     Ok(numbers)
 }
 
-/// The files `p`, with this source, and `s.df`, with this schema; the reads of these numbers fail.
-fn files_with(
-    alloc: Global,
-    source: &str,
-    schema: &str,
-    fails: &[u64],
-) -> Result<MemFiles, AllocError> {
+/// The files of a row: `p`, the source, `s.df`, the schema file, and the others; the reads of these
+/// numbers fail.
+fn files_of(alloc: Global, row: &Row<'_>, fails: &[u64]) -> Result<MemFiles, AllocError> {
     let mut files = Vec::new(alloc);
-    files.push(NamedFile {
-        name: Bytes::of(alloc, b"p")?,
-        bytes: text_of(alloc, source)?,
-    })?;
-    files.push(NamedFile {
-        name: Bytes::of(alloc, b"s.df")?,
-        bytes: text_of(alloc, schema)?,
-    })?;
+    files.push(named(alloc, "p", row.source)?)?;
+    files.push(named(alloc, "s.df", row.schema)?)?;
+    for file in row.files.split('\t') {
+        if let Some((name, text)) = file.split_once('=') {
+            files.push(named(alloc, name, text)?)?;
+        }
+    }
     MemFiles::new(alloc, &Items::from_vec(files), fails)
+}
+
+/// The file of that name, with the text that is written so.
+fn named(alloc: Global, name: &str, text: &str) -> Result<NamedFile, AllocError> {
+    Ok(NamedFile {
+        name: Bytes::of(alloc, name.as_bytes())?,
+        bytes: text_of(alloc, text)?,
+    })
 }

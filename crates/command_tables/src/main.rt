@@ -1,9 +1,10 @@
 //! Runs commands: reads a row a line and writes it with its answer. A row has the arguments of a
-//! command, and after tabs the source `p`, the schema file `s.df` and the faults: `read2` for a
-//! second read that fails, `write1` for a first write that fails, `room39` for streams that take 39
-//! bytes. The answer is the status and what is then on standard output and standard error. A line
-//! that begins with `#` is a heading. How a row writes texts is said in `texts.rt`. The expected
-//! answers are read off the description of the language and of the program (`docs/language.md`).
+//! command, and after tabs the source `p`, the schema file `s.df`, the faults (`read2` for a second
+//! read that fails, `write1` for a first write that fails, `room39` for streams that take 39 bytes),
+//! and each other file as `NAME=TEXT`. The answer is the status and what is then on standard output
+//! and standard error. A line that begins with `#` is a heading. How a row writes texts is said in
+//! `texts.rt`. The expected answers are read off the description of the language and of the program
+//! (`docs/language.md`), never off the program.
 #![tactic(auto)]
 
 mod commands;

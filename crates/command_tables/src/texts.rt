@@ -9,8 +9,8 @@ const MOST_SHOWN: usize = 400;
 /// The bytes at each end of a longer one that are written.
 const SHOWN_AT_ENDS: usize = 80;
 
-/// The bytes that a row writes so: `|` is a line feed, `^` is 10,000 letters `x`, and `{N*TEXT}` is
-/// the text N times, where `@` is the number of the repetition, from 1.
+/// The bytes that a row writes so: `|` is a line feed, `^` is 10,000 letters `x`, a backtick is `^`,
+/// and `{N*TEXT}` is the text N times, where `@` is the number of the repetition, from 1.
 pub fn text_of(alloc: Global, written: &str) -> Result<Bytes, AllocError> {
     let mut bytes = Vec::new(alloc);
     for (at, piece) in written.split('{').enumerate() {
@@ -42,6 +42,7 @@ fn add_text(bytes: &mut Vec<u8>, text: &[u8], number: &[u8]) -> Result<(), Alloc
         match *byte {
             b'|' => bytes.push(b'\n')?,
             b'^' => bytes.extend_from_slice(&[b'x'; 10_000])?,
+            b'`' => bytes.push(b'^')?,
             b'@' => bytes.extend_from_slice(number)?,
             _ => bytes.push(*byte)?,
         }

@@ -1,0 +1,105 @@
+#!/usr/bin/env python3
+"""Writes `stdout` of crates/command_tables, the answers to the rows of its `stdin`.
+
+Each row that runs a source without records is answered by tools/abl_reference.py, which knows nothing
+of the program. The answers to other rows (wrong arguments, files that cannot be read, rules that are
+broken, faults of the outside) were worked by hand; they stand in `stdout` and are kept. Run it at the
+top of the repository; with `--check` it only says which committed answers the reference denies."""
+
+import re
+import sys
+from pathlib import Path
+
+import abl_reference
+
+TABLE = Path(__file__).parent.parent / "crates" / "command_tables"
+MOST_SHOWN, SHOWN_AT_ENDS, MOST_FILE = 400, 80, 1048576
+COMMAND = re.compile(r"run s\.df ([1-9]\d{0,8}) (quiet|trace) ([A-Za-z0-9]{1,16})=p(?:<([^<]+))?$")
+KEPT = re.compile(r"(1|2|3|4|6|7|10) ")
+
+
+def text_of(written):
+    """The bytes that a row writes so, as crates/command_tables/README.md says."""
+
+    def plain(text, number):
+        return text.replace("|", "\n").replace("^", "x" * 10000).replace("`", "^").replace("@", number)
+
+    pieces = written.split("{")
+    out = [plain(pieces[0], "@")]
+    for piece in pieces[1:]:
+        repeated, brace, rest = piece.partition("}")
+        if not brace:
+            out.append(plain(piece, "@"))
+            continue
+        count, _, text = repeated.partition("*")
+        out.extend(plain(text, str(at + 1)) for at in range(int(count)))
+        out.append(plain(rest, "@"))
+    return "".join(out).encode("utf-8")
+
+
+def shown(text):
+    """The bytes of a stream as an answer writes them."""
+    if len(text) <= MOST_SHOWN:
+        return text.decode("latin1").replace("\n", "|")
+    head, tail = text[:SHOWN_AT_ENDS], text[-SHOWN_AT_ENDS:]
+    middle = f"..{len(text)} bytes.."
+    return shown(head) + middle + shown(tail)
+
+
+def answered(row):
+    """The answer to a row, or None where the reference does not judge it."""
+    fields = row.split("\t")
+    arguments, source, schema, faults = (fields + [""] * 4)[:4]
+    files = dict(field.split("=", 1) for field in fields[4:] if field)
+    files.setdefault("p", source)
+    files.setdefault("s.df", schema)
+    command = COMMAND.match(arguments)
+    if not command or faults or schema:
+        return None
+    units, mode, name, given = command.groups()
+    files = {key.encode(): text_of(text) for key, text in files.items()}
+    if given is not None and given.encode() not in files:
+        return None
+    source = text_of(source)
+    own = b"" if given is None else files[given.encode()]
+    if len(source) > MOST_FILE or len(own) > MOST_FILE:
+        return None
+    try:
+        client = abl_reference.Client(source, int(units), own, files)
+        if any(len(files.get(file, b"x" * (MOST_FILE + 1))) > MOST_FILE for file in client.parser.inputs):
+            return None
+        out, lines, status = abl_reference.report(name, client, mode, client.run())
+    except abl_reference.Refused:
+        return None
+    return f"{status} {shown(out)} {shown(lines)}"
+
+
+def main():
+    sys.setrecursionlimit(1000000)
+    rows = (TABLE / "stdin").read_text().splitlines()
+    known = {}
+    for line in (TABLE / "stdout").read_text().splitlines():
+        row, _, answer = line.rpartition("\t")
+        known[row] = answer
+    lines, denied = [], []
+    for row in rows:
+        if row.startswith("#"):
+            lines.append(row)
+            continue
+        old = known.get(row)
+        if old is not None and KEPT.match(old) and "N1 at" not in old:
+            new = old
+        else:
+            new = answered(row) or old
+        if new is None:
+            raise SystemExit(f"no answer: {row}")
+        if old is not None and new != old:
+            denied.append(f"{row[:200]}\n  was {old[:200]}\n  is  {new[:200]}")
+        lines.append(f"{row}\t{new}")
+    if "--check" in sys.argv:
+        print("\n".join(denied))
+        raise SystemExit(bool(denied))
+    (TABLE / "stdout").write_text("\n".join(lines) + "\n")
+
+
+main()
