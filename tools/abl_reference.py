@@ -233,6 +233,7 @@ class Block:
         self.trans = False
         self.body = []
         self.names_retry = False
+        self.in_header = self.retry_in_header = False
 
     @property
 
@@ -387,9 +388,7 @@ class Parser:
             self.symbol('=')
             start = self.expr()
             self.keyword('TO')
-            self.blocks.append(b)
-            end = self.expr()
-            self.blocks.pop()
+            end = self.in_header_of(b)
             by = None
             if self.optional('BY'):
                 by = self.expr()
@@ -397,9 +396,7 @@ class Parser:
         phrases = []
         while not self.is_symbol(':'):
             if self.optional('WHILE'):
-                self.blocks.append(b)
-                b.wh = self.expr()
-                self.blocks.pop()
+                b.wh = self.in_header_of(b)
             elif self.optional('TRANSACTION'):
                 b.trans = True
             else:
@@ -416,13 +413,15 @@ class Parser:
                         self.take()
                         self.optional('ERROR')
                         if not (self.is_symbol(':', ',') or self.is_keyword('WHILE', 'TRANSACTION', 'ON')):
-                            self.expr_dry()
+                            self.in_header_of(b)
                     else:
                         self.take()
                         if self.peek()[0] == 'N':
                             self.take()
         end_at = self.i
         self.blocks.append(b)
+        if b.retry_in_header:
+            self.mark_retry()
         for which, at in phrases:
             self.i = at
             t = self.label_of(self.name()) if self.peek()[0] == 'N' else self.undo_block()
@@ -440,8 +439,25 @@ class Parser:
         self.blocks.pop()
         return ('BLOCK', b)
 
-    def expr_dry(self):
-        self.expr(dry=True)
+    def in_header_of(self, b):
+        """An expression in the header of a block. Its RETRY is that of the block, or of one around; which
+        of them can be undone is known once the whole header is read."""
+        self.blocks.append(b)
+        b.in_header = True
+        e = self.expr()
+        b.in_header = False
+        self.blocks.pop()
+        return e
+
+    def mark_retry(self):
+        """Marks the block that names RETRY here: the innermost one with the undo property."""
+        for b in reversed(self.blocks):
+            if b.in_header:
+                b.retry_in_header = True
+                break
+            if b.undo:
+                b.names_retry = True
+                break
 
     def stmt(self):
         p = self.peek()
@@ -642,7 +658,7 @@ class Parser:
             self.params.append((direction, v))
         return None
 
-    def expr(self, dry=False):
+    def expr(self):
         if self.optional('IF'):
             c = self.expr()
             self.keyword('THEN')
@@ -714,10 +730,7 @@ class Parser:
             self.take()
             return ('LIT', ('B', False))
         if self.optional('RETRY'):
-            for b in reversed(self.blocks):
-                if b.undo:
-                    b.names_retry = True
-                    break
+            self.mark_retry()
             return ('RETRY',)
         if self.optional('RETURN-VALUE'):
             return ('RETVAL',)
@@ -768,19 +781,21 @@ class Parser:
             return dict(INTEGER='I', INT64='L', DECIMAL='D', SUBSTRING='C', LENGTH='L', ENTRY='C', DATE='T', YEAR='L', MONTH='L', DAY='L').get(e[1], 'L')
         if o in ('NEG', 'POS'):
             k = self.kind_of(e[1])
-            return None if k is None else 'D' if k == 'D' else 'L'
+            return k if k is None or o == 'POS' else 'D' if k == 'D' else 'L'
         a, b = (self.kind_of(e[1]), self.kind_of(e[2]))
         if o == '/':
             return 'D'
-        if a is None and b is None:
-            return None
+        if o == 'MODULO':
+            return 'L'
         if o == '+' and 'C' in (a, b):
             return 'C'
-        if 'T' in (a, b):
-            return 'L' if a == b and o == '-' else 'T'
+        if a == 'T':
+            return ('T' if o == '+' else None) if b is None else 'L' if b == 'T' else 'T'
+        if b == 'T':
+            return 'L'
         if 'D' in (a, b):
             return 'D'
-        return 'L'
+        return None if None in (a, b) else 'L'
 
     def defmask(self, e):
         if e[0] == 'VAR':
