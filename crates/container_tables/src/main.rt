@@ -1,14 +1,12 @@
 //! Runs rows of calls on containers, a row a line: `key +int:5 -yes` is answered with the key bytes of
-//! a row, `index enter:0:k:4:u keeper:k` with the answer of each step on an index that is empty at
-//! first, and `undo push:1 mark pop:0` with the answer of each step on an undo list.
-//! `tools/container_rows.txt` has the rows with the answers that must come, and
+//! a row, and `index enter:0:k:4:u keeper:k` with the answer of each step on an index that is empty at
+//! first. `tools/container_rows.txt` has the rows with the answers that must come, and
 //! `tools/container_rows.py` writes the files that it is run on from them.
 #![tactic(auto)]
 
 mod entries;
 mod keys;
 mod steps;
-mod undo;
 mod words;
 
 use std::alloc::{AllocError, Global};
@@ -20,7 +18,6 @@ fn answer(alloc: Global, row: &str) -> Result<String, AllocError> {
         Some(("key", values)) => keys::key_answer(alloc, values),
         Some(("part", value)) => keys::part_answer(alloc, value),
         Some(("index", steps)) => steps::answers(alloc, steps),
-        Some(("undo", steps)) => undo::answers(alloc, steps),
         _ => String::from_str(alloc, "no row"),
     }
 }
