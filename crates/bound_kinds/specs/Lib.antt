@@ -1,0 +1,2 @@
+pub mod WellKinded
+pub mod Examples
