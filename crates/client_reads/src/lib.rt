@@ -1,0 +1,19 @@
+//! How a record is read, step by step: the search of FIND and FOR, the second match, the lock, the
+//! second reading, and FIND CURRENT. It depends on `reading_values` and `record_rules`, and on
+//! buffers through the trait `RecordBuffers`. A layer above may rely on `specs/Steps.antt`: each
+//! call changes the buffers as the step of `block_flat` does, and says how the step goes on.
+#![tactic(auto)]
+
+pub mod buffers;
+pub mod current;
+pub mod laws;
+pub mod locks;
+pub mod search;
+pub mod starts;
+pub mod tests;
+
+pub use buffers::{Current, RecordBuffers};
+pub use current::{begin_current, read_current};
+pub use locks::{RowRequest, get_op, lock_op, read_again, request_row, settle_grant, take};
+pub use search::{NextTest, next_op, show_next, show_second};
+pub use starts::{FetchStart, FindStart, fetch_start, find_start};

@@ -1,0 +1,86 @@
+//! What follows a Next: the buffer shows the record, and WHERE is tested.
+
+ghost use Rattle.std.specs.Prelude.{◌≡◌};
+ghost use Rattle.client_database.specs.declared.operation.Op.{Op};
+ghost use Rattle.bound_tree.specs.Bound.{reading_of};
+ghost use Rattle.block_meaning.specs.Program.{Program};
+ghost use Rattle.block_meaning.specs.State.{State};
+ghost use Rattle.block_meaning.specs.Frames.{table_of};
+ghost use Rattle.record_rules.specs.Answers.{found_row_in};
+ghost use Rattle.client_reads.specs.Steps.{NextGoes, SecondGoes};
+
+use crate::buffers::RecordBuffers;
+use crate::tests::test;
+use abl_base::Row;
+use abl_eval::EvalFault;
+use bound_tree::Reading;
+use client_database::{Cursor, Op};
+use record_rules::FoundRow;
+use std::alloc::Global;
+
+/// The place of the record that Next found, and whether WHERE holds of it.
+#[derive(Drop)]
+pub struct NextTest {
+    pub cursor: Cursor,
+    pub passes: bool,
+}
+
+/// The operation that finds the next row after `from` in the index of the reading (before it where
+/// `forward` is false), among those that the prefix brackets.
+pub fn next_op<B: RecordBuffers>(
+    buffers: &B,
+    reading: &Reading,
+    prefix: Row,
+    from: Option<Cursor>,
+    forward: bool,
+) -> Op
+    ensures { (p : Program) (rest : State) → B.fits p rest buffers.now → result ≡ Op.Next (table_of (reading_of reading.now).buffer (B.state rest buffers.now)) (reading_of reading.now).index prefix from forward }
+{
+    Op::Next {
+        table: buffers.table(reading.buffer),
+        index: reading.index,
+        prefix,
+        cursor: from,
+        forward,
+    }
+}
+
+/// After Next found a record: the buffer shows it and has its place, and WHERE is tested. A record
+/// that fails is taken out of the buffer again. (OpenEdge ABL Reference, FIND and FOR statements.)
+pub fn show_next<B: RecordBuffers>(
+    alloc: Global,
+    buffers: &mut B,
+    reading: &Reading,
+    retry: bool,
+    found: FoundRow,
+) -> Result<NextTest, EvalFault>
+    ensures fits { (p : Program) (rest : State) → B.fits p rest buffers.old → B.fits p rest buffers.new }
+    ensures goes { (p : Program) (rest : State) → B.fits p rest buffers.old → NextGoes result p (reading_of reading.now) retry (found_row_in found) (B.state rest buffers.old) (B.state rest buffers.new) }
+{
+    let FoundRow { cursor, values } = found;
+    buffers.set_place(reading, cursor.copy()?);
+    buffers.show(reading.buffer, cursor.row, values);
+    let passes = test(alloc, buffers, reading, retry)?;
+    Ok(NextTest { cursor, passes })
+}
+
+/// After the search for a second match found a record: the buffer shows it, and WHERE is tested. In
+/// both cases the buffer is empty then; the place stays. (OpenEdge ABL Reference, FIND statement.)
+pub fn show_second<B: RecordBuffers>(
+    alloc: Global,
+    buffers: &mut B,
+    reading: &Reading,
+    retry: bool,
+    found: FoundRow,
+) -> Result<NextTest, EvalFault>
+    ensures fits { (p : Program) (rest : State) → B.fits p rest buffers.old → B.fits p rest buffers.new }
+    ensures goes { (p : Program) (rest : State) → B.fits p rest buffers.old → SecondGoes result p (reading_of reading.now) retry (found_row_in found) (B.state rest buffers.old) (B.state rest buffers.new) }
+{
+    let FoundRow { cursor, values } = found;
+    buffers.show(reading.buffer, cursor.row, values);
+    let passes = test(alloc, buffers, reading, retry)?;
+    if passes {
+        buffers.empty(reading.buffer);
+    }
+    Ok(NextTest { cursor, passes })
+}
