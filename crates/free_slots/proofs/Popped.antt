@@ -10,16 +10,16 @@ use Rattle.std.proofs.lemmas.List.Elements.{All-cons, All-head, All-tail}
 use Rattle.std.proofs.lemmas.List.Sorted.{All-permutation, IsPermutation-refl, sum_by_popped, sum_by_pushed}
 use Rattle.free_slots.specs.Free.{free_in, times, without}
 
-abbrev one : ℕ → ℕ → ℕ
+abbrev pub one : ℕ → ℕ → ℕ
 one x y = if y == x then 1 else 0
 
-one_same : (x y : ℕ) → y ≡ x → one x y ≡ 1
+pub one_same : (x y : ℕ) → y ≡ x → one x y ≡ 1
 one_same x y e = let same : eqb y x ≡ true = grind (arith, nat_tests, e) in ap (λ (b : Bool). cond b 1 0) same
 
-one_other : (x y : ℕ) → y ≢ x → one x y ≡ 0
+pub one_other : (x y : ℕ) → y ≢ x → one x y ≡ 0
 one_other x y ne = let apart : eqb y x ≡ false = grind (arith, nat_tests, ne) in ap (λ (b : Bool). cond b 1 0) apart
 
-one_small : (x y : ℕ) → one x y ≤ 1
+pub one_small : (x y : ℕ) → one x y ≤ 1
 one_small x y = elim (cases_eq y x) [
   | inl e ↦ let is = one_same x y e in omega (arith, is)
   | inr ne ↦ let is = one_other x y ne in omega (arith, is)

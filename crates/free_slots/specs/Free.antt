@@ -22,3 +22,8 @@ Takes free (slot ∷ later) left = (free slot ≡ 1) × ((k : ℕ) → k < slot 
 abbrev pub AreSlots : List ℕ → Type 0
 AreSlots [] = Unit {0}
 AreSlots (slot ∷ later) = (8192 ≤ slot) × (slot < 1048576) × AreSlots later
+
+-- no number is among these twice
+abbrev pub AreDifferent : List ℕ → Type 0
+AreDifferent [] = Unit {0}
+AreDifferent (slot ∷ later) = (times slot later ≡ 0) × AreDifferent later

@@ -1,12 +1,12 @@
 //! The free slots.
 
 ghost use Rattle.std.specs.Prelude.{◌≡◌, ◌<◌, ◌≤◌, ◌+◌, ◌-◌, ◌++◌, ◌==◌, if◌then◌else◌, ℕ, List, length, IfSome, IfNone, OnSome, OnOk, OnErr};
-ghost use Rattle.std.specs.List.{All};
+ghost use Rattle.std.specs.List.{All, Contains};
 ghost use Rattle.std.specs.BinaryHeap.{IsHeap, heap_capacity, heap_items, heap_len};
 ghost use Rattle.std.specs.Ordering.{nat_cmp};
 ghost use Rattle.std.specs.Vec.{vec_capacity};
 ghost use Rattle.std.proofs.Props.{props};
-ghost use Rattle.free_slots.specs.Free.{AreSlots, Takes, free_in, times, without};
+ghost use Rattle.free_slots.specs.Free.{AreDifferent, AreSlots, Takes, free_in, times, without};
 
 use std::alloc::{AllocError, Global};
 use std::collections::BinaryHeap;
@@ -43,9 +43,23 @@ impl FreeSlots {
         }
     }
 
-    /// The number of free slots.
+    /// All slots from `end` on. It takes no memory.
+    pub fn above(alloc: Global, end: u32) -> FreeSlots
+        requires low { 8192 ≤ end }
+        requires high { end ≤ 1048576 }
+        ensures free { (k : ℕ) → end ≤ k → k < 1048576 → free_in (heap_items result.back) result.end k ≡ 1 }
+        ensures none { (k : ℕ) → k < end → free_in (heap_items result.back) result.end k ≡ 0 }
+    {
+        FreeSlots {
+            back: BinaryHeap::new(alloc),
+            end,
+        }
+    }
+
+    /// The number of free slots: no list of different free slots is longer.
     pub fn count(&self) -> usize
-        ensures { result ≡ heap_len self.now.back + (1048576 - self.now.end) }
+        ensures count { result ≡ heap_len self.now.back + (1048576 - self.now.end) }
+        ensures most { (slots : List ℕ) → AreDifferent slots → ((k : ℕ) → Contains slots k → free_in (heap_items self.now.back) self.now.end k ≡ 1) → length slots ≤ result }
     {
         self.back.len() + (LAST_SLOT + 1 - self.end) as usize
     }

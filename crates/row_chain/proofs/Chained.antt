@@ -6,7 +6,7 @@ use Rattle.std.proofs.lemmas.Bool.Decides.{nat_tests}
 use Rattle.std.proofs.lemmas.List.{take-append-drop}
 use Rattle.row_chain.specs.Fragments.{StoredBytes, bytes_from, slots_from, chain_of, row_at, ends, kind_in, table_in, content_in, next_in, first_or_zero, fragment_bytes, Holds, BeginsAs, AreClear, AreDistinct, AreRowSlots, begins}
 use Rattle.row_chain.specs.Calls.{CanTouch, Wrote}
-use Rattle.row_chain.proofs.Within.{none_in, head_in, tail_in, only, not_only}
+use Rattle.row_chain.proofs.Within.{first_or_rest, head_in, none_in, not_only, only, tail_in}
 use Rattle.row_chain.proofs.Composes.{readable_on, wrote_both}
 use Rattle.row_chain.proofs.Encoded.{kind_read, next_read, table_read, content_read}
 use Rattle.abl_storage.specs.Slots.{SlotState, Transaction, IsReadable}
@@ -88,6 +88,7 @@ module _ (client at : ℕ) (rest slots : List ℕ) (slots_is : slots ≡ at ∷ 
       (λ k there here. apart (subst (Contains rest) (only at k here) there))
       (λ k out. let outside : ¬ Contains (at ∷ rest) k = subst (λ (xs : List ℕ). ¬ Contains xs k) slots_is out in
       (λ there. outside (tail_in at k rest there), λ here. outside (subst (λ (n : ℕ). Contains (at ∷ rest) n) (sym (only at k here)) (head_in at rest))))
+      (λ k there. first_or_rest at rest k (subst (λ (xs : List ℕ). Contains xs k) slots_is there))
       (omega (arith, long)) f g
 
   module _ (bytes back front : List ℕ) (kind next total table : ℕ) (t u : SlotState) (back_is : back ≡ drop 240 bytes) (front_is : front ≡ take 240 bytes) (next_is : next ≡ first_or_zero rest)

@@ -10,7 +10,7 @@ use Rattle.abl_storage.specs.declared.slots.Undo.{Undo}
 use Rattle.abl_storage.specs.declared.slots.SlotFault.{SlotFault}
 use Rattle.abl_storage.specs.declared.slots.SlotFault.TheVariants.{Disk}
 use Rattle.row_chain.specs.Calls.{Covers, Looked, Touched, Wrote}
-use Rattle.row_chain.proofs.Within.{head_in}
+use Rattle.row_chain.proofs.Within.{head_in, only}
 
 splits : (a b : ℕ) → (a ≤ b) ⊎ (b < a)
 splits zero b = inl (omega arith)
@@ -149,6 +149,7 @@ one_wrote old new client at bytes high failed w =
       failed = failed;
       rest = λ h k out. ap (λ (f : ℕ → List ℕ). f k) (w.reads h) ∙ apart k at bytes (old.reads k) (λ e. out (subst (λ (n : ℕ). Contains (at ∷ []) n) (sym e) (head_in at [])));
       written = λ k out. w.transaction.written k ∙ other k at ((old.transaction client).written k) (λ e. out (subst (λ (n : ℕ). Contains (at ∷ []) n) (sym e) (head_in at [])));
+      marked = λ k there. w.transaction.written k ∙ itself k at ((old.transaction client).written k) (only at k there);
       counted = w.transaction.counted ∙ ap (λ (b : Bool). cond b (old.transaction client).counted ((old.transaction client).counted + 1)) far;
       low = w.transaction.low ∙ ap (λ (b : Bool). cond b ((old.transaction client).low + 1) (old.transaction client).low) far;
       more = record { slot = at; old = w.before } ∷ [];
@@ -167,6 +168,9 @@ one_wrote old new client at bytes high failed w =
     other : (k n : ℕ) (b : Bool) → k ≢ n → ((k == n) || b) ≡ b
     other k n b ne = grind (arith, nat_tests, ne)
 
+    itself : (k n : ℕ) (b : Bool) → k ≡ n → ((k == n) || b) ≡ true
+    itself k n b e = grind (arith, nat_tests, e)
+
     here : (n : ℕ) (x y : List ℕ) → cond (eqb n n) x y ≡ x
     here n x y = let same : eqb n n ≡ true = grind (arith, nat_tests) in ap (λ (b : Bool). cond b x y) same
 
@@ -175,11 +179,12 @@ one_wrote old new client at bytes high failed w =
     is_old h k b (inr none) = absurd none
 
 pub wrote_both : (a b c : SlotState) (client : ℕ) (xs ys zs : List ℕ) → b.observable ≡ a.observable → ((k : ℕ) → Contains xs k → ¬ Contains ys k)
-    → ((k : ℕ) → ¬ Contains zs k → (¬ Contains xs k) × (¬ Contains ys k)) → length zs ≡ length xs + length ys → Wrote a b client xs → Wrote b c client ys → Wrote a c client zs
-wrote_both a b c client xs ys zs seen apart parts long f s = record {
+    → ((k : ℕ) → ¬ Contains zs k → (¬ Contains xs k) × (¬ Contains ys k)) → ((k : ℕ) → Contains zs k → Contains xs k ⊎ Contains ys k) → length zs ≡ length xs + length ys → Wrote a b client xs → Wrote b c client ys → Wrote a c client zs
+wrote_both a b c client xs ys zs seen apart parts whole long f s = record {
   failed = s.failed ∙ f.failed;
   rest = λ h k out. s.rest (then h) k (parts k out).1 ∙ f.rest h k (parts k out).0;
   written = λ k out. s.written k (parts k out).1 ∙ f.written k (parts k out).0;
+  marked = λ k there. ⊎_elim (λ (l : Contains xs k). s.written k (apart k l) ∙ f.marked k l) (λ (r : Contains ys k). s.marked k r) (whole k there);
   counted = let x = f.counted in let y = s.counted in omega (arith, x, y, long);
   low = s.low ∙ f.low;
   more = f.more ++ s.more;
@@ -204,6 +209,7 @@ wrote_after_grows a b c client n slots same g w = record {
   failed = w.failed ∙ same;
   rest = λ h k out. w.rest (then h) k out ∙ ap (λ (f : ℕ → List ℕ). f k) (g.reads h);
   written = λ k out. w.written k out ∙ g.transaction.written k;
+  marked = w.marked;
   counted = w.counted ∙ ap (λ (m : ℕ). m + length slots) g.transaction.counted;
   low = w.low ∙ g.transaction.low;
   more = w.more;

@@ -4,7 +4,7 @@ use Rattle.std.specs.List.{Contains}
 use Rattle.abl_storage.specs.Slots.{SlotState, Transaction, IsReadable}
 use Rattle.row_chain.specs.Fragments.{AreClear, AreDistinct, AreRowSlots, BeginsAs, Holds, IsClear, first_or_zero, kind_in, row_at, table_in}
 use Rattle.row_chain.specs.Calls.{CanTouch, Wrote}
-use Rattle.row_chain.proofs.Within.{none_in, head_in, left_in, right_in}
+use Rattle.row_chain.proofs.Within.{none_in, head_in, left_in, parted, right_in}
 use Rattle.row_chain.proofs.Composes.{readable_on, wrote_both}
 use Rattle.row_chain.proofs.Chained.{holds_same, none_of_zeros, row_same, row_written}
 
@@ -55,7 +55,7 @@ module _ (client : ℕ) (chain freed : List ℕ) (s : SlotState) (can : CanTouch
   module _ (t u : SlotState) (seen : t.observable ≡ s.observable) (f : Wrote s t client chain) (g : Wrote t u client freed) where
     pub all_wrote : Wrote s u client (chain ++ freed)
     all_wrote = wrote_both s t u client chain freed (chain ++ freed) seen (apart_parts chain freed can.distinct)
-        (λ k out. (λ there. out (left_in chain freed k there), λ there. out (right_in chain freed k there))) (length-append chain freed) f g
+        (λ k out. (λ there. out (left_in chain freed k there), λ there. out (right_in chain freed k there))) (parted chain freed) (length-append chain freed) f g
 
     begins_same : (slots : List ℕ) (kind table : ℕ) → ((k : ℕ) → Contains slots k → u.reads k ≡ t.reads k) → BeginsAs t.reads slots kind table → BeginsAs u.reads slots kind table
     begins_same [] kind table same h = tt

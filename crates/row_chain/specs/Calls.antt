@@ -30,6 +30,7 @@ pub record Wrote (old new : SlotState) (client : ℕ) (slots : List ℕ) : Type 
   pub failed : new.failed ≡ old.failed
   pub rest : IsReadable old → (k : ℕ) → ¬ Contains slots k → new.reads k ≡ old.reads k
   pub written : (k : ℕ) → ¬ Contains slots k → (new.transaction client).written k ≡ (old.transaction client).written k
+  pub marked : (k : ℕ) → Contains slots k → (new.transaction client).written k ≡ true
   pub counted : (new.transaction client).counted ≡ (old.transaction client).counted + length slots
   pub low : (new.transaction client).low ≡ (old.transaction client).low
   -- the writes that the undo list grows by: undoing them gives the slots as they were
