@@ -3,7 +3,7 @@
 
 Each row that runs a source without records is answered by tools/abl_reference.py, which knows nothing
 of the program. The answers to other rows (wrong arguments, files that cannot be read, rules that are
-broken, faults of the outside) were worked by hand; they stand in `stdout` and are kept. Run it at the
+broken, faults of the outside) were worked by hand; they are in `stdout` and stay. Run it at the
 top of the repository; with `--check` it only says which committed answers the reference denies."""
 
 import re

@@ -1,7 +1,7 @@
 #!/usr/bin/env python3
 """Writes the rows of crates/db_model_tables, `stdin`, and the answers that it must give, `stdout`.
 
-The rows stand here with their answers, each worked by hand from docs/machine.md, and none from an answer of the
+The rows are here with their answers, each worked by hand from docs/machine.md, and none from an answer of the
 program. A heading opens the database anew, with three clients and the rows 8192, 8193 and 8194 of num 1, 2
 and 3; the first sequence is one short of the greatest value of 64 bits, the second one short of the least. Run
 it at the top of the repository."""

@@ -1,8 +1,8 @@
 #!/usr/bin/env python3
 """Writes the rows of crates/expression_tables, `stdin`, and the answers that it must give, `stdout`.
 
-The answers come from the rules of docs/language.md ('Expressions'): most are worked by hand and stand here as
-they are, the others come from Python's fractions, calendar and texts; none from the program. Run it at the top
+The answers come from the rules of docs/language.md ('Values'): most are worked by hand and are here as they
+are, the others come from Python's fractions, calendar and texts; none from the program. Run it at the top
 of the repository."""
 
 from datetime import date

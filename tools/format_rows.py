@@ -1,7 +1,7 @@
 #!/usr/bin/env python3
 """Writes the rows of crates/format_tables, `stdin`, and the answers that it must give, `stdout`.
 
-The answers come from the rules of docs/formats.md ('Texts'): most are worked by hand and stand here as they
+The answers come from the rules of docs/formats.md ('Texts'): most are worked by hand and are here as they
 are, the others come from Python's decimals, calendar and regular expressions; none from the program. Run it
 at the top of the repository."""
 
@@ -77,7 +77,7 @@ PUT = [
     ("zzzzzzzzzz9", "int:2147483647", " 2147483647"), ("-zzzzzzzzz9", "int:-2147483648", "-2147483648"),
     ("-9999999999999999999", "int64:-9223372036854775808", "-9223372036854775808"),
     (">>>>>>>>>>>>>>>>>>>>", "int64:9223372036854775807", " 9223372036854775807"),
-    # commas where no digit stands left of them, doubled, in front and at the end
+    # commas with no digit to their left, doubled, at the beginning and at the end
     ("9,999", "int:5", "0,005"), (">,>>9", "int:5", "    5"), (">,>>9", "int:1000", "1,000"), ("9,9", "int:5", "0,5"),
     (",>>9", "int:123", " 123"), (",999", "int:5", " 005"), ("->,9", "int:-5", "  -5"), ("->,9", "int:-15", "-1,5"),
     (">,,9", "int:5", "   5"), (">,,9", "int:15", "1,,5"), ("9,", "int:5", "5,"), (">9,", "int:5", " 5,"), (">,", "int:0", "  "),
@@ -205,8 +205,8 @@ NUMBER = [("5", "50000000000"), ("-5.", "-50000000000"), ("3.7", "37000000000"),
 
 def under(mask, value):
     """What a decimal is under a mask: the digits of Python's rounding, set from the right."""
-    before, _, behind = mask.lstrip("-").partition(".")
-    rounded = value.quantize(Decimal(1).scaleb(-len(behind)), rounding=ROUND_HALF_UP)
+    before, _, decimals = mask.lstrip("-").partition(".")
+    rounded = value.quantize(Decimal(1).scaleb(-len(decimals)), rounding=ROUND_HALF_UP)
     whole, _, fraction = f"{abs(rounded):f}".partition(".")
     whole = whole.lstrip("0").rjust(before.count("9"), "0")
     places = [i for i, sign in enumerate(before) if sign != ","]
@@ -219,7 +219,7 @@ def under(mask, value):
         for i in range(places[len(places) - len(whole)], len(before)):
             if before[i] == ",":
                 cells[i] = ","
-    text = "".join(cells).strip() + ("." + fraction if behind else "")
+    text = "".join(cells).strip() + ("." + fraction if decimals else "")
     return (("-" if rounded < 0 else "") + text).rjust(len(mask))
 
 

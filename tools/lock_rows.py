@@ -1,7 +1,7 @@
 #!/usr/bin/env python3
 """Writes the rows of crates/lock_tables, `stdin`, and the answers that it must give, `stdout`.
 
-The rows stand here with their answers, each worked by hand from docs/machine.md, and none from an answer of the
+The rows are here with their answers, each worked by hand from docs/machine.md, and none from an answer of the
 program. After a heading no client holds or waits for anything. `key N` says that the client waits for client N
 by a key; `cycle N` asks for the cycle that would close if it waited for client N; `commit ROW` keeps the lock on
 the row. Run it at the top of the repository."""

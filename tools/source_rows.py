@@ -1,7 +1,7 @@
 #!/usr/bin/env python3
 """Writes the rows of crates/source_tables, `stdin`, and the answers that it must give, `stdout`.
 
-The rows and their answers stand in tools/source_rows.txt, worked by hand from the rules of
+The rows and their answers are in tools/source_rows.txt, worked by hand from the rules of
 docs/language.md; here the places of tokens are counted, and each keyword is tried as a name. None
 of the answers comes from the program. Run it at the top of the repository."""
 
@@ -19,7 +19,7 @@ def expanded(shown):
 
 def place(shown, token):
     """The place of a token in a source of one line whose tokens have blanks between, and of the
-    end behind its last token."""
+    end after its last token."""
     starts = [m.start() + 1 for m in re.finditer(r"[^ ]+", expanded(shown))]
     return f"1:{(starts + [len(expanded(shown)) + 1])[token]}"
 

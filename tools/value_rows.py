@@ -157,8 +157,8 @@ def export(value):
         return b'"' + x.replace(b'"', b'""') + b'"'
     if kind == "dec":
         sign = "-" if x < 0 else ""
-        behind = f"{abs(x) % UNIT:010}".rstrip("0")
-        return f"{sign}{abs(x) // UNIT}{'.' if behind else ''}{behind}".encode()
+        decimals = f"{abs(x) % UNIT:010}".rstrip("0")
+        return f"{sign}{abs(x) // UNIT}{'.' if decimals else ''}{decimals}".encode()
     if kind == "date":
         d = date.fromordinal(x + EPOCH)
         year = f"{d.year % 100:02}" if 1950 <= d.year <= 2049 else f"{d.year:04}"

@@ -1,4 +1,4 @@
-/* Variables of several kinds. Words and names stand in any case /* and comments nest */. */
+/* Variables of several kinds. Words and names may be in any case /* and comments nest */. */
 def var total as decimal initial -1.50.
 define variable Shipped as logical no-undo.
 define variable due as date initial 2/29/2024.
