@@ -20,7 +20,8 @@ use Rattle.abl_types.specs.Sources.{beginning, has_word, inside_procedure, items
 use Rattle.abl_types.specs.Statements.{statement, statements}
 use Rattle.bound_kinds.proofs.Parts.{Each, each_join, nil_left, nil_right}
 use Rattle.bound_kinds.proofs.Grows.{DefinesMore, IsMore, defines_same, defines_then, grows, more_then, no_more}
-use Rattle.bound_kinds.proofs.Related.{AreLeaves, Others, body_relates, field_names_it, moved, naming_or_none, statement_relates}
+use Rattle.bound_kinds.proofs.Related.{AreLeaves, body_relates, moved, statement_relates}
+use Rattle.bound_kinds.proofs.RelatedNames.{Others, field_names_it, naming_or_none}
 use Rattle.bound_kinds.proofs.Sane.{AreSane, sane}
 use Rattle.bound_kinds.proofs.Apart.{Apart, IsAt, all_apart, apart, at_end, buffer_is, defined_at_end}
 use Rattle.bound_kinds.proofs.Numbered.{each_filter}

@@ -9,6 +9,7 @@ pub mod Headed
 pub mod Grows
 pub mod Stated
 pub mod Sane
+pub mod RelatedNames
 pub mod Related
 pub mod Apart
 pub mod Numbered
@@ -17,3 +18,7 @@ pub mod Namings
 pub mod Ended
 pub mod Whole
 pub mod Schemas
+pub mod Results
+pub mod ValuesOfOne
+pub mod ValuesOfTwo
+pub mod Valued

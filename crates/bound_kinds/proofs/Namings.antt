@@ -16,7 +16,8 @@ use Rattle.bind_names.specs.Names.{Scene, buffers_in, distinct, field_among, has
 use Rattle.bind_expressions.specs.Parts.{scene_after}
 use Rattle.abl_types.specs.Sources.{beginning, explicit_namings, inside_procedure, items, judged, namings, outside_again, signatures}
 use Rattle.abl_types.specs.Statements.{statement, statements}
-use Rattle.bound_kinds.proofs.Related.{AreLeaves, IsKept, Others, all_same_after, body_relates, field_names_it, moved, naming_or_none, same_after, statement_relates, varied}
+use Rattle.bound_kinds.proofs.Related.{AreLeaves, all_same_after, body_relates, moved, same_after, statement_relates}
+use Rattle.bound_kinds.proofs.RelatedNames.{IsKept, Others, field_names_it, naming_or_none, varied}
 
 -- ---- the same namings but for those that do not pass
 

@@ -39,7 +39,7 @@ use Rattle.bound_kinds.proofs.Assigned.{alone}
 
 -- ---- kinds
 
-kind_same : (k l : Kind) → same_kind k l ≡ true → l ≡ k
+pub kind_same : (k l : Kind) → same_kind k l ≡ true → l ≡ k
 kind_same kind.Character kind.Character e = refl
 kind_same kind.Integer kind.Integer e = refl
 kind_same kind.Int64 kind.Int64 e = refl

@@ -44,7 +44,7 @@ in_range_is : (k : Kind) (c : Bool) (v : Value) → IsOne k v → Maybe (IsOne k
 in_range_is k true v h = h
 in_range_is k false v h = tt
 
-fitted_is : (v : Value) (k : Kind) → Maybe (IsOne k) (value_in (fitted v k))
+pub fitted_is : (v : Value) (k : Kind) → Maybe (IsOne k) (value_in (fitted v k))
 unfolding fitted
 fitted_is (value.Text t) kind.Character = in_range_is kind.Character _ _ refl
 fitted_is (value.Int n) kind.Integer = in_range_is kind.Integer _ _ refl

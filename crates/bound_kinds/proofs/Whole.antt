@@ -27,7 +27,8 @@ use Rattle.bound_kinds.proofs.Suits.{IsGood, IsNumbered, IsOf, Match}
 use Rattle.bound_kinds.proofs.Grows.{DefinesMore, all_grow, grows}
 use Rattle.bound_kinds.proofs.Stated.{appended, body_good, statement_good}
 use Rattle.bound_kinds.proofs.Sane.{AreSane, HasValue, IsSane, all_sane}
-use Rattle.bound_kinds.proofs.Related.{AreLeaves, body_relates, field_names_it, moved, naming_or_none, statement_relates}
+use Rattle.bound_kinds.proofs.Related.{AreLeaves, body_relates, moved, statement_relates}
+use Rattle.bound_kinds.proofs.RelatedNames.{field_names_it, naming_or_none}
 use Rattle.bound_kinds.proofs.Apart.{IsAt}
 use Rattle.bound_kinds.proofs.Numbered.{AllNamed, each_distinct, each_passing, has_all, number_in, number_is, table_in}
 use Rattle.bound_kinds.proofs.Formals.{all_add}

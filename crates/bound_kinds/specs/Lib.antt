@@ -1,2 +1,3 @@
 pub mod WellKinded
+pub mod Values
 pub mod Examples

@@ -1,13 +1,20 @@
 //! Laws about the definitions alone. Each is the contract of a function that does nothing.
 
-ghost use Rattle.std.specs.Prelude.{◌≡◌, List, Ok, true};
+ghost use Rattle.std.specs.Prelude.{◌≡◌, Bool, List, ℕ, Ok, Some, true};
 ghost use Rattle.abl_values.specs.Schema.{SchemaData};
 ghost use Rattle.schema_lines.specs.declared.item.Item.{Item};
 ghost use Rattle.abl_schema.specs.Meaning.{schema_of};
 ghost use Rattle.abl_syntax.specs.Syntax.{Program};
-ghost use Rattle.bound_tree.specs.Tree.{Source};
+ghost use Rattle.bound_tree.specs.Tree.{Expr, Source};
+ghost use Rattle.text_forms.specs.TextForms.{TextForms};
+ghost use Rattle.abl_base.specs.declared.value.Value.{Value};
+ghost use Rattle.abl_expr.specs.Env.{Env};
+ghost use Rattle.abl_expr.specs.Evaluate.{evaluate};
+ghost use Rattle.bind_names.specs.declared.sort.Sort.{Sort};
+ghost use Rattle.bind_expressions.specs.WellKinded.{sort_of};
+ghost use Rattle.bound_kinds.specs.Values.{Has, IsKept, is_masked_by};
 ghost use Rattle.abl_types.specs.Sources.{bound};
-ghost use Rattle.bound_kinds.specs.WellKinded.{is_masked, is_well_kinded};
+ghost use Rattle.bound_kinds.specs.WellKinded.{Surroundings, is_good, is_masked, is_shown, is_well_kinded};
 
 /// Where the mask of each field of the schema is one for its kind, every source that breaks none of
 /// the rules Y is bound to a well-kinded tree. `bind` of `abl_types` returns what `bound` says.
@@ -19,4 +26,15 @@ pub fn what_is_bound_is_well_kinded()
 /// as none. `read_df` of `abl_schema` returns this schema.
 pub fn masks_of_schema_files_fit()
     ensures { (items : List Item) → is_masked (schema_of items) ≡ true }
+{}
+
+/// An expression that is good in its place has a value of its sort, or a fault, wherever variables and
+/// fields have values of their kinds.
+pub fn values_have_their_sorts()
+    ensures { (x : Surroundings) (forms : TextForms) (env : Env) (test : Sort → Bool) (e : Expr) → IsKept x env → is_good x test e ≡ true → Has (sort_of e) (evaluate forms env e) }
+{}
+
+/// So PUT never shows a value under a mask for another kind.
+pub fn masks_fit_the_values_shown()
+    ensures { (x : Surroundings) (forms : TextForms) (env : Env) (mask : List ℕ) (e : Expr) (v : Value) → IsKept x env → is_shown x (Some mask) e ≡ true → evaluate forms env e ≡ Ok v → is_masked_by mask v ≡ true }
 {}
