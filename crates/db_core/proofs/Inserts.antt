@@ -99,6 +99,30 @@ copies_none rows changes (mark ∷ marks) (copy ∷ copies) k e h = λ i d lt. a
     at zero d lt rest = first
     at (suc i) d lt rest = rest i d (omega arith)
 
+-- a free identity is one that a new row may have
+module _ (f : Setting) (rows : RowState) (control : Control) (s : State) (represents : Represents f rows control s) (settled : IsConsistent rows) (seen : IsObservable rows) (row : ℕ) (free : IsFree rows row) where
+  not_held : (d : ℕ) (b : Bool) → get (s.client d).held row ≡ Some b → ⊥
+  not_held d b held =
+      let touched = (represents.client d).there seen row b held (free.empty seen) in
+      let untouched : (rows.transaction d).touched row ≡ false = free.untouched d in
+      let clash : true ≡ false = sym touched ∙ untouched in
+      cc
+
+  not_changed : (d : ℕ) → has_change (rows.transaction d).changes row ≡ false
+  not_changed d = is_false _ (λ h. let clash : true ≡ false = sym (settled.touched d row h) ∙ free.untouched d in cc)
+
+  pub free_is_fresh : IsFresh s row
+  free_is_fresh = (
+    free.from,
+    free.below,
+    represents.committed seen.0 row ∙ (sym (settled.base seen row not_changed) ∙ free.empty seen),
+    λ d. (
+      (represents.client d).overlay seen row ∙ ap (λ (b : Bool). cond b (Some (rows.rows row)) None) (not_changed d),
+      none_or_some _ (not_held d),
+      copies_none rows.rows (rows.transaction d).changes (marks_at control d) (s.client d).levels row (not_changed d) ((represents.client d).copies seen),
+    ),
+  )
+
 module _ (rows new : RowState) (control now : Control) (c table : ℕ) (row : RowId) (values : List Value)
     (sound : IsSound rows control) (settled : IsConsistent rows) (fine : rows.failed ≡ false) (free : IsFree rows row.0)
     (changes : ChangesRow rows new c row.0 (row_in table values)) (grants : Grants control c row.0 true now) where
@@ -123,20 +147,8 @@ module _ (rows new : RowState) (control now : Control) (c table : ℕ) (row : Ro
         let clash : true ≡ false = sym touched ∙ untouched in
         cc
 
-    unchanged : (d : ℕ) → has_change (rows.transaction d).changes row.0 ≡ false
-    unchanged d = is_false _ (λ h. let clash : true ≡ false = sym (settled.touched d row.0 h) ∙ free.untouched d in cc)
-
     pub is_fresh : IsObservable rows → IsFresh s row.0
-    is_fresh seen = (
-      free.from,
-      free.below,
-      represents.committed seen.0 row.0 ∙ (sym (settled.base seen row.0 unchanged) ∙ free.empty seen),
-      λ d. (
-        (represents.client d).overlay seen row.0 ∙ ap (λ (b : Bool). cond b (Some (rows.rows row.0)) None) (unchanged d),
-        none_or_some _ (unheld seen d),
-        copies_none rows.rows (rows.transaction d).changes (marks_at control d) (s.client d).levels row.0 (unchanged d) ((represents.client d).copies seen),
-      ),
-    )
+    is_fresh seen = free_is_fresh f rows control s represents settled seen row.0 free
 
     abbrev own : Client
     own =

@@ -19,3 +19,6 @@ pub mod Puts
 pub mod SearchRows
 pub mod SequenceRows
 pub mod StayingRows
+pub mod RefusalLaws
+pub mod WriteRows
+pub mod StayLaws

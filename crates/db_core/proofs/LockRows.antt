@@ -19,7 +19,9 @@ use Rattle.database_meaning.specs.Waiting.{LocksConflict, ReservesEntered, Confl
 use Rattle.database_meaning.specs.Answers.{FromGone, IsThere, HasTooLongKey, HasDuplicates}
 use Rattle.database_meaning.proofs.Chains.{chain_map}
 use Rattle.record_locks.specs.declared.locks.BlockedLock.{BlockedLock}
+use Rattle.record_locks.specs.declared.locks.Client.{Client as LockClient}
 use Rattle.record_locks.specs.declared.locks.KeyWait.{KeyWait}
+use Rattle.record_locks.specs.Requests.{HasConflict as LockedAgainst}
 use Rattle.record_locks.specs.Table.{ConflictsOnLock, WaitsForKey, Waits, WaitsAgainst}
 use Rattle.abl_rows.specs.Rows.{RowState, IsObservable, IsConsistent}
 use Rattle.abl_rows.specs.Questions.{ReservesAgainst, table_in, table_at}
@@ -201,3 +203,7 @@ found_none (Some x) R P e h = cc
 pub found_some : (found : Option (List ℕ)) (x : List ℕ) (R : Type 0) (P : List ℕ → Type 0) → found ≡ Some x → MatchOption found R P → P x
 found_some None x R P e h = cc
 found_some (Some y) x R P e h = let same : y ≡ x = cc in subst P same h
+
+-- where no client is listed, no lock conflicts
+pub no_lock : (table : List LockClient) (c row : ℕ) (exclusive : Bool) (against : List ℕ) → ListsAll against (ConflictsOnLock table c row exclusive) → length against ≡ 0 → ¬ LockedAgainst table c row exclusive
+no_lock table c row exclusive against lists none p = let has = (lists.1 p.0).1 p.1 in absurd (omega (arith, has.1))

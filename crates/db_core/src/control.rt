@@ -65,9 +65,10 @@ pub(crate) fn block_at_lock(
     table: u16,
     row: RowId,
     exclusive: bool,
+    wait: bool,
 ) -> Result<(), AllocError>
     requires { client < length control.old.sessions.items }
-    ensures ok { OnOk result (Waits control.old client (record { op = Op.Lock table row exclusive true; frees = control.old.frees }) (Some (record { row = row; exclusive = exclusive })) control.new) }
+    ensures ok { OnOk result (Waits control.old client (record { op = Op.Lock table row exclusive wait; frees = control.old.frees }) (Some (record { row = row; exclusive = exclusive })) control.new) }
     ensures err { OnErr result (SameControl control.old control.new) }
 {
     control
@@ -79,7 +80,7 @@ pub(crate) fn block_at_lock(
             table,
             row,
             exclusive,
-            wait: true,
+            wait,
         },
         frees: control.frees,
     });

@@ -1,10 +1,13 @@
 //! The answer of an operation that is not refused, where the database is open. Nothing changes here.
 
-ghost use Rattle.std.specs.Prelude.{◌≡◌, ◌≢◌, ◌⊎◌, ◌<◌, ◌≤◌, ℕ, length, Some, None, OnOk, IfOk, MatchOption};
+ghost use Rattle.std.specs.Prelude.{◌≡◌, ◌≢◌, ◌⊎◌, ◌<◌, ◌≤◌, ℕ, length, Some, None, false, OnOk, IfOk, IfSome, MatchOption};
+ghost use Rattle.client_database.specs.declared.operation.Op.{Op as Asked};
 ghost use Rattle.database_meaning.specs.Setting.{Setting};
+ghost use Rattle.database_meaning.specs.Steps.{blocked_after, is_success};
 ghost use Rattle.database_meaning.specs.State.{State};
 ghost use Rattle.database_meaning.specs.Answers.{FromGone};
 ghost use Rattle.database_meaning.specs.Waiting.{HasConflict, ListsAll};
+ghost use Rattle.record_locks.specs.Requests.{HasConflict as LockedAgainst};
 ghost use Rattle.abl_rows.specs.Rows.{AfterError, IsObservable};
 ghost use Rattle.abl_rows.specs.Questions.{table_at};
 ghost use Rattle.db_core.specs.Represents.{FitsOp, IsSound, Represents, blocked_at};
@@ -145,6 +148,8 @@ pub fn decide_lock<R: RowStore>(
     ensures answer { IfOk result (λ answer. (f : Setting) (s : State) →
         Represents f (R.RowStore.state rows.old) control.now s → IsObservable (R.RowStore.state rows.old) →
         FromGone f s client (Op.Lock table row exclusive wait) answer) }
+    ensures granted { IfOk result (λ answer. answer ≡ Answer.Granted →
+        ¬ LockedAgainst control.now.locks client row.0 exclusive × (IsObservable (R.RowStore.state rows.old) → table_at (R.RowStore.state rows.old).rows row.0 ≡ Some table)) }
     ensures same { OnOk result (R.RowStore.state rows.new ≡ R.RowStore.state rows.old) }
     ensures err { AfterError (R.RowStore.state rows.old) (R.RowStore.state rows.new) result }
 {
@@ -183,6 +188,7 @@ pub fn decide_keys<R: RowStore>(
     ensures answer { IfOk result (λ found. (f : Setting) (s : State) →
         Represents f (R.RowStore.state rows.old) control.now s → IsObservable (R.RowStore.state rows.old) →
         MatchOption found (¬ HasConflict f s client op.now) (AnswersConflict f s client op.now)) }
+    ensures refusal { IfOk result (λ found. IfSome found (λ answer. is_success answer ≡ false)) }
     ensures same { OnOk result (R.RowStore.state rows.new ≡ R.RowStore.state rows.old) }
     ensures err { AfterError (R.RowStore.state rows.old) (R.RowStore.state rows.new) result }
 {
@@ -213,6 +219,7 @@ pub fn decide_get<R: RowStore>(
     ensures answer { IfOk result (λ answer. (f : Setting) (s : State) (c : ℕ) →
         Represents f (R.RowStore.state rows.old) control.now s → IsObservable (R.RowStore.state rows.old) →
         FromGone f s c (Op.Get table row) answer) }
+    ensures quiet { IfOk result (λ answer. (s : State) (c : ℕ) (op : Asked) → blocked_after s c op answer ≡ None) }
     ensures same { OnOk result (R.RowStore.state rows.new ≡ R.RowStore.state rows.old) }
     ensures err { AfterError (R.RowStore.state rows.old) (R.RowStore.state rows.new) result }
 {

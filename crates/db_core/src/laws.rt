@@ -1,9 +1,9 @@
 //! Laws of representing a state. Each is the contract of a function that does nothing.
 
-ghost use Rattle.std.specs.Prelude.{◌≡◌, ◌<◌, ℕ, length};
+ghost use Rattle.std.specs.Prelude.{◌≡◌, ◌≢◌, ◌<◌, ◌↔◌, ℕ, IsFalse, IsTrue, length};
 ghost use Rattle.database_meaning.specs.declared.contents.Contents.{Contents};
 ghost use Rattle.database_meaning.specs.Setting.{Setting};
-ghost use Rattle.database_meaning.specs.State.{State, view};
+ghost use Rattle.database_meaning.specs.State.{HoldsExclusively, State, view};
 ghost use Rattle.database_meaning.specs.Traces.{opened};
 ghost use Rattle.abl_rows.specs.Rows.{Fails, IsConsistent, RowState, IsObservable};
 ghost use Rattle.client_database.specs.declared.answer.Answer.TheVariants.{Refused};
@@ -11,6 +11,8 @@ ghost use Rattle.client_database.specs.declared.operation.Op.{Op as Asked};
 ghost use Rattle.database_meaning.specs.Steps.{after};
 ghost use Rattle.db_core.specs.declared.control.Control.{Control};
 ghost use Rattle.db_core.specs.Opening.{IsNew, IsOpened};
+ghost use Rattle.abl_values.specs.Schema.{SchemaData};
+ghost use Rattle.db_core.specs.Known.{IsAllowed, IsWaiting, known, setting_at};
 ghost use Rattle.db_core.specs.Represents.{IsSound, Represents};
 
 /// The rows of the store are the view.
@@ -40,4 +42,21 @@ pub fn a_disk_error_keeps_the_state()
     ensures represents { (f : Setting) (old new : RowState) (control : Control) (s : State) →
         Fails old new → Represents f old control s → Represents f new control s }
     ensures sound { (old new : RowState) (control : Control) → Fails old new → IsSound old control → IsSound new control }
+{}
+
+/// Whether an operation is allowed, and whether a client waits, is known from the control data.
+pub fn refusals_are_known()
+    ensures allowed { (f : Setting) (rows : RowState) (control : Control) (s : State) (schema : SchemaData) →
+        Represents f rows control s → IsTrue rows.observable → f.schema ≡ schema →
+        (c : ℕ) (op : Asked) → IsAllowed (setting_at schema control) (known control) c op ↔ IsAllowed f s c op }
+    ensures waiting { (f : Setting) (rows : RowState) (control : Control) (s : State) (schema : SchemaData) →
+        Represents f rows control s → IsTrue rows.observable → f.schema ≡ schema →
+        (c : ℕ) → IsWaiting (known control) c ↔ IsWaiting s c }
+{}
+
+/// A row that a client holds exclusively is touched by no other client's transaction.
+pub fn held_rows_are_untouched_by_others()
+    ensures { (f : Setting) (rows : RowState) (control : Control) (s : State) (c d row : ℕ) →
+        Represents f rows control s → IsObservable rows → d ≢ c → HoldsExclusively (known control) c row →
+        IsFalse ((rows.transaction d).touched row) }
 {}

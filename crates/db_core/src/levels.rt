@@ -6,6 +6,7 @@ ghost use Rattle.database_meaning.specs.Setting.{Setting};
 ghost use Rattle.database_meaning.specs.State.{State};
 ghost use Rattle.database_meaning.specs.Steps.{after, is_outermost};
 ghost use Rattle.abl_rows.specs.Rows.{Abandons, AfterError, OnlyDisk, RowState};
+ghost use Rattle.db_core.specs.Keeps.{Keeps, SameCounts, Stays};
 ghost use Rattle.db_core.specs.Moves.{AreStaying, SameControl};
 ghost use Rattle.db_core.specs.Represents.{IsSound, Represents, marks_at};
 
@@ -26,6 +27,8 @@ pub fn enter<R: RowStore>(rows: &mut R, control: &mut Control, client: u16) -> R
         Represents f (R.RowStore.state rows.new) control.new (after f s client Op.Enter Answer.Done)) }
     ensures sound { OnOk result (IsSound (R.RowStore.state rows.new) control.new) }
     ensures control { OnErr result (SameControl control.old control.new) }
+    ensures stays { OnErr result (Stays (R.RowStore.state rows.old) (R.RowStore.state rows.new) control.old control.new client) }
+    ensures keeps { OnOk result (Keeps (R.RowStore.state rows.old) (R.RowStore.state rows.new) control.old control.new) }
     ensures err { AfterError (R.RowStore.state rows.old) (R.RowStore.state rows.new) result }
 {
     if depth(control, client) == 0 {
@@ -51,6 +54,8 @@ fn enter_outermost<R: RowStore>(
         Represents f (R.RowStore.state rows.new) control.new (after f s client Op.Enter Answer.Done)) }
     ensures sound { OnOk result (IsSound (R.RowStore.state rows.new) control.new) }
     ensures control { OnErr result (SameControl control.old control.new) }
+    ensures stays { OnErr result (Stays (R.RowStore.state rows.old) (R.RowStore.state rows.new) control.old control.new client) }
+    ensures keeps { OnOk result (Keeps (R.RowStore.state rows.old) (R.RowStore.state rows.new) control.old control.new) }
     ensures err { AfterError (R.RowStore.state rows.old) (R.RowStore.state rows.new) result }
 {
     match push_mark(control, client, 0) {
@@ -83,6 +88,8 @@ fn enter_inner<R: RowStore>(
         Represents f (R.RowStore.state rows.new) control.new (after f s client Op.Enter Answer.Done)) }
     ensures sound { OnOk result (IsSound (R.RowStore.state rows.new) control.new) }
     ensures control { OnErr result (SameControl control.old control.new) }
+    ensures stays { OnErr result (Stays (R.RowStore.state rows.old) (R.RowStore.state rows.new) control.old control.new client) }
+    ensures keeps { OnOk result (Keeps (R.RowStore.state rows.old) (R.RowStore.state rows.new) control.old control.new) }
     ensures err { AfterError (R.RowStore.state rows.old) (R.RowStore.state rows.new) result }
 {
     let mark = rows.mark(client);
@@ -114,10 +121,8 @@ pub fn back<R: RowStore>(
     ensures control { OnErr result (control.new ≡ control.old) }
     ensures err { AfterError (R.RowStore.state rows.old) (R.RowStore.state rows.new) result }
     ensures only { OnlyDisk result }
-    ensures fine { OnOk result ((R.RowStore.state rows.new).failed ≡ false) }
-    ensures observable { (R.RowStore.state rows.new).observable ≡ (R.RowStore.state rows.old).observable }
-    ensures schema { (R.RowStore.state rows.new).schema ≡ (R.RowStore.state rows.old).schema }
-    ensures count { length control.new.sessions.items ≡ length control.old.sessions.items }
+    ensures stays { OnErr result (Stays (R.RowStore.state rows.old) (R.RowStore.state rows.new) control.old control.new client) }
+    ensures keeps { OnOk result (Keeps (R.RowStore.state rows.old) (R.RowStore.state rows.new) control.old control.new) }
 {
     let mark = control.sessions[usize::from(client)].marks[depth as usize - 1];
     rows.back(client, mark)?;
@@ -133,6 +138,7 @@ pub fn leave(control: &mut Control, client: u16)
     ensures represents { (f : Setting) (rows : RowState) (s : State) (keep : List Kept) → IsSound rows control.old → Represents f rows control.old s →
         Represents f rows control.new (after f s client (Op.Leave keep) Answer.Done) }
     ensures sound { (rows : RowState) → IsSound rows control.old → IsSound rows control.new }
+    ensures counts { SameCounts control.old control.new }
 {
     pop_mark(control, client);
     end_wait(control, client);
@@ -159,6 +165,8 @@ pub fn commit<R: RowStore>(
     ensures control { OnErr result (control.new ≡ control.old) }
     ensures only { OnlyDisk result }
     ensures err { AfterError (R.RowStore.state rows.old) (R.RowStore.state rows.new) result }
+    ensures stays { OnErr result (Stays (R.RowStore.state rows.old) (R.RowStore.state rows.new) control.old control.new client) }
+    ensures keeps { OnOk result (Keeps (R.RowStore.state rows.old) (R.RowStore.state rows.new) control.old control.new) }
 {
     let reserved = rows.has_reserved(client);
     let moment = rows.commit(client, control.sequences.as_slice())?;
@@ -189,9 +197,7 @@ pub fn end<R: RowStore>(rows: &mut R, control: &mut Control, client: u16)
     ensures represents { (f : Setting) (s : State) → Represents f (R.RowStore.state rows.old) control.old s →
         Represents f (R.RowStore.state rows.new) control.new (after f s client Op.End Answer.Done) }
     ensures sound { IsSound (R.RowStore.state rows.new) control.new }
-    ensures failed { (R.RowStore.state rows.new).failed ≡ (R.RowStore.state rows.old).failed }
-    ensures observable { (R.RowStore.state rows.new).observable ≡ (R.RowStore.state rows.old).observable }
-    ensures schema { (R.RowStore.state rows.new).schema ≡ (R.RowStore.state rows.old).schema }
+    ensures keeps { Keeps (R.RowStore.state rows.old) (R.RowStore.state rows.new) control.old control.new }
 {
     let reserved = rows.has_reserved(client);
     abandon_open(rows, control, client);

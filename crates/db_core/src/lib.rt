@@ -8,9 +8,12 @@
 pub mod answers;
 pub mod control;
 pub mod decide;
+pub mod decide_writes;
 pub mod laws;
 pub mod levels;
 pub mod locks;
+pub mod refusals;
+mod room;
 pub mod search;
 pub mod sequences;
 pub mod staying;

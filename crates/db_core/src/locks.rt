@@ -6,6 +6,7 @@ ghost use Rattle.database_meaning.specs.State.{State};
 ghost use Rattle.database_meaning.specs.Steps.{after};
 ghost use Rattle.record_locks.specs.Requests.{HasConflict};
 ghost use Rattle.abl_rows.specs.Rows.{IsConsistent, IsObservable, RowState};
+ghost use Rattle.db_core.specs.Keeps.{NextCounts, SameCounts, Stays};
 ghost use Rattle.db_core.specs.Moves.{SameControl};
 ghost use Rattle.db_core.specs.Represents.{FitsOp, IsSound, Represents, lock_asked};
 
@@ -31,6 +32,8 @@ pub fn grant_lock(
         Represents f rows control.new (after f s client (Op.Lock table row exclusive wait) Answer.Granted)) }
     ensures sound { OnOk result ((rows : RowState) → IsSound rows control.old → IsSound rows control.new) }
     ensures err { OnErr result (SameControl control.old control.new) }
+    ensures stays { OnErr result ((rows : RowState) → Stays rows rows control.old control.new client) }
+    ensures counts { OnOk result (SameCounts control.old control.new) }
 {
     grant(alloc, control, client, row, exclusive)?;
     Ok(())
@@ -44,14 +47,17 @@ pub fn wait(
     table: u16,
     row: RowId,
     exclusive: bool,
+    wait: bool,
 ) -> Result<(), AllocError>
     requires { client < length control.old.sessions.items }
     ensures represents { OnOk result ((f : Setting) (rows : RowState) (s : State) (holders : List ℕ) → Represents f rows control.old s →
-        Represents f rows control.new (after f s client (Op.Lock table row exclusive true) (Answer.Blocked holders))) }
+        Represents f rows control.new (after f s client (Op.Lock table row exclusive wait) (Answer.Blocked holders))) }
     ensures sound { OnOk result ((rows : RowState) → IsSound rows control.old → IsSound rows control.new) }
     ensures err { OnErr result (SameControl control.old control.new) }
+    ensures stays { OnErr result ((rows : RowState) → Stays rows rows control.old control.new client) }
+    ensures counts { OnOk result (SameCounts control.old control.new) }
 {
-    block_at_lock(alloc, control, client, table, row, exclusive)?;
+    block_at_lock(alloc, control, client, table, row, exclusive, wait)?;
     Ok(())
 }
 
@@ -62,6 +68,7 @@ pub fn wait_for_key(control: &mut Control, client: u16, op: Op)
     ensures represents { (f : Setting) (rows : RowState) (s : State) (holders : List ℕ) → Represents f rows control.old s →
         Represents f rows control.new (after f s client op (Answer.Blocked holders)) }
     ensures sound { (rows : RowState) → FitsOp rows.schema op → IsSound rows control.old → IsSound rows control.new }
+    ensures counts { SameCounts control.old control.new }
 {
     block_at_key(control, client, op);
 }
@@ -74,6 +81,7 @@ pub fn drop_lock(control: &mut Control, client: u16, row: RowId)
     ensures represents { (f : Setting) (rows : RowState) (s : State) → IsSound rows control.old → IsConsistent rows → Represents f rows control.old s →
         Represents f rows control.new (after f s client (Op.Drop row) Answer.Done) }
     ensures sound { (rows : RowState) → IsSound rows control.old → IsSound rows control.new }
+    ensures counts { NextCounts control.old control.new }
 {
     if depth(control, client) > 0 {
         end_wait(control, client);

@@ -1,8 +1,10 @@
 //! The answer to a Next. Nothing changes here.
 
-ghost use Rattle.std.specs.Prelude.{◌≡◌, ℕ, IfOk, OnOk, MatchOption, ⊤};
+ghost use Rattle.std.specs.Prelude.{◌≡◌, ℕ, IfOk, None, OnOk, MatchOption, ⊤};
 ghost use Rattle.std.specs.Option.{option_copied};
+ghost use Rattle.client_database.specs.declared.operation.Op.{Op as Asked};
 ghost use Rattle.database_meaning.specs.Answers.{FromGone};
+ghost use Rattle.database_meaning.specs.Steps.{blocked_after};
 ghost use Rattle.database_meaning.specs.Setting.{HasIndex, HasTable, Setting};
 ghost use Rattle.database_meaning.specs.State.{State};
 ghost use Rattle.abl_rows.specs.Rows.{AfterError, IsObservable};
@@ -29,6 +31,7 @@ pub fn decide_next<R: RowStore>(
     ensures answer { IfOk result (λ answer. (f : Setting) (s : State) (c : ℕ) →
         Represents f (R.RowStore.state rows.old) control.now s → IsObservable (R.RowStore.state rows.old) →
         FromGone f s c (Op.Next table index prefix.now (option_copied cursor.entry) forward) answer) }
+    ensures quiet { IfOk result (λ answer. (s : State) (c : ℕ) (op : Asked) → blocked_after s c op answer ≡ None) }
     ensures same { OnOk result (R.RowStore.state rows.new ≡ R.RowStore.state rows.old) }
     ensures err { AfterError (R.RowStore.state rows.old) (R.RowStore.state rows.new) result }
 {

@@ -8,6 +8,7 @@ ghost use Rattle.database_meaning.specs.Answers.{IsFresh};
 ghost use Rattle.database_meaning.specs.Steps.{after};
 ghost use Rattle.abl_rows.specs.Rows.{AfterError, IsFree, IsObservable};
 ghost use Rattle.abl_rows.specs.Questions.{table_at};
+ghost use Rattle.db_core.specs.Keeps.{Keeps, Stays};
 ghost use Rattle.db_core.specs.Represents.{IsSound, Represents};
 
 use crate::control::{Control, end_wait, grant};
@@ -41,6 +42,8 @@ pub fn insert<R: RowStore>(
     ensures sound { OnOk result (IsSound (R.RowStore.state rows.new) control.new) }
     ensures fresh { OnOk result ((f : Setting) (s : State) → Represents f (R.RowStore.state rows.old) control.old s → IsObservable (R.RowStore.state rows.old) → IsFresh s row.0) }
     ensures err { AfterError (R.RowStore.state rows.old) (R.RowStore.state rows.new) result }
+    ensures stays { OnErr result (Stays (R.RowStore.state rows.old) (R.RowStore.state rows.new) control.old control.new client) }
+    ensures keeps { OnOk result (Keeps (R.RowStore.state rows.old) (R.RowStore.state rows.new) control.old control.new) }
 {
     match grant(alloc, control, client, row, true) {
         Ok(()) => {}
@@ -79,6 +82,8 @@ pub fn put<R: RowStore>(
     ensures sound { OnOk result (IsSound (R.RowStore.state rows.new) control.new) }
     ensures control { OnErr result (control.new ≡ control.old) }
     ensures err { AfterError (R.RowStore.state rows.old) (R.RowStore.state rows.new) result }
+    ensures stays { OnErr result (Stays (R.RowStore.state rows.old) (R.RowStore.state rows.new) control.old control.new client) }
+    ensures keeps { OnOk result (Keeps (R.RowStore.state rows.old) (R.RowStore.state rows.new) control.old control.new) }
 {
     rows.put(client, table, row, values)?;
     end_wait(control, client);
@@ -105,6 +110,8 @@ pub fn delete<R: RowStore>(
     ensures sound { OnOk result (IsSound (R.RowStore.state rows.new) control.new) }
     ensures control { OnErr result (control.new ≡ control.old) }
     ensures err { AfterError (R.RowStore.state rows.old) (R.RowStore.state rows.new) result }
+    ensures stays { OnErr result (Stays (R.RowStore.state rows.old) (R.RowStore.state rows.new) control.old control.new client) }
+    ensures keeps { OnOk result (Keeps (R.RowStore.state rows.old) (R.RowStore.state rows.new) control.old control.new) }
 {
     rows.delete(client, table, row)?;
     end_wait(control, client);

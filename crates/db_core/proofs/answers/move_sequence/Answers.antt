@@ -1,4 +1,4 @@
-use Rattle.std.proofs.Common.{w64, subst}
+use Rattle.std.proofs.Common.{w64, subst, rules}
 use Rattle.std.specs.Prelude.{ℤ, slice_set}
 use Rattle.std.proofs.lemmas.Int.{to_z-of_z}
 use Rattle.db_core.specs.Moves.{Sets}
@@ -11,3 +11,8 @@ returns-clause-represents c = λ f rows s is represents. sequence_represents f r
 
 pub returns-clause-sound : goal.returns-clause-sound
 returns-clause-sound c = λ rows sound. stay_sound rows c.args.control.now c.set_sequence.new.control c.args.client _ c.set_sequence.ensures.client sound
+
+pub returns-clause-counts : goal.returns-clause-counts
+returns-clause-counts c =
+    let sets = c.set_sequence.ensures in
+    record { clients = sets.client.count; sequences = (search rules); frees = sets.frees }

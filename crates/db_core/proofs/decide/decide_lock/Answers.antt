@@ -1,10 +1,11 @@
 use Rattle.std.proofs.Common.{◌≡◌, ◌≢◌, ℕ, List, length, inl, inr, ◌∙◌, sym, subst}
 use Rattle.client_database.specs.declared.operation.Op.TheVariants.{Lock}
 use Rattle.client_database.specs.declared.answer.Answer.{Answer}
+use Rattle.client_database.specs.declared.answer.Answer.TheVariants.{Gone, Granted}
 use Rattle.database_meaning.specs.Answers.{FromGone}
 use Rattle.record_locks.specs.declared.locks.KeyWait.{KeyWait}
 use Rattle.db_core.specs.Waits.{ListsWaits}
-use Rattle.db_core.proofs.LockRows.{ok_more, found_none, found_some, granted_row, gone_row, busy_row, blocked_row, deadlock_row}
+use Rattle.db_core.proofs.LockRows.{ok_more, found_none, found_some, granted_row, gone_row, busy_row, blocked_row, deadlock_row, no_lock}
 use Rattle.db_core.proofs.decide.decide_lock.Goals as goal
 
 pub returns-then-len-eq0-clause-answer : goal.returns-then-len-eq0-clause-answer
@@ -47,3 +48,16 @@ returns-in-Ok-Some-clause-answer g c = λ f s represents seen.
     subst (λ (xs : List KeyWait). ListsWaits rows c.args.control.now c.args.client (length c.args.control.now.sessions.items) xs) (sym c.from_vec-waits.ensures) count in
     deadlock_row f rows c.args.control.now s represents c.requires.sound (g.met.R.RowStore.consistent c.args.rows.now) seen c.args.client c.args.table c.args.row c.args.exclusive c.args.wait c.in-Ok.against c.in-Ok.ensures some c.if-not-wait.false
     c.from_vec-waits.result lists c.in-Ok-Some.cycle (found_some c.in-Ok-Some.field-0 c.in-Ok-Some.cycle _ _ c.in-Ok-Some.field-0-is c.in-Ok-Some.ensures)
+
+pub returns-then-len-eq0-clause-granted : goal.returns-then-len-eq0-clause-granted
+returns-then-len-eq0-clause-granted g c =
+    let none : length c.in-Ok.against ≡ 0 = sym c.len.ensures ∙ c.if-len-eq0.true in
+    ok_more c.decide_free.result _ _
+    (λ a observable is. (
+      no_lock c.args.control.now.locks c.args.client c.args.row.0 c.args.exclusive c.in-Ok.against c.in-Ok.ensures none,
+      λ seen. elim (observable seen) [
+        | inl granted ↦ granted.1
+        | inr gone ↦ let clash : Granted ≡ Gone = sym is ∙ gone.0 in cc
+      ],
+    ))
+    c.decide_free.ensures.found

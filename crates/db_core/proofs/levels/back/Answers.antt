@@ -1,6 +1,7 @@
 use Rattle.std.proofs.Common.{◌≡◌, ◌-◌, get_or, arith}
 use Rattle.db_core.specs.Represents.{marks_at}
 use Rattle.db_core.proofs.Backs.{back_represents, back_sound, within_mark, mark_found}
+use Rattle.db_core.proofs.StayLaws.{counts_of, keeps_based, next_of}
 use Rattle.db_core.proofs.levels.back.Goals as goal
 
 pub back-requires-clause-mark : goal.back-requires-clause-mark
@@ -22,3 +23,9 @@ returns-clause-sound g c =
     mark_found c.args.control.now c.args.client c.from.result c.index.result.now (c.args.depth - 1) c.index-mark.result.now c.from.ensures c.requires.known c.index.ensures c.index-mark.ensures (let level = c.requires.level in let there = c.requires.open in omega arith) in
     back_sound (g.R.RowStore.state c.args.rows.now) (g.R.RowStore.state c.back.new.self) c.args.control.now c.back_to_level.new.control c.args.client c.args.depth c.index-mark.result.now
     c.requires.sound (g.met.R.RowStore.consistent c.args.rows.now) c.requires.level c.requires.open is c.in_ok-back.ensures.ok c.back_to_level.ensures
+
+pub returns-clause-keeps : goal.returns-clause-keeps
+returns-clause-keeps g c =
+    let backs = c.back_to_level.ensures in
+    keeps_based (g.R.RowStore.state c.args.rows.now) (g.R.RowStore.state c.back.new.self) c.args.control.now c.back_to_level.new.control c.in_ok-back.ensures.ok.base
+    (next_of c.args.control.now c.back_to_level.new.control (counts_of c.args.control.now c.back_to_level.new.control backs.client.count backs.sequences backs.frees))

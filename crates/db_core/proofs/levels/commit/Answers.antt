@@ -4,6 +4,8 @@ use Rattle.db_core.specs.declared.control.Control.{Control}
 use Rattle.db_core.specs.Represents.{IsSound}
 use Rattle.db_core.proofs.Commits.{commit_counted, commit_sound}
 use Rattle.db_core.proofs.Sound.{sound_counted}
+use Rattle.std.proofs.Common.{◌||◌}
+use Rattle.db_core.proofs.StayLaws.{counts_more}
 use Rattle.db_core.proofs.levels.commit.Goals as goal
 
 pub returns-clause-represents : goal.returns-clause-represents
@@ -19,3 +21,14 @@ returns-clause-sound g c =
     let rows = g.R.RowStore.state c.args.rows.now in
     let new = g.R.RowStore.state c.commit.new.self in
     subst (λ (k : Control). IsSound new k) (sym c.count_frees.ensures) (sound_counted new c.settle-freed.new.control _ (commit_sound rows new c.args.control.now c.settle-freed.new.control c.args.client _ c.args.staying.now c.in_ok-moment.ensures.ok c.settle-freed.ensures.settles c.requires.sound))
+
+pub returns-clause-keeps : goal.returns-clause-keeps
+returns-clause-keeps g c =
+    let commits = c.in_ok-moment.ensures.ok in
+    let settles = c.settle-freed.ensures.settles in
+    record {
+      observable = commits.observable;
+      failed = commits.failed;
+      schema = commits.schema;
+      counts = counts_more c.args.control.now c.settle-freed.new.control c.count_frees.new.control (c.has_reserved-reserved.result || c.settle-freed.result) settles.count settles.sequences c.settle-freed.ensures.frees c.count_frees.ensures;
+    }

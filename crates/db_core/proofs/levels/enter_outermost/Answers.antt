@@ -2,6 +2,7 @@ use Rattle.std.proofs.Common.{length, sym, ap, ◌∙◌}
 use Rattle.abl_rows.specs.Rows.{RowTransaction}
 use Rattle.db_core.specs.Represents.{is_open}
 use Rattle.db_core.proofs.LevelMoves.{begins_opens, enter_represents, enter_sound, enters_of, popped_same}
+use Rattle.db_core.proofs.StayLaws.{counts_of, keeps_based, next_of, stays_same}
 use Rattle.db_core.proofs.levels.enter_outermost.Goals as goal
 
 pub begin-requires-clause-idle : goal.begin-requires-clause-idle
@@ -29,3 +30,15 @@ returns-in-Ok-begin-clause-sound g c =
 
 pub returns-in-Err-begin-clause-control : goal.returns-in-Err-begin-clause-control
 returns-in-Err-begin-clause-control g c = popped_same c.args.control.now c.push_mark.new.control c.pop_mark.new.control c.args.client 0 c.in-Ok.ensures.ok c.pop_mark.ensures
+
+pub returns-in-Ok-begin-clause-keeps : goal.returns-in-Ok-begin-clause-keeps
+returns-in-Ok-begin-clause-keeps g c =
+    let pushed = c.in-Ok.ensures.ok in
+    let ends = c.end_wait.ensures in
+    keeps_based (g.R.RowStore.state c.args.rows.now) (g.R.RowStore.state c.begin.new.self) c.args.control.now c.end_wait.new.control c.in-Ok-begin.ensures.ok.base
+    (next_of c.args.control.now c.end_wait.new.control (counts_of c.args.control.now c.end_wait.new.control (ends.client.count ∙ pushed.count) (ends.sequences ∙ pushed.sequences) (ends.frees ∙ pushed.frees)))
+
+pub returns-in-Err-begin-clause-stays : goal.returns-in-Err-begin-clause-stays
+returns-in-Err-begin-clause-stays g c =
+    stays_same (g.R.RowStore.state c.args.rows.now) (g.R.RowStore.state c.begin.new.self) c.args.control.now c.pop_mark.new.control c.args.client c.in-Err-begin.error c.in-Err-begin.ensures.err
+    (popped_same c.args.control.now c.push_mark.new.control c.pop_mark.new.control c.args.client 0 c.in-Ok.ensures.ok c.pop_mark.ensures)

@@ -1,5 +1,6 @@
 use Rattle.db_core.proofs.Sound.{change_sound, marks_stay}
 use Rattle.db_core.proofs.Puts.{delete_represents}
+use Rattle.db_core.proofs.StayLaws.{counts_wait, keeps_based, next_of}
 use Rattle.db_core.proofs.writes.delete.Goals as goal
 
 pub returns-clause-represents : goal.returns-clause-represents
@@ -11,3 +12,8 @@ pub returns-clause-sound : goal.returns-clause-sound
 returns-clause-sound g c =
     change_sound (g.R.RowStore.state c.args.rows.now) (g.R.RowStore.state c.delete.new.self) c.args.control.now c.end_wait.new.control c.args.client c.args.row.0 _ c.requires.begun c.in_ok-delete.ensures.ok
     (marks_stay c.args.control.now c.end_wait.new.control c.args.client _ c.end_wait.ensures.client) c.end_wait.ensures.client.blocked c.end_wait.ensures.client.own_blocked c.requires.sound
+
+pub returns-clause-keeps : goal.returns-clause-keeps
+returns-clause-keeps g c =
+    keeps_based (g.R.RowStore.state c.args.rows.now) (g.R.RowStore.state c.delete.new.self) c.args.control.now c.end_wait.new.control c.in_ok-delete.ensures.ok.base
+    (next_of c.args.control.now c.end_wait.new.control (counts_wait c.args.control.now c.end_wait.new.control c.args.client c.end_wait.ensures))

@@ -1,5 +1,7 @@
+use Rattle.std.proofs.Common.{refl}
 use Rattle.db_core.proofs.Sound.{change_sound, marks_stay}
 use Rattle.db_core.proofs.Inserts.{insert_represents, is_fresh}
+use Rattle.db_core.proofs.StayLaws.{counts_of, insert_stays, keeps_based, next_of}
 use Rattle.db_core.proofs.writes.insert.Goals as goal
 
 pub returns-in-Ok-insert-clause-represents : goal.returns-in-Ok-insert-clause-represents
@@ -16,3 +18,14 @@ pub returns-in-Ok-insert-clause-sound : goal.returns-in-Ok-insert-clause-sound
 returns-in-Ok-insert-clause-sound g c =
     change_sound (g.R.RowStore.state c.args.rows.now) (g.R.RowStore.state c.insert.new.self) c.args.control.now c.grant.new.control c.args.client c.args.row.0 _ c.requires.begun c.in-Ok-insert.ensures.ok
     (marks_stay c.args.control.now c.grant.new.control c.args.client _ c.in-Ok.ensures.ok.client) c.in-Ok.ensures.ok.client.blocked c.in-Ok.ensures.ok.client.own_blocked c.requires.sound
+
+pub returns-in-Ok-insert-clause-keeps : goal.returns-in-Ok-insert-clause-keeps
+returns-in-Ok-insert-clause-keeps g c =
+    let grants = c.in-Ok.ensures.ok in
+    keeps_based (g.R.RowStore.state c.args.rows.now) (g.R.RowStore.state c.insert.new.self) c.args.control.now c.grant.new.control c.in-Ok-insert.ensures.ok.base
+    (next_of c.args.control.now c.grant.new.control (counts_of c.args.control.now c.grant.new.control grants.client.count grants.sequences grants.frees))
+
+pub returns-in-Err-insert-clause-stays : goal.returns-in-Err-insert-clause-stays
+returns-in-Err-insert-clause-stays g c =
+    insert_stays c.args.control.now c.grant.new.control (record c.grant.new.control { locks = c.release.new.self }) c.args.client c.args.row.0 c.in-Ok.ensures.ok c.release.ensures.left refl refl refl
+    (g.R.RowStore.state c.args.rows.now) (g.R.RowStore.state c.insert.new.self) c.requires.free c.in-Err-insert.error c.in-Err-insert.ensures.err

@@ -1,0 +1,12 @@
+use Rattle.db_core.proofs.Quiet.{unblocked_sound}
+use Rattle.db_core.proofs.StayLaws.{counts_wait, failed_represents}
+use Rattle.db_core.proofs.answers.end_failed.Goals as goal
+
+pub returns-clause-represents : goal.returns-clause-represents
+returns-clause-represents c = λ f rows s op a represents failure. failed_represents f rows c.args.control.now c.end_wait.new.control s c.args.client op a failure c.end_wait.ensures represents
+
+pub returns-clause-sound : goal.returns-clause-sound
+returns-clause-sound c = λ rows sound. unblocked_sound rows c.args.control.now c.end_wait.new.control c.args.client c.end_wait.ensures sound
+
+pub returns-clause-counts : goal.returns-clause-counts
+returns-clause-counts c = counts_wait c.args.control.now c.end_wait.new.control c.args.client c.end_wait.ensures

@@ -1,0 +1,50 @@
+-- What a call keeps besides the state that it answers for, and what stays after its error.
+use Rattle.std.specs.Prelude.{◌≡◌, ◌⊎◌, ℕ, ◌+◌, ◌≤◌, ◌==◌, if◌then◌else◌, length, None}
+use Rattle.client_database.specs.declared.answer.Answer.{Answer}
+use Rattle.client_database.specs.declared.answer.Answer.TheVariants.{Closed, NoMemory}
+use Rattle.database_meaning.specs.Setting.{Setting}
+use Rattle.database_meaning.specs.State.{State}
+use Rattle.abl_rows.specs.Rows.{IsObservable, RowState}
+use Rattle.db_core.specs.declared.control.Control.{Control}
+use Rattle.db_core.specs.Represents.{IsSound, Represents}
+
+-- as many clients and sequences, and nothing was freed
+pub record SameCounts (old new : Control) : Type 0 where
+  pub clients : length new.sessions.items ≡ length old.sessions.items
+  pub sequences : length new.sequences.items ≡ length old.sequences.items
+  pub frees : new.frees ≡ old.frees
+
+-- the same, but for one step more that freed something
+pub record NextCounts (old new : Control) : Type 0 where
+  pub clients : length new.sessions.items ≡ length old.sessions.items
+  pub sequences : length new.sequences.items ≡ length old.sequences.items
+  pub frees : new.frees ≤ old.frees + 1
+
+-- after a success: the store is of the same schema, as observable, and has not failed since
+pub record Keeps (old new : RowState) (before after : Control) : Type 0 where
+  pub observable : new.observable ≡ old.observable
+  pub failed : new.failed ≡ old.failed
+  pub schema : new.schema ≡ old.schema
+  pub counts : NextCounts before after
+
+-- the state without the client's blocked request
+abbrev pub without_request : State → ℕ → State
+without_request s c = record s { client = λ d. if d == c then record (s.client c) { blocked = None } else s.client d }
+
+-- the state is represented, or so it is without the client's blocked request
+abbrev pub RepresentsBut : Setting → RowState → Control → ℕ → State → Type 0
+RepresentsBut f rows control c s = Represents f rows control s ⊎ Represents f rows control (without_request s c)
+
+-- after an error: what was represented before the call is so still, but for the caller's blocked request
+pub record Stays (old new : RowState) (before after : Control) (client : ℕ) : Type 0 where
+  pub observable : new.observable ≡ old.observable
+  pub schema : new.schema ≡ old.schema
+  pub counts : SameCounts before after
+  pub sound : IsSound old before → IsSound new after
+  pub represents : IsObservable old → (f : Setting) (s : State) → Represents f old before s → RepresentsBut f new after client s
+
+-- the answers after an error
+abbrev pub IsFailure : Answer → Type 0
+IsFailure NoMemory = Unit {0}
+IsFailure Closed = Unit {0}
+IsFailure _ = ⊥
