@@ -1,3 +1,11 @@
+pub mod Copies
 pub mod Remembers
+pub mod BufferLists
+pub mod Restored
+pub mod Procedures
 pub mod Levels
-pub mod Ended
+pub mod Views
+pub mod Denoted
+pub mod FramesOut
+pub mod LevelFrames
+pub mod NoBuffers

@@ -1,6 +1,6 @@
 -- The old values of the definitions.
 use Rattle.std.specs.Prelude.{List, map}
-use Rattle.client_undo.specs.Undo.{OldValue}
+use Rattle.client_memory.specs.Undo.{OldValue}
 use Rattle.client_memory.specs.declared.memory.OldValue.{OldValue as OldValueRs}
 
 -- an old value

@@ -1,23 +1,34 @@
 -- What savepoints and old values denote.
-use Rattle.std.specs.Prelude.{◌≤◌, ℕ, ◌+◌, List, [], ◌∷◌, map, reverse, replicate}
-use Rattle.client_undo.specs.Undo.{Savepoint, Values, copy_at}
+use Rattle.std.specs.Prelude.{◌≤◌, ℕ, ◌+◌, List, [], ◌∷◌, map, reverse, replicate, take, length}
+use Rattle.block_meaning.specs.State.{Buffer, Content, Empty}
+use Rattle.client_memory.specs.Undo.{Savepoint, Values, copy_at}
 use Rattle.client_memory.specs.declared.memory.OldValue.{OldValue as OldValueRs}
 use Rattle.client_memory.specs.declared.memory.Savepoint.{Savepoint as SavepointRs}
 use Rattle.client_memory.specs.OldValues.{old_values_of}
 use Rattle.client_memory.specs.Memory.{Remembered}
 
--- a savepoint with n outer levels
-abbrev pub savepoint_of : ℕ → SavepointRs → Savepoint
-savepoint_of n m = record { depth = n + 1; made = m.made; old_values = m.old_values; pending = replicate m.frames [] }
+-- the pending records that are stored of the first procedures, and none of the others, which have so many buffers
+abbrev pub contents_with : List (List Content) → List ℕ → List (List Content)
+contents_with css [] = []
+contents_with [] (n ∷ ns) = replicate n Empty ∷ contents_with [] ns
+contents_with (cs ∷ css) (n ∷ ns) = cs ∷ contents_with css ns
+
+-- a savepoint with n outer levels, where the procedures have so many buffers
+abbrev pub savepoint_of : List ℕ → ℕ → SavepointRs → Savepoint
+savepoint_of counts n m = record { depth = n + 1; made = m.made; old_values = m.old_values; pending = contents_with m.pending.items (take m.frames counts) }
 
 -- all of them, the outermost level first
-abbrev pub savepoints_from : ℕ → List SavepointRs → List Savepoint
-savepoints_from n [] = []
-savepoints_from n (m ∷ ms) = savepoint_of n m ∷ savepoints_from (n + 1) ms
+abbrev pub savepoints_from : List ℕ → ℕ → List SavepointRs → List Savepoint
+savepoints_from counts n [] = []
+savepoints_from counts n (m ∷ ms) = savepoint_of counts n m ∷ savepoints_from counts (n + 1) ms
 
--- the values and the copies
-abbrev pub remembered : Values → Values → List OldValueRs → List SavepointRs → Remembered
-remembered undoable no_undo old_values ms = record { undoable = undoable; no_undo = no_undo; copies = map (copy_at (reverse (old_values_of old_values)) undoable) (savepoints_from 0 ms) }
+-- the number of buffers of each procedure
+abbrev pub counts_of : List (List Buffer) → List ℕ
+counts_of bss = map (λ bs. length bs) bss
+
+-- the variables, the buffers and the copies
+abbrev pub remembered : Values → Values → List (List Buffer) → List OldValueRs → List SavepointRs → Remembered
+remembered undoable no_undo bss old_values ms = record { undoable = undoable; no_undo = no_undo; buffers = bss; copies = map (copy_at (reverse (old_values_of old_values)) undoable) (savepoints_from (counts_of bss) 0 ms) }
 
 -- the savepoints are nested, and name at most this many old values and procedures
 abbrev pub AreInOrder : ℕ → ℕ → ℕ → ℕ → List SavepointRs → Type 0

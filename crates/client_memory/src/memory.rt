@@ -1,13 +1,21 @@
-//! The variables of a client.
+//! The variables and buffers of a client.
 
-ghost use Rattle.std.specs.Prelude.{◌≡◌, ◌≤◌, ◌<◌, ◌+◌, ◌-◌, ◌++◌, ◌∷◌, [], length, reverse, take, map, slice_index_or, slice_set, OnOk, OnErr, IfOk};
+ghost use Rattle.std.specs.Prelude.{◌≡◌, ◌≤◌, ◌<◌, ◌+◌, ◌-◌, ◌++◌, ◌∷◌, [], true, false, length, reverse, take, map, slice_index_or, slice_set, OnOk, OnErr, IfOk, MatchOption};
 ghost use Rattle.abl_base.specs.declared.value.Value.{Value};
 ghost use Rattle.bound_tree.specs.declared.expression.Variable.{Variable};
-ghost use Rattle.client_undo.specs.Undo.{Values, with_value, value_at, restored_to, old_values_before, copy_at};
-ghost use Rattle.client_memory.specs.Memory.{Remembered, begun, ended, IsOuter, frame_of as procedure_of, value_now, set_variable, entered, left, left_to, restored, last_copy, IsWhole, HasVariablesOnly};
+ghost use Rattle.block_meaning.specs.Frames.{no_buffer};
+ghost use Rattle.client_memory.specs.Undo.{Values, with_value, value_at, restored_to, old_values_before, copy_at};
+ghost use Rattle.client_memory.specs.Buffers.{denoted_buffer, denoted_content, denoted_place, denoted_spot_if};
+ghost use Rattle.client_memory.specs.Memory.{Remembered, begun, ended, IsOuter, frame_of as procedure_of, value_now, set_variable, buffer_at, holding, marked_locked, with_spot, HasNoBuffers, entered, left, left_to, restored, IsWhole};
 ghost use Rattle.client_memory.specs.OldValues.{old_values_of};
 ghost use Rattle.client_memory.specs.Savepoints.{innermost_frames};
 
+use crate::buffer::{Buffer, Content, Place, Spot};
+use crate::buffers::{Buffers, SavedContents};
+use crate::records::{
+    buffer_in, copy_records, has_some, replace_in, restore_records, saved_records, set_locked_in,
+    set_spot_in, share_all,
+};
 use crate::slots::Slots;
 use abl_base::Value;
 use bound_tree::Variable;
@@ -23,12 +31,13 @@ pub struct OldValue {
 }
 
 /// A savepoint, made with an Enter: the number of CREATEs before, of open procedures, and of old
-/// values.
-#[derive(Clone, Copy, Debug)]
+/// values; and the pending records of each procedure, nothing where there was none.
+#[derive(Drop)]
 pub struct Savepoint {
     pub made: u64,
     pub frames: usize,
     pub old_values: usize,
+    pub pending: Vec<SavedContents>,
 }
 
 /// The procedure of a variable, where `count` are open.
@@ -82,11 +91,12 @@ fn outer_procedures(savepoints: &[Savepoint]) -> usize
     }
 }
 
-/// The variables of the open procedures, and the open levels.
+/// The variables and buffers of the open procedures, and the open levels.
 #[derive(Drop)]
 pub struct Memory {
     undoable: Vec<Slots>,
     no_undo: Vec<Slots>,
+    buffers: Vec<Buffers>,
     old_values: Vec<OldValue>,
     savepoints: Vec<Savepoint>,
     depth: u32,
@@ -100,19 +110,20 @@ impl Model for Memory {
 
     ghost use Rattle.client_memory.specs.Savepoints.{remembered, AreInOrder};
 
-    ghost view = { λ m. remembered m.undoable.items m.no_undo.items m.old_values.items m.savepoints.items };
+    ghost view = { λ m. remembered m.undoable.items m.no_undo.items m.buffers.items m.old_values.items m.savepoints.items };
 
-    ghost invariant = { λ m. (length m.no_undo.items ≡ length m.undoable.items) × AreInOrder (length m.old_values.items) (length m.undoable.items) 0 0 m.savepoints.items × (m.depth ≡ length m.savepoints.items) };
+    ghost invariant = { λ m. (length m.no_undo.items ≡ length m.undoable.items) × AreInOrder (length m.old_values.items) (length m.undoable.items) 0 0 m.savepoints.items × (m.depth ≡ length m.savepoints.items) × (length m.buffers.items ≡ length m.undoable.items) };
 }
 
 impl Memory {
     /// No procedure is open yet.
     pub fn new(alloc: Global) -> Memory
-        ensures { result ≡ record { undoable = []; no_undo = []; copies = [] } }
+        ensures { result ≡ record { undoable = []; no_undo = []; buffers = []; copies = [] } }
     {
         Memory {
             undoable: Vec::new(alloc),
             no_undo: Vec::new(alloc),
+            buffers: Vec::new(alloc),
             old_values: Vec::new(alloc),
             savepoints: Vec::new(alloc),
             depth: 0,
@@ -120,14 +131,21 @@ impl Memory {
     }
 
     /// A procedure begins. The copies stay the same: it is in none of them.
-    pub fn begin(&mut self, undoable: Slots, no_undo: Slots) -> Result<(), AllocError>
-        ensures ok { OnOk result (self.new ≡ begun undoable no_undo self.old) }
+    pub fn begin(
+        &mut self,
+        undoable: Slots,
+        no_undo: Slots,
+        buffers: Buffers,
+    ) -> Result<(), AllocError>
+        ensures ok { OnOk result (self.new ≡ begun undoable no_undo buffers self.old) }
         ensures err { OnErr result (self.new ≡ self.old) }
     {
         self.undoable.reserve(1)?;
         self.no_undo.reserve(1)?;
+        self.buffers.reserve(1)?;
         self.undoable.push_reserved(undoable);
         self.no_undo.push_reserved(no_undo);
+        self.buffers.push_reserved(buffers);
         Ok(())
     }
 
@@ -140,6 +158,7 @@ impl Memory {
         if outer_procedures(&self.savepoints) <= count {
             self.undoable.truncate(count);
             self.no_undo.truncate(count);
+            self.buffers.truncate(count);
         }
     }
 
@@ -189,7 +208,46 @@ impl Memory {
         Ok(())
     }
 
-    /// A level begins, and its copy is made.
+    /// The buffer at a place.
+    pub fn buffer(&self, place: Place) -> Option<&Buffer>
+        ensures { MatchOption result (buffer_at (denoted_place place) self.now ≡ no_buffer) (λ buffer. denoted_buffer buffer.now ≡ buffer_at (denoted_place place) self.now) }
+    {
+        buffer_in(&self.buffers, place)
+    }
+
+    /// Gives the buffer at a place another content, and returns the old one, without a copy of a
+    /// row. The copies stay the same. Where there is no such buffer the content is dropped.
+    pub fn replace(&mut self, place: Place, content: Content) -> Content
+        ensures old { denoted_content result ≡ (buffer_at (denoted_place place) self.old).content }
+        ensures new { self.new ≡ holding (denoted_place place) (denoted_content content) self.old }
+    {
+        replace_in(&mut self.buffers, place, content)
+    }
+
+    /// Sets LOCKED of the buffer at a place.
+    pub fn set_locked(&mut self, place: Place, locked: bool)
+        ensures { self.new ≡ marked_locked (denoted_place place) locked self.old }
+    {
+        set_locked_in(&mut self.buffers, place, locked);
+    }
+
+    /// Sets the place in an index of the buffer at a place.
+    pub fn set_spot(&mut self, place: Place, spot: Option<Spot>)
+        ensures { self.new ≡ with_spot (denoted_place place) (denoted_spot_if spot) self.old }
+    {
+        set_spot_in(&mut self.buffers, place, spot);
+    }
+
+    /// Whether a procedure has a buffer.
+    pub fn has_buffers(&self) -> bool
+        ensures none { result ≡ false → HasNoBuffers self.now }
+        ensures some { result ≡ true → HasNoBuffers self.now → ⊥ }
+    {
+        has_some(&self.buffers)
+    }
+
+    /// A level begins, and its copy is made. Where no record is pending it costs the same whatever
+    /// the buffers hold.
     pub fn enter(&mut self, made: u64) -> Result<(), AllocError>
         ensures ok { OnOk result (self.new ≡ entered made self.old) }
         ensures err { OnErr result (self.new ≡ self.old) }
@@ -197,16 +255,19 @@ impl Memory {
         let Some(depth) = self.depth.checked_add(1) else {
             return Err(AllocError);
         };
+        let pending = saved_records(*self.savepoints.allocator(), &self.buffers)?;
         self.savepoints.push(Savepoint {
             made,
             frames: self.undoable.len(),
             old_values: self.old_values.len(),
+            pending,
         })?;
         self.depth = depth;
         Ok(())
     }
 
-    /// The innermost level is left.
+    /// The innermost level is left. Where it is the transaction's own, exclusive locks become share
+    /// locks.
     pub fn leave(&mut self)
         ensures { self.new ≡ left self.old }
     {
@@ -214,6 +275,7 @@ impl Memory {
             self.depth = self.depth.saturating_sub(1);
             if self.savepoints.is_empty() {
                 self.old_values.clear();
+                share_all(&mut self.buffers);
             }
         }
     }
@@ -228,18 +290,26 @@ impl Memory {
         }
     }
 
-    /// Restores the variables of the innermost copy; its level stays open.
-    pub fn back(&mut self)
-        ensures back { IsWhole self.old → self.new ≡ restored self.old }
-        ensures plain { IsWhole self.old → HasVariablesOnly (last_copy self.old.copies) (length self.old.copies) }
+    /// Restores the variables and the pending records of the innermost copy, which has all open
+    /// procedures; its level stays open. Out of memory is the only error: pending records of the
+    /// copy are copied.
+    pub fn back(&mut self) -> Result<(), AllocError>
+        ensures ok { OnOk result (IsWhole self.old → self.new ≡ restored self.old) }
+        ensures err { OnErr result (self.new ≡ self.old) }
     {
+        let Some(innermost) = self.savepoints.last() else {
+            return Ok(());
+        };
+        let pending = copy_records(*self.savepoints.allocator(), &innermost.pending)?;
         if let Some(savepoint) = self.savepoints.pop() {
             restore(
                 &mut self.undoable,
                 &mut self.old_values,
                 savepoint.old_values,
             );
+            restore_records(&mut self.buffers, pending);
             self.savepoints.push_reserved(savepoint);
         }
+        Ok(())
     }
 }

@@ -1,6 +1,6 @@
 use Rattle.std.proofs.Common.{sym, ap, ◌∙◌}
 use Rattle.std.specs.Prelude.{option_copied}
-use Rattle.client_memory.proofs.Ended.{some_last, none_last}
+use Rattle.client_memory.proofs.Procedures.{some_last, none_last}
 use Rattle.client_memory.proofs.memory.outer_procedures.Goals as goal
 
 pub returns-in-Some : goal.returns-in-Some

@@ -1,7 +1,7 @@
 use Rattle.std.proofs.Common.{sym, ◌∙◌, ◌≤◌, length, reverse, arith}
 use Rattle.client_memory.specs.OldValues.{old_values_of}
 use Rattle.client_memory.proofs.Remembers.{length_olds}
-use Rattle.client_undo.proofs.Copies.{values_stay, old_values_stay}
+use Rattle.client_memory.proofs.Copies.{values_stay, old_values_stay}
 use Rattle.client_memory.proofs.memory.restore.Goals as goal
 
 pub returns-clause-values : goal.returns-clause-values

@@ -1,5 +1,5 @@
 use Rattle.std.proofs.Common.{◌≡◌, vec_len, reverse}
-use Rattle.client_undo.specs.Undo.{restored_to, old_values_before}
+use Rattle.client_memory.specs.Undo.{restored_to, old_values_before}
 use Rattle.client_memory.specs.OldValues.{old_values_of}
 use Rattle.client_memory.proofs.memory.restore.Given as goal
 

@@ -1,0 +1,8 @@
+use Rattle.std.proofs.Common.{refl}
+use Rattle.client_memory.specs.Buffers.{with_spot, denoted_spot_if}
+use Rattle.client_memory.proofs.Denoted.{changed_denoted}
+use Rattle.client_memory.proofs.buffers.set_spot_at.Goals as goal
+
+pub returns : goal.returns
+returns c =
+    changed_denoted c.args.buffers.now.items c.args.number c.in-Some.buffer.now (record { table = c.in-Some.buffer.now.table; content = c.in-Some.buffer.now.content; spot = c.args.spot; locked = c.in-Some.buffer.now.locked }) (with_spot (denoted_spot_if c.args.spot)) c.in-Some.ensures.value c.in-Some.ensures.item.3.0 refl

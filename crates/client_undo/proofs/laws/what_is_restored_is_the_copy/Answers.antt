@@ -1,5 +1,0 @@
-use Rattle.client_undo.proofs.Copies.{puts_the_copy_back}
-use Rattle.client_undo.proofs.laws.what_is_restored_is_the_copy.Goals as goal
-
-pub returns : goal.returns
-returns c = puts_the_copy_back
