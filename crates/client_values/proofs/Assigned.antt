@@ -4,9 +4,10 @@ use Rattle.std.specs.Prelude.{reverse, slice_index_or, slice_set}
 use Rattle.std.proofs.lemmas.List.{reverse-append, length-append}
 use Rattle.abl_base.specs.declared.value.Value.{Value}
 use Rattle.bound_tree.specs.declared.expression.Variable.{Variable}
-use Rattle.block_meaning.specs.State.{State, CallFrame}
+use Rattle.block_meaning.specs.State.{State, CallFrame, Buffer}
+use Rattle.client_memory.proofs.FramesOut.{AreAlike}
 use Rattle.block_meaning.specs.Frames.{no_frame, own_frame, last_frame, frame_for, with_own, with_last, with_frame_for, set_in, assigned}
-use Rattle.client_undo.specs.Undo.{Values, with_value}
+use Rattle.client_memory.specs.Undo.{Values, with_value}
 use Rattle.client_memory.specs.Memory.{Remembered, frame_of, set_as, set_variable}
 use Rattle.client_values.specs.Variables.{frames_out, state_with, AreEven, HasSameShape}
 use Rattle.client_values.proofs.Scopes.{outermost, innermost, length_rev_cons, length_out, frame_is}
@@ -42,35 +43,37 @@ frame_set false fs f = set_innermost fs f
 
 -- ---- the frames of what is remembered
 
-undoable_set : (ns : List ℕ) (uss kss : Values) (k n : ℕ) (v : Value) → length ns ≡ length uss → length ns ≡ length kss →
-    slice_set (frames_out ns uss kss) k (set_in true n v (slice_index_or (frames_out ns uss kss) k no_frame)) ≡ frames_out ns (with_value k n v uss) kss
-undoable_set [] uss kss k n v e1 e2 = refl
-undoable_set (x ∷ ns) [] kss k n v e1 e2 = absurd (omega (arith, e1))
-undoable_set (x ∷ ns) (us ∷ uss) [] k n v e1 e2 = absurd (omega (arith, e2))
-undoable_set (x ∷ ns) (us ∷ uss) (ks ∷ kss) zero n v e1 e2 = refl
-undoable_set (x ∷ ns) (us ∷ uss) (ks ∷ kss) (suc k) n v e1 e2 =
-    ap (λ (fs : List CallFrame). let f : CallFrame = record { procedure = x; undoable = us; no_undo = ks; buffers = [] } in f ∷ fs) (undoable_set ns uss kss k n v (omega (arith, e1)) (omega (arith, e2)))
+undoable_set : (ns : List ℕ) (uss kss : Values) (bss : List (List Buffer)) (k n : ℕ) (v : Value) → AreAlike ns uss kss bss →
+    slice_set (frames_out ns uss kss bss) k (set_in true n v (slice_index_or (frames_out ns uss kss bss) k no_frame)) ≡ frames_out ns (with_value k n v uss) kss bss
+undoable_set [] uss kss bss k n v e = refl
+undoable_set (x ∷ ns) [] kss bss k n v e = absurd (omega (arith, e.0))
+undoable_set (x ∷ ns) (us ∷ uss) [] bss k n v e = absurd (omega (arith, e.1))
+undoable_set (x ∷ ns) (us ∷ uss) (ks ∷ kss) [] k n v e = absurd (omega (arith, e.2))
+undoable_set (x ∷ ns) (us ∷ uss) (ks ∷ kss) (bs ∷ bss) zero n v e = refl
+undoable_set (x ∷ ns) (us ∷ uss) (ks ∷ kss) (bs ∷ bss) (suc k) n v e =
+    ap (λ (fs : List CallFrame). let f : CallFrame = record { procedure = x; undoable = us; no_undo = ks; buffers = bs } in f ∷ fs) (undoable_set ns uss kss bss k n v (omega (arith, e.0), omega (arith, e.1), omega (arith, e.2)))
 
-kept_set : (ns : List ℕ) (uss kss : Values) (k n : ℕ) (v : Value) → length ns ≡ length uss → length ns ≡ length kss →
-    slice_set (frames_out ns uss kss) k (set_in false n v (slice_index_or (frames_out ns uss kss) k no_frame)) ≡ frames_out ns uss (with_value k n v kss)
-kept_set [] uss kss k n v e1 e2 = refl
-kept_set (x ∷ ns) [] kss k n v e1 e2 = absurd (omega (arith, e1))
-kept_set (x ∷ ns) (us ∷ uss) [] k n v e1 e2 = absurd (omega (arith, e2))
-kept_set (x ∷ ns) (us ∷ uss) (ks ∷ kss) zero n v e1 e2 = refl
-kept_set (x ∷ ns) (us ∷ uss) (ks ∷ kss) (suc k) n v e1 e2 =
-    ap (λ (fs : List CallFrame). let f : CallFrame = record { procedure = x; undoable = us; no_undo = ks; buffers = [] } in f ∷ fs) (kept_set ns uss kss k n v (omega (arith, e1)) (omega (arith, e2)))
+kept_set : (ns : List ℕ) (uss kss : Values) (bss : List (List Buffer)) (k n : ℕ) (v : Value) → AreAlike ns uss kss bss →
+    slice_set (frames_out ns uss kss bss) k (set_in false n v (slice_index_or (frames_out ns uss kss bss) k no_frame)) ≡ frames_out ns uss (with_value k n v kss) bss
+kept_set [] uss kss bss k n v e = refl
+kept_set (x ∷ ns) [] kss bss k n v e = absurd (omega (arith, e.0))
+kept_set (x ∷ ns) (us ∷ uss) [] bss k n v e = absurd (omega (arith, e.1))
+kept_set (x ∷ ns) (us ∷ uss) (ks ∷ kss) [] k n v e = absurd (omega (arith, e.2))
+kept_set (x ∷ ns) (us ∷ uss) (ks ∷ kss) (bs ∷ bss) zero n v e = refl
+kept_set (x ∷ ns) (us ∷ uss) (ks ∷ kss) (bs ∷ bss) (suc k) n v e =
+    ap (λ (fs : List CallFrame). let f : CallFrame = record { procedure = x; undoable = us; no_undo = ks; buffers = bs } in f ∷ fs) (kept_set ns uss kss bss k n v (omega (arith, e.0), omega (arith, e.1), omega (arith, e.2)))
 
 value_set : (u : Bool) (ns : List ℕ) (m : Remembered) (k n : ℕ) (v : Value) → AreEven ns m →
-    slice_set (frames_out ns m.undoable m.no_undo) k (set_in u n v (slice_index_or (frames_out ns m.undoable m.no_undo) k no_frame)) ≡ frames_out ns (set_as u k n v m).undoable (set_as u k n v m).no_undo
-value_set true ns m k n v even = undoable_set ns m.undoable m.no_undo k n v even.0 even.1
-value_set false ns m k n v even = kept_set ns m.undoable m.no_undo k n v even.0 even.1
+    slice_set (frames_out ns m.undoable m.no_undo m.buffers) k (set_in u n v (slice_index_or (frames_out ns m.undoable m.no_undo m.buffers) k no_frame)) ≡ frames_out ns (set_as u k n v m).undoable (set_as u k n v m).no_undo (set_as u k n v m).buffers
+value_set true ns m k n v even = undoable_set ns m.undoable m.no_undo m.buffers k n v even
+value_set false ns m k n v even = kept_set ns m.undoable m.no_undo m.buffers k n v even
 
 pub variable_set : (rest : State) (ns : List ℕ) (m : Remembered) (x : Variable) (v : Value) → AreEven ns m → assigned x v (state_with rest ns m) ≡ state_with rest ns (set_variable x v m)
 variable_set rest ns m x v even =
-    let fs = frames_out ns m.undoable m.no_undo in
+    let fs = frames_out ns m.undoable m.no_undo m.buffers in
     ap (λ f. record rest { frames = with_frame_for x.external (set_in x.undoable x.number v f) (reverse fs) }) (frame_is x.external fs)
     ∙ ap (λ gs. record rest { frames = gs }) (frame_set x.external fs (set_in x.undoable x.number v (slice_index_or fs (frame_of x.external (length fs)) no_frame)))
-    ∙ ap (λ l. record rest { frames = reverse (slice_set fs (frame_of x.external l) (set_in x.undoable x.number v (slice_index_or fs (frame_of x.external l) no_frame))) }) (length_out ns m.undoable m.no_undo even.0 even.1)
+    ∙ ap (λ l. record rest { frames = reverse (slice_set fs (frame_of x.external l) (set_in x.undoable x.number v (slice_index_or fs (frame_of x.external l) no_frame))) }) (length_out ns m.undoable m.no_undo m.buffers even)
     ∙ ap (λ gs. record rest { frames = reverse gs }) (value_set x.undoable ns m (frame_of x.external (length m.undoable)) x.number v even)
 
 -- ---- the shape stays
@@ -81,17 +84,17 @@ length_slice_set (y ∷ xs) zero x = refl
 length_slice_set (y ∷ xs) (suc k) x = ap suc (length_slice_set xs k x)
 
 pub same_shape : (m : Remembered) → HasSameShape m m
-same_shape m = record { copies = refl; undoable = refl; no_undo = refl }
+same_shape m = record { copies = refl; undoable = refl; no_undo = refl; buffers = refl }
 
 as_shape : (u : Bool) (k n : ℕ) (v : Value) (m : Remembered) → HasSameShape m (set_as u k n v m)
-as_shape true k n v m = record { copies = refl; undoable = length_slice_set m.undoable k _; no_undo = refl }
-as_shape false k n v m = record { copies = refl; undoable = refl; no_undo = length_slice_set m.no_undo k _ }
+as_shape true k n v m = record { copies = refl; undoable = length_slice_set m.undoable k _; no_undo = refl; buffers = refl }
+as_shape false k n v m = record { copies = refl; undoable = refl; no_undo = length_slice_set m.no_undo k _; buffers = refl }
 
 pub set_shape : (x : Variable) (v : Value) (m : Remembered) → HasSameShape m (set_variable x v m)
 set_shape x v m = as_shape x.undoable (frame_of x.external (length m.undoable)) x.number v m
 
 pub shape_after : (a b c : Remembered) → HasSameShape a b → HasSameShape b c → HasSameShape a c
-shape_after a b c f g = record { copies = g.copies ∙ f.copies; undoable = g.undoable ∙ f.undoable; no_undo = g.no_undo ∙ f.no_undo }
+shape_after a b c f g = record { copies = g.copies ∙ f.copies; undoable = g.undoable ∙ f.undoable; no_undo = g.no_undo ∙ f.no_undo; buffers = g.buffers ∙ f.buffers }
 
 pub even_after : (ns : List ℕ) (a b : Remembered) → HasSameShape a b → AreEven ns a → AreEven ns b
-even_after ns a b f even = (even.0 ∙ sym f.undoable, even.1 ∙ sym f.no_undo)
+even_after ns a b f even = (even.0 ∙ sym f.undoable, even.1 ∙ sym f.no_undo, even.2 ∙ sym f.buffers)

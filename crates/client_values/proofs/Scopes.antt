@@ -18,8 +18,13 @@ use Rattle.abl_eval.specs.Forms.{AreForms}
 use Rattle.block_meaning.specs.Program.{Program}
 use Rattle.block_meaning.specs.Lines.{complaint_of}
 use Rattle.block_meaning.specs.Values.{field_in, is_available, env_of, as_evaluated, value_now as value_here, Gives, Fails}
-use Rattle.client_undo.specs.Undo.{Values}
+use Rattle.block_meaning.specs.Buffers.{own}
+use Rattle.block_meaning.specs.State.{Buffer}
+use Rattle.client_memory.specs.Undo.{Values}
 use Rattle.client_memory.specs.Memory.{Remembered, frame_of, value_as, value_now}
+use Rattle.client_memory.specs.Memory as memory
+use Rattle.client_memory.proofs.FramesOut.{AreAlike, own_buffer_is}
+use Rattle.client_memory.proofs.FramesOut as frames
 use Rattle.client_values.specs.Variables.{frames_out, state_with, AreEven}
 use Rattle.client_values.specs.Scope.{env_in}
 use Rattle.client_values.specs.Reads.{Reads}
@@ -59,35 +64,26 @@ innermost (f ∷ g ∷ fs) =
 
 -- ---- the frames of what is remembered
 
-undoable_at : (ns : List ℕ) (uss kss : Values) (k : ℕ) → length ns ≡ length uss → length ns ≡ length kss → (slice_index_or (frames_out ns uss kss) k no_frame).undoable ≡ slice_index_or uss k []
-undoable_at [] [] kss k e1 e2 = refl
-undoable_at [] (us ∷ uss) kss k e1 e2 = absurd (omega (arith, e1))
-undoable_at (n ∷ ns) [] kss k e1 e2 = absurd (omega (arith, e1))
-undoable_at (n ∷ ns) (us ∷ uss) [] k e1 e2 = absurd (omega (arith, e2))
-undoable_at (n ∷ ns) (us ∷ uss) (ks ∷ kss) zero e1 e2 = refl
-undoable_at (n ∷ ns) (us ∷ uss) (ks ∷ kss) (suc k) e1 e2 = undoable_at ns uss kss k (omega (arith, e1)) (omega (arith, e2))
+undoable_at : (ns : List ℕ) (uss kss : Values) (bss : List (List Buffer)) (k : ℕ) → AreAlike ns uss kss bss → (slice_index_or (frames_out ns uss kss bss) k no_frame).undoable ≡ slice_index_or uss k []
+undoable_at [] [] kss bss k e = refl
+undoable_at [] (us ∷ uss) kss bss k e = absurd (omega (arith, e.0))
+undoable_at (n ∷ ns) [] kss bss k e = absurd (omega (arith, e.0))
+undoable_at (n ∷ ns) (us ∷ uss) [] bss k e = absurd (omega (arith, e.1))
+undoable_at (n ∷ ns) (us ∷ uss) (ks ∷ kss) [] k e = absurd (omega (arith, e.2))
+undoable_at (n ∷ ns) (us ∷ uss) (ks ∷ kss) (bs ∷ bss) zero e = refl
+undoable_at (n ∷ ns) (us ∷ uss) (ks ∷ kss) (bs ∷ bss) (suc k) e = undoable_at ns uss kss bss k (omega (arith, e.0), omega (arith, e.1), omega (arith, e.2))
 
-kept_at : (ns : List ℕ) (uss kss : Values) (k : ℕ) → length ns ≡ length uss → length ns ≡ length kss → (slice_index_or (frames_out ns uss kss) k no_frame).no_undo ≡ slice_index_or kss k []
-kept_at [] uss [] k e1 e2 = refl
-kept_at [] uss (ks ∷ kss) k e1 e2 = absurd (omega (arith, e2))
-kept_at (n ∷ ns) [] kss k e1 e2 = absurd (omega (arith, e1))
-kept_at (n ∷ ns) (us ∷ uss) [] k e1 e2 = absurd (omega (arith, e2))
-kept_at (n ∷ ns) (us ∷ uss) (ks ∷ kss) zero e1 e2 = refl
-kept_at (n ∷ ns) (us ∷ uss) (ks ∷ kss) (suc k) e1 e2 = kept_at ns uss kss k (omega (arith, e1)) (omega (arith, e2))
+kept_at : (ns : List ℕ) (uss kss : Values) (bss : List (List Buffer)) (k : ℕ) → AreAlike ns uss kss bss → (slice_index_or (frames_out ns uss kss bss) k no_frame).no_undo ≡ slice_index_or kss k []
+kept_at [] uss [] bss k e = refl
+kept_at [] uss (ks ∷ kss) bss k e = absurd (omega (arith, e.1))
+kept_at (n ∷ ns) [] kss bss k e = absurd (omega (arith, e.0))
+kept_at (n ∷ ns) (us ∷ uss) [] bss k e = absurd (omega (arith, e.1))
+kept_at (n ∷ ns) (us ∷ uss) (ks ∷ kss) [] k e = absurd (omega (arith, e.2))
+kept_at (n ∷ ns) (us ∷ uss) (ks ∷ kss) (bs ∷ bss) zero e = refl
+kept_at (n ∷ ns) (us ∷ uss) (ks ∷ kss) (bs ∷ bss) (suc k) e = kept_at ns uss kss bss k (omega (arith, e.0), omega (arith, e.1), omega (arith, e.2))
 
-buffers_at : (ns : List ℕ) (uss kss : Values) (k : ℕ) → (slice_index_or (frames_out ns uss kss) k no_frame).buffers ≡ []
-buffers_at [] uss kss k = refl
-buffers_at (n ∷ ns) [] kss k = refl
-buffers_at (n ∷ ns) (us ∷ uss) [] k = refl
-buffers_at (n ∷ ns) (us ∷ uss) (ks ∷ kss) zero = refl
-buffers_at (n ∷ ns) (us ∷ uss) (ks ∷ kss) (suc k) = buffers_at ns uss kss k
-
-pub length_out : (ns : List ℕ) (uss kss : Values) → length ns ≡ length uss → length ns ≡ length kss → length (frames_out ns uss kss) ≡ length uss
-length_out [] [] kss e1 e2 = refl
-length_out [] (us ∷ uss) kss e1 e2 = absurd (omega (arith, e1))
-length_out (n ∷ ns) [] kss e1 e2 = absurd (omega (arith, e1))
-length_out (n ∷ ns) (us ∷ uss) [] e1 e2 = absurd (omega (arith, e2))
-length_out (n ∷ ns) (us ∷ uss) (ks ∷ kss) e1 e2 = ap suc (length_out ns uss kss (omega (arith, e1)) (omega (arith, e2)))
+pub length_out : (ns : List ℕ) (uss kss : Values) (bss : List (List Buffer)) → AreAlike ns uss kss bss → length (frames_out ns uss kss bss) ≡ length uss
+length_out ns uss kss bss e = frames.length_out ns uss kss bss e ∙ e.0
 
 -- ---- a variable
 
@@ -95,22 +91,15 @@ pub frame_is : (e : Bool) (fs : List CallFrame) → frame_for e (reverse fs) ≡
 frame_is true fs = outermost fs
 frame_is false fs = innermost fs
 
-value_is : (u : Bool) (n k : ℕ) (ns : List ℕ) (m : Remembered) → AreEven ns m → value_in u n (slice_index_or (frames_out ns m.undoable m.no_undo) k no_frame) ≡ value_as u k n m
-value_is true n k ns m even = ap (λ vs. slice_index_or vs n Unknown) (undoable_at ns m.undoable m.no_undo k even.0 even.1)
-value_is false n k ns m even = ap (λ vs. slice_index_or vs n Unknown) (kept_at ns m.undoable m.no_undo k even.0 even.1)
+value_is : (u : Bool) (n k : ℕ) (ns : List ℕ) (m : Remembered) → AreEven ns m → value_in u n (slice_index_or (frames_out ns m.undoable m.no_undo m.buffers) k no_frame) ≡ value_as u k n m
+value_is true n k ns m even = ap (λ vs. slice_index_or vs n Unknown) (undoable_at ns m.undoable m.no_undo m.buffers k even)
+value_is false n k ns m even = ap (λ vs. slice_index_or vs n Unknown) (kept_at ns m.undoable m.no_undo m.buffers k even)
 
 pub variable_is : (rest : State) (ns : List ℕ) (m : Remembered) → AreEven ns m → (x : Variable) → value_of x (state_with rest ns m) ≡ value_now x m
 variable_is rest ns m even x =
-    ap (value_in x.undoable x.number) (frame_is x.external (frames_out ns m.undoable m.no_undo))
-    ∙ ap (λ l. value_in x.undoable x.number (slice_index_or (frames_out ns m.undoable m.no_undo) (frame_of x.external l) no_frame)) (length_out ns m.undoable m.no_undo even.0 even.1)
+    ap (value_in x.undoable x.number) (frame_is x.external (frames_out ns m.undoable m.no_undo m.buffers))
+    ∙ ap (λ l. value_in x.undoable x.number (slice_index_or (frames_out ns m.undoable m.no_undo m.buffers) (frame_of x.external l) no_frame)) (length_out ns m.undoable m.no_undo m.buffers even)
     ∙ value_is x.undoable x.number (frame_of x.external (length m.undoable)) ns m even
-
--- ---- a buffer: there is none
-
-buffer_is : (rest : State) (ns : List ℕ) (m : Remembered) (b : ℕ) → buffer_at b (state_with rest ns m) ≡ no_buffer
-buffer_is rest ns m b =
-    ap (λ f. slice_index_or f.buffers b no_buffer) (innermost (frames_out ns m.undoable m.no_undo))
-    ∙ ap (λ bs. slice_index_or bs b no_buffer) (buffers_at ns m.undoable m.no_undo (length (frames_out ns m.undoable m.no_undo) - 1))
 
 -- ---- all of it
 
@@ -119,9 +108,9 @@ sees_the_state rest ns m retry even =
     let s = state_with rest ns m in
     λ i. record {
       variable = λ x. (sym (variable_is rest ns m even x)) i;
-      field = λ b f. (ap (λ y. field_in f y.content) (sym (buffer_is rest ns m b))) i;
-      available = λ b. (ap (λ y. is_available y.content) (sym (buffer_is rest ns m b))) i;
-      locked = λ b. (ap (λ y. y.locked) (sym (buffer_is rest ns m b))) i;
+      field = λ b f. (ap (λ y. field_in f y.content) (sym (own_buffer_is rest ns m b even))) i;
+      available = λ b. (ap (λ y. is_available y.content) (sym (own_buffer_is rest ns m b even))) i;
+      locked = λ b. (ap (λ y. y.locked) (sym (own_buffer_is rest ns m b even))) i;
       retry = retry;
       error_status = rest.status;
       return_value = rest.returned;

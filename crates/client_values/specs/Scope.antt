@@ -1,14 +1,16 @@
--- What an expression reads, where there are no buffers.
-use Rattle.std.specs.Prelude.{ℕ, Bool, false, List, None}
+-- What an expression reads of a client.
+use Rattle.std.specs.Prelude.{ℕ, Bool, List}
 use Rattle.abl_expr.specs.Env.{Env}
-use Rattle.client_memory.specs.Memory.{Remembered, value_now}
+use Rattle.block_meaning.specs.Buffers.{own}
+use Rattle.block_meaning.specs.Values.{field_in, is_available}
+use Rattle.client_memory.specs.Memory.{Remembered, buffer_at, value_now}
 
 abbrev pub env_in : Remembered → Bool → Bool → List ℕ → Env
 env_in m retry status returned = record {
   variable = λ x. value_now x m;
-  field = λ b f. None;
-  available = λ b. false;
-  locked = λ b. false;
+  field = λ b f. field_in f (buffer_at (own b) m).content;
+  available = λ b. is_available (buffer_at (own b) m).content;
+  locked = λ b. (buffer_at (own b) m).locked;
   retry = retry;
   error_status = status;
   return_value = returned;

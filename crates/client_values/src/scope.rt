@@ -8,9 +8,9 @@ ghost use Rattle.client_values.specs.Scope.{env_in};
 use abl_base::Value;
 use abl_eval::Surroundings;
 use bound_tree::Variable;
-use client_memory::Memory;
+use client_memory::{Memory, Place};
 
-/// The variables of a client without buffers, RETRY, ERROR-STATUS and RETURN-VALUE.
+/// The variables and buffers of a client, RETRY, ERROR-STATUS and RETURN-VALUE.
 #[derive(Drop)]
 pub struct Scope<'a> {
     pub memory: &'a Memory,
@@ -28,16 +28,23 @@ impl<'a> Surroundings for Scope<'a> {
         self.memory.get(variable, self.unknown)
     }
 
-    fn field(&self, _: u32, _: u16) -> Option<&Value> {
-        None
+    fn field(&self, buffer: u32, field: u16) -> Option<&Value> {
+        let content = &self.memory.buffer(Place::own(buffer as usize))?.content;
+        content.field(field as usize, self.unknown)
     }
 
-    fn available(&self, _: u32) -> bool {
-        false
+    fn available(&self, buffer: u32) -> bool {
+        match self.memory.buffer(Place::own(buffer as usize)) {
+            Some(buffer) => buffer.content.is_available(),
+            None => false,
+        }
     }
 
-    fn locked(&self, _: u32) -> bool {
-        false
+    fn locked(&self, buffer: u32) -> bool {
+        match self.memory.buffer(Place::own(buffer as usize)) {
+            Some(buffer) => buffer.locked,
+            None => false,
+        }
     }
 
     fn retry(&self) -> bool {
