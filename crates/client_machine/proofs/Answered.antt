@@ -20,17 +20,17 @@ use Rattle.client_machine.specs.Step.{FitsIn, RunKept, KeepsRun}
 use Rattle.client_machine.specs.AnswerClass.{KeepsAnswer}
 
 pub answered_by : (on_answer : OnAnswer) (a : Answer) (old new : Machine) (m : Mode) (mem : Remembered) → (let x : Machine = record old { mode = m; memory = mem } in new ≡ x) →
-    (mem.undoable ≡ old.memory.undoable) → (mem.no_undo ≡ old.memory.no_undo) →
+    (AreEven old.procedures.items old.memory → AreEven old.procedures.items mem) →
     ((p : Program) (rest : State) → FitsIn p rest (mode.Await on_answer) old → HaveDepths 0 mem.copies × ModeInOrder (nesting_of mem) m (reverse old.stack.items)) →
     ((p : Program) (rest : State) → FitsIn p rest (mode.Await on_answer) old → config_of rest new ≡ flat.answered p a (op_of old.memory.copies on_answer) (on_answer_of old.code.instrs.items old.memory.copies on_answer) (stack_in old) (state_in rest old)) →
     KeepsAnswer on_answer a old new
-answered_by on_answer a old new m mem moved us ks inv steps = λ tree p rest is f.
+answered_by on_answer a old new m mem moved even inv steps = λ tree p rest is f.
     let moved' = moved_by old new m mem moved in
     record {
       rest = rest;
       code = same_code old new moved';
       fits = refits p rest (mode.Await on_answer) new.mode old new moved' f
-          (subst (λ (n : Machine). AreEven n.procedures.items n.memory) (sym moved) (f.even.0 ∙ ap length (sym us), f.even.1 ∙ ap length (sym ks)))
+          (subst (λ (n : Machine). AreEven n.procedures.items n.memory) (sym moved) (even f.even))
           (subst (λ (n : Machine). HaveDepths 0 n.memory.copies) (sym moved) (inv p rest f).0)
           (subst (λ (n : Machine). ModeInOrder (nesting_of n.memory) n.mode (reverse n.stack.items)) (sym moved) (inv p rest f).1);
       more = begins_itself rest.written;

@@ -14,7 +14,10 @@ use Rattle.block_flat.specs.Flat as flat
 use Rattle.block_flat.specs.Flat.{means, config, after_stack}
 use Rattle.block_flat.proofs.Machine.{answered_means}
 use Rattle.block_flat.proofs.Fused.{after_back_at_once}
-use Rattle.client_memory.specs.Memory.{Remembered, left_to, restored, last_copy, variables_in, variables_or, HasAll, IsWhole, HasVariablesOnly}
+use Rattle.client_memory.specs.Memory.{Remembered, left_to, restored, restored_from, last_copy, contents_in, buffers_restored, HasAll, IsWhole, HasNoBuffers}
+use Rattle.client_memory.proofs.LevelFrames.{even_restored}
+use Rattle.client_memory.specs.Buffers as buffers
+use Rattle.client_memory.proofs.NoBuffers.{none_restored}
 use Rattle.block_code.specs.declared.code.Instr.{Instr}
 use Rattle.client_machine.specs.declared.machine.Machine.{Machine}
 use Rattle.client_machine.specs.declared.mode.OnAnswer.{OnAnswer}
@@ -31,7 +34,7 @@ use Rattle.client_machine.specs.Step.{FitsIn}
 use Rattle.client_machine.specs.AnswerClass.{KeepsAnswer}
 use Rattle.client_machine.proofs.Levels.{opens_same}
 use Rattle.client_machine.proofs.Orders.{back_order, outer_below}
-use Rattle.client_machine.proofs.Nestings.{level_open, level_whole, depths_taken, nesting_taken}
+use Rattle.client_machine.proofs.Nestings.{level_open, level_whole, depth_at, depths_taken, nesting_taken}
 use Rattle.client_machine.proofs.GoesBack.{level_comes_back}
 use Rattle.client_machine.proofs.End.{no_places}
 
@@ -105,11 +108,12 @@ pub record IsBack (ns : List ℕ) (old mem : Remembered) (d : ℕ) : Type 0 wher
   pub whole : HaveDepths 0 mem.copies
   pub nesting_is : nesting_of mem ≡ outside d (nesting_of old)
   pub copies_is : mem.copies ≡ take d old.copies
+  pub none : HasNoBuffers old → HasNoBuffers mem
   pub state_is : (rest : State) (units : ℕ) → state_of rest ns mem units ≡ put_back (slice_index_or old.copies (d - 1) no_copy) (state_of rest ns old units)
 
-pub is_back : (ns : List ℕ) (old mem : Remembered) (d : ℕ) → (IsWhole (left_to d old) → mem ≡ restored (left_to d old)) → (IsWhole (left_to d old) → HasVariablesOnly (last_copy (left_to d old).copies) (length (left_to d old).copies)) →
+pub is_back : (ns : List ℕ) (old mem : Remembered) (d : ℕ) → (IsWhole (left_to d old) → mem ≡ restored (left_to d old)) →
     IsOwn (nesting_of old) (Some d) → AreEven ns old → HaveDepths 0 old.copies → IsBack ns old mem d
-is_back ns old mem d restores plain own even depths =
+is_back ns old mem d restores own even depths =
     let some = own.0 in
     let low = level_open old d own in
     let k = d - 1 in
@@ -120,30 +124,31 @@ is_back ns old mem d restores plain own even depths =
     let all : length c.frames ≡ length old.undoable = level_whole old d own in
     let is_whole : IsWhole (left_to d old) = subst (λ x. HasAll x old.undoable) (sym last) all in
     let mem_is = restores is_whole in
-    let vars : mem.undoable ≡ variables_in c = ap (λ (m : Remembered). m.undoable) mem_is ∙ ap (λ x. variables_or x old.undoable) last in
-    let vars_length : length mem.undoable ≡ length old.undoable = ap length vars ∙ length-reverse (map (λ (x : Saved). x.undoable) c.frames) ∙ length-map c.frames (λ (x : Saved). x.undoable) ∙ all in
-    let others : mem.no_undo ≡ old.no_undo = ap (λ (m : Remembered). m.no_undo) mem_is in
-    let copies : mem.copies ≡ take d old.copies = ap (λ (m : Remembered). m.copies) mem_is in
+    let even' : AreEven ns mem = subst (λ (m : Remembered). AreEven ns m) (sym mem_is) (even_restored ns (left_to d old) c even is_whole last) in
+    let copies : mem.copies ≡ take d old.copies = ap (λ (m : Remembered). m.copies) mem_is ∙ ap (λ x. (restored_from x (left_to d old)).copies) last in
+    let bufs : mem.buffers ≡ buffers_restored (contents_in c) old.buffers = ap (λ (m : Remembered). m.buffers) mem_is ∙ ap (λ x. (restored_from x (left_to d old)).buffers) last in
+    let deep : c.depth ≡ length (take d old.copies) = depth_at 0 old.copies k depths lt ∙ (let e = length-take-le d old.copies low in omega (arith, e, is)) in
     record {
-      even = (even.0 ∙ sym vars_length, even.1 ∙ sym (ap length others));
+      even = even';
       whole = subst (λ cs. HaveDepths 0 cs) (sym copies) (depths_taken d 0 old.copies depths);
-      nesting_is = nesting_taken d old mem vars_length copies;
+      nesting_is = nesting_taken d old mem (sym even'.0 ∙ even.0) copies;
       copies_is = copies;
-      state_is = λ rest units. level_comes_back rest ns (left_to d old) mem units c mem_is last (plain is_whole) is_whole even;
+      none = λ none. subst buffers.HasNoBuffers (sym bufs) (none_restored (contents_in c) old.buffers none);
+      state_is = λ rest units. level_comes_back rest ns (left_to d old) mem units c mem_is last deep is_whole even;
     }
 
 pub back_keeps : (a : Answer) (depth : ℕ) (old new : Machine) (mem : Remembered) → (let x : Machine = record old { mode = mode.Execute task.LeavesNow; memory = mem } in new ≡ x) →
     (IsWhole (left_to depth old.memory) → mem ≡ restored (left_to depth old.memory)) →
-    (IsWhole (left_to depth old.memory) → HasVariablesOnly (last_copy (left_to depth old.memory).copies) (length (left_to depth old.memory).copies)) →
+    HasNoBuffers old.memory →
     ((p : Program) (o : Op) (k : flat.OnAnswer) (ks : List flat.StackEntry) (s : State) → flat.answered p a o k ks s ≡ flat.answer_step p k a ks s) →
     KeepsAnswer (on_answer.WasBack depth) a old new
-back_keeps a depth old new mem moved restores plain done =
+back_keeps a depth old new mem moved restores bufferless done =
     let ns = old.procedures.items in
     let cs = old.memory.copies in
     let os = reverse old.stack.items in
     let c = slice_index_or cs (depth - 1) no_copy in
     let code = old.code.instrs.items in
-    let facts : (p : Program) (rest : State) → FitsIn p rest (mode.Await (on_answer.WasBack depth)) old → IsBack ns old.memory mem depth = λ p rest f. is_back ns old.memory mem depth restores plain f.order.0 f.even f.whole in
+    let facts : (p : Program) (rest : State) → FitsIn p rest (mode.Await (on_answer.WasBack depth)) old → IsBack ns old.memory mem depth = λ p rest f. is_back ns old.memory mem depth restores f.order.0 f.even f.whole in
     answered_means_by (on_answer.WasBack depth) a old new (mode.Execute task.LeavesNow) mem moved
     (λ p rest f.
     let b = facts p rest f in
@@ -153,7 +158,7 @@ back_keeps a depth old new mem moved restores plain done =
     let s = state_in rest old in
     let ks = stack_in old in
     let s' : state_of rest ns mem old.units ≡ put_back c s = b.state_is rest old.units in
-    let none : all_places (put_back c s) ≡ [] = ap all_places (sym s') ∙ no_places rest ns mem old.units in
+    let none : all_places (put_back c s) ≡ [] = ap all_places (sym s') ∙ no_places rest ns mem old.units b.even (b.none bufferless) in
     let low : length (take depth cs) ≡ depth = length-take-le depth cs (level_open old.memory depth f.order.0) in
     let same_stack : stack_of code mem.copies os ≡ stack_of code cs os =
     ap (λ xs. stack_of code xs os) b.copies_is

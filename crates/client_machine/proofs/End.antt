@@ -13,14 +13,14 @@ use Rattle.block_meaning.specs.Buffers.{own, all_places, places_out, places_from
 use Rattle.block_meaning.specs.Blocks.{Iteration, first_of_two, passed_with, after_iteration, goes_back, acts, undone, passes, undo_comes, leaves_if, enters_rest, closing, after_closing, ended, ends_with}
 use Rattle.block_flat.specs.Flat as flat
 use Rattle.block_flat.specs.Flat.{means, config, after_stack}
-use Rattle.client_undo.specs.Undo.{Values}
-use Rattle.client_memory.specs.Memory.{Remembered}
+use Rattle.client_memory.specs.Undo.{Values}
+use Rattle.client_memory.specs.Memory.{Remembered, HasNoBuffers}
 use Rattle.block_code.specs.declared.code.Instr.{Instr}
 use Rattle.client_machine.specs.declared.mode.Completion.{Completion as MyWay}
 use Rattle.client_machine.specs.declared.mode.Completion.TheVariants as completion
-use Rattle.client_machine.specs.Config.{completion_of, frames_out, state_of, copy_in}
+use Rattle.client_machine.specs.Config.{completion_of, state_of, copy_in, AreEven}
 use Rattle.client_machine.specs.Order.{ClosesIteration, outer_of, first_in}
-use Rattle.client_machine.proofs.Left.{simple_reverse, plain_out, no_places_in}
+use Rattle.client_memory.proofs.NoBuffers as none
 
 -- ---- UNDO
 
@@ -77,8 +77,8 @@ closing_names (completion.EndKeys y) x = absurd x
 closing_names (completion.Stops why) x = absurd x
 
 -- no place has a buffer
-pub no_places : (rest : State) (ns : List ℕ) (m : Remembered) (units : ℕ) → all_places (state_of rest ns m units) ≡ []
-no_places rest ns m units = no_places_in 0 (reverse (frames_out ns m.undoable m.no_undo)) (simple_reverse (frames_out ns m.undoable m.no_undo) (plain_out ns m.undoable m.no_undo))
+pub no_places : (rest : State) (ns : List ℕ) (m : Remembered) (units : ℕ) → AreEven ns m → HasNoBuffers m → all_places (state_of rest ns m units) ≡ []
+no_places rest ns m units even bufferless = none.no_places rest ns m even bufferless
 
 rest_by : (x : Bool) (p : Program) (s : State) (ans : List Answer) → all_places s ≡ [] → if_else x (λ s ans. enters_places p (all_places s) s ans) (completes Normal) s ans ≡ Done Normal s ans
 rest_by true p s ans e = ap (λ ps. enters_places p ps s ans) e

@@ -46,7 +46,7 @@ wrote_full piece rest m f full =
 -- the state still fits
 pub written_fits : (piece : Piece) (rest : State) (m : Machine) (output : Output) → RestFits rest m → output.size ≡ m.output.size + bytes_in piece → (let x : Machine = record m { output = output } in RestFits (rest_with piece rest) x)
 written_fits piece rest m output f size = record {
-  made = f.made;
+  made_is = f.made_is;
   status_is = f.status_is;
   returned_is = f.returned_is;
   size_is = ap (λ n. n + bytes_in piece) f.size_is ∙ sym size;
@@ -65,7 +65,7 @@ quiet_kept fault old new moved = λ tree p rest is f.
       code = ap (λ (m : Machine). m.code) moved;
       fits = subst (λ (n : Machine). FitsIn p rest' n.mode n) (sym moved) (record {
         program = f.program;
-        state = record { made = f.state.made; status_is = refl; returned_is = f.state.returned_is; size_is = f.state.size_is; streams_are = f.state.streams_are; at_is = f.state.at_is };
+        state = record { made_is = f.state.made_is; status_is = refl; returned_is = f.state.returned_is; size_is = f.state.size_is; streams_are = f.state.streams_are; at_is = f.state.at_is };
         even = f.even;
         whole = f.whole;
         order = f.order;

@@ -3,14 +3,13 @@ use Rattle.std.proofs.Common.{◌≡◌, ℕ, ◌+◌, ◌-◌, List, [], ◌∷
 use Rattle.std.specs.Prelude.{map, reverse}
 use Rattle.std.proofs.lemmas.List.{get_or_append_left, get_or_at, length-append}
 use Rattle.block_meaning.specs.State as state
-use Rattle.block_meaning.specs.State.{State, CallFrame, Copy, Saved}
-use Rattle.block_meaning.specs.Frames.{saved_of, copy_of}
+use Rattle.block_meaning.specs.State.{State, Copy}
+use Rattle.block_meaning.specs.Frames.{copy_of}
 use Rattle.block_meaning.specs.Blocks as blocks
 use Rattle.block_flat.specs.Flat as flat
 use Rattle.bound_tree.specs.Tree.{Header}
-use Rattle.client_undo.specs.Undo.{Values}
-use Rattle.client_undo.proofs.Copies.{map_reverse}
-use Rattle.client_memory.specs.Memory.{Remembered, saved_now, entered}
+use Rattle.client_memory.specs.Memory.{Remembered, copy_now, entered}
+use Rattle.client_memory.proofs.LevelFrames.{copy_is}
 use Rattle.block_code.specs.declared.code.Instr.{Instr}
 use Rattle.client_machine.specs.declared.mode.IterationData.{IterationData}
 use Rattle.client_machine.specs.declared.mode.PassedLevels.{PassedLevels}
@@ -20,7 +19,7 @@ use Rattle.client_machine.specs.declared.mode.Task.{Task}
 use Rattle.client_machine.specs.declared.mode.Task.TheVariants as task
 use Rattle.client_machine.specs.declared.mode.StackEntry.{StackEntry}
 use Rattle.client_machine.specs.declared.mode.StackEntry.TheVariants as stack
-use Rattle.client_machine.specs.Config.{header_at, body_at, no_copy, copy_in, turn_of, iteration_of, after_undo_of, passed_of, completion_of, task_of, entry_of, stack_of, frames_out, state_of, IsBelow, WayBelow, TaskBelow, OpenBelow, AllBelow, AreEven}
+use Rattle.client_machine.specs.Config.{header_at, body_at, no_copy, copy_in, turn_of, iteration_of, after_undo_of, passed_of, completion_of, task_of, entry_of, stack_of, state_of, IsBelow, WayBelow, TaskBelow, OpenBelow, AllBelow, AreEven}
 
 -- ---- one more copy
 
@@ -78,32 +77,17 @@ opens_same code cs c (k ∷ ks) below =
     ap (λ x. x ∷ stack_of code (cs ++ c ∷ []) ks) (open_same code cs c k below.0)
     ∙ ap (λ xs. entry_of code cs k ∷ xs) (opens_same code cs c ks below.1)
 
--- ---- the copy
-
-saved_frames : (ns : List ℕ) (uss kss : Values) → length ns ≡ length uss → length ns ≡ length kss → map saved_of (frames_out ns uss kss) ≡ map saved_now uss
-saved_frames [] [] kss e1 e2 = refl
-saved_frames [] (us ∷ uss) kss e1 e2 = absurd (omega (arith, e1))
-saved_frames (n ∷ ns) [] kss e1 e2 = absurd (omega (arith, e1))
-saved_frames (n ∷ ns) (us ∷ uss) [] e1 e2 = absurd (omega (arith, e2))
-saved_frames (n ∷ ns) (us ∷ uss) (ks ∷ kss) e1 e2 = ap (λ xs. saved_now us ∷ xs) (saved_frames ns uss kss (omega (arith, e1)) (omega (arith, e2)))
-
-abbrev copy_with : ℕ → ℕ → List Saved → Copy
-copy_with d made fs = record { depth = d; made = made; frames = fs }
-
-pub the_copy : (rest : State) (ns : List ℕ) (m : Remembered) (units : ℕ) → AreEven ns m → rest.made ≡ 0 → copy_with (length m.copies + 1) 0 (reverse (map saved_now m.undoable)) ≡ copy_of (state_of rest ns m units)
-the_copy rest ns m units even none =
-    ap (λ fs. copy_with (length m.copies + 1) 0 fs) (ap reverse (sym (saved_frames ns m.undoable m.no_undo even.0 even.1)) ∙ sym (map_reverse saved_of (frames_out ns m.undoable m.no_undo)))
-    ∙ ap (λ n. copy_with (length m.copies + 1) n (map saved_of (reverse (frames_out ns m.undoable m.no_undo)))) (sym none)
+-- ---- a level begins
 
 -- a level begins
-pub level_begins : (rest : State) (code : List Instr) (ks : List StackEntry) (ns : List ℕ) (m m' : Remembered) (units depth : ℕ) (b : Header) (body d : ℕ) (t : state.Turn) (retry : Bool) → m' ≡ entered 0 m → AllBelow (length m.copies) ks → AreEven ns m → rest.made ≡ 0 → depth ≡ length m.copies + 1 →
+pub level_begins : (rest : State) (code : List Instr) (ks : List StackEntry) (ns : List ℕ) (m m' : Remembered) (units depth : ℕ) (b : Header) (body d : ℕ) (t : state.Turn) (retry : Bool) → m' ≡ entered rest.made m → AllBelow (length m.copies) ks → AreEven ns m → depth ≡ length m.copies + 1 →
     flat.config (flat.Execute (flat.Begins b (copy_in m'.copies (Some depth)) t retry body d)) (stack_of code m'.copies ks) (state_of rest ns m' units)
     ≡ flat.config (flat.Execute (flat.Begins b (Some (copy_of (state_of rest ns m units))) t retry body d)) (stack_of code m.copies ks) (blocks.deeper (state_of rest ns m units))
-level_begins rest code ks ns m m' units depth b body d t retry is below even none deep =
-    let c = copy_with (length m.copies + 1) 0 (reverse (map saved_now m.undoable)) in
+level_begins rest code ks ns m m' units depth b body d t retry is below even deep =
+    let c = copy_now rest.made m in
     let found : copy_in (m.copies ++ c ∷ []) (Some depth) ≡ Some (copy_of (state_of rest ns m units)) =
-    ap (λ (x : Copy). Some x) (get_or_at m.copies c [] no_copy (depth - 1) (omega (arith, deep)) ∙ the_copy rest ns m units even none) in
+    ap (λ (x : Copy). Some x) (get_or_at m.copies c [] no_copy (depth - 1) (omega (arith, deep)) ∙ copy_is (record rest { units = units }) ns m rest.made even refl) in
     ap (λ (x : Remembered). flat.config (flat.Execute (flat.Begins b (copy_in x.copies (Some depth)) t retry body d)) (stack_of code x.copies ks) (state_of rest ns x units)) is
-    ∙ ap (λ x. flat.config (flat.Execute (flat.Begins b x t retry body d)) (stack_of code (m.copies ++ c ∷ []) ks) (state_of rest ns (entered 0 m) units)) found
-    ∙ ap (λ xs. flat.config (flat.Execute (flat.Begins b (Some (copy_of (state_of rest ns m units))) t retry body d)) xs (state_of rest ns (entered 0 m) units)) (opens_same code m.copies c ks below)
+    ∙ ap (λ x. flat.config (flat.Execute (flat.Begins b x t retry body d)) (stack_of code (m.copies ++ c ∷ []) ks) (state_of rest ns (entered rest.made m) units)) found
+    ∙ ap (λ xs. flat.config (flat.Execute (flat.Begins b (Some (copy_of (state_of rest ns m units))) t retry body d)) xs (state_of rest ns (entered rest.made m) units)) (opens_same code m.copies c ks below)
     ∙ ap (λ n. flat.config (flat.Execute (flat.Begins b (Some (copy_of (state_of rest ns m units))) t retry body d)) (stack_of code m.copies ks) (record (state_of rest ns m units) { level = n })) (length-append m.copies (c ∷ []))

@@ -4,7 +4,8 @@ use Rattle.std.specs.Prelude.{map, reverse, slice_index_or}
 use Rattle.std.proofs.lemmas.List.{take-map, length-map, length-reverse, length-append, map-append, get_or_at, get_or-map}
 use Rattle.std.proofs.Math.Seq.{take-append_seam}
 use Rattle.block_meaning.specs.State.{Copy}
-use Rattle.client_memory.specs.Memory.{HasFewer, IsOuter, Remembered, entered, last_copy, left, saved_now, without_last}
+use Rattle.client_memory.specs.Memory.{HasFewer, IsOuter, Remembered, copy_now, entered, last_copy, left, saved_now, without_last}
+use Rattle.client_memory.proofs.LevelFrames.{length_now}
 use Rattle.client_machine.specs.declared.mode.StackEntry.{StackEntry}
 use Rattle.client_machine.specs.declared.mode.StackEntry.TheVariants as stack
 use Rattle.client_machine.specs.declared.mode.IterationData.{IterationData}
@@ -23,23 +24,20 @@ level_count m = length-map m.copies (λ (c : Copy). length c.frames)
 
 -- ---- a level begins
 
-abbrev next_copy : Remembered → Copy
-next_copy m = record { depth = length m.copies + 1; made = 0; frames = reverse (map saved_now m.undoable) }
-
-pub nesting_entered : (m : Remembered) → nesting_of (entered 0 m) ≡ record (nesting_of m) { levels = (nesting_of m).levels ++ length m.undoable ∷ [] }
-nesting_entered m =
-    ap (λ xs. record (nesting_of m) { levels = xs }) (map-append (λ (c : Copy). length c.frames) m.copies (next_copy m ∷ [])
-    ∙ ap (λ k. map (λ (c : Copy). length c.frames) m.copies ++ k ∷ []) (length-reverse (map saved_now m.undoable) ∙ length-map m.undoable saved_now))
+pub nesting_entered : (made : ℕ) (m : Remembered) → length m.undoable ≡ length m.buffers → nesting_of (entered made m) ≡ record (nesting_of m) { levels = (nesting_of m).levels ++ length m.undoable ∷ [] }
+nesting_entered made m even =
+    ap (λ xs. record (nesting_of m) { levels = xs }) (map-append (λ (c : Copy). length c.frames) m.copies (copy_now made m ∷ [])
+    ∙ ap (λ k. map (λ (c : Copy). length c.frames) m.copies ++ k ∷ []) (length-reverse (saved_now m.undoable m.buffers) ∙ length_now m.undoable m.buffers even))
 
 -- the iteration that opened it
-pub begins_order : (m : Remembered) (k : ℕ) (it : IterationData) (ks : List StackEntry) → it.depth ≡ Some (length m.copies + 1) → InOrder (nesting_of m) ks → InOrder (nesting_of (entered 0 m)) (stack.In k it ∷ ks)
-begins_order m k it ks e o =
+pub begins_order : (made : ℕ) (m : Remembered) (k : ℕ) (it : IterationData) (ks : List StackEntry) → it.depth ≡ Some (length m.copies + 1) → length m.undoable ≡ length m.buffers → InOrder (nesting_of m) ks → InOrder (nesting_of (entered made m)) (stack.In k it ∷ ks)
+begins_order made m k it ks e even o =
     let n = nesting_of m in
     let grown : Nesting = record n { levels = n.levels ++ n.procedures ∷ [] } in
     let long : length grown.levels ≡ length m.copies + 1 = length-append n.levels (n.procedures ∷ []) ∙ ap (λ j. j + 1) (level_count m) in
     let count = level_count m in
     let last : length m.copies + 1 - 1 ≡ length n.levels = omega (arith, count) in
-    subst (λ x. InOrder x (stack.In k it ∷ ks)) (sym (nesting_entered m))
+    subst (λ x. InOrder x (stack.In k it ∷ ks)) (sym (nesting_entered made m even))
     (subst (λ x. IsLast grown x × IsOwn grown x × InOrder (under grown x) ks) (sym e) (
       sym long,
       (omega arith, omega (arith, long), get_or_at n.levels n.procedures [] 0 (length m.copies + 1 - 1) (sym last)),
@@ -96,8 +94,8 @@ pub depths_more : (n : ℕ) (cs : List Copy) (c : Copy) → HaveDepths n cs → 
 depths_more n [] c x e = (e ∙ (let a : n + 0 + 1 ≡ n + 1 = omega arith in a), tt)
 depths_more n (d ∷ cs) c x e = (x.0, depths_more (n + 1) cs c x.1 (e ∙ (let a : n + length (d ∷ cs) + 1 ≡ n + 1 + length cs + 1 = omega arith in a)))
 
-pub depths_entered : (m : Remembered) → HaveDepths 0 m.copies → HaveDepths 0 (entered 0 m).copies
-depths_entered m x = depths_more 0 m.copies (next_copy m) x (omega arith)
+pub depths_entered : (made : ℕ) (m : Remembered) → HaveDepths 0 m.copies → HaveDepths 0 (entered made m).copies
+depths_entered made m x = depths_more 0 m.copies (copy_now made m) x (omega arith)
 
 pub depths_left : (n : ℕ) (cs : List Copy) → HaveDepths n cs → HaveDepths n (without_last cs)
 depths_left n [] x = tt

@@ -77,7 +77,7 @@ cleared_fits : (quiet : Bool) (p : Program) (rest : State) (old : Machine) → F
     (let m : Machine = record old { status = status_if quiet old.status } in FitsIn p (cleared quiet rest) (mode.Unwind completion.Normal) m)
 cleared_fits true p rest old f = record {
   program = f.program;
-  state = record { made = f.state.made; status_is = refl; returned_is = f.state.returned_is; size_is = f.state.size_is; streams_are = f.state.streams_are; at_is = f.state.at_is };
+  state = record { made_is = f.state.made_is; status_is = refl; returned_is = f.state.returned_is; size_is = f.state.size_is; streams_are = f.state.streams_are; at_is = f.state.at_is };
   even = f.even;
   whole = f.whole;
   order = f.order;

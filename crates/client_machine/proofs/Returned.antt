@@ -48,7 +48,7 @@ task_kept_returned task old new moved order means_same = λ tree p rest is f.
       fits = record {
         program = subst (λ (m : Machine). IsProgramOf p m.code m.inputs) (sym moved) f.program;
         state = subst (λ (m : Machine). RestFits (rest_with rest new.returned) m) (sym moved)
-            (record { made = f.state.made; status_is = f.state.status_is; returned_is = refl; size_is = f.state.size_is; streams_are = f.state.streams_are; at_is = f.state.at_is });
+            (record { made_is = f.state.made_is; status_is = f.state.status_is; returned_is = refl; size_is = f.state.size_is; streams_are = f.state.streams_are; at_is = f.state.at_is });
         even = subst (λ (m : Machine). AreEven m.procedures.items m.memory) (sym moved) f.even;
         whole = subst (λ (m : Machine). HaveDepths 0 m.memory.copies) (sym moved) f.whole;
         order = subst (λ (m : Machine). ModeInOrder (nesting_of m.memory) new.mode (reverse new.stack.items)) (sym moved) (order f.order);

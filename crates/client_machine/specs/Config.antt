@@ -9,7 +9,7 @@ use Rattle.block_meaning.specs.State as state
 use Rattle.block_meaning.specs.State.{State, CallFrame, Copy, Passed}
 use Rattle.block_meaning.specs.Blocks as blocks
 use Rattle.block_flat.specs.Flat as flat
-use Rattle.client_undo.specs.Undo.{Values}
+use Rattle.client_memory.specs.Undo.{Values}
 use Rattle.client_memory.specs.Memory.{Remembered}
 pub use Rattle.client_values.specs.Variables.{frames_out, AreEven}
 use Rattle.block_code.specs.declared.code.Instr.{Instr}
@@ -163,7 +163,7 @@ mode_of code cs (mode.Await k) = flat.Await (op_of cs k) (on_answer_of code cs k
 
 -- the state; `rest` has the fields that the machine does not have
 abbrev pub state_of : State → List ℕ → Remembered → ℕ → State
-state_of rest ns m units = record rest { frames = reverse (frames_out ns m.undoable m.no_undo); level = length m.copies; units = units }
+state_of rest ns m units = record rest { frames = reverse (frames_out ns m.undoable m.no_undo m.buffers); level = length m.copies; units = units }
 
 -- ---- levels that entries name
 

@@ -12,13 +12,13 @@ use Rattle.client_machine.specs.declared.inputs.Stream.{Stream}
 use Rattle.client_machine.specs.declared.inputs.Inputs.{Inputs}
 use Rattle.client_machine.specs.Config.{header_at}
 
--- a procedure without buffers, and its code
+-- a procedure, and its code
 pub record IsProcedureOf (code : List Instr) (c : ProcedureCode) (q : Procedure) : Type 0 where
   pub header : header_at code c.place ≡ q.header
   pub undoable : c.undoable ≡ q.undoable
   pub no_undo : c.no_undo ≡ q.no_undo
   pub parameters : c.parameters.items ≡ q.parameters
-  pub buffers : q.buffers ≡ []
+  pub buffers : c.buffers.items ≡ q.buffers
 
 -- the same for each procedure, in order
 abbrev pub AreProceduresOf : List Instr → List ProcedureCode → List Procedure → Type 0

@@ -36,9 +36,9 @@ use Rattle.client_machine.specs.Order.{nesting_of, ModeInOrder, HaveDepths, Comp
 abbrev pub code_in : Machine → Code
 code_in m = record { instr = instr_at m.code.instrs.items; entry = λ n. body_at m.code.instrs.items (place_of m.code.procedures.items n) }
 
--- the fields that the state has and the configuration does not show; there are no CREATEs
-pub record StateFits (rest : State) (status : Bool) (returned : List ℕ) (size : ℕ) (streams : List Stream) (own_at : ℕ) : Type 0 where
-  pub made : rest.made ≡ 0
+-- the fields that the state has and the configuration does not show
+pub record StateFits (rest : State) (made : ℕ) (status : Bool) (returned : List ℕ) (size : ℕ) (streams : List Stream) (own_at : ℕ) : Type 0 where
+  pub made_is : rest.made ≡ made
   pub status_is : rest.status ≡ status
   pub returned_is : rest.returned ≡ returned
   pub size_is : rest.size ≡ size
@@ -47,7 +47,7 @@ pub record StateFits (rest : State) (status : Bool) (returned : List ℕ) (size 
 
 -- the same of a machine
 abbrev pub RestFits : State → Machine → Type 0
-RestFits rest m = StateFits rest m.status m.returned m.output.size m.streams.items m.own_at
+RestFits rest m = StateFits rest m.made m.status m.returned m.output.size m.streams.items m.own_at
 
 -- the invariant between two steps, where the mode is this one
 pub record FitsIn (p : Program) (rest : State) (mode : Mode) (m : Machine) : Type 0 where

@@ -161,8 +161,11 @@ impl Machine {
         ensures ok { OnOk result (KeepsAnswer (OnAnswer.WasBack depth) answer.now self.old self.new) }
         ensures err { OnErr result (IsUnchanged self.old.output self.new.output) }
     {
+        if self.memory.has_buffers() {
+            return Err(AllocError);
+        }
         self.memory.leave_to(depth);
-        self.memory.back();
+        self.memory.back()?;
         self.set_mode(Mode::Execute(Task::LeavesNow));
         Ok(())
     }

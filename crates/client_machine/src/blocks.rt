@@ -129,6 +129,9 @@ impl Machine {
         ensures ok { OnOk result (KeepsTask Task.LeavesNow self.old self.new) }
         ensures err { OnErr result (IsUnchanged self.old.output self.new.output) }
     {
+        if self.memory.has_buffers() {
+            return Err(AllocError);
+        }
         self.ask(OnAnswer::WasLeft);
         Ok(())
     }

@@ -106,6 +106,9 @@ impl Machine {
         if !self.is_bufferless(place) {
             return Err(AllocError);
         }
+        if self.memory.has_buffers() {
+            return Err(AllocError);
+        }
         let depth = iteration.depth;
         let completion = self.completion_after(place, iteration.turn, completion);
         match depth {

@@ -49,6 +49,8 @@ pub struct Machine {
     pub memory: Memory,
     /// Budget units that are left.
     pub units: u64,
+    /// The number of CREATEs so far.
+    pub made: u64,
     /// ERROR-STATUS:ERROR.
     pub status: bool,
     /// RETURN-VALUE.
@@ -230,14 +232,14 @@ impl Machine {
         retry: bool,
         left: u32,
     ) -> Result<(), AllocError>
-        ensures moved { OnOk result (self.new ≡ record self.old { mode = Mode.Execute (Task.Begins place (Some (length self.old.memory.copies + 1)) turn retry left); memory = enters 0 self.old.memory }) }
+        ensures moved { OnOk result (self.new ≡ record self.old { mode = Mode.Execute (Task.Begins place (Some (length self.old.memory.copies + 1)) turn retry left); memory = enters self.old.made self.old.memory }) }
         ensures err { OnErr result (IsUnchanged self.old.output self.new.output) }
-        ensures ok { OnOk result (AllBelow (length self.old.memory.copies) (reverse self.old.stack.items) → AreEven self.old.procedures.items self.old.memory → (rest : State) (p : Program) (a : Answer) → rest.made ≡ 0 → config_of rest self.new ≡ flat.answer_step p (on_answer_of self.old.code.instrs.items self.old.memory.copies (OnAnswer.WasEntered place turn retry left)) a (stack_in self.old) (state_in rest self.old)) }
+        ensures ok { OnOk result (AllBelow (length self.old.memory.copies) (reverse self.old.stack.items) → AreEven self.old.procedures.items self.old.memory → (rest : State) (p : Program) (a : Answer) → rest.made ≡ self.old.made → config_of rest self.new ≡ flat.answer_step p (on_answer_of self.old.code.instrs.items self.old.memory.copies (OnAnswer.WasEntered place turn retry left)) a (stack_in self.old) (state_in rest self.old)) }
     {
         let Some(depth) = self.memory.depth().checked_add(1) else {
             return Err(AllocError);
         };
-        self.memory.enter(0)?;
+        self.memory.enter(self.made)?;
         self.set_mode(Mode::Execute(Task::Begins {
             place,
             depth: Some(depth),

@@ -27,7 +27,7 @@ returns-in-None-clause-ok c =
     (task_kept_same t old _ refl
     (closes_plainly (nesting_of old.memory) c.args.place c.args.iteration c.args.completion w ks c.in-None.is c.requires.plain (c.completion_after-completion.ensures.plain named))
     (λ tree p rest is f ans.
-    plain_iteration_ends tree p b o (completion_of old.code.instrs.items cs c.args.completion) (stack_in old) (state_in rest old) ans (closing_ends p b o old.code.instrs.items cs c.args.completion c.requires.plain) plain (no_places rest old.procedures.items old.memory old.units) (ap (copy_in cs) c.in-None.is)
+    plain_iteration_ends tree p b o (completion_of old.code.instrs.items cs c.args.completion) (stack_in old) (state_in rest old) ans (closing_ends p b o old.code.instrs.items cs c.args.completion c.requires.plain) plain (no_places rest old.procedures.items old.memory old.units f.even (c.has_buffers.ensures.none c.if-has_buffers.false)) (ap (copy_in cs) c.in-None.is)
     ∙ ap (λ x. flat.means tree p (flat.config (flat.Unwind x) (stack_in old) (state_in rest old)) ans) (sym (c.completion_after-completion.ensures.same old.code.instrs.items cs (copy_in cs c.args.iteration.depth)))))
 
 pub returns-in_ok-push-in-Some-clause-ok : goal.returns-in_ok-push-in-Some-clause-ok
@@ -46,6 +46,6 @@ returns-in_ok-push-in-Some-clause-ok c =
     (task_kept_same t old _ refl
     (λ x. subst (λ os. TaskInOrder (nesting_of old.memory) task.LeavesNow os) (sym more) (closes_level (nesting_of old.memory) c.args.place c.in-Some.field-0 c.args.iteration c.args.completion w ks c.in-Some.is c.requires.plain (c.completion_after-completion.ensures.plain named) x))
     (λ tree p rest is f ans.
-    level_ends tree p b o (completion_of old.code.instrs.items cs c.args.completion) _ (stack_in old) (state_in rest old) ans (closing_ends p b o old.code.instrs.items cs c.args.completion c.requires.plain) plain (no_places rest old.procedures.items old.memory old.units) (ap (copy_in cs) c.in-Some.is)
+    level_ends tree p b o (completion_of old.code.instrs.items cs c.args.completion) _ (stack_in old) (state_in rest old) ans (closing_ends p b o old.code.instrs.items cs c.args.completion c.requires.plain) plain (no_places rest old.procedures.items old.memory old.units f.even (c.has_buffers.ensures.none c.if-has_buffers.false)) (ap (copy_in cs) c.in-Some.is)
     ∙ ap (λ x. flat.means tree p (flat.config (flat.Execute (flat.LeavesNow [])) (flat.ThenDo (flat.Completes x) ∷ stack_in old) (state_in rest old)) ans) (sym (c.completion_after-completion.ensures.same old.code.instrs.items cs (copy_in cs c.args.iteration.depth)))
     ∙ ap (λ os. flat.means tree p (flat.config (flat.Execute (flat.LeavesNow [])) (stack_of old.code.instrs.items cs os) (state_in rest old)) ans) (sym more)))

@@ -14,4 +14,4 @@ returns-clause-ok c =
     task_kept_ask task.LeavesNow on_answer.WasLeft old c.ask.new.self c.ask.ensures.moved c.ask.ensures.mode (λ o. o)
     (λ tree p rest f.
     c.ask.ensures.asks rest
-    ∙ ap (λ rows. flat.ask (op.Leave rows) flat.WasLeft (stack_in old) (state_in rest old)) (sym (nothing_kept rest old.procedures.items old.memory old.units)))
+    ∙ ap (λ rows. flat.ask (op.Leave rows) flat.WasLeft (stack_in old) (state_in rest old)) (sym (nothing_kept rest old.procedures.items old.memory old.units f.even (c.has_buffers.ensures.none c.if-has_buffers.false))))

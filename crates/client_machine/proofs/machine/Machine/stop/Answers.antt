@@ -9,4 +9,4 @@ pub returns-clause-ok : goal.returns-clause-ok
 returns-clause-ok c =
     let old = c.args.self.now in
     subst (KeepsAnswer c.args.on_answer c.args.answer.now old) (sym c.set_mode.ensures)
-    (answered_by c.args.on_answer c.args.answer.now old _ (mode.Unwind (completion.Stops c.args.why)) old.memory refl refl refl (λ p rest f. (f.whole, tt)) (λ p rest f. sym (c.requires p _ _ _ _)))
+    (answered_by c.args.on_answer c.args.answer.now old _ (mode.Unwind (completion.Stops c.args.why)) old.memory refl (λ even. even) (λ p rest f. (f.whole, tt)) (λ p rest f. sym (c.requires p _ _ _ _)))
