@@ -1,4 +1,6 @@
 pub mod Steps
+pub mod Leaves
 pub mod Taken
 pub mod Longer
 pub mod Sound
+pub mod Databases

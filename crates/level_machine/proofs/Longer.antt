@@ -1,5 +1,7 @@
 -- Traces that are one event longer.
-use Rattle.std.proofs.Common.{◌≡◌, ℕ, ◌<◌, ◌==◌, Bool, true, false, List, [], ◌∷◌, ◌++◌, cond, refl, sym, ap, subst, eq-eqb}
+use Rattle.std.proofs.Common.{◌≡◌, inl, inr, ℕ, ◌<◌, ◌≤◌, ◌==◌, Bool, true, false, List, [], ◌∷◌, ◌++◌, cond, Some, None, get_or, replicate, refl, sym, ap, subst, eq-eqb}
+use Rattle.std.proofs.lemmas.Bool.{cases_lt}
+use Rattle.std.proofs.lemmas.List.{get_or-replicate, get_or_past, length-replicate}
 use Rattle.database_meaning.specs.declared.contents.Contents.{Contents}
 use Rattle.client_database.specs.declared.event.Event.{Event}
 use Rattle.client_database.specs.declared.operation.Op.{Op}
@@ -9,9 +11,9 @@ use Rattle.database_meaning.specs.Setting.{Setting}
 use Rattle.database_meaning.specs.State.{State}
 use Rattle.database_meaning.specs.Answers.{Answers}
 use Rattle.database_meaning.specs.Traces.{IsSoundContents, Follows, opened, left_by, state_after, after_event, operations_of, answers_of}
-use Rattle.level_machine.specs.Reached.{Reached, IsAt}
+use Rattle.level_machine.specs.Reached.{Reached, IsAt, depth_in}
 use Rattle.database_interface.specs.Step.{event_of}
-use Rattle.level_machine.specs.Turns.{IsTurn, IsAfter}
+use Rattle.level_machine.specs.Turns.{IsTurn, IsAfter, IsLeft}
 
 pub state_longer : (f : Setting) (s : State) (events : List Event) (e : Event) → state_after f s (events ++ e ∷ []) ≡ after_event f (state_after f s events) e
 state_longer f s [] e = refl
@@ -42,17 +44,36 @@ answers_longer c (first ∷ events) e same =
 
 -- ---- turns
 
-pub begins_legal : (f : Setting) (contents : Contents) → IsSoundContents f contents → IsAfter f contents (record { depth = 0; left = MAX_TRACE_BYTES }) []
-begins_legal f contents sound =
+no_levels : (n c : ℕ) → depth_in (get_or (replicate n (Some 0)) c None) ≡ 0
+no_levels n c =
+    elim (cases_lt c n) [
+      | inl less ↦ ap depth_in (get_or-replicate n c (Some 0) None less)
+      | inr beyond ↦ ap depth_in (get_or_past (replicate n (Some 0)) c None (subst (λ k. k ≤ c) (sym (length-replicate n (Some 0))) beyond))
+    ]
+
+pub begins : (f : Setting) (clients : ℕ) → IsLeft f (record { clients = replicate clients (Some 0); left = MAX_TRACE_BYTES }) []
+begins f clients contents =
     record {
-      legal = (sound, tt);
-      at = record { depth = refl; left = refl; unclosed = refl; unwanting = refl };
+      depth = λ c. sym (no_levels clients c);
+      left = refl;
+      unclosed = refl;
+      unblocked = λ c. refl;
+      unlocked = λ c. record { held = refl; reserved_keys = refl };
+      unfreed = refl;
     }
 
-pub keeps_legal : (f : Setting) (contents : Contents) (old new : Reached) (op : Op) (a : Answer) (trace : List Event)
-    → 0 < f.clients → IsAfter f contents old trace → IsTurn old op a new → IsAfter f contents new (trace ++ event_of 0 op a ∷ [])
-keeps_legal f contents old new op a trace some after turn =
+pub begins_legal : (f : Setting) (contents : Contents) (clients : ℕ) → IsSoundContents f contents → IsAfter f contents (record { clients = replicate clients (Some 0); left = MAX_TRACE_BYTES }) []
+begins_legal f contents clients sound = record { legal = (sound, tt); at = begins f clients }
+
+pub keeps_left : (f : Setting) (old new : Reached) (client : ℕ) (op : Op) (a : Answer) (trace : List Event)
+    → IsLeft f old trace → IsTurn old client op a new → IsLeft f new (trace ++ event_of client op a ∷ [])
+keeps_left f old new client op a trace left turn contents =
+    subst (λ s. IsAt new s) (sym (state_longer f (opened contents) trace (event_of client op a))) (turn.leaves f (left_by f contents trace) (left contents))
+
+pub keeps_legal : (f : Setting) (contents : Contents) (old new : Reached) (client : ℕ) (op : Op) (a : Answer) (trace : List Event)
+    → client < f.clients → IsAfter f contents old trace → IsTurn old client op a new → IsAfter f contents new (trace ++ event_of client op a ∷ [])
+keeps_legal f contents old new client op a trace some after turn =
     record {
-      legal = (after.legal.0, follows_longer f (opened contents) trace (event_of 0 op a) after.legal.1 (turn.legal f (left_by f contents trace) some after.at));
-      at = subst (λ s. IsAt new s) (sym (state_longer f (opened contents) trace (event_of 0 op a))) (turn.leaves f (left_by f contents trace) some after.at);
+      legal = (after.legal.0, follows_longer f (opened contents) trace (event_of client op a) after.legal.1 (turn.legal f (left_by f contents trace) some (after.at contents)));
+      at = keeps_left f old new client op a trace after.at turn;
     }

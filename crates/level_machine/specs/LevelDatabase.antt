@@ -1,11 +1,28 @@
--- The frames and contents of which a database of levels is one.
-use Rattle.std.specs.Prelude.{◌<◌}
+-- The settings and contents of which a database of levels is one, and which of its clients are active.
+use Rattle.std.specs.Prelude.{◌+◌, ◌<◌, ◌≤◌, ℕ, length, vec_len, vec_capacity}
 use Rattle.database_meaning.specs.declared.contents.Contents.{Contents}
+use Rattle.client_database.specs.declared.operation.Op.{Op}
 use Rattle.database_meaning.specs.Setting.{Setting}
+use Rattle.database_meaning.specs.Traces.{IsLegal}
 use Rattle.level_machine.specs.declared.level_database.LevelDatabase.{LevelDatabase}
-use Rattle.level_machine.specs.Turns.{IsAfter}
+use Rattle.level_machine.specs.Reached.{IsRunning, running}
+use Rattle.level_machine.specs.Turns.{IsLevelOp, IsLeft}
 
--- there is a client, and the levels are at the state that the trace leaves
-pub record IsOpened (database : LevelDatabase) (frame : Setting) (contents : Contents) : Type 0 where
-  pub clients : 0 < frame.clients
-  pub after : IsAfter frame contents database.levels database.trace.items
+-- the setting has the clients, and the levels are at the state that the trace leaves
+pub record HasSetting (database : LevelDatabase) (setting : Setting) : Type 0 where
+  pub clients : length database.levels.clients ≤ setting.clients
+  pub at : IsLeft setting database.levels database.trace.items
+
+-- and the trace is legal from these contents
+pub record IsOpened (database : LevelDatabase) (setting : Setting) (contents : Contents) : Type 0 where
+  pub of_setting : HasSetting database setting
+  pub legal : IsLegal setting contents database.trace.items
+
+-- an operation of levels of a client of the database
+abbrev pub Serves : LevelDatabase → ℕ → Op → Type 0
+Serves database client op = (client < length database.levels.clients) × IsLevelOp op
+
+-- the client has not ended, and there is room for the events of the Ends that are still to come
+pub record IsActive (database : LevelDatabase) (client : ℕ) : Type 0 where
+  pub runs : IsRunning database.levels client
+  pub room : vec_len database.trace + running database.levels ≤ vec_capacity database.trace

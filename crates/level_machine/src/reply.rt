@@ -18,7 +18,7 @@ pub enum Reply {
 }
 
 impl Reply {
-    /// The answer that it stands for.
+    /// The answer of the database.
     pub fn answer(self) -> Answer
         ensures { result ≡ answer_of self }
     {
