@@ -1,0 +1,4 @@
+pub mod Meant
+pub mod Served
+pub mod Tasks
+pub mod Levels

@@ -1,0 +1,47 @@
+//! What the runner asks of a client.
+
+ghost use Rattle.std.specs.Prelude.{◌≡◌, ◌++◌, ◌∷◌, [], ℕ, List, None, IfSome};
+ghost use Rattle.client_database.specs.declared.event.Event.{Event};
+ghost use Rattle.client_database.specs.declared.operation.Op.{Op};
+ghost use Rattle.database_meaning.specs.Setting.{Setting};
+ghost use Rattle.client_database.specs.declared.next_step.NextStep.{NextStep as Step};
+ghost use Rattle.database_interface.specs.Step.{event_of};
+ghost use Rattle.client_runner.specs.Meant.{Meant, IsSureOf, IsOver, Requests, NoneIsRefused, AllFit};
+
+use client_database::{Answer, NextStep};
+
+/// The session of a client: a machine that requests operations, hears their answers, and ends.
+pub trait Session {
+    /// It has not begun, and is to do what is meant.
+    ghost begins: { Self → Meant → Type 0 };
+
+    /// Its own events so far are those, in order; it does what is meant under their answers, and
+    /// this is its next step.
+    ghost along: { Self → Meant → List Event → Step → Type 0 };
+
+    /// This was its last step: it awaits the answer to this operation, or has ended so.
+    ghost shows: { Self → Step → Type 0 };
+
+    /// An operation that such a session may request.
+    ghost may_request: { Op → Type 0 };
+
+    /// What it does was made for the tables and sequences of this setting.
+    ghost suits: { Self → Setting → Type 0 };
+
+    /// What is meant requests nothing that the client's own events forbid, where none was refused.
+    ghost careful: { Meant → Type 0 };
+
+    /// The answer to the last request, none at the first call; then the next request, or how it has
+    /// ended. Blocked makes it request the same operation again. After End it has ended.
+    fn resume(&mut self, answer: Option<Answer>) -> NextStep
+        ensures first { (m : Meant) → answer ≡ None → begins self.old m → along self.new m [] result }
+        ensures next { (m : Meant) (own : List Event) (op : Op) (n : ℕ) → along self.old m own (Step.Ask op) → IfSome answer (λ a. along self.new m (own ++ event_of n op a ∷ []) result) }
+        ensures shows { shows self.new result }
+        ensures requests { Requests may_request result }
+        ensures over { shows self.old (Step.Ask Op.End) → IfSome answer (λ _. IsOver result) }
+        ensures suits { (setting : Setting) → suits self.old setting → suits self.new setting };
+
+    /// Whatever the trace is, if these are its own events, with answers that fit and none of which is
+    /// Refused, then what a session with a careful meaning requests is well formed.
+    ghost sure: { (session : Self) (setting : Setting) (m : Meant) (n : ℕ) (own : List Event) (op : Op) → suits session setting → careful m → along session m own (Step.Ask op) → AllFit setting own → NoneIsRefused own → IsSureOf setting n own op };
+}

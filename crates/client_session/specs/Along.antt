@@ -1,0 +1,54 @@
+-- A client and its own events, beside what its run means.
+use Rattle.std.specs.Prelude.{◌≡◌, ◌<◌, ◌≤◌, ℕ, ◌∷◌, ◌++◌, [], List, map}
+use Rattle.client_database.specs.declared.operation.Op.{Op}
+use Rattle.client_database.specs.declared.operation.Op.TheVariants.{Leave, Back, End}
+use Rattle.client_database.specs.declared.answer.Answer.{Answer}
+use Rattle.client_database.specs.declared.event.Event.{Event}
+use Rattle.client_database.specs.declared.ends.ClientEnd.TheVariants.{NoMemory}
+use Rattle.client_database.specs.declared.next_step.NextStep.{NextStep}
+use Rattle.client_database.specs.declared.next_step.NextStep.TheVariants.{Ask, Ended}
+use Rattle.database_meaning.specs.Setting.{Setting}
+use Rattle.block_meaning.specs.declared.wants.Piece.{Piece}
+use Rattle.block_meaning.specs.Meaning.{asked}
+use Rattle.block_meaning.specs.GivesUp.{GaveUp}
+use Rattle.block_vm.specs.Standing.{Standing, HasWritten}
+use Rattle.block_vm.specs.Refines.{Agrees, HasGivenUp}
+use Rattle.block_vm.specs.Work.{IsWaiting}
+use Rattle.client_runner.specs.Meant.{Meant, NoneIsRefused, IsSureOf}
+use Rattle.client_runner.specs.Levels.{levels_left}
+
+abbrev pub answers_in : List Event → List Answer
+answers_in own = map (λ (e : Event). e.answer) own
+
+abbrev pub operations_in : List Event → List Op
+operations_in own = map (λ (e : Event). e.op) own
+
+-- it waits for the answer to what it requests
+abbrev pub WaitsIfAsking : Standing → NextStep → Type 0
+WaitsIfAsking client (Ask op) = IsWaiting client
+WaitsIfAsking client (Ended end) = Unit {0}
+
+-- a client whose own events are these, and whose next step this is
+pub data Along (client : Standing) (m : Meant) (own : List Event) (next : NextStep) : Type 0 where
+  -- it does as m says
+  AsMeant : WaitsIfAsking client next → Agrees client m.names m.run (answers_in own) next → operations_in own ≡ asked m.run (answers_in own) → Along client m own next
+  -- it is out of memory, and requests End
+  AsksEnd : WaitsIfAsking client next → (pieces : List Piece) → HasGivenUp client m.names m.run (answers_in own) pieces → next ≡ Ask End → operations_in own ≡ asked m.run (answers_in own) → Along client m own next
+  -- and it has ended so: the last event is that End
+  IsOver : (pieces : List Piece) (before : List Event) (last : Event) → HasWritten client m.names pieces → next ≡ Ended NoMemory → own ≡ before ++ last ∷ [] → last.op ≡ End
+      → operations_in before ≡ asked m.run (answers_in before) → GaveUp m.run (answers_in before) pieces → Along client m own next
+
+-- with this number of open levels, a Leave has one to leave, and a Back names one of them
+abbrev pub IsOpen : ℕ → Op → Type 0
+IsOpen open_levels (Leave keep) = 0 < open_levels
+IsOpen open_levels (Back depth) = (0 < depth) × (depth ≤ open_levels)
+IsOpen open_levels _ = Unit {0}
+
+-- after own events of which none was refused, what m requests names levels that these events have left open
+abbrev pub IsCareful : Meant → Type 0
+IsCareful m = (own : List Event) (op : Op) → operations_in own ≡ asked m.run (answers_in own) → NoneIsRefused own → (m.run (answers_in own)).wants ≡ Ask op → IsOpen (levels_left 0 own) op
+
+-- the client goes along, and what it then requests is well formed if m is careful
+pub record Goes (client : Standing) (m : Meant) (own : List Event) (next : NextStep) : Type 0 where
+  pub along : Along client m own next
+  pub sure : (setting : Setting) (n : ℕ) (op : Op) → next ≡ Ask op → IsCareful m → NoneIsRefused own → IsSureOf setting n own op
