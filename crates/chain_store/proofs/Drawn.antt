@@ -18,7 +18,7 @@ takes_rest free (slot ∷ later) left takes k out =
     takes_rest (without slot free) later left takes.2 k (λ there. out (tail_in slot k later there))
     ∙ not_here k slot 0 (free k) (λ is. out (subst (λ (n : ℕ). Contains (slot ∷ later) n) (sym is) (head_in slot later)))
 
-without_here : (free : ℕ → ℕ) (slot : ℕ) → without slot free slot ≡ 0
+pub without_here : (free : ℕ → ℕ) (slot : ℕ) → without slot free slot ≡ 0
 without_here free slot = let same : eqb slot slot ≡ true = grind (arith, nat_tests) in ap (λ (b : Bool). cond b 0 (free slot)) same
 
 -- a slot that was drawn is not free

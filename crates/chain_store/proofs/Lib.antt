@@ -6,3 +6,11 @@ pub mod Releases
 pub mod Reading
 pub mod Drawn
 pub mod Touched
+pub mod Exactly
+pub mod ClientLists
+pub mod NotedSteps
+pub mod Sounds
+pub mod Vacancies
+pub mod LowWrites
+pub mod Opening
+pub mod Joins

@@ -32,7 +32,7 @@ pub fn fragments(length: usize) -> u32
 }
 
 /// The first of the slots, or 0.
-fn first(slots: &[u32]) -> u32
+pub(crate) fn first(slots: &[u32]) -> u32
     ensures { result ≡ first_or_zero slots.now }
 {
     match slots.split_first() {

@@ -1,8 +1,11 @@
-use Rattle.std.proofs.Common.{◌≡◌, ℕ, false, List, cond, eqb, sym, ap, ◌∙◌, subst}
+use Rattle.std.proofs.Common.{◌≡◌, ◌≢◌, inl, inr, ℕ, false, List, cond, eqb, refl, sym, ap, ◌∙◌, subst}
 use Rattle.abl_storage.specs.Slots.{Transaction, IsReadable}
 use Rattle.row_chain.proofs.Composes.{readable_on}
 use Rattle.chain_store.specs.declared.places.Place.{Place}
 use Rattle.chain_store.specs.Places.{IsKept, IsLeft, place_in}
+use Rattle.row_chain.specs.Fragments.{kind_in}
+use Rattle.chain_store.specs.Exact.{IsExact}
+use Rattle.chain_store.proofs.Exactly.{exact_rests, exact_set}
 use Rattle.chain_store.proofs.Releases.{disowning_keeps, freeing_keeps}
 use Rattle.chain_store.proofs.Turns.{rests_kept}
 use Rattle.chain_store.proofs.release.release.Goals.{then-left, else-left}
@@ -26,4 +29,21 @@ returns-clause-known g c =
           (λ k. c.set_place.ensures.places k
           ∙ (ap (λ (p : Place). cond (eqb k c.args.slot) p (place_in c.args.places.now k)) w.to-is
           ∙ ap (λ (p : Place). cond (eqb k c.args.slot) (record { row = p.row; previous = p.previous; owner = 0 }) (place_in c.args.places.now k)) c.place_of-place.ensures))
+    ]
+
+pub returns-clause-exact : goal.returns-clause-exact
+returns-clause-exact g c =
+    let s = g.S.Slots.state c.args.slots.now in
+    let t = g.S.Slots.state c.is_left.new.slots in
+    let looked = c.in_ok-left.ensures.looked in
+    let same : t.failed ≡ s.failed = looked.cause.stays (λ e. cc e) in
+    let exact : IsExact t c.args.places.now = exact_rests s t c.args.places.now looked.rests same c.requires.exact in
+    elim c.if-left.branch [
+      | then-left w ↦ exact_set t c.args.places.now c.set_place.new.places c.args.slot (record { row = 0; previous = 0; owner = 0 }) exact refl (inl refl)
+          (λ k. c.set_place.ensures.places k ∙ ap (λ (p : Place). cond (eqb k c.args.slot) p (place_in c.args.places.now k)) w.to-is)
+      | else-left w ↦ exact_set t c.args.places.now c.set_place.new.places c.args.slot (record { row = c.place_of-place.result.row; previous = c.place_of-place.result.previous; owner = 0 }) exact refl
+          (inr (λ readable.
+          let was : IsReadable s = readable_on t s (sym looked.rests.keeps.observable) (sym same) readable in
+          subst (λ (f : ℕ → List ℕ). kind_in (f c.args.slot) ≢ 0) (sym (looked.rests.reads was)) (c.in_ok-left.ensures.held w.if-left.false was)))
+          (λ k. c.set_place.ensures.places k ∙ ap (λ (p : Place). cond (eqb k c.args.slot) p (place_in c.args.places.now k)) w.to-is)
     ]

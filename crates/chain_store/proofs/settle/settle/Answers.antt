@@ -23,7 +23,7 @@ loop-slot-preserved g c =
     let s = g.S.Slots.state c.loop-slot.slots in
     let t = g.S.Slots.state c.settle_slot.new.slots in
     let i = c.loop-slot.invariant in
-    let e = c.in_ok-settle_slot.ensures in
+    let e = c.in-Ok-settle_slot.ensures in
     let l = e.looked in
     let items : c.loop-slot.touched.items ≡ c.pop.new.self.items ++ c.in-Some.slot ∷ [] = c.in-Some.ensures.items in
     let step : Still s t (g.S.Slots.stop c.loop-slot.slots) (g.S.Slots.stop c.settle_slot.new.slots) = record { rests = l.rests; time = l.time; later = l.cause.later; failed = l.cause.stays (λ q. cc q) } in
@@ -31,6 +31,7 @@ loop-slot-preserved g c =
       still = still_both first s t (g.S.Slots.stop c.args.slots.now) (g.S.Slots.stop c.loop-slot.slots) (g.S.Slots.stop c.settle_slot.new.slots) (g.met.S.Slots.stop_known c.settle_slot.new.slots) i.still step;
       known = e.known;
       freed = e.freed;
+      exact = e.exact;
       ended = ap (λ (f : ℕ → Transaction). (f c.args.client).begun) l.rests.transaction ∙ i.ended;
       room =
           let len = e.len in
@@ -54,5 +55,12 @@ loop-slot-preserved g c =
             ap (place_in c.settle_slot.new.places) here ∙ (e.keeps still ∙ (ap (place_in c.loop-slot.places) (sym here) ∙ i.others k ne))
         | inr apart ↦ e.rest k apart ∙ i.others k ne
       ];
+      none = λ d k own. elim (cases_eq k c.in-Some.slot) [
+        | inl here ↦ i.none d k (ap (owner_in c.loop-slot.places) here ∙ e.none d (ap (owner_in c.settle_slot.new.places) (sym here) ∙ own))
+        | inr apart ↦ i.none d k (ap (λ (p : Place). p.owner) (sym (e.rest k apart)) ∙ own)
+      ];
       long = e.long ∙ i.long;
     }
+
+pub returns-in-Err-settle_slot-clause-none : goal.returns-in-Err-settle_slot-clause-none
+returns-in-Err-settle_slot-clause-none g c = λ fine d k own. c.loop-slot.invariant.none d k (ap (λ (ps : List Place). owner_in ps k) (sym c.in-Err-settle_slot.ensures.same) ∙ own)

@@ -1,0 +1,75 @@
+-- A store is opened: what was found of the slots is noted.
+use Rattle.std.proofs.Common.{◌≡◌, ◌≢◌, ◌⊎◌, ⊎_elim, ℕ, ◌<◌, ◌≤◌, false, List, length, refl, sym, ◌∙◌, ap, arith}
+use Rattle.std.proofs.lemmas.Bool.{cases_lt}
+use Rattle.std.proofs.lemmas.List.{get_or_past}
+use Rattle.abl_storage.specs.Slots.{SlotState, Transaction, IsReadable, Rests}
+use Rattle.free_slots.specs.Free.{free_in}
+use Rattle.free_slots.proofs.Popped.{far}
+use Rattle.row_chain.specs.Fragments.{ends, kind_in}
+use Rattle.row_chain.proofs.Composes.{readable_on}
+use Rattle.chain_store.specs.declared.client.Client.{Client}
+use Rattle.chain_store.specs.declared.places.Place.{Place}
+use Rattle.chain_store.specs.Clients.{ClientView, client_in, no_client}
+use Rattle.chain_store.specs.Exact.{IsExact}
+use Rattle.chain_store.specs.Freed.{IsFreed, has}
+use Rattle.chain_store.specs.Noted.{IsSound}
+use Rattle.chain_store.specs.Places.{IsKept, no_place, owner_in, row_in}
+use Rattle.chain_store.proofs.Kept.{not_both}
+use Rattle.chain_store.proofs.Rewrites.{high_bound, low_bound}
+
+-- what scanning found
+module _ (s t : SlotState) (places : List Place) (idle : (c : ℕ) → (s.transaction c).begun ≡ false) (r : Rests s t) (failed : t.failed ≡ s.failed)
+    (free_found : IsReadable s → (k : ℕ) → ends k ≡ false → kind_in (s.reads k) ≡ 0 → row_in places k ≡ 0) (unowned : (k : ℕ) → ends k ≡ false → owner_in places k ≡ 0) where
+  idle_now : (c : ℕ) → (t.transaction c).begun ≡ false
+  idle_now c = ap (λ (f : ℕ → Transaction). (f c).begun) r.transaction ∙ idle c
+
+  found_exact : IsExact t places
+  found_exact = record {
+    held = λ readable k inside some none empty.
+        let was : IsReadable s = readable_on t s (sym r.keeps.observable) (sym failed) readable in
+        some (free_found was k inside (ap (λ (f : ℕ → List ℕ). kind_in (f k)) (sym (r.reads was)) ∙ empty));
+    marked = λ c k inside begun own. absurd (not_both (t.transaction c).begun begun (idle_now c));
+    free = λ k inside none. unowned k inside;
+    few = λ k inside. let none = unowned k inside in omega (arith, none);
+  }
+
+  pub opened_sound : (free : ℕ → ℕ) (cs : List Client) → s.failed ≡ false → IsKept t places → IsFreed free places → length cs ≡ 16 → ((k : ℕ) → client_in cs k ≡ no_client) → IsSound t places free cs false
+  opened_sound free cs fine kept freed many none = record {
+    sixteen = many;
+    begun = λ c lt. idle_now c ∙ sym (ap (λ (v : ClientView). v.begun) (none c));
+    past = λ c le. idle_now c;
+    same_failed = sym (failed ∙ fine);
+    noted = λ _. record {
+      kept = kept;
+      freed = freed;
+      exact = found_exact;
+      counted = λ c lt begun. absurd (not_both (t.transaction c).begun begun (idle_now c));
+      within = λ c k lt there. absurd (not_both false (sym (ap (λ (v : ClientView). has v.touched k) (none c)) ∙ there) refl);
+      listed = λ c k lt inside own. let no = unowned k inside in absurd (omega (arith, own, no));
+    };
+  }
+
+-- ---- the free slots
+
+-- past the end no slot is known to be taken
+past_end : (places : List Place) (end k : ℕ) → (length places ≤ end) ⊎ (end ≡ 1048576) → end ≤ k → k < 1048576 → row_in places k ≡ 0
+past_end places end k rest le lt = ⊎_elim
+    (λ (short : length places ≤ end). ap (λ (p : Place). p.row) (get_or_past places k no_place (omega (arith, short, le))))
+    (λ (is : end ≡ 1048576). absurd (omega (arith, is, le, lt)))
+    rest
+
+pub free_found : (places : List Place) (back : List ℕ) (last end : ℕ) → (length places ≤ end) ⊎ (end ≡ 1048576) → end ≤ 1048576
+    → ((k : ℕ) → end ≤ k → k < 1048576 → free_in back last k ≡ 1) → ((k : ℕ) → k < 8192 → free_in back last k ≡ 0)
+    → ((k : ℕ) → k < end → row_in places k ≢ 0 → free_in back last k ≡ 0) → ((k : ℕ) → 8192 ≤ k → k < end → row_in places k ≡ 0 → free_in back last k ≡ 1) → IsFreed (free_in back last) places
+free_found places back last end rest high above low held given = record {
+  taken = λ k some. ⊎_elim
+      (λ (lt : k < end). held k lt some)
+      (λ (le : end ≤ k). ⊎_elim
+      (λ (in_rows : k < 1048576). absurd (some (past_end places end k rest le in_rows)))
+      (λ (out : 1048576 ≤ k). far back last k out) (cases_lt k 1048576))
+      (cases_lt k end);
+  every = λ k inside none. ⊎_elim
+      (λ (lt : k < end). given k (low_bound k inside) lt none)
+      (λ (le : end ≤ k). above k le (high_bound k inside))
+      (cases_lt k end);
+}
