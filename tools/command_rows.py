@@ -1,8 +1,9 @@
 #!/usr/bin/env python3
 """Writes `stdout` of crates/command_tables, the answers to the rows of its `stdin`.
 
-Each row that runs a source without records is answered by tools/abl_reference.py, which knows nothing
-of the program. The answers to other rows (wrong arguments, files that cannot be read, rules that are
+Each row that runs a source without records is answered by tools/abl_reference.py, and each row of
+`check` that lists sources by the reference of scopes in tools/scope_rows.py, where it reads the source;
+neither knows anything of the program. The answers to other rows (wrong arguments, files that cannot be read, rules that are
 broken, faults of the outside) were worked by hand; they are in `stdout` and stay. Run it at the
 top of the repository; with `--check` it only says which committed answers the reference denies."""
 
@@ -11,10 +12,13 @@ import sys
 from pathlib import Path
 
 import abl_reference
+import scope_rows
 
 TABLE = Path(__file__).parent.parent / "crates" / "command_tables"
 MOST_SHOWN, SHOWN_AT_ENDS, MOST_FILE = 400, 80, 1048576
 COMMAND = re.compile(r"run s\.df ([1-9]\d{0,8}) (quiet|trace) ([A-Za-z0-9]{1,16})=p(?:<([^<]+))?$")
+CHECK = re.compile(r"check s\.df( [^ ]+){1,16}$")
+SCHEMA_LINE = re.compile(r'ADD (?:TABLE|FIELD "(\w+)" OF) "(\w+)"')
 KEPT = re.compile(r"(1|2|3|4|6|7|10) ")
 
 
@@ -53,6 +57,8 @@ def answered(row):
     files = dict(field.split("=", 1) for field in fields[4:] if field)
     files.setdefault("p", source)
     files.setdefault("s.df", schema)
+    if CHECK.match(arguments) and not faults:
+        return listed(arguments.split()[2:], schema, files)
     command = COMMAND.match(arguments)
     if not command or faults or schema:
         return None
@@ -72,6 +78,34 @@ def answered(row):
     except abl_reference.Refused:
         return None
     return f"{status} {shown(out)} {shown(lines)}"
+
+
+def tables_of(schema):
+    """The tables of a schema file and their fields, as the reference of scopes takes them."""
+    tables = {}
+    for line in schema.split("|"):
+        found = SCHEMA_LINE.match(line)
+        if found and found[1] is None:
+            tables[found[2].lower()] = (found[2], [])
+        elif found:
+            tables[found[2].lower()][1].append(found[1].lower())
+    return tables
+
+
+def listed(names, schema, files):
+    """The answer to a check whose sources break no rule; None where the reference does not read one
+    of them, or finds a rule S that it breaks."""
+    scope_rows.TABLES = tables_of(schema)
+    out = ""
+    try:
+        for name in names:
+            answer = scope_rows.judge(text_of(files[name]).decode())
+            if re.match(r"S\d at", answer):
+                return None
+            out += f"== {name} ==\n{answer}\n"
+    except (AssertionError, IndexError, KeyError, StopIteration):
+        return None
+    return f"0 {shown(out.encode())} "
 
 
 def main():

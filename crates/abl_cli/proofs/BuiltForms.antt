@@ -3,24 +3,15 @@ use Rattle.std.proofs.Common.{◌≡◌, ℕ, Bool, true, false, ◌&&◌, List,
 use Rattle.abl_base.specs.declared.place.Place.{Place}
 use Rattle.abl_base.specs.declared.rule.Rule.{Rule}
 use Rattle.abl_base.specs.declared.rule.Rule.TheVariants.{N1}
-use Rattle.abl_cli.specs.declared.source.SourceFault.{SourceFault}
-use Rattle.abl_cli.specs.declared.source.SourceFault.TheVariants.{Broken}
+use Rattle.abl_source.specs.declared.source.SourceFault.{SourceFault}
+use Rattle.abl_source.specs.declared.source.SourceFault.TheVariants.{Broken}
 use Rattle.abl_values.specs.Schema.{SchemaData}
 use Rattle.bound_tree.specs.declared.procedure.Bound.{Bound}
 use Rattle.bound_tree.specs.declared.procedure.Procedure.{Procedure}
 use Rattle.bound_tree.specs.Bound.{source_of, procedure_of}
-use Rattle.bound_tree.specs.Tree.{Source as Tree}
-use Rattle.abl_syntax.specs.Syntax.{Program as Syntax}
-use Rattle.abl_types.specs.Sources.{bound}
-use Rattle.buffer_scope.specs.Scoped.{with_scopes, first_broken as first_broken_scope}
-use Rattle.block_rules.specs.Rules.{first_broken as first_broken_label}
-use Rattle.txn_infer.specs.Flags.{with_flags}
 use Rattle.block_code.specs.Built.{IsBuilt, is_nil, procedure_is_built, procedures_are_built, body_is_built}
-use Rattle.block_code.specs.Code.{IsCompiled}
-use Rattle.block_code.specs.declared.code.Code.{Code}
 use Rattle.block_vm.specs.Refines.{AreBufferless, HasNoBuffers}
-use Rattle.abl_cli.specs.Sources.{HasSyntax, BreaksFirst, of_form}
-use Rattle.abl_cli.specs.Command.{IsCodeOf}
+use Rattle.abl_cli.specs.Sources.{BreaksFirst}
 
 -- ---- a source that is built has no buffers
 
@@ -44,21 +35,6 @@ pub has_no_buffers : (bound : Bound) → IsBuilt (source_of bound) → HasNoBuff
 has_no_buffers bound built = are_bufferless bound.procedures.items built
 
 -- ---- what is compiled
-
--- the code of what is bound, with its scopes and flags, is that of the source
-pub code_is : (schema : SchemaData) (text : List ℕ) (syntax_of : Syntax) (plain scoped : Tree) (flagged : Bound) (code : Code) → HasSyntax text syntax_of → bound schema syntax_of ≡ Ok plain → first_broken_scope syntax_of plain ≡ None →
-    scoped ≡ with_scopes syntax_of plain → first_broken_label syntax_of ≡ None → source_of flagged ≡ with_flags scoped → IsBuilt (source_of flagged) → IsCompiled code flagged → IsCodeOf schema text code
-code_is schema text syntax_of plain scoped flagged code has tree scopes scoping clean flags built compiled = record {
-  bound = flagged;
-  form = record { syntax_of = syntax_of; has = has; plain = plain; is_bound = tree; scopes = scopes; clean = clean; flags = flags ∙ ap with_flags scoping; built = built };
-  compiled = compiled;
-}
-
--- a tree that is not built breaks N1 first
-pub tree_is_broken : (schema : SchemaData) (text : List ℕ) (syntax_of : Syntax) (plain scoped : Tree) (flagged : Bound) → HasSyntax text syntax_of → bound schema syntax_of ≡ Ok plain → first_broken_scope syntax_of plain ≡ None →
-    scoped ≡ with_scopes syntax_of plain → first_broken_label syntax_of ≡ None → source_of flagged ≡ with_flags scoped → ¬ IsBuilt (source_of flagged) → BreaksFirst schema text N1 (record { line = 1; column = 1 })
-tree_is_broken schema text syntax_of plain scoped flagged has tree scopes scoping clean flags unbuilt =
-    of_form syntax_of plain has tree scopes clean (λ built. unbuilt (subst IsBuilt (sym (flags ∙ ap with_flags scoping)) built))
 
 -- the fault that names a rule names the rule that is broken first
 pub told_at : (schema : SchemaData) (text : List ℕ) (fault : SourceFault) (rule : Rule) (place : Place) → fault ≡ Broken N1 (record { line = 1; column = 1 }) → fault ≡ Broken rule place →

@@ -5,8 +5,8 @@ use Rattle.fault_count.specs.Faults.{Rose}
 use Rattle.abl_outside.specs.Files.{IsLonger, FileState}
 use Rattle.abl_cli.specs.declared.load.TheConstants.{MAX_FILE_BYTES}
 use Rattle.abl_cli.specs.declared.refusal.Refusal.{Refusal}
-use Rattle.abl_cli.specs.declared.arguments.RunArguments.{RunArguments}
-use Rattle.abl_cli.specs.CommandLine.{Names, files_of, run_of}
+use Rattle.abl_arguments.specs.declared.run.RunArguments.{RunArguments}
+use Rattle.abl_arguments.specs.CommandLine.{Names, files_of, run_of}
 use Rattle.abl_cli.specs.Command.{HasText, HasInput, HaveTexts, IsNotRead, is_missing, is_too_long, reading_wants, IsInputNotRead, OneIsNotRead, this_one, later_one, AreSame, Prevents, Cause, prevented}
 
 pub cause_of_prevented :

@@ -11,17 +11,19 @@ use Rattle.client_output.specs.declared.section.Section.{Section}
 use Rattle.abl_cli.specs.declared.refusal.Refusal.{Refusal}
 use Rattle.abl_cli.specs.declared.refusal.Refusal.TheVariants.{Usage, File, TooLong, Schema, Source, Client, Output, NoMemory}
 use Rattle.abl_cli.specs.declared.command.Report.{Report}
-use Rattle.abl_cli.specs.CommandLine.{RunFiles, HaveForm, Begin, IsWrong, at_argument, missing}
+use Rattle.abl_arguments.specs.CommandLine.{RunFiles, Check, HaveForm, BeginForm, IsWrong, at_argument, missing}
 use Rattle.abl_values.specs.Schema.{SchemaData}
-use Rattle.abl_cli.specs.declared.arguments.Mode.{Mode}
+use Rattle.abl_arguments.specs.declared.parts.Mode.{Mode}
 use Rattle.abl_cli.specs.Report.{run_text, status_of}
 use Rattle.abl_outside.specs.Out.{OutState}
 use Rattle.abl_outside.specs.Files.{FileState}
-use Rattle.abl_cli.specs.Command.{IsNotRead, Prevents, no_schema, no_source, no_input, schema_breaks, source_breaks, no_named_input, IsInputNotRead, OneIsNotRead, this_one, later_one, Cause, wrong_argument, prevented, IsReported, CommandResult, Refused, Ran, WritesStatus, refusal_after, status_after, IsUsage}
+use Rattle.abl_cli.specs.Check.{OneBreaks, this_breaks, later_breaks, check_text}
+use Rattle.abl_arguments.specs.CommandLine.{check_arguments}
+use Rattle.abl_cli.specs.Command.{IsNotRead, Prevents, no_schema, no_source, no_input, schema_breaks, source_breaks, no_named_input, IsInputNotRead, OneIsNotRead, this_one, later_one, PreventsCheck, no_schema_file, no_program, schema_is_broken, one_breaks, Cause, wrong_argument, prevented, check_prevented, IsReported, HasChecked, CommandResult, Refused, Ran, Checked, output_refusal, WritesStatus, refusal_after, status_after, IsUsage, HasWholeText, of_run, of_check}
 
 -- ---- arguments
 
-begin_of_form : (arguments : List (List ℕ)) (k : ℕ) → HaveForm arguments → Begin (take k arguments)
+begin_of_form : (arguments : List (List ℕ)) (k : ℕ) → HaveForm arguments → BeginForm HaveForm (take k arguments)
 begin_of_form arguments k form = (drop k arguments, subst HaveForm (sym (take-append-drop k arguments)) form)
 
 -- wrong arguments have no form
@@ -93,26 +95,56 @@ module _ (arguments : List (List ℕ)) (files : FileState) (faults : ℕ) (old n
   no_prevents_output named (source_breaks texts clean h) = elim h [ ]
   no_prevents_output named (no_named_input texts clean tree form h) = no_named_output h
 
+  -- nor what prevents a check
+  no_break_usage : {schema : SchemaData} {number arg : ℕ} {texts : List (List ℕ)} → OneBreaks schema number texts (Usage arg) → ⊥
+  no_break_usage (this_breaks h) = elim h [ ]
+  no_break_usage (later_breaks is h) = no_break_usage h
+
+  no_check_usage : (check : Check) {arg : ℕ} → PreventsCheck files faults check (Usage arg) → ⊥
+  no_check_usage check (no_schema_file h) = no_unread_usage h
+  no_check_usage check (no_program has h) = no_named_usage h
+  no_check_usage check (schema_is_broken texts h) = elim h [ ]
+  no_check_usage check (one_breaks texts clean h) = no_break_usage h
+
+  no_break_output : {schema : SchemaData} {number : ℕ} {texts : List (List ℕ)} → OneBreaks schema number texts Output → ⊥
+  no_break_output (this_breaks h) = elim h [ ]
+  no_break_output (later_breaks is h) = no_break_output h
+
+  no_check_output : (check : Check) → PreventsCheck files faults check Output → ⊥
+  no_check_output check (no_schema_file h) = no_unread_output h
+  no_check_output check (no_program has h) = no_named_output h
+  no_check_output check (schema_is_broken texts h) = elim h [ ]
+  no_check_output check (one_breaks texts clean h) = no_break_output h
+
   usage_is_wrong : (name : List ℕ) (arg : ℕ) → Cause arguments files faults name (Usage arg) → IsWrong arguments arg
   usage_is_wrong name arg (wrong_argument wrong) = wrong
   usage_is_wrong name arg (prevented run is_run are prevents) = absurd (no_prevents_usage run.files prevents)
+  usage_is_wrong name arg (check_prevented check is_check are prevents) = absurd (no_check_usage check prevents)
 
   no_output_cause : (name : List ℕ) → Cause arguments files faults name Output → ⊥
   no_output_cause name (prevented run is_run are prevents) = no_prevents_output run.files prevents
+  no_output_cause name (check_prevented check is_check are prevents) = no_check_output check prevents
+
+  no_usage_checked : (whole : Bool) (arg : ℕ) → output_refusal whole ≡ Some (Usage arg) → ⊥
+  no_usage_checked true arg e = cc e
+  no_usage_checked false arg e = cc e
 
   pub wrong_is_reported : (arg : ℕ) → CommandResult arguments files faults old new report → report.refusal ≡ Some (Usage arg) → IsWrong arguments arg
   wrong_is_reported arg (Refused name refusal cause is) given =
       let same : refusal ≡ Usage arg = cc (is.refusal, given) in usage_is_wrong name arg (subst (λ r. Cause arguments files faults name r) same cause)
   wrong_is_reported arg (Ran named is_run are texts clean tree form inputs have ran) given =
       absurd (no_usage ran.reported.whole ran.end arg (sym ran.reported.refusal ∙ given))
+  wrong_is_reported arg (Checked check is_check are listings listed told) given = absurd (no_usage_checked told.whole arg (sym told.refusal ∙ given))
 
   formless_is_usage : (name : List ℕ) (refusal : Refusal) → Cause arguments files faults name refusal → (HaveForm arguments → ⊥) → IsUsage (Some refusal)
   formless_is_usage name refusal (wrong_argument wrong) formless = tt
-  formless_is_usage name refusal (prevented run is_run are prevents) formless = absurd (formless (run, (is_run, are)))
+  formless_is_usage name refusal (prevented run is_run are prevents) formless = absurd (formless (inl (run, (is_run, are))))
+  formless_is_usage name refusal (check_prevented check is_check are prevents) formless = absurd (formless (inr (check, (is_check, are))))
 
   pub formless_is_reported : CommandResult arguments files faults old new report → (HaveForm arguments → ⊥) → IsUsage report.refusal
   formless_is_reported (Refused name refusal cause is) formless = subst IsUsage (sym is.refusal) (formless_is_usage name refusal cause formless)
-  formless_is_reported (Ran named is_run are texts clean tree form inputs have ran) formless = absurd (formless (named, (is_run, are)))
+  formless_is_reported (Ran named is_run are texts clean tree form inputs have ran) formless = absurd (formless (inl (named, (is_run, are))))
+  formless_is_reported (Checked check is_check are listings listed told) formless = absurd (formless (inr (check, (is_check, are))))
 
   pub formed_is_no_usage : CommandResult arguments files faults old new report → HaveForm arguments → IsUsage report.refusal → ⊥
   formed_is_no_usage did form usage = let arg = is_usage report.refusal usage in wrong_or_formed arguments arg.0 (wrong_is_reported arg.0 did arg.1) form
@@ -128,13 +160,17 @@ module _ (arguments : List (List ℕ)) (files : FileState) (faults : ℕ) (old n
   empty_schema : SchemaData
   empty_schema = record { tables = []; sequences = []; order = [] }
 
+  -- a count that rose rose to a later one too
+  rose_to : (mid : ℕ) → mid ≤ new.faults → Rose old.faults mid → Rose old.faults new.faults
+  rose_to mid later (inl below) = inl (omega (arith, later, below))
+  rose_to mid later (inr last) = inr last
+
+  pub rose_in_check : (names listings : List (List ℕ)) (told : HasChecked names listings old new report) → told.whole ≡ false → Rose old.faults new.faults
+  rose_in_check names listings told broken = rose_to told.between.faults (faults_later [] [] report.refusal told.between new told.lines) (told.text.cause broken)
+
   pub rose_in_report : (mode : Mode) (name : List ℕ) (how : ClientEnd) (sections : List Section) (r : IsReported mode name how sections old new report) → r.whole ≡ false → Rose old.faults new.faults
   rose_in_report mode name how sections r broken =
       rose_to r.between.faults (faults_later name report.ends report.refusal r.between new r.lines) ((r.text empty_schema).cause broken)
-    where
-      rose_to : (mid : ℕ) → mid ≤ new.faults → Rose old.faults mid → Rose old.faults new.faults
-      rose_to mid later (inl below) = inl (omega (arith, later, below))
-      rose_to mid later (inr last) = inr last
 
   output_breaks : (whole : Bool) (how : ClientEnd) → refusal_after how whole ≡ Some Output → whole ≡ false
   output_breaks true end.Normal e = absurd (cc e)
@@ -150,6 +186,11 @@ module _ (arguments : List (List ℕ)) (files : FileState) (faults : ℕ) (old n
       let same : refusal ≡ Output = cc (is.refusal, given) in absurd (no_output_cause name (subst (λ r. Cause arguments files faults name r) same cause))
   output_rose (Ran named is_run are texts clean tree form inputs have ran) given =
       rose_in_report named.mode named.name ran.end ran.sections ran.reported (output_breaks ran.reported.whole ran.end (sym ran.reported.refusal ∙ given))
+  output_rose (Checked check is_check are listings listed told) given = rose_in_check check.programs listings told (breaks_checked told.whole (sym told.refusal ∙ given))
+    where
+      breaks_checked : (whole : Bool) → output_refusal whole ≡ Some Output → whole ≡ false
+      breaks_checked true e = absurd (cc e)
+      breaks_checked false e = refl
 
   -- ---- status 0
 
@@ -172,10 +213,19 @@ module _ (arguments : List (List ℕ)) (files : FileState) (faults : ℕ) (old n
   no_status_0 Output e = cc e
   no_status_0 NoMemory e = cc e
 
-  pub whole_at_0 : CommandResult arguments files faults old new report → report.status ≡ 0 → IsTrue old.observable → (mode : Mode) × (name : List ℕ) × (sections : List Section) × ((schema : SchemaData) → new.texts ≡ appended Standard (run_text mode schema name sections report.trace) old.texts)
+  status_of_check : (whole : Bool) → status_after (output_refusal whole) ≡ 0 → (whole ≡ true) × (output_refusal whole ≡ None)
+  status_of_check true e = (refl, refl)
+  status_of_check false e = absurd (cc e)
+
+  -- the whole text of a run or of a check was appended
+  pub whole_at_0 : CommandResult arguments files faults old new report → report.status ≡ 0 → IsTrue old.observable → HasWholeText arguments files report old new
   whole_at_0 (Refused name refusal cause is) zero given = absurd (no_status_0 refusal (sym is.status ∙ zero))
   whole_at_0 (Ran named is_run are texts clean tree form inputs have ran) zero given =
       let r = ran.reported in
       let ok = status_of_run r.whole ran.end (ap status_after (sym r.refusal) ∙ sym r.status ∙ zero) in
       let same : new ≡ r.between = subst (λ refusal. WritesStatus named.name report.ends refusal r.between new) (r.refusal ∙ ok.1) r.lines in
-      (named.mode, named.name, ran.sections, λ schema. ap (λ (w : OutState). w.texts) same ∙ (r.text schema).all ok.0 given)
+      of_run named.mode named.name ran.sections (λ schema. ap (λ (w : OutState). w.texts) same ∙ (r.text schema).all ok.0 given)
+  whole_at_0 (Checked check is_check are listings listed told) zero given =
+      let ok = status_of_check told.whole (ap status_after (sym told.refusal) ∙ sym told.status ∙ zero) in
+      let same : new ≡ told.between = subst (λ refusal. WritesStatus [] [] refusal told.between new) (told.refusal ∙ ok.1) told.lines in
+      of_check check are listings listed (ap (λ (w : OutState). w.texts) same ∙ told.text.all ok.0 given)

@@ -7,7 +7,7 @@ use Rattle.bound_tree.specs.Bound.{source_of}
 use Rattle.block_code.specs.declared.code.Code.{Code}
 use Rattle.abl_cli.specs.declared.load.Loaded.{Loaded}
 use Rattle.abl_cli.specs.declared.refusal.Refusal.{Refusal}
-use Rattle.abl_cli.specs.CommandLine.{RunFiles}
+use Rattle.abl_arguments.specs.CommandLine.{RunFiles}
 use Rattle.abl_cli.specs.Command.{schema_in, HasText, HasInput, HaveTexts, BreaksSchema, BreaksSource, OneIsNotRead, AreSame, Texts, IsCodeOf, IsReady, Prevents, schema_breaks, source_breaks, no_named_input}
 use Rattle.abl_cli.proofs.Causes.{still_have, still_one}
 

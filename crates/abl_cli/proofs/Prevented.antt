@@ -15,13 +15,14 @@ use Rattle.abl_cli.specs.declared.refusal.Refusal.{Refusal}
 use Rattle.abl_cli.specs.declared.refusal.Refusal.TheVariants.{File, TooLong, Schema, Source, NoMemory}
 use Rattle.abl_cli.specs.declared.command.Report.{Report}
 use Rattle.abl_cli.specs.declared.load.TheConstants.{MAX_FILE_BYTES}
-use Rattle.abl_cli.specs.CommandLine.{Run, RunFiles, IsRun, client_argument, arguments_of, mode_argument, input_part}
-use Rattle.abl_cli.specs.declared.arguments.Mode.{Mode}
-use Rattle.abl_cli.specs.declared.arguments.Mode.TheVariants.{Trace, Quiet}
+use Rattle.abl_arguments.specs.CommandLine.{Run, RunFiles, IsRun, client_argument, arguments_of, mode_argument, input_part}
+use Rattle.abl_arguments.specs.declared.parts.Mode.{Mode}
+use Rattle.abl_arguments.specs.declared.parts.Mode.TheVariants.{Trace, Quiet}
 use Rattle.abl_outside.specs.Out.{OutState}
 use Rattle.abl_outside.specs.Files.{FileState}
-use Rattle.abl_cli.specs.Command.{schema_in, HasText, IsNotRead, is_missing, is_too_long, reading_wants, BreaksSchema, breaks_f, schema_wants, BreaksSource, breaks_rule, source_wants, Texts, HasInput, HaveTexts, IsInputNotRead, OneIsNotRead, this_one, later_one, IsInputThere, AreThere, AllThere, Prevents, no_schema, no_source, no_input, schema_breaks, source_breaks, no_named_input, run_wants, wrong_argument, prevented, HasRun, CommandResult, Refused, Ran, refusal_after, status_after, IsRefusal, IsThere, NamesRun}
-use Rattle.abl_cli.proofs.Splits.{split_once_only, no_sign, one_pair}
+use Rattle.abl_cli.specs.Command.{schema_in, HasText, IsNotRead, is_missing, is_too_long, reading_wants, BreaksSchema, breaks_f, schema_wants, BreaksSource, breaks_rule, source_wants, Texts, HasInput, HaveTexts, IsInputNotRead, OneIsNotRead, this_one, later_one, IsInputThere, AreThere, AllThere, Prevents, no_schema, no_source, no_input, schema_breaks, source_breaks, no_named_input, run_wants, wrong_argument, prevented, check_prevented, HasRun, CommandResult, Refused, Ran, Checked, refusal_after, status_after, IsRefusal, IsThere, NamesRun}
+use Rattle.abl_arguments.proofs.Splits.{split_once_only, no_sign, one_pair}
+use Rattle.abl_arguments.proofs.CheckForms.{other_command}
 use Rattle.abl_cli.proofs.Judged.{wrong_or_formed, rose_in_report}
 
 -- ---- arguments name one run
@@ -83,10 +84,12 @@ module _ (arguments : List (List ℕ)) (files : FileState) (faults : ℕ) (old n
       }) clean tree form inputs have well
 
   outcome : CommandResult arguments files faults old new report → Outcome
-  outcome (Refused name refusal (wrong_argument wrong) is) = absurd (wrong_or_formed arguments _ wrong (run, (names.is_run, names.arguments_are)))
+  outcome (Refused name refusal (wrong_argument wrong) is) = absurd (wrong_or_formed arguments _ wrong (inl (run, (names.is_run, names.arguments_are))))
   outcome (Refused name refusal (prevented other is_other are prevents) is) =
       was_prevented refusal is.refusal is.status
       (subst (λ (r : Run). Prevents files faults r.files refusal) (one_run other run is_other names.is_run (sym are ∙ names.arguments_are)) prevents)
+  outcome (Refused name refusal (check_prevented check is_check are prevents) is) = absurd (other_command (sym names.arguments_are ∙ are))
+  outcome (Checked check is_check are listings listed told) = absurd (other_command (sym names.arguments_are ∙ are))
   outcome (Ran named is_named are texts clean tree form inputs have ran) =
       moved named (one_run named run is_named names.is_run (sym are ∙ names.arguments_are)) texts clean tree form inputs have (done_well named tree _ texts.input inputs ran)
 

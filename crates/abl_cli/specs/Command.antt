@@ -29,12 +29,13 @@ use Rattle.abl_cli.specs.declared.refusal.Refusal.TheVariants.{Usage, File, TooL
 use Rattle.abl_cli.specs.declared.command.Report.{Report}
 use Rattle.abl_cli.specs.declared.load.TheConstants.{MAX_FILE_BYTES}
 use Rattle.abl_cli.specs.declared.load.Loaded.{Loaded}
-use Rattle.abl_cli.specs.CommandLine.{Run, RunFiles, IsRun, arguments_of, IsWrong, number_of}
-use Rattle.abl_cli.specs.declared.arguments.Mode.{Mode}
+use Rattle.abl_arguments.specs.CommandLine.{Run, RunFiles, IsRun, arguments_of, Check, IsCheck, check_arguments, IsWrong, number_of}
+use Rattle.abl_cli.specs.Check.{HaveListings, OneBreaks, check_text, refused_name}
+use Rattle.abl_arguments.specs.declared.parts.Mode.{Mode}
 use Rattle.abl_values.specs.Schema.{SchemaData}
 use Rattle.abl_cli.specs.Report.{run_text, status_lines, status_of}
 use Rattle.abl_cli.specs.ClientRun.{ClientOutcome}
-use Rattle.abl_outside.specs.Out.{OutState, Writes}
+use Rattle.abl_outside.specs.Out.{OutState, Writes, appended}
 
 -- the files have this text under the name, where they are observable, and it is not too long
 pub record HasText (files : FileState) (name text : List ℕ) : Type 0 where
@@ -104,6 +105,27 @@ pub data Prevents (files : FileState) (faults : ℕ) (named : RunFiles) : Refusa
       OneIsNotRead files faults tree.inputs refusal → Prevents files faults named refusal
   run_wants : Prevents files faults named NoMemory
 
+-- the texts that were read for a check, before the rules were looked at
+pub record CheckTexts (files : FileState) (check : Check) : Type 0 where
+  pub df : List ℕ
+  pub sources : List (List ℕ)
+  pub has_schema : HasText files check.schema df
+  pub have_sources : HaveTexts files check.programs sources
+
+-- The first thing that prevents this check, in the order in which they are looked for: the schema file, each source, the rules of the
+-- schema, those of the sources in order. Out of memory may come at any time
+pub data PreventsCheck (files : FileState) (faults : ℕ) (check : Check) : Refusal → Type 0 where
+  no_schema_file : {refusal : Refusal} → IsNotRead files faults check.schema refusal → PreventsCheck files faults check refusal
+  no_program : {refusal : Refusal} {df : List ℕ} → HasText files check.schema df → OneIsNotRead files faults check.programs refusal → PreventsCheck files faults check refusal
+  schema_is_broken : {refusal : Refusal} (texts : CheckTexts files check) → BreaksSchema texts.df refusal → PreventsCheck files faults check refusal
+  one_breaks : {refusal : Refusal} (texts : CheckTexts files check) → violation_of texts.df ≡ None → OneBreaks (schema_in texts.df) 0 texts.sources refusal → PreventsCheck files faults check refusal
+
+-- the files are read, the schema and the sources break no rule, and these are the lines of each source's blocks
+pub record AreListed (files : FileState) (check : Check) (listings : List (List ℕ)) : Type 0 where
+  pub texts : CheckTexts files check
+  pub clean : violation_of texts.df ≡ None
+  pub have : HaveListings (schema_in texts.df) texts.sources listings
+
 -- the code is that of the text over the schema
 pub record IsCodeOf (schema : SchemaData) (text : List ℕ) (code : Code) : Type 0 where
   pub bound : Bound
@@ -118,10 +140,11 @@ pub record IsReady (files : FileState) (named : RunFiles) (loaded : Loaded) : Ty
   pub own : loaded.inputs.own ≡ texts.input
   pub inputs : HaveTexts files (source_of is_code.bound).inputs loaded.inputs.named.items
 
--- why a command was refused before a run began: the arguments have no form, or they name a run that is prevented
+-- why a command was refused before a run began: the arguments have no form, or they name a run or a check that is prevented
 pub data Cause (arguments : List (List ℕ)) (files : FileState) (faults : ℕ) : List ℕ → Refusal → Type 0 where
   wrong_argument : {name : List ℕ} {arg : ℕ} → IsWrong arguments arg → Cause arguments files faults name (Usage arg)
   prevented : {refusal : Refusal} (run : Run) → IsRun run → arguments ≡ arguments_of run → Prevents files faults run.files refusal → Cause arguments files faults run.name refusal
+  check_prevented : {refusal : Refusal} (check : Check) → IsCheck check → arguments ≡ check_arguments check → PreventsCheck files faults check refusal → Cause arguments files faults (refused_name check.programs refusal) refusal
 
 -- the lines of the status of a refusal were appended to standard error, or a prefix of them where a write failed;
 -- standard output is as it was
@@ -185,6 +208,18 @@ pub record HasRun (mode : Mode) (name : List ℕ) (units : ℕ) (tree : Tree) (i
   pub legal : (f : Setting) (contents : Contents) → 0 < f.clients → IsSoundContents f contents → IsLegal f contents report.trace
   pub reported : IsReported mode name end sections old new report
 
+-- the report of a check of the sources of these names with these listings: its text is on standard output, or a prefix where a write
+-- failed, and then the line on standard error
+pub record HasChecked (names listings : List (List ℕ)) (old new : OutState) (report : Report) : Type 0 where
+  pub trace : report.trace ≡ []
+  pub ends : report.ends ≡ []
+  pub whole : Bool
+  pub between : OutState
+  pub text : Writes whole Standard (check_text names listings) old between
+  pub refusal : report.refusal ≡ output_refusal whole
+  pub status : report.status ≡ status_after report.refusal
+  pub lines : WritesStatus [] [] report.refusal between new
+
 -- the result of a command: the arguments, the files before it and their count of faults after it, the streams before and after it,
 -- and its report
 pub data CommandResult (arguments : List (List ℕ)) (files : FileState) (faults : ℕ) (old new : OutState) (report : Report) : Type 0 where
@@ -196,6 +231,9 @@ pub data CommandResult (arguments : List (List ℕ)) (files : FileState) (faults
       (texts : Texts files named.files) → violation_of texts.df ≡ None → (tree : Tree) → IsSourceOf (schema_in texts.df) texts.source tree →
       (inputs : List (List ℕ)) → HaveTexts files tree.inputs inputs →
       HasRun named.mode named.name (number_of named.steps) tree texts.input inputs old new report → CommandResult arguments files faults old new report
+  -- it listed the sources that the arguments name, over a schema that breaks no rule
+  Checked : (check : Check) → IsCheck check → arguments ≡ check_arguments check → (listings : List (List ℕ)) → AreListed files check listings → HasChecked check.programs listings old new report →
+      CommandResult arguments files faults old new report
 
 -- ---- for laws
 
@@ -207,6 +245,13 @@ IsRefusal reported refusal = (reported ≡ Some refusal) ⊎ (reported ≡ Some 
 abbrev pub IsUsage : Option Refusal → Type 0
 IsUsage (Some (Usage arg)) = Unit {0}
 IsUsage refusal = ⊥
+
+-- the whole text of a command was appended to standard output, and nothing to standard error: that of a run, or that of the check that
+-- the arguments name
+pub data HasWholeText (arguments : List (List ℕ)) (files : FileState) (report : Report) (old new : OutState) : Type 0 where
+  of_run : (mode : Mode) (name : List ℕ) (sections : List Section) → ((schema : SchemaData) → new.texts ≡ appended Standard (run_text mode schema name sections report.trace) old.texts) → HasWholeText arguments files report old new
+  of_check : (check : Check) → arguments ≡ check_arguments check → (listings : List (List ℕ)) → AreListed files check listings → new.texts ≡ appended Standard (check_text check.programs listings) old.texts →
+      HasWholeText arguments files report old new
 
 -- the arguments name the run, and the files are observable and fail for a missing file alone
 pub record NamesRun (arguments : List (List ℕ)) (files : FileState) (run : Run) : Type 0 where

@@ -1,8 +1,8 @@
 pub mod Sources
-pub mod CommandLine
-pub mod Arguments
 pub mod Trace
 pub mod Report
 pub mod ClientRun
+pub mod Check
 pub mod Command
+pub mod CheckFiles
 pub mod Examples

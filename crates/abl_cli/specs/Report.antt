@@ -8,8 +8,8 @@ use Rattle.client_database.specs.declared.ends.ClientEnd.TheVariants as end
 use Rattle.abl_values.specs.Schema.{SchemaData}
 use Rattle.client_database.specs.declared.event.Event.{Event}
 use Rattle.client_output.specs.declared.section.Section.{Section}
-use Rattle.abl_cli.specs.declared.arguments.Mode.{Mode}
-use Rattle.abl_cli.specs.declared.arguments.Mode.TheVariants.{Trace, Quiet}
+use Rattle.abl_arguments.specs.declared.parts.Mode.{Mode}
+use Rattle.abl_arguments.specs.declared.parts.Mode.TheVariants.{Trace, Quiet}
 use Rattle.abl_cli.specs.Trace.{trace_part}
 use Rattle.abl_cli.specs.declared.refusal.Refusal.{Refusal}
 use Rattle.abl_cli.specs.declared.refusal.Refusal.TheVariants.{Usage, File, TooLong, Schema, Source, Client, Output, NoMemory}

@@ -6,12 +6,12 @@ ghost use Rattle.bound_tree.specs.Bound.{source_of};
 ghost use Rattle.abl_cli.specs.Trace.{IsLevelEvent};
 ghost use Rattle.abl_cli.specs.Command.{IsCodeOf, HasRun, IsReported, IsRefused, WritesStatus, refusal_after, output_refusal, status_after};
 
-use crate::arguments::RunArguments;
 use crate::command::{Ends, Report, refused};
 use crate::load::Loaded;
 use crate::refusal::Refusal;
 use crate::report::{write_run, write_status};
 use crate::run_client::run_client;
+use abl_arguments::RunArguments;
 use abl_outside::Out;
 use block_meaning::laws::written_only_grows;
 use block_vm::Client;
@@ -75,7 +75,12 @@ fn report<O: Out>(
 }
 
 /// Writes the lines of the status of a refusal, if there is one.
-fn write_refusal<O: Out>(out: &mut O, name: &[u8], ends: &[ClientEnd], refusal: &Option<Refusal>)
+pub(crate) fn write_refusal<O: Out>(
+    out: &mut O,
+    name: &[u8],
+    ends: &[ClientEnd],
+    refusal: &Option<Refusal>,
+)
     ensures { WritesStatus name.now ends.now refusal.now (O.state out.old) (O.state out.new) }
 {
     if let Some(refusal) = refusal {
@@ -84,7 +89,7 @@ fn write_refusal<O: Out>(out: &mut O, name: &[u8], ends: &[ClientEnd], refusal: 
 }
 
 /// The status of the refusal, and 0 without one.
-fn status_of(refusal: &Option<Refusal>) -> u8
+pub(crate) fn status_of(refusal: &Option<Refusal>) -> u8
     ensures { result ≡ status_after refusal.now }
 {
     match refusal {
@@ -106,7 +111,7 @@ fn refusal_after(end: &ClientEnd, whole: bool) -> Option<Refusal>
 }
 
 /// Output, where the report was not written whole.
-fn output_refusal(whole: bool) -> Option<Refusal>
+pub(crate) fn output_refusal(whole: bool) -> Option<Refusal>
     ensures { result ≡ output_refusal whole }
 {
     if whole { None } else { Some(Refusal::Output) }

@@ -2,24 +2,24 @@
 
 ghost use Rattle.std.specs.Prelude.{◌≡◌, ◌<◌, ◌⊎◌, ◌∷◌, ◌++◌, ℕ, IsTrue, List, None, Some, length};
 ghost use Rattle.fault_count.specs.Faults.{Rose};
-ghost use Rattle.abl_outside.specs.Out.{appended};
-ghost use Rattle.abl_outside.specs.declared.out.Stream.TheVariants.{Output as Standard};
 ghost use Rattle.bound_tree.specs.Tree.{Source as Tree};
 ghost use Rattle.abl_base.specs.declared.rule.Rule.{Rule as TheRule};
 ghost use Rattle.abl_base.specs.declared.place.Place.{Place as ThePlace};
 ghost use Rattle.abl_schema.specs.Rules.{violation_of};
 ghost use Rattle.abl_cli.specs.Sources.{BreaksFirst, IsSourceOf};
-ghost use Rattle.client_output.specs.declared.section.Section.{Section as Part};
 ghost use Rattle.abl_cli.specs.declared.refusal.Refusal.TheVariants.{Usage, File, TooLong, Schema, Source, Output};
 ghost use Rattle.abl_cli.specs.declared.command.Report.{Report as Told};
 ghost use Rattle.abl_cli.specs.declared.load.TheConstants.{MAX_FILE_BYTES as MOST};
 ghost use Rattle.abl_values.specs.Schema.{SchemaData};
-ghost use Rattle.abl_cli.specs.declared.arguments.Mode.{Mode};
-ghost use Rattle.abl_cli.specs.CommandLine.{Run, HaveForm, IsWrong};
-ghost use Rattle.abl_cli.specs.Report.{run_text};
+ghost use Rattle.abl_outside.specs.Out.{appended};
+ghost use Rattle.abl_outside.specs.declared.out.Stream.TheVariants.{Output as Standard};
+ghost use Rattle.abl_source.specs.Sources.{BreaksRule};
+ghost use Rattle.abl_arguments.specs.CommandLine.{Check, Run, HaveForm, IsWrong};
+ghost use Rattle.abl_cli.specs.Check.{HaveListings, check_text};
 ghost use Rattle.abl_outside.specs.Out.{OutState};
 ghost use Rattle.abl_outside.specs.Files.{FileState};
-ghost use Rattle.abl_cli.specs.Command.{AllThere, AreThere, CommandResult, IsRefusal, IsThere, IsUsage, NamesRun, schema_in};
+ghost use Rattle.abl_cli.specs.Command.{AllThere, AreThere, CommandResult, HasWholeText, IsRefusal, IsThere, IsUsage, NamesRun, schema_in};
+ghost use Rattle.abl_cli.specs.CheckFiles.{AreThereWith, NamesSources, check_files};
 
 /// The refusal is Usage, with the number of the wrong argument, exactly where the arguments have no
 /// form.
@@ -89,12 +89,48 @@ pub fn a_run_without_faults_is_done()
         (report.status ≡ 0) ⊎ ((report.status ≡ 8) ⊎ (report.status ≡ 7)) }
 {}
 
-/// Status 0 means that the whole report, in the mode that the arguments name, was appended to standard
-/// output, and nothing to standard error.
+/// Over files that are observable and sound, and arguments that name a check, the refusal is the first
+/// cause that prevents it, exactly: the first of the schema file and the sources that is missing or too
+/// long, then a rule that the schema breaks first, then the rule that the first source that breaks one
+/// breaks first, with the number of that source. In each case it may be out of memory instead.
+pub fn the_first_cause_is_the_refusal_of_a_check()
+    ensures no_file { (arguments : List (List ℕ)) (files : FileState) (faults : ℕ) (old new : OutState) (report : Told) (check : Check) →
+        CommandResult arguments files faults old new report → NamesSources arguments files check →
+        (before after : List (List ℕ)) (name : List ℕ) → check_files check ≡ before ++ name ∷ after → AreThere files before →
+        files.file name ≡ None → IsRefusal report.refusal (File name) }
+    ensures long_file { (arguments : List (List ℕ)) (files : FileState) (faults : ℕ) (old new : OutState) (report : Told) (check : Check) →
+        CommandResult arguments files faults old new report → NamesSources arguments files check →
+        (before after : List (List ℕ)) (name text : List ℕ) → check_files check ≡ before ++ name ∷ after → AreThere files before →
+        files.file name ≡ Some text → MOST < length text → IsRefusal report.refusal (TooLong name MOST) }
+    ensures broken_schema { (arguments : List (List ℕ)) (files : FileState) (faults : ℕ) (old new : OutState) (report : Told) (check : Check) →
+        CommandResult arguments files faults old new report → NamesSources arguments files check →
+        (df : List ℕ) (sources : List (List ℕ)) → AreThereWith files (check_files check) (df ∷ sources) →
+        (rule : TheRule) (line : ℕ) → violation_of df ≡ Some (record { rule = rule; line = line }) → IsRefusal report.refusal (Schema rule line) }
+    ensures broken_source { (arguments : List (List ℕ)) (files : FileState) (faults : ℕ) (old new : OutState) (report : Told) (check : Check) →
+        CommandResult arguments files faults old new report → NamesSources arguments files check →
+        (df : List ℕ) (sources : List (List ℕ)) → AreThereWith files (check_files check) (df ∷ sources) → violation_of df ≡ None →
+        (before listings after : List (List ℕ)) (text : List ℕ) → sources ≡ before ++ text ∷ after → HaveListings (schema_in df) before listings →
+        (rule : TheRule) (place : ThePlace) → BreaksRule (schema_in df) text rule place → IsRefusal report.refusal (Source (length before) rule place) }
+{}
+
+/// Where the arguments name a check, the files are observable and sound, the schema file and the
+/// sources are there and short enough, and the schema and the sources break no rule, and no write
+/// fails: the text of the check with exactly these listings is appended to standard output and the
+/// status is 0, or the command is out of memory.
+pub fn a_check_without_faults_lists_the_sources()
+    ensures { (arguments : List (List ℕ)) (files : FileState) (faults : ℕ) (old new : OutState) (report : Told) (check : Check) →
+        CommandResult arguments files faults old new report → NamesSources arguments files check →
+        (df : List ℕ) (sources : List (List ℕ)) → AreThereWith files (check_files check) (df ∷ sources) → violation_of df ≡ None →
+        (listings : List (List ℕ)) → HaveListings (schema_in df) sources listings → (Rose old.faults new.faults → ⊥) → IsTrue old.observable →
+        ((report.status ≡ 0) × (new.texts ≡ appended Standard (check_text check.programs listings) old.texts)) ⊎ (report.status ≡ 7) }
+{}
+
+/// Status 0 means that the whole report, of a run in a mode or of the check that the arguments name, was
+/// appended to standard output, and nothing to standard error.
 pub fn status_0_says_that_the_report_is_whole()
     ensures { (arguments : List (List ℕ)) (files : FileState) (faults : ℕ) (old new : OutState) (report : Told) →
         CommandResult arguments files faults old new report → report.status ≡ 0 → IsTrue old.observable →
-        (mode : Mode) × (name : List ℕ) × (sections : List Part) × ((schema : SchemaData) → new.texts ≡ appended Standard (run_text mode schema name sections report.trace) old.texts) }
+        HasWholeText arguments files report old new }
 {}
 
 /// The output is at fault only where the count of write faults rose.

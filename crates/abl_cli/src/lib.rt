@@ -2,7 +2,7 @@
 //! It depends on all crates below; `main` gives it the real files and streams.
 #![tactic(auto)]
 
-pub mod arguments;
+mod check;
 pub mod command;
 mod execute;
 pub mod laws;
@@ -13,8 +13,9 @@ mod run_client;
 mod source;
 mod trace;
 
-pub use arguments::{Arg, Mode};
+pub use abl_arguments::{Arg, Mode};
+pub use abl_source::{SourceFault, read_syntax};
 pub use command::{Ends, Report, run_abl};
 pub use load::MAX_FILE_BYTES;
 pub use refusal::Refusal;
-pub use source::{SourceFault, compile_source, read_syntax};
+pub use source::compile_source;

@@ -2,15 +2,16 @@
 
 ghost use Rattle.std.specs.Prelude.{◌≡◌, ◌≤◌, ◌⊎◌, None, Some, IfErr, IfOk, OnOk, length, option_copied};
 ghost use Rattle.abl_schema.specs.Rules.{violation_of};
-ghost use Rattle.abl_cli.specs.CommandLine.{files_of};
+ghost use Rattle.abl_arguments.specs.CommandLine.{files_of};
 ghost use Rattle.abl_cli.specs.Command.{AreSame, BreaksSchema, BreaksSource, HasInput, HasText, HaveTexts, IsCodeOf, IsInputNotRead, IsNotRead, IsReady, OneIsNotRead, Prevents, schema_in};
 
-use crate::arguments::RunArguments;
 use crate::refusal::Refusal;
-use crate::source::{SourceFault, compile_source};
+use crate::source::compile_source;
+use abl_arguments::RunArguments;
 use abl_base::Bytes;
 use abl_outside::{FileFault, Files};
 use abl_schema::{SchemaRefusal, read_df};
+use abl_source::SourceFault;
 use abl_values::Schema;
 use block_code::Code;
 use block_vm::Inputs;
@@ -93,7 +94,7 @@ fn read_input<F: Files>(
 }
 
 /// The texts of the files of these names, in order.
-fn read_named<F: Files>(
+pub(crate) fn read_named<F: Files>(
     alloc: Global,
     files: &mut F,
     names: &[Bytes],
@@ -115,7 +116,7 @@ fn read_named<F: Files>(
 }
 
 /// The text of the file of this name.
-fn read<F: Files>(alloc: Global, files: &mut F, name: &[u8]) -> Result<Bytes, Refusal>
+pub(crate) fn read<F: Files>(alloc: Global, files: &mut F, name: &[u8]) -> Result<Bytes, Refusal>
     ensures text { IfOk result (HasText (F.state files.old) name.now) }
     ensures refused { IfErr result (IsNotRead (F.state files.old) (F.state files.new).faults name.now) }
     ensures same { OnOk result (AreSame (F.state files.old) (F.state files.new)) }
@@ -146,7 +147,7 @@ fn code_in(alloc: Global, df: &[u8], source: &[u8]) -> Result<Code, Refusal>
 }
 
 /// The schema that the text of a schema file denotes, or the first rule that it breaks.
-fn schema_of(alloc: Global, text: &[u8]) -> Result<Schema, Refusal>
+pub(crate) fn schema_of(alloc: Global, text: &[u8]) -> Result<Schema, Refusal>
     ensures schema { IfOk result (λ schema. schema ≡ schema_in text.now) }
     ensures clean { OnOk result (violation_of text.now ≡ None) }
     ensures refused { IfErr result (BreaksSchema text.now) }

@@ -8,9 +8,9 @@ ghost use Rattle.abl_values.specs.Schema.{SchemaData};
 ghost use Rattle.abl_cli.specs.Trace.{IsLevelEvent};
 ghost use Rattle.abl_cli.specs.Report.{line_end_of, line_end_after, part_of, report_of, run_text, end_line, status_lines};
 
-use crate::arguments::Mode;
 use crate::refusal::Refusal;
 use crate::trace::write_trace;
+use abl_arguments::Mode;
 use abl_base::Place;
 use abl_outside::{Out, OutFailed, Stream};
 use client_database::{ClientEnd, Event};
@@ -42,7 +42,7 @@ pub(crate) fn write_all<O: Out>(
 }
 
 /// A line feed if `bytes` does not end with one; nothing for empty `bytes`.
-fn line_end(bytes: &[u8]) -> &'static [u8]
+pub(crate) fn line_end(bytes: &[u8]) -> &'static [u8]
     ensures { result.now ≡ line_end_of bytes.now }
 {
     match bytes {
@@ -59,7 +59,7 @@ fn line_end_after_byte(last: u8) -> &'static [u8]
 }
 
 /// Writes a part of the report under this title.
-fn write_part<'a, O: Out>(
+pub(crate) fn write_part<'a, O: Out>(
     out: &mut O,
     title: &'a [u8],
     bytes: &'a [u8],

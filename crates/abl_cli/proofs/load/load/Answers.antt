@@ -2,7 +2,7 @@
 use Rattle.std.proofs.Common.{◌≡◌, Err, refl}
 use Rattle.std.proofs.lemmas.Result.{err_from_is_err_and}
 use Rattle.abl_outside.specs.Files.{FileState}
-use Rattle.abl_cli.specs.CommandLine.{RunFiles, files_of}
+use Rattle.abl_arguments.specs.CommandLine.{RunFiles, files_of}
 use Rattle.abl_cli.proofs.Causes.{of_error}
 use Rattle.abl_cli.proofs.Loads.{AreRead, rules_prevent, named_prevents, is_ready}
 use Rattle.abl_cli.proofs.load.load.Goals as goal

@@ -1,27 +1,27 @@
 use Rattle.std.proofs.Common.{◌≡◌, Err, ap}
 use Rattle.std.proofs.lemmas.Result.{err_from_is_err_and}
-use Rattle.abl_syntax.specs.Typed.{program_of}
 use Rattle.bound_tree.specs.Bound.{source_of}
-use Rattle.abl_cli.specs.declared.source.SourceFault.TheVariants.{Broken}
-use Rattle.abl_cli.specs.Sources.{of_blocks}
-use Rattle.abl_cli.proofs.BuiltForms.{code_is, tree_is_broken, told_at}
+use Rattle.abl_source.specs.declared.source.SourceFault.TheVariants.{Broken}
+use Rattle.abl_cli.specs.Sources.{of_rule, of_form}
+use Rattle.abl_cli.proofs.BuiltForms.{told_at}
 use Rattle.abl_cli.proofs.source.compile_source.Goals as goal
 
-pub returns-in_err-judge_blocks-clause-broken : goal.returns-in_err-judge_blocks-clause-broken
-returns-in_err-judge_blocks-clause-broken c = λ rule place e.
-    let p = err_from_is_err_and c.from_residual-in_err-judge_blocks.result c.from_residual-in_err-judge_blocks.ensures.1 in
-    let is : c.from_residual-in_err-judge_blocks.result ≡ Err c.in_err-judge_blocks.field-0.0 = cc (p.1, p.2) in
-    let one : c.in_err-judge_blocks.field-0.0 ≡ Broken rule place = cc (is, e) in
-    of_blocks (program_of c.in_ok-program.program) (source_of c.in_ok-plain.plain) c.in_ok-program.ensures.syntax_of c.in_ok-plain.ensures.tree c.in_ok-scoped.ensures.clean
-    (c.in_err-judge_blocks.ensures.broken rule place (ap Err one))
+pub returns-in_err-bound-clause-broken : goal.returns-in_err-bound-clause-broken
+returns-in_err-bound-clause-broken c = λ rule place e.
+    let p = err_from_is_err_and c.from_residual.result c.from_residual.ensures.1 in
+    let is : c.from_residual.result ≡ Err c.in_err-bound.field-0.0 = cc (p.1, p.2) in
+    let one : c.in_err-bound.field-0.0 ≡ Broken rule place = cc (is, e) in
+    of_rule (c.in_err-bound.ensures.broken rule place (ap Err one))
 
 pub returns-in-Ok-clause-code : goal.returns-in-Ok-clause-code
 returns-in-Ok-clause-code c =
-    code_is c.args.schema.now c.args.text.now (program_of c.in_ok-program.program) (source_of c.in_ok-plain.plain) (source_of c.in_ok-scoped.scoped) c.flagged.result c.in-Ok.code c.in_ok-program.ensures.syntax_of c.in_ok-plain.ensures.tree
-    c.in_ok-scoped.ensures.clean c.in_ok-scoped.ensures.tree c.in_ok-judge_blocks.ensures.clean c.flagged.ensures c.in-Ok.ensures.built c.in-Ok.ensures.code
+    record {
+      bound = c.in_ok-bound.bound;
+      form = record { denotes = c.in_ok-bound.ensures.tree; built = c.in-Ok.ensures.built };
+      compiled = c.in-Ok.ensures.code;
+    }
 
 pub returns-in-Err-NotBuilt-clause-broken : goal.returns-in-Err-NotBuilt-clause-broken
 returns-in-Err-NotBuilt-clause-broken c = λ rule place e.
     told_at _ _ c.not_built.result rule place c.not_built.ensures (cc)
-    (tree_is_broken c.args.schema.now c.args.text.now (program_of c.in_ok-program.program) (source_of c.in_ok-plain.plain) (source_of c.in_ok-scoped.scoped) c.flagged.result c.in_ok-program.ensures.syntax_of c.in_ok-plain.ensures.tree
-    c.in_ok-scoped.ensures.clean c.in_ok-scoped.ensures.tree c.in_ok-judge_blocks.ensures.clean c.flagged.ensures (c.in-Err-NotBuilt.ensures.not_built (ap Err c.in-Err-NotBuilt.field-0-is)))
+    (of_form (source_of c.in_ok-bound.bound) c.in_ok-bound.ensures.tree (c.in-Err-NotBuilt.ensures.not_built (ap Err c.in-Err-NotBuilt.field-0-is)))

@@ -1,0 +1,4 @@
+pub mod CheckForms
+pub mod Forms
+pub mod Numbers
+pub mod Splits

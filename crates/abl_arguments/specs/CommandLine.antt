@@ -1,0 +1,149 @@
+-- The arguments of the command line: their form, and the number of the wrong one.
+use Rattle.std.specs.Prelude.{◌≡◌, ◌⊎◌, ℕ, ◌+◌, ◌*◌, ◌-◌, ◌<◌, ◌≤◌, ◌≢◌, List, [], ◌∷◌, ◌++◌, length, All, take, codes, fold, slice_index, Option, Some, None, option_copied}
+use Rattle.abl_arguments.specs.declared.parts.Mode.{Mode}
+use Rattle.abl_arguments.specs.declared.parts.Mode.TheVariants.{Trace, Quiet}
+use Rattle.abl_arguments.specs.declared.run.RunArguments.{RunArguments}
+use Rattle.abl_arguments.specs.declared.check.CheckArguments.{CheckArguments}
+use Rattle.abl_arguments.specs.declared.command.Command.{Command}
+use Rattle.abl_arguments.specs.declared.command.Command.TheVariants.{Run as ToRun, Check as ToCheck}
+use Rattle.std.specs.Char.{IsAsciiDigit, IsAsciiAlphanumeric}
+
+-- the number that decimal digits denote
+abbrev pub number_of : List ℕ → ℕ
+number_of digits = fold (λ n digit. 10 * n + (digit - 48)) 0 digits
+
+-- STEPS: 1 to 999999999, in digits without a leading zero
+pub record IsSteps (arg : List ℕ) : Type 0 where
+  pub digits : All IsAsciiDigit arg
+  pub some : 0 < length arg
+  pub short : length arg ≤ 9
+  pub first : slice_index arg 0 ≢ 48
+
+-- MODE: `trace` or `quiet`
+abbrev pub mode_argument : Mode → List ℕ
+mode_argument Trace = codes "trace"
+mode_argument Quiet = codes "quiet"
+
+abbrev pub IsMode : List ℕ → Type 0
+IsMode arg = (mode : Mode) × (arg ≡ mode_argument mode)
+
+-- NAME: 1 to 16 ASCII letters or digits
+pub record IsName (name : List ℕ) : Type 0 where
+  pub letters : All IsAsciiAlphanumeric name
+  pub some : 0 < length name
+  pub short : length name ≤ 16
+
+-- PROG and INPUT: not empty, and without `<`
+pub record IsFileName (name : List ℕ) : Type 0 where
+  pub some : 0 < length name
+  pub plain : All (λ byte. byte ≢ 60) name
+
+-- INPUT may be left out
+abbrev pub IsInput : Option (List ℕ) → Type 0
+IsInput None = Unit {0}
+IsInput (Some name) = IsFileName name
+
+-- the files that a run reads first: the schema file, the source, and the client's input, if it is named
+pub record RunFiles : Type 0 where
+  pub schema : List ℕ
+  pub program : List ℕ
+  pub input : Option (List ℕ)
+
+-- what the arguments `run SCHEMA STEPS MODE NAME=PROG` or `run SCHEMA STEPS MODE NAME=PROG<INPUT` name
+pub record Run : Type 0 where
+  pub files : RunFiles
+  pub steps : List ℕ
+  pub mode : Mode
+  pub name : List ℕ
+
+-- `<INPUT`, or nothing
+abbrev pub input_part : Option (List ℕ) → List ℕ
+input_part None = []
+input_part (Some name) = 60 ∷ name
+
+-- `NAME=PROG` or `NAME=PROG<INPUT`
+abbrev pub client_argument : List ℕ → RunFiles → List ℕ
+client_argument name files = name ++ 61 ∷ (files.program ++ input_part files.input)
+
+-- the arguments that name it
+abbrev pub arguments_of : Run → List (List ℕ)
+arguments_of run = codes "run" ∷ run.files.schema ∷ run.steps ∷ mode_argument run.mode ∷ client_argument run.name run.files ∷ []
+
+-- each part has its form
+pub record IsRun (run : Run) : Type 0 where
+  pub schema : 0 < length run.files.schema
+  pub steps : IsSteps run.steps
+  pub name : IsName run.name
+  pub program : IsFileName run.files.program
+  pub input : IsInput run.files.input
+
+-- the arguments have the form of a run
+abbrev pub HaveRunForm : List (List ℕ) → Type 0
+HaveRunForm arguments = (run : Run) × (IsRun run × (arguments ≡ arguments_of run))
+
+-- what the arguments `check SCHEMA PROG...` name: the schema file and the sources
+pub record Check : Type 0 where
+  pub schema : List ℕ
+  pub programs : List (List ℕ)
+
+-- the arguments that name it
+abbrev pub check_arguments : Check → List (List ℕ)
+check_arguments check = codes "check" ∷ check.schema ∷ check.programs
+
+-- SCHEMA and each PROG are not empty, and there are 1 to 16 PROG
+pub record IsCheck (check : Check) : Type 0 where
+  pub schema : 0 < length check.schema
+  pub some : 0 < length check.programs
+  pub few : length check.programs ≤ 16
+  pub names : All (λ name. 0 < length name) check.programs
+
+-- the arguments have the form of a check
+abbrev pub HaveCheckForm : List (List ℕ) → Type 0
+HaveCheckForm arguments = (check : Check) × (IsCheck check × (arguments ≡ check_arguments check))
+
+-- THE ARGUMENTS HAVE A FORM
+abbrev pub HaveForm : List (List ℕ) → Type 0
+HaveForm arguments = HaveRunForm arguments ⊎ HaveCheckForm arguments
+
+-- some arguments of the form begin with these
+abbrev pub BeginForm : (List (List ℕ) → Type 0) → List (List ℕ) → Type 0
+BeginForm form arguments = (more : List (List ℕ)) × form (arguments ++ more)
+
+-- The wrong argument, from 0: the first arguments up to it begin no arguments of the form, and those before it do.
+-- Where only more arguments are missing it is the count of arguments.
+pub data IsWrongIn (form : List (List ℕ) → Type 0) : List (List ℕ) → ℕ → Type 0 where
+  at_argument : (arguments : List (List ℕ)) (n : ℕ) → n < length arguments → BeginForm form (take n arguments) → ¬ BeginForm form (take (n + 1) arguments) → IsWrongIn form arguments n
+  missing : (arguments : List (List ℕ)) → BeginForm form arguments → ¬ form arguments → IsWrongIn form arguments (length arguments)
+
+-- THE WRONG ARGUMENT, over all forms
+abbrev pub IsWrong : List (List ℕ) → ℕ → Type 0
+IsWrong = IsWrongIn HaveForm
+
+-- the files that were read off the arguments
+abbrev pub files_of : RunArguments → RunFiles
+files_of read = record { schema = read.schema.now; program = read.program.now; input = option_copied read.input }
+
+-- and the run, where STEPS is this argument
+abbrev pub run_of : RunArguments → List ℕ → Run
+run_of read steps = record { files = files_of read; steps = steps; mode = read.mode; name = read.name.now }
+
+-- the arguments name what was read
+pub record Names (arguments : List (List ℕ)) (read : RunArguments) : Type 0 where
+  pub steps : List ℕ
+  pub is_run : IsRun (run_of read steps)
+  pub arguments_are : arguments ≡ arguments_of (run_of read steps)
+  pub number : read.steps ≡ number_of steps
+
+-- what a check reads off the arguments
+abbrev pub check_of : CheckArguments → Check
+check_of read = record { schema = read.schema.now; programs = read.programs.now }
+
+-- the arguments name the check that was read
+pub record NamesCheck (arguments : List (List ℕ)) (read : CheckArguments) : Type 0 where
+  pub is_check : IsCheck (check_of read)
+  pub arguments_are : arguments ≡ check_arguments (check_of read)
+
+-- the arguments name what was read
+abbrev pub NamesCommand : List (List ℕ) → Command → Type 0
+NamesCommand arguments (ToRun read) = Names arguments read
+NamesCommand arguments (ToCheck read) = NamesCheck arguments read

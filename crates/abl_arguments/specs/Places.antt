@@ -1,0 +1,39 @@
+-- The form of the command line, argument by argument.
+use Rattle.std.specs.Prelude.{◌≡◌, ℕ, ◌<◌, List, [], ◌∷◌, ◌++◌, length, codes, Option}
+use Rattle.abl_arguments.specs.declared.run.Argument.{Argument}
+use Rattle.abl_arguments.specs.declared.run.Argument.TheVariants.{Command, Schema, Steps, Mode, Client}
+use Rattle.abl_arguments.specs.CommandLine.{IsMode, IsSteps, IsName, IsFileName, IsInput, input_part}
+
+-- the places of the form, in order
+abbrev pub form : List Argument
+form = Command ∷ Schema ∷ Steps ∷ Mode ∷ Client ∷ []
+
+-- `PROG` or `PROG<INPUT`
+pub record AreFiles (part : List ℕ) : Type 0 where
+  pub program : List ℕ
+  pub input : Option (List ℕ)
+  pub is_program : IsFileName program
+  pub is_input : IsInput input
+  pub joined : part ≡ program ++ input_part input
+
+-- `NAME=PROG` or `NAME=PROG<INPUT`
+pub record IsClient (arg : List ℕ) : Type 0 where
+  pub name : List ℕ
+  pub part : List ℕ
+  pub is_name : IsName name
+  pub files : AreFiles part
+  pub joined : arg ≡ name ++ 61 ∷ part
+
+-- the argument fits the place
+abbrev pub Fits : Argument → List ℕ → Type 0
+Fits Command arg = arg ≡ codes "run"
+Fits Schema arg = 0 < length arg
+Fits Steps arg = IsSteps arg
+Fits Mode arg = IsMode arg
+Fits Client arg = IsClient arg
+
+-- each argument fits its place, and there are no more arguments than places
+abbrev pub FitAll : List Argument → List (List ℕ) → Type 0
+FitAll places [] = Unit {0}
+FitAll [] (arg ∷ arguments) = ⊥
+FitAll (argument ∷ places) (arg ∷ arguments) = Fits argument arg × FitAll places arguments

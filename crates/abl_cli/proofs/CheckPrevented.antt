@@ -1,0 +1,290 @@
+-- The first cause that prevents a check is its refusal, and without one the sources are listed.
+use Rattle.std.proofs.Common.{◌≡◌, ◌⊎◌, inl, inr, ◌+◌, ◌<◌, ℕ, Bool, true, false, List, [], ◌∷◌, ◌++◌, Some, None, refl, sym, ap, ◌∙◌, subst, arith, length}
+use Rattle.std.specs.Prelude.{IsTrue}
+use Rattle.fault_count.specs.Faults.{Rose}
+use Rattle.abl_base.specs.declared.rule.Rule.{Rule}
+use Rattle.abl_base.specs.declared.place.Place.{Place}
+use Rattle.abl_outside.specs.declared.out.Stream.TheVariants.{Output as Standard}
+use Rattle.abl_outside.specs.Files.{FileState, IsLonger}
+use Rattle.abl_outside.specs.Out.{OutState, appended}
+use Rattle.abl_schema.specs.declared.violation.Violation.{Violation}
+use Rattle.abl_schema.specs.Rules.{violation_of}
+use Rattle.abl_values.specs.Schema.{SchemaData}
+use Rattle.block_listing.specs.Listing.{listing}
+use Rattle.abl_source.specs.Sources.{BreaksRule}
+use Rattle.abl_source.proofs.Violations.{one_rule, one_tree_of, trees_break_none}
+use Rattle.abl_arguments.specs.CommandLine.{Check, check_arguments}
+use Rattle.abl_arguments.proofs.CheckForms.{other_command}
+use Rattle.abl_cli.specs.declared.refusal.Refusal.{Refusal}
+use Rattle.abl_cli.specs.declared.refusal.Refusal.TheVariants.{File, TooLong, Schema, Source, NoMemory}
+use Rattle.abl_cli.specs.declared.command.Report.{Report}
+use Rattle.abl_cli.specs.declared.load.TheConstants.{MAX_FILE_BYTES}
+use Rattle.abl_cli.specs.Check.{IsListing, HaveListings, OneBreaks, this_breaks, later_breaks, program_breaks, program_wants, check_text}
+use Rattle.abl_cli.specs.Command.{schema_in, HasText, HaveTexts, IsNotRead, is_missing, is_too_long, reading_wants, OneIsNotRead, this_one, later_one, BreaksSchema, breaks_f, schema_wants, CheckTexts, PreventsCheck, no_schema_file, no_program, schema_is_broken, one_breaks, AreListed, HasChecked, WritesStatus, output_refusal, status_after, wrong_argument, prevented, check_prevented, CommandResult, Refused, Ran, Checked, IsRefusal, IsThere, AreThere}
+use Rattle.abl_cli.specs.CheckFiles.{AreThereWith, NamesSources, check_files}
+use Rattle.abl_cli.proofs.Judged.{wrong_or_formed, rose_in_check}
+
+wants : {refusal want : Refusal} → refusal ≡ NoMemory → IsRefusal (Some refusal) want
+wants e = inr (ap (λ r. Some r) e)
+
+-- ---- files
+
+module _ (files : FileState) (observable : IsTrue files.observable) (sound : IsTrue files.sound) where
+  same_text : {name text other : List ℕ} → HasText files name text → files.file name ≡ Some other → text ≡ other
+  same_text has there = let read = sym there ∙ has.content observable in cc read
+
+  no_text : {name text : List ℕ} → HasText files name text → files.file name ≡ None → ⊥
+  no_text has none = let read = sym none ∙ has.content observable in cc read
+
+  not_long : {name text other : List ℕ} → HasText files name text → files.file name ≡ Some other → MAX_FILE_BYTES < length other → ⊥
+  not_long has there long =
+      let same = ap length (same_text has there) in
+      let short = has.short in
+      omega (arith, same, short, long)
+
+  -- those that were read have the texts that are there
+  same_texts : (names texts others : List (List ℕ)) → HaveTexts files names texts → AreThereWith files names others → texts ≡ others
+  same_texts [] [] [] have are = refl
+  same_texts [] [] (o ∷ os) have are = absurd are
+  same_texts [] (t ∷ ts) others have are = absurd have
+  same_texts (n ∷ ns) [] others have are = absurd have
+  same_texts (n ∷ ns) (t ∷ ts) [] have are = absurd are
+  same_texts (n ∷ ns) (t ∷ ts) (o ∷ os) have are = ap (λ x. x ∷ ts) (same_text have.0 are.0.there) ∙ ap (λ xs. o ∷ xs) (same_texts ns ts os have.1 are.1)
+
+  have_none : (before after texts : List (List ℕ)) {name : List ℕ} → files.file name ≡ None → HaveTexts files (before ++ name ∷ after) texts → ⊥
+  have_none [] after [] none have = have
+  have_none [] after (text ∷ texts) none have = no_text have.0 none
+  have_none (other ∷ before) after [] none have = have
+  have_none (other ∷ before) after (text ∷ texts) none have = have_none before after texts none have.1
+
+  have_long : (before after texts : List (List ℕ)) {name text : List ℕ} → files.file name ≡ Some text → MAX_FILE_BYTES < length text → HaveTexts files (before ++ name ∷ after) texts → ⊥
+  have_long [] after [] there long have = have
+  have_long [] after (text ∷ texts) there long have = not_long have.0 there long
+  have_long (other ∷ before) after [] there long have = have
+  have_long (other ∷ before) after (text ∷ texts) there long have = have_long before after texts there long have.1
+
+  module _ (faults : ℕ) where
+    unread : {name text : List ℕ} {refusal : Refusal} → IsThere files name text → IsNotRead files faults name refusal → refusal ≡ NoMemory
+    unread is (is_missing rose missing) = let none = sym is.there ∙ missing sound in absurd (cc none)
+    unread is (is_too_long longer) =
+        let above = subst (λ file. IsLonger file MAX_FILE_BYTES) is.there (longer observable) in
+        let short = is.short in
+        absurd (omega (arith, above, short))
+    unread is reading_wants = refl
+
+    missing_is : {name : List ℕ} {refusal : Refusal} → files.file name ≡ None → IsNotRead files faults name refusal → IsRefusal (Some refusal) (File name)
+    missing_is none (is_missing rose missing) = inl refl
+    missing_is none (is_too_long longer) = absurd (subst (λ file. IsLonger file MAX_FILE_BYTES) none (longer observable))
+    missing_is none reading_wants = inr refl
+
+    long_is : {name text : List ℕ} {refusal : Refusal} → files.file name ≡ Some text → IsNotRead files faults name refusal → IsRefusal (Some refusal) (TooLong name MAX_FILE_BYTES)
+    long_is there (is_missing rose missing) = let none = sym there ∙ missing sound in absurd (cc none)
+    long_is there (is_too_long longer) = inl refl
+    long_is there reading_wants = inr refl
+
+    -- of these files, which are there, none is refused
+    none_unread : (names texts : List (List ℕ)) {refusal : Refusal} → AreThereWith files names texts → OneIsNotRead files faults names refusal → refusal ≡ NoMemory
+    none_unread [] [] are h = elim h [ ]
+    none_unread [] (text ∷ texts) are h = absurd are
+    none_unread (name ∷ names) [] are h = absurd are
+    none_unread (name ∷ names) (text ∷ texts) are (this_one h) = unread are.0 h
+    none_unread (name ∷ names) (text ∷ texts) are (later_one has h) = none_unread names texts are.1 h
+
+    one_missing : (before after : List (List ℕ)) {name : List ℕ} {refusal : Refusal} → AreThere files before → files.file name ≡ None → OneIsNotRead files faults (before ++ name ∷ after) refusal → IsRefusal (Some refusal) (File name)
+    one_missing [] after are none (this_one h) = missing_is none h
+    one_missing [] after are none (later_one has h) = absurd (no_text has none)
+    one_missing (other ∷ before) after are none (this_one h) = wants (unread are.0.1 h)
+    one_missing (other ∷ before) after are none (later_one has h) = one_missing before after are.1 none h
+
+    one_long : (before after : List (List ℕ)) {name text : List ℕ} {refusal : Refusal} → AreThere files before → files.file name ≡ Some text → MAX_FILE_BYTES < length text → OneIsNotRead files faults (before ++ name ∷ after) refusal → IsRefusal (Some refusal) (TooLong name MAX_FILE_BYTES)
+    one_long [] after are there long (this_one h) = long_is there h
+    one_long [] after are there long (later_one has h) = absurd (not_long has there long)
+    one_long (other ∷ before) after are there long (this_one h) = wants (unread are.0.1 h)
+    one_long (other ∷ before) after are there long (later_one has h) = one_long before after are.1 there long h
+
+-- ---- the rules of the schema
+
+same_violation : (read df : List ℕ) {rule : Rule} {line : ℕ} {refusal : Refusal} → violation_of df ≡ Some (record { rule = rule; line = line }) → violation_of read ≡ violation_of df → BreaksSchema read refusal → IsRefusal (Some refusal) (Schema rule line)
+same_violation read df {rule = rule} {line = line} broken same (breaks_f {rule = rule'} {line = line'} found) =
+    let both : Some (record { rule = rule'; line = line' }) ≡ Some (record { rule = rule; line = line }) = sym found ∙ same ∙ broken in
+    let one : record { rule = rule'; line = line' } ≡ record { rule = rule; line = line } = cc both in
+    inl (ap (λ (v : Violation). Some (Schema v.rule v.line)) one)
+same_violation read df broken same schema_wants = inr refl
+
+no_violation : {read : List ℕ} {refusal : Refusal} → violation_of read ≡ None → BreaksSchema read refusal → refusal ≡ NoMemory
+no_violation clean (breaks_f found) = let both = sym clean ∙ found in absurd (cc both)
+no_violation clean schema_wants = refl
+
+-- ---- the rules of the sources
+
+module _ (schema : SchemaData) where
+  -- the first text that breaks a rule is the one that is refused
+  broken_at : (n : ℕ) (before lists after : List (List ℕ)) (text : List ℕ) {rule : Rule} {place : Place} {refusal : Refusal} → HaveListings schema before lists → BreaksRule schema text rule place → OneBreaks schema n (before ++ text ∷ after) refusal →
+      IsRefusal (Some refusal) (Source (n + length before) rule place)
+  broken_at n [] [] after text {rule} {place} have first (this_breaks (program_breaks {rule = found_rule} {place = found_place} found)) =
+      let one = one_rule schema text found first in
+      inl (ap (λ r. Some (Source n r found_place)) one.rules ∙ ap (λ p. Some (Source n rule p)) one.places ∙ ap (λ k. Some (Source k rule place)) (omega arith))
+  broken_at n [] [] after text have first (this_breaks program_wants) = inr refl
+  broken_at n [] [] after text have first (later_breaks is h) = absurd (trees_break_none schema text is.denotes first)
+  broken_at n [] (l ∷ ls) after text have first h = absurd have
+  broken_at n (b ∷ bs) [] after text have first h = absurd have
+  broken_at n (b ∷ bs) (l ∷ ls) after text have first (this_breaks (program_breaks found)) = absurd (trees_break_none schema b have.0.denotes found)
+  broken_at n (b ∷ bs) (l ∷ ls) after text have first (this_breaks program_wants) = inr refl
+  broken_at n (b ∷ bs) (l ∷ ls) after text {rule} {place} {refusal} have first (later_breaks is h) =
+      subst (λ k. IsRefusal (Some refusal) (Source k rule place)) (omega arith) (broken_at (n + 1) bs ls after text have.1 first h)
+
+  -- the texts are numbered from 0
+  first_broken : (before lists after : List (List ℕ)) (text : List ℕ) {rule : Rule} {place : Place} {refusal : Refusal} → HaveListings schema before lists → BreaksRule schema text rule place → OneBreaks schema 0 (before ++ text ∷ after) refusal →
+      IsRefusal (Some refusal) (Source (length before) rule place)
+  first_broken before lists after text {rule} {place} {refusal} have first h =
+      let numbered : 0 + length before ≡ length before = omega arith in
+      subst (λ k. IsRefusal (Some refusal) (Source k rule place)) numbered (broken_at 0 before lists after text have first h)
+
+  not_listed : (before lists after : List (List ℕ)) (text : List ℕ) {rule : Rule} {place : Place} → BreaksRule schema text rule place → HaveListings schema (before ++ text ∷ after) lists → ⊥
+  not_listed [] [] after text first have = have
+  not_listed [] (l ∷ ls) after text first have = trees_break_none schema text have.0.denotes first
+  not_listed (b ∷ bs) [] after text first have = have
+  not_listed (b ∷ bs) (l ∷ ls) after text first have = not_listed bs ls after text first have.1
+
+  -- where each has a listing, none is refused
+  none_breaks : (n : ℕ) (texts lists : List (List ℕ)) {refusal : Refusal} → HaveListings schema texts lists → OneBreaks schema n texts refusal → refusal ≡ NoMemory
+  none_breaks n [] [] have h = elim h [ ]
+  none_breaks n [] (l ∷ ls) have h = absurd have
+  none_breaks n (t ∷ ts) [] have h = absurd have
+  none_breaks n (t ∷ ts) (l ∷ ls) have (this_breaks (program_breaks found)) = absurd (trees_break_none schema t have.0.denotes found)
+  none_breaks n (t ∷ ts) (l ∷ ls) have (this_breaks program_wants) = refl
+  none_breaks n (t ∷ ts) (l ∷ ls) have (later_breaks is h) = none_breaks (n + 1) ts ls have.1 h
+
+  -- a text has one listing
+  one_listing : (text lines others : List ℕ) → IsListing schema text lines → IsListing schema text others → lines ≡ others
+  one_listing text lines others a b = a.lines_are ∙ ap listing (one_tree_of schema text a.denotes b.denotes) ∙ sym b.lines_are
+
+  same_listings : (texts lists others : List (List ℕ)) → HaveListings schema texts lists → HaveListings schema texts others → lists ≡ others
+  same_listings [] [] [] a b = refl
+  same_listings [] [] (o ∷ os) a b = absurd b
+  same_listings [] (l ∷ ls) others a b = absurd a
+  same_listings (t ∷ ts) [] others a b = absurd a
+  same_listings (t ∷ ts) (l ∷ ls) [] a b = absurd b
+  same_listings (t ∷ ts) (l ∷ ls) (o ∷ os) a b = ap (λ x. x ∷ ls) (one_listing t l o a.0 b.0) ∙ ap (λ xs. o ∷ xs) (same_listings ts ls os a.1 b.1)
+
+-- ---- the outcome of the check that the arguments name
+
+same_check : (a b : Check) → a.schema ≡ b.schema → a.programs ≡ b.programs → a ≡ b
+same_check a b s p = λ i. record { schema = s i; programs = p i }
+
+one_check : (a b : Check) → check_arguments a ≡ check_arguments b → a ≡ b
+one_check a b same = let s : a.schema ≡ b.schema = cc same in let p : a.programs ≡ b.programs = cc same in same_check a b s p
+
+module _ (arguments : List (List ℕ)) (files : FileState) (faults : ℕ) (old new : OutState) (report : Report) (check : Check) (names : NamesSources arguments files check) where
+  data Outcome : Type 0 where
+    was_prevented : (refusal : Refusal) → report.refusal ≡ Some refusal → report.status ≡ status_after (Some refusal) → PreventsCheck files faults check refusal → Outcome
+    had_listed : (listings : List (List ℕ)) → AreListed files check listings → HasChecked check.programs listings old new report → Outcome
+
+  outcome : CommandResult arguments files faults old new report → Outcome
+  outcome (Refused name refusal (wrong_argument wrong) is) = absurd (wrong_or_formed arguments _ wrong (inr (check, (names.is_check, names.arguments_are))))
+  outcome (Refused name refusal (prevented run is_run are prevents) is) = absurd (other_command (sym are ∙ names.arguments_are))
+  outcome (Refused name refusal (check_prevented other is_other are prevents) is) =
+      was_prevented refusal is.refusal is.status (subst (λ (c : Check). PreventsCheck files faults c refusal) (one_check other check (sym are ∙ names.arguments_are)) prevents)
+  outcome (Ran named is_named are texts clean tree form inputs have ran) = absurd (other_command (sym are ∙ names.arguments_are))
+  outcome (Checked other is_other are listings listed told) =
+      let same = one_check other check (sym are ∙ names.arguments_are) in
+      had_listed listings (subst (λ (c : Check). AreListed files c listings) same listed) (subst (λ (c : Check). HasChecked c.programs listings old new report) same told)
+
+  refusal_by : {want : Refusal} → ((refusal : Refusal) → PreventsCheck files faults check refusal → IsRefusal (Some refusal) want) → ((listings : List (List ℕ)) → AreListed files check listings → ⊥) → Outcome → IsRefusal report.refusal want
+  refusal_by {want} by none (was_prevented refusal given status prevents) = subst (λ r. IsRefusal r want) (sym given) (by refusal prevents)
+  refusal_by by none (had_listed listings listed told) = absurd (none listings listed)
+
+  -- the texts of all files
+  all_texts : (texts : CheckTexts files check) → HaveTexts files (check_files check) (texts.df ∷ texts.sources)
+  all_texts texts = (texts.has_schema, texts.have_sources)
+
+  -- ---- a file that is not read
+
+  module _ (before after : List (List ℕ)) (name : List ℕ) (split : check_files check ≡ before ++ name ∷ after) (are : AreThere files before) where
+    file_by : {refusal want : Refusal} → (OneIsNotRead files faults (before ++ name ∷ after) refusal → IsRefusal (Some refusal) want) → ((texts : List (List ℕ)) → HaveTexts files (before ++ name ∷ after) texts → ⊥) → PreventsCheck files faults check refusal → IsRefusal (Some refusal) want
+    file_by {refusal} by none (no_schema_file h) = by (subst (λ ns. OneIsNotRead files faults ns refusal) split (this_one h))
+    file_by {refusal} by none (no_program has h) = by (subst (λ ns. OneIsNotRead files faults ns refusal) split (later_one has h))
+    file_by by none (schema_is_broken texts h) = absurd (none (texts.df ∷ texts.sources) (subst (λ ns. HaveTexts files ns (texts.df ∷ texts.sources)) split (all_texts texts)))
+    file_by by none (one_breaks texts clean h) = absurd (none (texts.df ∷ texts.sources) (subst (λ ns. HaveTexts files ns (texts.df ∷ texts.sources)) split (all_texts texts)))
+
+    file_is : {want : Refusal} → ((refusal : Refusal) → OneIsNotRead files faults (before ++ name ∷ after) refusal → IsRefusal (Some refusal) want) → ((texts : List (List ℕ)) → HaveTexts files (before ++ name ∷ after) texts → ⊥) → Outcome → IsRefusal report.refusal want
+    file_is by none = refusal_by (λ refusal prevents. file_by (by refusal) none prevents)
+        (λ listings listed. none (listed.texts.df ∷ listed.texts.sources) (subst (λ ns. HaveTexts files ns (listed.texts.df ∷ listed.texts.sources)) split (all_texts listed.texts)))
+
+    pub no_file_is_reported : CommandResult arguments files faults old new report → files.file name ≡ None → IsRefusal report.refusal (File name)
+    no_file_is_reported did none =
+        file_is (λ refusal h. one_missing files names.observable names.sound faults before after are none h) (λ texts have. have_none files names.observable names.sound before after texts none have) (outcome did)
+
+    pub long_file_is_reported : {text : List ℕ} → CommandResult arguments files faults old new report → files.file name ≡ Some text → MAX_FILE_BYTES < length text → IsRefusal report.refusal (TooLong name MAX_FILE_BYTES)
+    long_file_is_reported did there long =
+        file_is (λ refusal h. one_long files names.observable names.sound faults before after are there long h) (λ texts have. have_long files names.observable names.sound before after texts there long have) (outcome did)
+
+  -- ---- all files are read
+
+  module _ (df : List ℕ) (sources : List (List ℕ)) (are : AreThereWith files (check_files check) (df ∷ sources)) where
+    same_df : (texts : CheckTexts files check) → texts.df ≡ df
+    same_df texts = same_text files names.observable names.sound texts.has_schema are.0.there
+
+    schema_read : (texts : CheckTexts files check) → violation_of texts.df ≡ violation_of df
+    schema_read texts = ap violation_of (same_df texts)
+
+    same_sources : (texts : CheckTexts files check) → texts.sources ≡ sources
+    same_sources texts = same_texts files names.observable names.sound check.programs texts.sources sources texts.have_sources are.1
+
+    its_break : {refusal : Refusal} (texts : CheckTexts files check) → OneBreaks (schema_in texts.df) 0 texts.sources refusal → OneBreaks (schema_in df) 0 sources refusal
+    its_break {refusal} texts h = subst (λ ts. OneBreaks (schema_in df) 0 ts refusal) (same_sources texts) (subst (λ d. OneBreaks (schema_in d) 0 texts.sources refusal) (same_df texts) h)
+
+    its_listings : (listings : List (List ℕ)) (texts : CheckTexts files check) → HaveListings (schema_in texts.df) texts.sources listings → HaveListings (schema_in df) sources listings
+    its_listings listings texts h = subst (λ ts. HaveListings (schema_in df) ts listings) (same_sources texts) (subst (λ d. HaveListings (schema_in d) texts.sources listings) (same_df texts) h)
+
+    file_wants : {refusal : Refusal} → IsNotRead files faults check.schema refusal → refusal ≡ NoMemory
+    file_wants h = unread files names.observable names.sound faults are.0 h
+
+    sources_want : {refusal : Refusal} → OneIsNotRead files faults check.programs refusal → refusal ≡ NoMemory
+    sources_want h = none_unread files names.observable names.sound faults check.programs sources are.1 h
+
+    schema_by : {refusal : Refusal} {rule : Rule} {line : ℕ} → violation_of df ≡ Some (record { rule = rule; line = line }) → PreventsCheck files faults check refusal → IsRefusal (Some refusal) (Schema rule line)
+    schema_by broken (no_schema_file h) = wants (file_wants h)
+    schema_by broken (no_program has h) = wants (sources_want h)
+    schema_by broken (schema_is_broken texts h) = same_violation texts.df df broken (schema_read texts) h
+    schema_by broken (one_breaks texts clean h) = let both = sym (schema_read texts ∙ broken) ∙ clean in absurd (cc both)
+
+    pub broken_schema_is_reported : {rule : Rule} {line : ℕ} → CommandResult arguments files faults old new report → violation_of df ≡ Some (record { rule = rule; line = line }) → IsRefusal report.refusal (Schema rule line)
+    broken_schema_is_reported did broken =
+        refusal_by (λ refusal prevents. schema_by broken prevents) (λ listings listed. let both = sym (schema_read listed.texts ∙ broken) ∙ listed.clean in cc both) (outcome did)
+
+    module _ (clean : violation_of df ≡ None) where
+      source_by : {refusal want : Refusal} → (OneBreaks (schema_in df) 0 sources refusal → IsRefusal (Some refusal) want) → PreventsCheck files faults check refusal → IsRefusal (Some refusal) want
+      source_by by (no_schema_file h) = wants (file_wants h)
+      source_by by (no_program has h) = wants (sources_want h)
+      source_by by (schema_is_broken texts h) = wants (no_violation (schema_read texts ∙ clean) h)
+      source_by by (one_breaks texts fine h) = by (its_break texts h)
+
+      pub broken_source_is_reported : (before lists after : List (List ℕ)) (text : List ℕ) {rule : Rule} {place : Place} → CommandResult arguments files faults old new report → sources ≡ before ++ text ∷ after → HaveListings (schema_in df) before lists →
+          BreaksRule (schema_in df) text rule place → IsRefusal report.refusal (Source (length before) rule place)
+      broken_source_is_reported before lists after text did split have first =
+          refusal_by (λ refusal prevents. source_by (λ h. first_broken (schema_in df) before lists after text have first (subst (λ ts. OneBreaks (schema_in df) 0 ts refusal) split h)) prevents)
+          (λ listings listed. not_listed (schema_in df) before listings after text first (subst (λ ts. HaveListings (schema_in df) ts listings) split (its_listings listings listed.texts listed.have))) (outcome did)
+
+      only_memory : {refusal : Refusal} (lists : List (List ℕ)) → HaveListings (schema_in df) sources lists → PreventsCheck files faults check refusal → refusal ≡ NoMemory
+      only_memory lists have (no_schema_file h) = file_wants h
+      only_memory lists have (no_program has h) = sources_want h
+      only_memory lists have (schema_is_broken texts h) = no_violation (schema_read texts ∙ clean) h
+      only_memory lists have (one_breaks texts fine h) = none_breaks (schema_in df) 0 sources lists have (its_break texts h)
+
+      module _ (lists : List (List ℕ)) (have : HaveListings (schema_in df) sources lists) (quiet : Rose old.faults new.faults → ⊥) (known : IsTrue old.observable) where
+        listed_whole : (whole : Bool) (listings : List (List ℕ)) (told : HasChecked check.programs listings old new report) → told.whole ≡ whole → listings ≡ lists →
+            ((report.status ≡ 0) × (new.texts ≡ appended Standard (check_text check.programs lists) old.texts)) ⊎ (report.status ≡ 7)
+        listed_whole false listings told is same = absurd (quiet (rose_in_check arguments files faults old new report check.programs listings told is))
+        listed_whole true listings told is same =
+            let none : report.refusal ≡ None = told.refusal ∙ ap output_refusal is in
+            let ends : new ≡ told.between = subst (λ r. WritesStatus [] [] r told.between new) none told.lines in
+            inl (told.status ∙ ap status_after none, ap (λ (w : OutState). w.texts) ends ∙ told.text.all is known ∙ ap (λ ls. appended Standard (check_text check.programs ls) old.texts) same)
+
+        listed_by : Outcome → ((report.status ≡ 0) × (new.texts ≡ appended Standard (check_text check.programs lists) old.texts)) ⊎ (report.status ≡ 7)
+        listed_by (was_prevented refusal given status prevents) = inr (status ∙ ap (λ r. status_after (Some r)) (only_memory lists have prevents))
+        listed_by (had_listed listings listed told) =
+            listed_whole told.whole listings told refl (same_listings (schema_in df) sources listings lists (its_listings listings listed.texts listed.have) have)
+
+        pub sources_are_listed : CommandResult arguments files faults old new report → ((report.status ≡ 0) × (new.texts ≡ appended Standard (check_text check.programs lists) old.texts)) ⊎ (report.status ≡ 7)
+        sources_are_listed did = listed_by (outcome did)

@@ -1,0 +1,14 @@
+-- The part of a source, and then those of the others.
+use Rattle.std.proofs.lemmas.Result.{err_from_is_err_and}
+use Rattle.abl_outside.specs.declared.out.Stream.TheVariants.{Output}
+use Rattle.abl_cli.proofs.Writing.{writes_part, writes_then}
+use Rattle.abl_cli.proofs.check.+write_listings.Goals as goal
+
+pub returns-in_err-write_part : goal.returns-in_err-write_part
+returns-in_err-write_part g t c =
+    let p = err_from_is_err_and c.from_residual.result c.from_residual.ensures.1 in
+    rw (p.1, c.in-Some.ensures.cases.0, c.in-Some-split_first.ensures.cases.0, ← c.as_slice.ensures, ← c.as_slice-lines.ensures) (writes_part Output _ _ _ _ c.in_err-write_part.ensures)
+
+pub returns : goal.returns
+returns g t c =
+    rw (c.in-Some.ensures.cases.0, c.in-Some-split_first.ensures.cases.0, ← c.as_slice.ensures, ← c.as_slice-lines.ensures) (writes_then _ Output _ _ _ _ _ c.in_ok-write_part.ensures c.write_listings.ensures)

@@ -1,0 +1,15 @@
+-- A check is refused by what prevents it; else its listings are written.
+use Rattle.std.proofs.Common.{List, ℕ, subst}
+use Rattle.abl_arguments.specs.CommandLine.{check_of}
+use Rattle.abl_cli.specs.Command.{Checked, HasChecked, IsRefused, Refused, check_prevented}
+use Rattle.abl_cli.proofs.check.check_sources.Goals as goal
+
+pub returns-in-Err : goal.returns-in-Err
+returns-in-Err g c =
+    Refused _ _ (check_prevented (check_of c.args.check.now) c.requires.is_check c.requires.arguments_are c.in-Err.ensures.prevented)
+    (subst (λ (name : List ℕ). IsRefused name c.in-Err.refusal (g.O.Out.state c.args.out.now) (g.O.Out.state c.refused.new.out) c.refused.result) c.refused_name-name.ensures c.refused.ensures)
+
+pub returns-in-Ok : goal.returns-in-Ok
+returns-in-Ok g c =
+    Checked (check_of c.args.check.now) c.requires.is_check c.requires.arguments_are c.in-Ok.listings.items c.in-Ok.ensures.listed
+    (subst (λ (listings : List (List ℕ)). HasChecked c.args.check.now.programs.now listings (g.O.Out.state c.args.out.now) (g.O.Out.state c.report.new.out) c.report.result) c.deref.ensures.value c.report.ensures)

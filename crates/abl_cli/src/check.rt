@@ -1,0 +1,156 @@
+//! The command `check`: it lists the blocks of sources, with the buffers scoped to each.
+
+ghost use Rattle.std.specs.Prelude.{◌≡◌, ◌≤◌, ◌⊎◌, All, IfErr, IfOk, None, OnOk, is_ok, length};
+ghost use Rattle.abl_outside.specs.declared.out.Stream.{Stream};
+ghost use Rattle.abl_outside.specs.Out.{Writes};
+ghost use Rattle.abl_schema.specs.Rules.{violation_of};
+ghost use Rattle.abl_cli.specs.Check.{BreaksProgram, HaveListings, IsListing, OneBreaks, check_text, refused_name};
+ghost use Rattle.abl_arguments.specs.CommandLine.{NamesCheck, check_of};
+ghost use Rattle.abl_cli.specs.Command.{AreListed, BreaksSchema, CommandResult, HasChecked, PreventsCheck, schema_in};
+
+use crate::command::{Ends, Report, refused};
+use crate::execute::{output_refusal, status_of, write_refusal};
+use crate::load::{MAX_FILE_BYTES, read, read_named, schema_of};
+use crate::refusal::Refusal;
+use crate::report::{line_end, write_part};
+use abl_arguments::{Arg, CheckArguments};
+use abl_base::Bytes;
+use abl_outside::{Files, Out, OutFailed};
+use abl_source::{SourceFault, read_source};
+use abl_values::Schema;
+use block_listing::listing;
+use client_database::Trace;
+use std::alloc::Global;
+
+/// Lists the blocks of the sources that the arguments name. It reads no input and opens no database.
+pub fn check_sources<F: Files, O: Out>(
+    alloc: Global,
+    arguments: &[Arg],
+    files: &mut F,
+    out: &mut O,
+    check: &CheckArguments<'_>,
+) -> Report
+    requires { NamesCheck arguments.now check.now }
+    ensures { CommandResult arguments.now (F.state files.old) (F.state files.new).faults (O.state out.old) (O.state out.new) result }
+{
+    match listings_of(alloc, files, check) {
+        Err(refusal) => {
+            let name = refused_name(check.programs, &refusal);
+            refused(alloc, out, name, refusal)
+        }
+        Ok(listings) => report(alloc, out, check.programs, &listings),
+    }
+}
+
+/// The name of the source that is refused, and nothing where no source is.
+fn refused_name<'a>(names: &'a [Arg], refusal: &Refusal) -> &'a [u8]
+    ensures { result.now ≡ refused_name names.now refusal.now }
+{
+    let Refusal::Source { client, .. } = refusal else {
+        return b"";
+    };
+    match names.get(usize::from(*client)) {
+        Some(name) => name.as_slice(),
+        None => b"",
+    }
+}
+
+/// The lines of the blocks of each source, where the schema and the sources break no rule.
+fn listings_of<F: Files>(
+    alloc: Global,
+    files: &mut F,
+    check: &CheckArguments<'_>,
+) -> Result<Vec<Bytes>, Refusal>
+    requires { length check.now.programs.now ≤ 16 }
+    ensures listed { IfOk result (λ listings. AreListed (F.state files.old) (check_of check.now) listings.items) }
+    ensures prevented { IfErr result (PreventsCheck (F.state files.old) (F.state files.new).faults (check_of check.now)) }
+{
+    let df = read(alloc, files, check.schema)?;
+    let sources = read_named(alloc, files, check.programs)?;
+    match listings_in(alloc, df.as_slice(), &sources) {
+        Ok(listings) => Ok(listings),
+        Err(refusal) => Err(refusal),
+    }
+}
+
+/// The lines of the blocks of sources with these texts over the schema of this text.
+fn listings_in(alloc: Global, df: &[u8], sources: &[Bytes]) -> Result<Vec<Bytes>, Refusal>
+    requires short { All (λ text. length text ≤ MAX_FILE_BYTES) sources.now }
+    requires few { length sources.now ≤ 16 }
+    ensures clean { OnOk result (violation_of df.now ≡ None) }
+    ensures listed { IfOk result (λ listings. HaveListings (schema_in df.now) sources.now listings.items) }
+    ensures refused { IfErr result (λ refusal. BreaksSchema df.now refusal ⊎ ((violation_of df.now ≡ None) × OneBreaks (schema_in df.now) 0 sources.now refusal)) }
+{
+    let schema = schema_of(alloc, df)?;
+    listings_over(alloc, &schema, sources)
+}
+
+/// The lines of the blocks of sources with these texts over the schema.
+fn listings_over(alloc: Global, schema: &Schema, sources: &[Bytes]) -> Result<Vec<Bytes>, Refusal>
+    requires short { All (λ text. length text ≤ MAX_FILE_BYTES) sources.now }
+    requires few { length sources.now ≤ 16 }
+    ensures listed { IfOk result (λ listings. HaveListings schema.now sources.now listings.items) }
+    ensures refused { IfErr result (OneBreaks schema.now 0 sources.now) }
+{
+    let mut listings = Vec::new(alloc);
+    for (number, text) in sources.iter().enumerate() {
+        match listing_of(alloc, schema, number as u16, text.as_slice()) {
+            Ok(lines) => match listings.push(lines) {
+                Ok(()) => {}
+                Err(_) => return Err(Refusal::NoMemory),
+            },
+            Err(refusal) => return Err(refusal),
+        }
+    }
+    Ok(listings)
+}
+
+/// The lines of the blocks of the source of this number, or why it is refused.
+fn listing_of(alloc: Global, schema: &Schema, number: u16, text: &[u8]) -> Result<Bytes, Refusal>
+    requires { length text.now ≤ MAX_FILE_BYTES }
+    ensures listed { IfOk result (IsListing schema.now text.now) }
+    ensures refused { IfErr result (BreaksProgram schema.now text.now number) }
+{
+    match read_source(alloc, schema, text) {
+        Ok(bound) => match listing(alloc, &bound) {
+            Ok(lines) => Ok(lines),
+            Err(_) => Err(Refusal::NoMemory),
+        },
+        Err(SourceFault::Broken { rule, place }) => Err(Refusal::Source {
+            client: number,
+            rule,
+            place,
+        }),
+        Err(SourceFault::NoMemory) => Err(Refusal::NoMemory),
+    }
+}
+
+/// Writes the text of a check, and the line of the status where a write failed.
+fn report<O: Out>(alloc: Global, out: &mut O, names: &[Arg], listings: &[Bytes]) -> Report
+    ensures { HasChecked names.now listings.now (O.state out.old) (O.state out.new) result }
+{
+    let whole = write_listings(out, names, listings).is_ok();
+    let refusal = output_refusal(whole);
+    write_refusal(out, b"", &[], &refusal);
+    Report {
+        status: status_of(&refusal),
+        trace: Trace::empty(alloc),
+        ends: Ends::empty(alloc),
+        refusal,
+    }
+}
+
+/// Writes the heading and the lines of each source.
+fn write_listings<O: Out>(out: &mut O, names: &[Arg], listings: &[Bytes]) -> Result<(), OutFailed>
+    ensures { Writes (is_ok result) Stream.Output (check_text names.now listings.now) (O.state out.old) (O.state out.new) }
+{
+    let Some((name, names)) = names.split_first() else {
+        return Ok(());
+    };
+    let Some((lines, listings)) = listings.split_first() else {
+        return Ok(());
+    };
+    let lines = lines.as_slice();
+    write_part(out, name.as_slice(), lines, line_end(lines))?;
+    write_listings(out, names, listings)
+}
