@@ -3,8 +3,6 @@ use Rattle.std.proofs.Common.{◌≡◌, inl, inr, ◌≤◌, ◌+◌, ℕ, Bool
 use Rattle.std.specs.Prelude.{IsTrue}
 use Rattle.std.proofs.lemmas.List.{take-append-drop}
 use Rattle.fault_count.specs.Faults.{Rose}
-use Rattle.abl_outside.specs.Out.{appended}
-use Rattle.abl_outside.specs.declared.out.Stream.TheVariants.{Output as Standard}
 use Rattle.client_database.specs.declared.ends.ClientEnd.{ClientEnd}
 use Rattle.client_database.specs.declared.ends.ClientEnd.TheVariants as end
 use Rattle.client_output.specs.declared.section.Section.{Section}
@@ -14,11 +12,10 @@ use Rattle.abl_cli.specs.declared.command.Report.{Report}
 use Rattle.abl_arguments.specs.CommandLine.{RunFiles, Check, HaveForm, BeginForm, IsWrong, at_argument, missing}
 use Rattle.abl_values.specs.Schema.{SchemaData}
 use Rattle.abl_arguments.specs.declared.parts.Mode.{Mode}
-use Rattle.abl_cli.specs.Report.{run_text, status_of}
+use Rattle.abl_cli.specs.Report.{status_of}
 use Rattle.abl_outside.specs.Out.{OutState}
 use Rattle.abl_outside.specs.Files.{FileState}
-use Rattle.abl_cli.specs.Check.{OneBreaks, this_breaks, later_breaks, check_text}
-use Rattle.abl_arguments.specs.CommandLine.{check_arguments}
+use Rattle.abl_cli.specs.Check.{OneBreaks, this_breaks, later_breaks}
 use Rattle.abl_cli.specs.Command.{IsNotRead, Prevents, no_schema, no_source, no_input, schema_breaks, source_breaks, no_named_input, IsInputNotRead, OneIsNotRead, this_one, later_one, PreventsCheck, no_schema_file, no_program, schema_is_broken, one_breaks, Cause, wrong_argument, prevented, check_prevented, IsReported, HasChecked, CommandResult, Refused, Ran, Checked, output_refusal, WritesStatus, refusal_after, status_after, IsUsage, HasWholeText, of_run, of_check}
 
 -- ---- arguments
