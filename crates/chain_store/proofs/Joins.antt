@@ -93,3 +93,8 @@ append_none (x ∷ xs) ys none = ap (λ (zs : List ℕ). x ∷ zs) (append_none 
 pub first_append : (xs ys : List ℕ) → 0 < first_or_zero xs → first_or_zero (xs ++ ys) ≡ first_or_zero xs
 first_append [] ys some = absurd (omega (arith, some))
 first_append (x ∷ xs) ys some = refl
+
+-- a row that had no slot begins with the first that was drawn
+pub first_of_none : (old drawn chain : List ℕ) → chain ≡ old ++ drawn → length old ≡ 0 → first_or_zero chain ≡ first_or_zero drawn
+first_of_none [] drawn chain is none = ap first_or_zero is
+first_of_none (x ∷ xs) drawn chain is none = absurd (omega (arith, none))

@@ -6,7 +6,7 @@ use Rattle.std.proofs.lemmas.List.Sums.{sum_by-cons}
 use Rattle.abl_storage.specs.Slots.{SlotState, Transaction, IsReadable, Rests}
 use Rattle.free_slots.specs.Free.{AreDifferent, Takes, times, without}
 use Rattle.free_slots.proofs.Popped.{one, one_other}
-use Rattle.row_chain.specs.Fragments.{AreDistinct, ends, kind_in}
+use Rattle.row_chain.specs.Fragments.{AreDistinct, ends, first_or_zero, kind_in}
 use Rattle.row_chain.proofs.Within.{head_in, none_in, tail_in}
 use Rattle.chain_store.specs.declared.places.Place.{Place}
 use Rattle.chain_store.specs.Exact.{AreVacant, IsExact, IsVacant}
@@ -112,4 +112,16 @@ vacant_was s t r readable slots v = record {
         empty = ap (λ (f : ℕ → List ℕ). kind_in (f k)) (sym (r.reads readable)) ∙ e.empty;
         apart = λ c begun. ap (λ (f : ℕ → Transaction). (f c).written k) (sym r.transaction) ∙ e.apart c (ap (λ (f : ℕ → Transaction). (f c).begun) r.transaction ∙ begun);
       };
+}
+
+-- each slot below the first that was drawn was not free
+pub takes_lowest : (free : ℕ → ℕ) (drawn : List ℕ) (left : ℕ → ℕ) → Takes free drawn left → (k : ℕ) → k < first_or_zero drawn → free k ≡ 0
+takes_lowest free [] left takes k lt = absurd (omega (arith, lt))
+takes_lowest free (slot ∷ later) left takes k lt = takes.1 k lt
+
+pub vacant_one : (s t : SlotState) → Rests s t → IsReadable s → (k : ℕ) → IsVacant s k → IsVacant t k
+vacant_one s t r readable k e = record {
+  inside = e.inside;
+  empty = ap (λ (f : ℕ → List ℕ). kind_in (f k)) (r.reads readable) ∙ e.empty;
+  apart = λ c begun. ap (λ (f : ℕ → Transaction). (f c).written k) r.transaction ∙ e.apart c (ap (λ (f : ℕ → Transaction). (f c).begun) (sym r.transaction) ∙ begun);
 }

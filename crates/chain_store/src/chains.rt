@@ -180,6 +180,7 @@ impl<S: Slots + Drop> Chains<S> {
         requires idle { ((S.Slots.state self.old.slots).transaction client).begun ≡ false }
         ensures ok { OnOk result (Begins (S.Slots.state self.old.slots) (S.Slots.state self.new.slots) client) }
         ensures counts { OnOk result ((client_in self.new.clients.items client).drawn ≡ 0) }
+        ensures apart { (c : ℕ) → c ≢ client → (client_in self.new.clients.items c).drawn ≡ (client_in self.old.clients.items c).drawn }
         ensures err { OnErr result (Rests (S.Slots.state self.old.slots) (S.Slots.state self.new.slots)) }
         ensures time { Goes (S.Slots.state self.old.slots) (S.Slots.state self.new.slots) (S.Slots.stop self.old.slots) (S.Slots.stop self.new.slots) }
         ensures cause { HasCause (S.Slots.state self.old.slots) (S.Slots.state self.new.slots) (of_slots result) }
@@ -238,6 +239,8 @@ impl<S: Slots + Drop> Chains<S> {
     pub fn commit(&mut self, client: u16) -> Result<u64, ChainFault>
         requires client { client < 16 }
         requires begun { ((S.Slots.state self.old.slots).transaction client).begun ≡ true }
+        ensures counts { OnOk result ((client_in self.new.clients.items client).drawn ≡ 0) }
+        ensures apart { (c : ℕ) → c ≢ client → (client_in self.new.clients.items c).drawn ≡ (client_in self.old.clients.items c).drawn }
         ensures moment { IfOk result (λ moment. moment ≡ (S.Slots.state self.new.slots).moment) }
         ensures ok { OnOk result (Commits (S.Slots.state self.old.slots) (S.Slots.state self.new.slots) client) }
         ensures acknowledged { OnOk result ((slots : ℕ → List ℕ) → S.Slots.stop self.new.slots (S.Slots.state self.new.slots).moment slots → slots ≡ (S.Slots.state self.new.slots).committed) }
@@ -264,6 +267,8 @@ impl<S: Slots + Drop> Chains<S> {
     pub fn abandon(&mut self, client: u16)
         requires client { client < 16 }
         requires begun { ((S.Slots.state self.old.slots).transaction client).begun ≡ true }
+        ensures counts { (client_in self.new.clients.items client).drawn ≡ 0 }
+        ensures apart { (c : ℕ) → c ≢ client → (client_in self.new.clients.items c).drawn ≡ (client_in self.old.clients.items c).drawn }
         ensures ended { Ends (S.Slots.state self.old.slots) (S.Slots.state self.new.slots) client }
         ensures time { Goes (S.Slots.state self.old.slots) (S.Slots.state self.new.slots) (S.Slots.stop self.old.slots) (S.Slots.stop self.new.slots) }
     {

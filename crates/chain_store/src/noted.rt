@@ -47,6 +47,7 @@ pub fn write_noted<S: Slots>(
     ensures noted { (IsErrOf result SlotFault.Disk → ⊥) → IsNoted (S.Slots.state slots.new) places.new.items (free_in (heap_items free.new.back) free.new.end) clients.new }
     ensures many { length clients.new ≡ length clients.old }
     ensures drawn { OnOk result ((drawn : List ℕ) × (chain.new.items ≡ chain.old.items ++ drawn) × (length drawn ≡ more) × (IsReadable (S.Slots.state slots.old) → AreVacant (S.Slots.state slots.old) drawn)) }
+    ensures lowest { OnOk result (length chain.old.items ≡ 0 → (k : ℕ) → k < first_or_zero chain.new.items → free_in (heap_items free.old.back) free.old.end k ≡ 0) }
     ensures first { OnOk result (0 < first_or_zero chain.new.items) }
     ensures inside { OnOk result ((k : ℕ) → Contains chain.new.items k → ends k ≡ false) }
     ensures wrote { OnOk result (Wrote (S.Slots.state slots.old) (S.Slots.state slots.new) client chain.new.items) }

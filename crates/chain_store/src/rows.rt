@@ -6,7 +6,7 @@ ghost use Rattle.abl_storage.specs.Slots.{IsReadable, NeverFull, Rests};
 ghost use Rattle.row_chain.specs.Calls.{Looked, Touched};
 ghost use Rattle.row_chain.specs.Fragments.{begins, chain_of, ends, first_or_zero, table_in};
 ghost use Rattle.chain_store.specs.Clients.{client_in};
-ghost use Rattle.chain_store.specs.Exact.{AreVacant};
+ghost use Rattle.chain_store.specs.Exact.{AreVacant, IsVacant};
 ghost use Rattle.chain_store.specs.Noted.{AreSameClients};
 ghost use Rattle.chain_store.specs.Places.{owner_in};
 ghost use Rattle.chain_store.specs.Rows.{ChangesRow, IsLeastFor, of_slots};
@@ -41,10 +41,12 @@ impl<S: Slots + Drop> Chains<S> {
         requires fits { length bytes.now < 2 ^ 32 }
         ensures touched { Touched (S.Slots.state self.old.slots) (S.Slots.state self.new.slots) (S.Slots.stop self.old.slots) (S.Slots.stop self.new.slots) client (of_slots result) }
         ensures drawn { OnOk result ((drawn : List ℕ) × (chain.new.items ≡ chain.old.items ++ drawn) × (length drawn ≡ keep - length chain.old.items) × (IsReadable (S.Slots.state self.old.slots) → AreVacant (S.Slots.state self.old.slots) drawn)) }
+        ensures lowest { OnOk result (length chain.old.items ≡ 0 → IsReadable (S.Slots.state self.old.slots) → (k : ℕ) → IsVacant (S.Slots.state self.old.slots) k → first_or_zero chain.new.items ≤ k) }
         ensures inside { OnOk result (ends (first_or_zero chain.new.items) ≡ false) }
         ensures put { OnOk result (0 < keep → ChangesRow (S.Slots.state self.old.slots) (S.Slots.state self.new.slots) client (first_or_zero chain.new.items) chain.new.items (Some (record { table = table; bytes = bytes.now }))) }
         ensures gone { OnOk result (keep ≡ 0 → ChangesRow (S.Slots.state self.old.slots) (S.Slots.state self.new.slots) client (first_or_zero chain.new.items) chain.new.items None) }
         ensures counts { OnOk result ((client_in self.new.clients.items client).drawn ≡ (client_in self.old.clients.items client).drawn + (keep - length chain.old.items)) }
+        ensures apart { (c : ℕ) → c ≢ client → (client_in self.new.clients.items c).drawn ≡ (client_in self.old.clients.items c).drawn }
         ensures refused { (IsErrOf result (ChainFault.Slot SlotFault.Disk) → ⊥) → OnErr result (Rests (S.Slots.state self.old.slots) (S.Slots.state self.new.slots)) }
         ensures same { OnErr result (AreSameClients self.old.clients.items self.new.clients.items) }
         ensures full { IsErrOf result ChainFault.Full → IsReadable (S.Slots.state self.old.slots) → (slots : List ℕ) → AreVacant (S.Slots.state self.old.slots) slots → length slots < keep - length chain.old.items }
@@ -115,7 +117,9 @@ impl<S: Slots + Drop> Chains<S> {
             × (IsReadable (S.Slots.state self.old.slots) → AreVacant (S.Slots.state self.old.slots) slots)
             × ((client_in self.new.clients.items client).drawn ≡ (client_in self.old.clients.items client).drawn + length slots)
             × (((S.Slots.state self.old.slots).transaction client).counted + length slots ≤ 7989)) }
+        ensures lowest { IfOk result (λ row. IsReadable (S.Slots.state self.old.slots) → (k : ℕ) → IsVacant (S.Slots.state self.old.slots) k → row.0 ≤ k) }
         ensures identity { IfOk result (λ row. ends row.0 ≡ false) }
+        ensures apart { (c : ℕ) → c ≢ client → (client_in self.new.clients.items c).drawn ≡ (client_in self.old.clients.items c).drawn }
         ensures touched { Touched (S.Slots.state self.old.slots) (S.Slots.state self.new.slots) (S.Slots.stop self.old.slots) (S.Slots.stop self.new.slots) client (of_slots result) }
         ensures refused { (IsErrOf result (ChainFault.Slot SlotFault.Disk) → ⊥) → OnErr result (Rests (S.Slots.state self.old.slots) (S.Slots.state self.new.slots)) }
         ensures same { OnErr result (AreSameClients self.old.clients.items self.new.clients.items) }
@@ -146,6 +150,9 @@ impl<S: Slots + Drop> Chains<S> {
             × ChangesRow (S.Slots.state self.old.slots) (S.Slots.state self.new.slots) client row.0 slots (Some (record { table = table_in ((S.Slots.state self.old.slots).reads row.0); bytes = bytes.now }))
             × (IsReadable (S.Slots.state self.old.slots) → length slots ≡ max (length (chain_of (S.Slots.state self.old.slots).reads row.0)) n)
             × (((S.Slots.state self.old.slots).transaction client).counted + length slots ≤ 7989)) }
+        ensures counts { OnOk result (IsReadable (S.Slots.state self.old.slots) → (n : ℕ) × IsLeastFor (length bytes.now) n
+            × ((client_in self.new.clients.items client).drawn ≡ (client_in self.old.clients.items client).drawn + (n - length (chain_of (S.Slots.state self.old.slots).reads row.0)))) }
+        ensures apart { (c : ℕ) → c ≢ client → (client_in self.new.clients.items c).drawn ≡ (client_in self.old.clients.items c).drawn }
         ensures touched { Touched (S.Slots.state self.old.slots) (S.Slots.state self.new.slots) (S.Slots.stop self.old.slots) (S.Slots.stop self.new.slots) client (of_slots result) }
         ensures refused { (IsErrOf result (ChainFault.Slot SlotFault.Disk) → ⊥) → OnErr result (Rests (S.Slots.state self.old.slots) (S.Slots.state self.new.slots)) }
         ensures same { OnErr result (AreSameClients self.old.clients.items self.new.clients.items) }
@@ -170,6 +177,8 @@ impl<S: Slots + Drop> Chains<S> {
             × ChangesRow (S.Slots.state self.old.slots) (S.Slots.state self.new.slots) client row.0 slots None
             × (IsReadable (S.Slots.state self.old.slots) → slots ≡ chain_of (S.Slots.state self.old.slots).reads row.0)
             × (((S.Slots.state self.old.slots).transaction client).counted + length slots ≤ 7989)) }
+        ensures counts { OnOk result ((client_in self.new.clients.items client).drawn ≡ (client_in self.old.clients.items client).drawn) }
+        ensures apart { (c : ℕ) → c ≢ client → (client_in self.new.clients.items c).drawn ≡ (client_in self.old.clients.items c).drawn }
         ensures touched { Touched (S.Slots.state self.old.slots) (S.Slots.state self.new.slots) (S.Slots.stop self.old.slots) (S.Slots.stop self.new.slots) client (of_slots result) }
         ensures refused { (IsErrOf result (ChainFault.Slot SlotFault.Disk) → ⊥) → OnErr result (Rests (S.Slots.state self.old.slots) (S.Slots.state self.new.slots)) }
         ensures same { OnErr result (AreSameClients self.old.clients.items self.new.clients.items) }

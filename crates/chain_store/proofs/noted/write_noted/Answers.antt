@@ -7,9 +7,10 @@ use Rattle.row_chain.proofs.Within.{right_in}
 use Rattle.chain_store.specs.declared.client.Client.{Client}
 use Rattle.chain_store.specs.Clients.{ClientView}
 use Rattle.chain_store.proofs.ClientLists.{client_at, client_set_other, client_set_same, part_set, same_set}
+use Rattle.chain_store.proofs.Joins.{first_of_none}
 use Rattle.chain_store.proofs.NotedSteps.{noted_places, noted_rests, noted_turned, noted_written}
 use Rattle.chain_store.proofs.Sounds.{memory_left}
-use Rattle.chain_store.proofs.Vacancies.{free_vacant, takes_distinct, takes_free}
+use Rattle.chain_store.proofs.Vacancies.{free_vacant, takes_distinct, takes_free, takes_lowest}
 use Rattle.chain_store.proofs.noted.write_noted.Goals as goal
 
 pub returns-then-not-may_write-clause-full : goal.returns-then-not-may_write-clause-full
@@ -221,3 +222,9 @@ returns-in-Ok-write_row-clause-apart g c = λ d ne.
     let within : c.args.client < length cs = omega (arith, many, lt) in
     let was_is : was ≡ slice_index_or cs c.args.client was = ap (λ (d : Client). slice_index_or cs c.args.client d) c.index-clients-client.is in
     client_set_other cs c.args.client d c.note.new.self ne
+
+pub returns-in-Ok-write_row-clause-lowest : goal.returns-in-Ok-write_row-clause-lowest
+returns-in-Ok-write_row-clause-lowest g c = λ none k lt.
+    let d = c.in-Ok-write_row.ensures.drawn in
+    takes_lowest (free_in (heap_items c.args.free.now.back) c.args.free.now.end) d.0 (free_in (heap_items c.write_row.new.free.back) c.write_row.new.free.end) d.4 k
+    (subst (λ (n : ℕ). k < n) (first_of_none c.args.chain.now.items d.0 c.write_row.new.chain.items d.1 none) lt)

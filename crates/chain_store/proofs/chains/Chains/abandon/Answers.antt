@@ -2,6 +2,7 @@ use Rattle.std.proofs.Common.{◌≡◌, false, sym, ap, ◌∙◌, arith}
 use Rattle.std.specs.BinaryHeap.{heap_items}
 use Rattle.free_slots.specs.Free.{free_in}
 use Rattle.chain_store.specs.Clients.{ClientView}
+use Rattle.chain_store.proofs.ClientLists.{client_set_other, client_set_same}
 use Rattle.chain_store.proofs.Exactly.{exact_ends}
 use Rattle.chain_store.proofs.Kept.{not_both}
 use Rattle.chain_store.proofs.NotedSteps.{noted_turned}
@@ -29,3 +30,13 @@ invariant_of-self g c =
           noted_turned cs c.args.client _ x (omega (arith, many, lt)) c.index_mut-one.ensures.value s t chains.places.items free b.transaction.others (λ is. absurd (not_both (t.transaction c.args.client).begun is b.transaction.begun))
           (ends_kept s t chains.places.items n.kept same c.args.client b) (exact_ends s t chains.places.items n.kept n.exact same c.args.client b) (ap (λ (v : ClientView). v.touched) c.end.ensures) n) chains.sound;
     }
+
+pub returns-clause-counts : goal.returns-clause-counts
+returns-clause-counts g c =
+    let cs = c.args.self.now.clients.items in
+    let many = c.args.self.now.sound.sixteen in
+    let lt = c.requires.client in
+    ap (λ (v : ClientView). v.drawn) (client_set_same cs c.args.client c.end.new.self (omega (arith, many, lt))) ∙ ap (λ (v : ClientView). v.drawn) c.end.ensures
+
+pub returns-clause-apart : goal.returns-clause-apart
+returns-clause-apart g c = λ d ne. ap (λ (v : ClientView). v.drawn) (client_set_other c.args.self.now.clients.items c.args.client d c.end.new.self ne)

@@ -3,7 +3,7 @@ use Rattle.std.specs.BinaryHeap.{heap_items}
 use Rattle.free_slots.specs.Free.{free_in}
 use Rattle.abl_storage.specs.Slots.{Transaction}
 use Rattle.chain_store.specs.Clients.{ClientView}
-use Rattle.chain_store.proofs.ClientLists.{client_set_same}
+use Rattle.chain_store.proofs.ClientLists.{client_set_other, client_set_same}
 use Rattle.chain_store.proofs.Exactly.{exact_begins}
 use Rattle.chain_store.proofs.NotedSteps.{noted_turned}
 use Rattle.chain_store.proofs.Sounds.{sound_turned}
@@ -39,3 +39,6 @@ returns-in-Ok-begin-clause-counts g c =
     let many = c.settle.new.self.sound.sixteen in
     let lt = c.requires.client in
     ap (λ (v : ClientView). v.drawn) (client_set_same cs c.args.client c.start.new.self (omega (arith, many, lt))) ∙ ap (λ (v : ClientView). v.drawn) c.start.ensures
+
+pub returns-in-Ok-begin-clause-apart : goal.returns-in-Ok-begin-clause-apart
+returns-in-Ok-begin-clause-apart g c = λ d ne. ap (λ (v : ClientView). v.drawn) (client_set_other c.settle.new.self.clients.items c.args.client d c.start.new.self ne) ∙ c.settle.ensures.counts.drawn d

@@ -1,4 +1,6 @@
-use Rattle.std.proofs.Common.{List, length, sym, ap, ◌∙◌, subst, arith}
+use Rattle.std.proofs.Common.{List, length, sym, ap, ◌∙◌, subst, arith, inl, inr}
+use Rattle.std.proofs.lemmas.Bool.{cases_lt}
+use Rattle.row_chain.specs.Fragments.{first_or_zero}
 use Rattle.std.specs.BinaryHeap.{heap_items}
 use Rattle.free_slots.specs.Free.{free_in}
 use Rattle.chain_store.specs.declared.client.Client.{Client}
@@ -40,3 +42,16 @@ invariant_of-self-in-Ok g c =
 
 pub returns-in-Ok-clause-inside : goal.returns-in-Ok-clause-inside
 returns-in-Ok-clause-inside g c = c.in-Ok.ensures.inside _ (first_in c.write_noted.new.chain.items c.in-Ok.ensures.first)
+
+pub returns-in-Ok-clause-lowest : goal.returns-in-Ok-clause-lowest
+returns-in-Ok-clause-lowest g c = λ none readable k v.
+    let chains = c.args.self.now in
+    let s = g.S.Slots.state chains.slots in
+    let n = chains.sound.noted c.requires.fine in
+    elim (cases_lt k (first_or_zero c.write_noted.new.chain.items)) [
+      | inl lt ↦
+          let taken = c.in-Ok.ensures.lowest none k lt in
+          let free = vacant_free s chains.places.items (free_in (heap_items chains.free.back) chains.free.end) n.kept n.freed n.exact readable c.requires.settled k v in
+          absurd (omega (arith, taken, free))
+      | inr le ↦ le
+    ]

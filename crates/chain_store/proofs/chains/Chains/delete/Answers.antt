@@ -1,6 +1,7 @@
 use Rattle.std.proofs.Common.{◌≡◌, ℕ, None, length, refl, ap, ◌∙◌, subst, arith}
 use Rattle.abl_storage.specs.Slots.{Transaction}
 use Rattle.row_chain.specs.Fragments.{first_or_zero}
+use Rattle.row_chain.proofs.Composes.{on_ok}
 use Rattle.chain_store.specs.Rows.{ChangesRow}
 use Rattle.chain_store.proofs.Joins.{append_none, changes_after_rests, still_touched, three_ok}
 use Rattle.chain_store.proofs.chains.Chains.delete.Goals as goal
@@ -33,3 +34,8 @@ returns-clause-touched g c =
     still_touched (g.S.Slots.state c.args.self.now.slots) (g.S.Slots.state c.prepare.new.self.slots) (g.S.Slots.state c.change.new.self.slots)
     (g.S.Slots.stop c.args.self.now.slots) (g.S.Slots.stop c.prepare.new.self.slots) (g.S.Slots.stop c.change.new.self.slots) (g.met.S.Slots.stop_known c.change.new.self.slots)
     (record { rests = l.rests; time = l.time; later = l.cause.later; failed = l.cause.stays (λ e. cc e) }) c.args.client _ _ (λ q. q) (λ q. q) c.change.ensures.touched
+
+pub returns-clause-counts : goal.returns-clause-counts
+returns-clause-counts g c = on_ok c.change.result c.change.ensures.counts (λ counts.
+    let before = c.in-Ok.ensures.counts.drawn c.args.client in
+    omega (arith, counts, before))

@@ -1,11 +1,11 @@
-use Rattle.std.proofs.Common.{◌≡◌, ℕ, ◌++◌, [], List, Some, length, sym, ap, ◌∙◌, subst, arith}
+use Rattle.std.proofs.Common.{◌≡◌, ◌≤◌, ℕ, ◌++◌, [], List, Some, length, sym, ap, ◌∙◌, subst, arith}
 use Rattle.abl_storage.specs.Slots.{Transaction}
 use Rattle.row_chain.specs.Fragments.{first_or_zero}
 use Rattle.row_chain.proofs.Composes.{readable_on}
 use Rattle.chain_store.specs.Exact.{AreVacant}
 use Rattle.chain_store.specs.Rows.{ChangesRow}
 use Rattle.chain_store.proofs.Joins.{changes_after_rests, least_of, still_touched}
-use Rattle.chain_store.proofs.Vacancies.{vacant_on, vacant_was}
+use Rattle.chain_store.proofs.Vacancies.{vacant_on, vacant_one, vacant_was}
 use Rattle.chain_store.proofs.chains.Chains.insert.Goals as goal
 
 pub returns-in-Ok-change-clause-ok : goal.returns-in-Ok-change-clause-ok
@@ -64,3 +64,13 @@ returns-clause-full g c = λ is readable.
           let lt = c.in-Err-change.ensures.full (cc is) (readable_on s u l.rests.keeps.observable same readable) slots (vacant_on s u l.rests readable slots vacant) in
           omega (arith, lt, zero),
     )
+
+pub returns-in-Ok-change-clause-lowest : goal.returns-in-Ok-change-clause-lowest
+returns-in-Ok-change-clause-lowest g c = λ readable k vacant.
+    let s = g.S.Slots.state c.args.self.now.slots in
+    let u = g.S.Slots.state c.settle.new.self.slots in
+    let l = c.in-Ok.ensures.looked in
+    let same : u.failed ≡ s.failed = l.cause.stays (λ e. cc e) in
+    let none : c.new-chain.result.items ≡ [] = c.new-chain.ensures.items in
+    let first : c.first.result ≡ first_or_zero c.change.new.chain.items = c.first.ensures ∙ ap first_or_zero c.deref.ensures.value in
+    subst (λ (n : ℕ). n ≤ k) (sym first) (c.in-Ok-change.ensures.lowest (ap length none) (readable_on s u l.rests.keeps.observable same readable) k (vacant_one s u l.rests readable k vacant))

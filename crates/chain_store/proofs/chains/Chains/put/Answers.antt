@@ -1,7 +1,8 @@
-use Rattle.std.proofs.Common.{◌≡◌, ◌<◌, ℕ, ◌-◌, Some, length, max, ap, ◌∙◌, subst, arith, length-append}
+use Rattle.std.proofs.Common.{◌≡◌, ◌+◌, ◌<◌, ℕ, ◌-◌, Some, length, max, ap, ◌∙◌, subst, arith, length-append}
 use Rattle.abl_storage.specs.Slots.{Transaction}
 use Rattle.row_chain.specs.Fragments.{chain_of, first_or_zero}
-use Rattle.row_chain.proofs.Composes.{readable_on}
+use Rattle.row_chain.proofs.Composes.{on_ok, readable_on}
+use Rattle.chain_store.specs.Clients.{client_in}
 use Rattle.chain_store.specs.Rows.{ChangesRow}
 use Rattle.chain_store.proofs.Joins.{changes_after_rests, first_append, still_touched, three_ok}
 use Rattle.chain_store.proofs.Vacancies.{vacant_on}
@@ -68,3 +69,17 @@ returns-clause-full g c = λ is readable.
           let lt : length slots < keep - length old = c.change.ensures.full is (readable_on s u f.looked.rests.keeps.observable same readable) slots (vacant_on s u f.looked.rests readable slots vacant) in
           subst (λ (m : ℕ). length slots < keep - m) held lt,
     )
+
+pub returns-clause-counts : goal.returns-clause-counts
+returns-clause-counts g c = on_ok c.change.result c.change.ensures.counts (λ counts readable.
+    let s = g.S.Slots.state c.args.self.now.slots in
+    let f = c.in-Ok.ensures in
+    let n = c.fragments-keep.ensures in
+    let keep = c.fragments-keep.result in
+    let old = c.in-Ok.found.slots.items in
+    let client = c.args.client in
+    let held : length old ≡ length (chain_of s.reads c.args.row.0) = ap length (f.slots readable) in (
+      keep,
+      record { some = n.some; holds = n.holds; least = n.least },
+      counts ∙ (ap (λ (m : ℕ). m + (keep - length old)) (f.counts.drawn client) ∙ ap (λ (m : ℕ). (client_in c.args.self.now.clients.items client).drawn + (keep - m)) held),
+    ))
