@@ -4,18 +4,16 @@ use Rattle.std.specs.Prelude.{reverse, slice_get, slice_index_or}
 use Rattle.bound_tree.specs.Tree.{Procedure, Argument}
 use Rattle.bound_tree.specs.declared.expression.Variable.{Variable}
 use Rattle.block_meaning.specs.Program.{Program, no_procedure, procedure_at}
-use Rattle.block_meaning.specs.State.{State, CallFrame}
+use Rattle.block_meaning.specs.State.{State}
 use Rattle.block_meaning.specs.Meaning.{argument_values}
-use Rattle.client_undo.specs.Undo.{Values}
 use Rattle.client_memory.specs.Memory.{Remembered}
 use Rattle.client_values.specs.Variables.{state_with}
-use Rattle.client_values.specs.Variables.{frames_out as frames_there}
 use Rattle.block_code.specs.Code.{place_of}
 use Rattle.block_code.specs.declared.code.Instr.{Instr}
 use Rattle.block_code.specs.declared.code.ProcedureCode.{ProcedureCode}
-use Rattle.client_machine.specs.Config.{frames_out, state_of}
+use Rattle.client_machine.specs.Config.{state_of}
 use Rattle.client_machine.specs.Inputs.{IsProcedureOf, AreProceduresOf}
-use Rattle.client_calls.specs.Calls.{EvaluatesAll, frame_with}
+use Rattle.client_calls.specs.Calls.{EvaluatesAll}
 
 -- ---- the code of a procedure
 
@@ -43,15 +41,9 @@ passes_found p code cs n k c args args' retry s r are e is is' h =
 
 -- ---- the state of a machine
 
-frames_same : (ns : List ℕ) (uss kss : Values) → frames_out ns uss kss ≡ frames_there ns uss kss
-frames_same [] uss kss = refl
-frames_same (n ∷ ns) [] kss = refl
-frames_same (n ∷ ns) (us ∷ uss) [] = refl
-frames_same (n ∷ ns) (us ∷ uss) (ks ∷ kss) = ap (λ (fs : List CallFrame). frame_with n us ks ∷ fs) (frames_same ns uss kss)
-
 -- what the state has beside the frames
 abbrev pub rest_of : State → Remembered → ℕ → State
 rest_of rest m units = record rest { level = length m.copies; units = units }
 
 pub state_is : (rest : State) (ns : List ℕ) (m : Remembered) (units : ℕ) → state_of rest ns m units ≡ state_with (rest_of rest m units) ns m
-state_is rest ns m units = ap (λ fs. record rest { frames = reverse fs; level = length m.copies; units = units }) (frames_same ns m.undoable m.no_undo)
+state_is rest ns m units = refl

@@ -1,6 +1,6 @@
 -- The steps of RUN.
 use Rattle.std.proofs.Common.{◌≡◌, ℕ, suc, ◌+◌, ◌-◌, ◌<◌, List, [], ◌∷◌, ◌++◌, length, take, None, Bool, true, false, refl, sym, ap, ◌∙◌, subst, arith}
-use Rattle.std.specs.Prelude.{reverse}
+use Rattle.std.specs.Prelude.{map, reverse}
 use Rattle.std.proofs.lemmas.List.{length-append, length-take-le}
 use Rattle.abl_base.specs.declared.value.Value.{Value}
 use Rattle.bound_tree.specs.Tree.{Argument, Procedure, Run}
@@ -8,7 +8,7 @@ use Rattle.block_meaning.specs.Program.{Program, procedure_at}
 use Rattle.block_meaning.specs.State as state
 use Rattle.block_meaning.specs.State.{State, Copy}
 use Rattle.block_meaning.specs.Frames.{own_frame}
-use Rattle.block_meaning.specs.Meaning.{cleared, copied_out, without_frame, opened_frame, argument_values}
+use Rattle.block_meaning.specs.Meaning.{cleared, copied_out, without_frame, opened_frame, argument_values, new_buffer}
 use Rattle.block_meaning.proofs.Continues.{begins_itself}
 use Rattle.block_flat.specs.Flat as flat
 use Rattle.block_flat.proofs.Machine.{step_means}
@@ -61,7 +61,7 @@ run_kept run place left retry old mid new is began paid moved order evaluated = 
     let is_whole : new ≡ whole = moved ∙ ap (λ (m : Machine). record m { mode = new.mode; stack = new.stack }) began in
     let ks = flat.ThenDo (flat.RunsFrom run.next left retry) ∷ stack_in old in
     let go : State → flat.Config = λ s. flat.stmt_step p (Run (run_procedure i) (run_arguments i) run.no_error) left retry ks s in
-    let fits' : RestFits rest' went = record { made = f.state.made; status_is = ap (status_after run.no_error) f.state.status_is; returned_is = f.state.returned_is; size_is = f.state.size_is; streams_are = f.state.streams_are; at_is = f.state.at_is } in
+    let fits' : RestFits rest' went = record { made_is = f.state.made_is; status_is = ap (status_after run.no_error) f.state.status_is; returned_is = f.state.returned_is; size_is = f.state.size_is; streams_are = f.state.streams_are; at_is = f.state.at_is } in
     let steps = evaluated p rest' (subst (λ (m : Machine). IsProgramOf p m.code m.inputs) (sym began) f.program) (subst (λ (m : Machine). RestFits rest' m) (sym began) fits') (subst (λ (m : Machine). AreEven m.procedures.items m.memory) (sym began) f.even) in
     let values : State → flat.Config = λ s. values_step old.code.instrs.items place left (argument_values p (run_arguments i) (procedure_at p (run_procedure i)).parameters retry s) (flat.Handles run.no_error ∷ ks) s in
     record {
@@ -106,7 +106,7 @@ call_kept place left left' vs begun old new mem is b procs entries moved = λ tr
     let ns' : new.procedures.items ≡ ns ++ n ∷ [] = procs ∙ ap (λ j. ns ++ j ∷ []) b.number_is in
     let x : Machine = record old { mode = mode.Execute (task.Blocks begun.place false left'); stack = new.stack; procedures = new.procedures; memory = mem } in
     let longer : length mem.undoable ≡ length old.memory.undoable + 1 = ap (λ (m : Remembered). length m.undoable) b.opens.is ∙ length-append old.memory.undoable (b.opens.undoable ∷ []) in
-    let even' : AreEven new.procedures.items mem = subst (λ js. AreEven js mem) (sym ns') (even_opened ns n b.opens.undoable b.opens.no_undo old.memory mem b.opens.is f.even) in
+    let even' : AreEven new.procedures.items mem = subst (λ js. AreEven js mem) (sym ns') (even_opened ns n b.opens.undoable b.opens.no_undo (map new_buffer c.buffers.items) old.memory mem b.opens.is f.even) in
     let opened : state_of rest new.procedures.items mem old.units ≡ opened_frame p n args vs (state_in rest old) =
     ap (λ js. state_of rest js mem old.units) ns'
     ∙ state_is rest (ns ++ n ∷ []) mem old.units

@@ -6,12 +6,13 @@ use Rattle.abl_base.specs.declared.value.Value.{Value}
 use Rattle.bound_tree.specs.Tree.{Argument, In, Out, InOut, Procedure}
 use Rattle.bound_tree.specs.declared.expression.Variable.{Variable}
 use Rattle.block_meaning.specs.Program.{Program, procedure_at}
-use Rattle.block_meaning.specs.State.{State, CallFrame}
+use Rattle.block_meaning.specs.State.{State, CallFrame, Buffer}
 use Rattle.block_meaning.specs.Frames.{own_frame, value_in, assigned}
 use Rattle.block_meaning.specs.Meaning.{params_set, copied_out, new_buffer, new_frame, popped, without_frame, opened_frame}
-use Rattle.client_undo.specs.Undo.{Values}
+use Rattle.client_memory.specs.Undo.{Values}
 use Rattle.client_memory.specs.Memory.{Remembered, begun, ended, IsOuter, set_variable}
 use Rattle.client_values.specs.Variables.{frames_out, state_with, AreEven, HasSameShape}
+use Rattle.client_memory.proofs.FramesOut.{AreAlike, frames_more}
 use Rattle.client_values.proofs.Scopes.{variable_is}
 use Rattle.client_values.proofs.Assigned.{even_after, same_shape, set_shape, shape_after, variable_set}
 use Rattle.block_code.specs.declared.code.ProcedureCode.{ProcedureCode}
@@ -19,44 +20,38 @@ use Rattle.client_calls.specs.Calls.{frame_with, Opens, OutputOf, own_value, out
 
 -- ---- a procedure more
 
-frames_more : (ns : List ℕ) (uss kss : Values) (n : ℕ) (us ks : List Value) → length ns ≡ length uss → length ns ≡ length kss → frames_out (ns ++ n ∷ []) (uss ++ us ∷ []) (kss ++ ks ∷ []) ≡ frames_out ns uss kss ++ frame_with n us ks ∷ []
-frames_more [] [] [] n us ks e1 e2 = refl
-frames_more [] [] (k ∷ kss) n us ks e1 e2 = absurd (omega (arith, e2))
-frames_more [] (u ∷ uss) kss n us ks e1 e2 = absurd (omega (arith, e1))
-frames_more (m ∷ ns) [] kss n us ks e1 e2 = absurd (omega (arith, e1))
-frames_more (m ∷ ns) (u ∷ uss) [] n us ks e1 e2 = absurd (omega (arith, e2))
-frames_more (m ∷ ns) (u ∷ uss) (k ∷ kss) n us ks e1 e2 = ap (λ fs. frame_with m u k ∷ fs) (frames_more ns uss kss n us ks (omega (arith, e1)) (omega (arith, e2)))
-
-frames_in : (ns : List ℕ) (uss kss : Values) (n : ℕ) (us ks : List Value) → length ns ≡ length uss → length ns ≡ length kss → reverse (frames_out (ns ++ n ∷ []) (uss ++ us ∷ []) (kss ++ ks ∷ [])) ≡ frame_with n us ks ∷ reverse (frames_out ns uss kss)
-frames_in ns uss kss n us ks e1 e2 = ap reverse (frames_more ns uss kss n us ks e1 e2) ∙ reverse-append (frames_out ns uss kss) (frame_with n us ks ∷ [])
+frames_in : (ns : List ℕ) (uss kss : Values) (bss : List (List Buffer)) (n : ℕ) (us ks : List Value) (bs : List Buffer) → AreAlike ns uss kss bss → reverse (frames_out (ns ++ n ∷ []) (uss ++ us ∷ []) (kss ++ ks ∷ []) (bss ++ bs ∷ [])) ≡ frame_with n us ks bs ∷ reverse (frames_out ns uss kss bss)
+frames_in ns uss kss bss n us ks bs e = ap reverse (frames_more ns uss kss bss n us ks bs e) ∙ reverse-append (frames_out ns uss kss bss) (frame_with n us ks bs ∷ [])
 
 -- the code has what the procedure has
 pub record IsCodeOfProcedure (c : ProcedureCode) (q : Procedure) : Type 0 where
   pub undoable : c.undoable ≡ q.undoable
   pub no_undo : c.no_undo ≡ q.no_undo
   pub parameters : c.parameters.items ≡ q.parameters
-  pub buffers : q.buffers ≡ []
+  pub buffers : c.buffers.items ≡ q.buffers
 
-frame_is_new : (p : Program) (n : ℕ) (c : ProcedureCode) → IsCodeOfProcedure c (procedure_at p n) → frame_with n c.undoable c.no_undo ≡ new_frame p n
+frame_is_new : (p : Program) (n : ℕ) (c : ProcedureCode) → IsCodeOfProcedure c (procedure_at p n) → frame_with n c.undoable c.no_undo (map new_buffer c.buffers.items) ≡ new_frame p n
 frame_is_new p n c is =
-    ap (λ us. frame_with n us c.no_undo) is.undoable
-    ∙ ap (λ ks. frame_with n (procedure_at p n).undoable ks) is.no_undo
-    ∙ ap (λ bs. let f : CallFrame = record { procedure = n; undoable = (procedure_at p n).undoable; no_undo = (procedure_at p n).no_undo; buffers = map new_buffer bs } in f) (sym is.buffers)
+    ap (λ us. frame_with n us c.no_undo (map new_buffer c.buffers.items)) is.undoable
+    ∙ ap (λ ks. frame_with n (procedure_at p n).undoable ks (map new_buffer c.buffers.items)) is.no_undo
+    ∙ ap (λ bs. frame_with n (procedure_at p n).undoable (procedure_at p n).no_undo (map new_buffer bs)) is.buffers
 
 pub opened_state : (p : Program) (n : ℕ) (c : ProcedureCode) (args : List Argument) (vs : List Value) (rest : State) (ns : List ℕ) (old new : Remembered) → IsCodeOfProcedure c (procedure_at p n) → Opens c args vs old new → AreEven ns old →
     state_with rest (ns ++ n ∷ []) new ≡ opened_frame p n args vs (state_with rest ns old)
 opened_state p n c args vs rest ns old new is opens even =
+    let bs = map new_buffer c.buffers.items in
     ap (state_with rest (ns ++ n ∷ [])) opens.is
-    ∙ ap (λ fs. record rest { frames = fs }) (frames_in ns old.undoable old.no_undo n opens.undoable opens.no_undo even.0 even.1)
-    ∙ ap (λ f. record rest { frames = f ∷ reverse (frames_out ns old.undoable old.no_undo) })
-    (opens.frame n ∙ ap (λ xs. params_set args xs vs (frame_with n c.undoable c.no_undo)) is.parameters ∙ ap (params_set args (procedure_at p n).parameters vs) (frame_is_new p n c is))
+    ∙ ap (λ fs. record rest { frames = fs }) (frames_in ns old.undoable old.no_undo old.buffers n opens.undoable opens.no_undo bs even)
+    ∙ ap (λ f. record rest { frames = f ∷ reverse (frames_out ns old.undoable old.no_undo old.buffers) })
+    (opens.frame n bs ∙ ap (λ xs. params_set args xs vs (frame_with n c.undoable c.no_undo bs)) is.parameters ∙ ap (params_set args (procedure_at p n).parameters vs) (frame_is_new p n c is))
 
-pub even_opened : (ns : List ℕ) (n : ℕ) (us ks : List Value) (old new : Remembered) → new ≡ begun us ks old → AreEven ns old → AreEven (ns ++ n ∷ []) new
-even_opened ns n us ks old new is even =
+pub even_opened : (ns : List ℕ) (n : ℕ) (us ks : List Value) (bs : List Buffer) (old new : Remembered) → new ≡ begun us ks bs old → AreEven ns old → AreEven (ns ++ n ∷ []) new
+even_opened ns n us ks bs old new is even =
     let a = length-append ns (n ∷ []) in
     let b = length-append old.undoable (us ∷ []) in
     let d = length-append old.no_undo (ks ∷ []) in
-    subst (λ (m : Remembered). AreEven (ns ++ n ∷ []) m) (sym is) (omega (arith, a, b, even.0), omega (arith, a, d, even.1))
+    let e = length-append old.buffers (bs ∷ []) in
+    subst (λ (m : Remembered). AreEven (ns ++ n ∷ []) m) (sym is) (omega (arith, a, b, even.0), omega (arith, a, d, even.1), omega (arith, a, e, even.2))
 
 -- ---- a procedure less
 
@@ -84,7 +79,9 @@ even_ended ns m lt even =
     let b = shorter m.undoable lt in
     let d = shorter m.no_undo (omega (arith, lt, even.0, even.1)) in
     let e : length m.no_undo - 1 ≡ length m.undoable - 1 = omega (arith, even.0, even.1) in
-    (omega (arith, a, b, even.0), (let k : length (take (length ns - 1) ns) ≡ length (take (length m.no_undo - 1) m.no_undo) = omega (arith, a, d, even.1) in k ∙ ap (λ j. length (take j m.no_undo)) e))
+    let g = shorter m.buffers (omega (arith, lt, even.0, even.2)) in
+    let h : length m.buffers - 1 ≡ length m.undoable - 1 = omega (arith, even.0, even.2) in
+    (omega (arith, a, b, even.0), (let k : length (take (length ns - 1) ns) ≡ length (take (length m.no_undo - 1) m.no_undo) = omega (arith, a, d, even.1) in k ∙ ap (λ j. length (take j m.no_undo)) e), (let k : length (take (length ns - 1) ns) ≡ length (take (length m.buffers - 1) m.buffers) = omega (arith, a, g, even.2) in k ∙ ap (λ j. length (take j m.buffers)) h))
 
 -- the frames, the innermost first
 pub record Innermost (rest : State) (ns : List ℕ) (m : Remembered) : Type 0 where
@@ -101,14 +98,19 @@ innermost_frame rest ns m lt even =
     let e : length m.no_undo - 1 ≡ length m.undoable - 1 = omega (arith, even.0, even.1) in
     let three-is : m.no_undo ≡ take (length m.undoable - 1) m.no_undo ++ three.last ∷ [] = three.is ∙ ap (λ j. take j m.no_undo ++ three.last ∷ []) e in
     let kss = take (length m.undoable - 1) m.no_undo in
+    let four = splits m.buffers (omega (arith, lt, even.0, even.2)) in
+    let h : length m.buffers - 1 ≡ length m.undoable - 1 = omega (arith, even.0, even.2) in
+    let four-is : m.buffers ≡ take (length m.undoable - 1) m.buffers ++ four.last ∷ [] = four.is ∙ ap (λ j. take j m.buffers ++ four.last ∷ []) h in
+    let bss = take (length m.undoable - 1) m.buffers in
     let even' = even_ended ns m lt even in
     record {
-      frame = frame_with one.last two.last three.last;
+      frame = frame_with one.last two.last three.last four.last;
       frames =
-          ap (λ xs. reverse (frames_out xs m.undoable m.no_undo)) one.is
-          ∙ ap (λ xs. reverse (frames_out (ns' ++ one.last ∷ []) xs m.no_undo)) two.is
-          ∙ ap (λ xs. reverse (frames_out (ns' ++ one.last ∷ []) (uss ++ two.last ∷ []) xs)) three-is
-          ∙ frames_in ns' uss kss one.last two.last three.last even'.0 even'.1;
+          ap (λ xs. reverse (frames_out xs m.undoable m.no_undo m.buffers)) one.is
+          ∙ ap (λ xs. reverse (frames_out (ns' ++ one.last ∷ []) xs m.no_undo m.buffers)) two.is
+          ∙ ap (λ xs. reverse (frames_out (ns' ++ one.last ∷ []) (uss ++ two.last ∷ []) xs m.buffers)) three-is
+          ∙ ap (λ xs. reverse (frames_out (ns' ++ one.last ∷ []) (uss ++ two.last ∷ []) (kss ++ three.last ∷ []) xs)) four-is
+          ∙ frames_in ns' uss kss bss one.last two.last three.last four.last even';
     }
 
 pub frame_dropped : (rest : State) (ns : List ℕ) (m : Remembered) → 0 < length m.undoable → AreEven ns m → state_with rest (take (length ns - 1) ns) (ended m) ≡ without_frame (state_with rest ns m)

@@ -1,14 +1,14 @@
 -- What RUN passes to a procedure, the frame of the procedure, and what it gives back.
-use Rattle.std.specs.Prelude.{◌≡◌, ℕ, ◌-◌, List, [], ◌∷◌, Bool, true, false, Option, Some, None, Result, Ok, Err, length}
+use Rattle.std.specs.Prelude.{◌≡◌, ℕ, ◌-◌, List, [], ◌∷◌, Bool, true, false, Option, Some, None, Result, Ok, Err, length, map}
 use Rattle.abl_base.specs.declared.value.Value.{Value}
 use Rattle.abl_eval.specs.declared.fault.EvalFault.{EvalFault}
 use Rattle.abl_eval.specs.declared.fault.EvalFault.TheVariants.{Fault, NoMemory}
 use Rattle.bound_tree.specs.Tree.{Argument, In, Out, InOut}
 use Rattle.bound_tree.specs.declared.expression.Variable.{Variable}
 use Rattle.block_meaning.specs.Lines.{complaint_of}
-use Rattle.block_meaning.specs.State.{CallFrame}
+use Rattle.block_meaning.specs.State.{Buffer, CallFrame}
 use Rattle.block_meaning.specs.Values.{EvaluatedAll, GivesAll, FailsAll}
-use Rattle.block_meaning.specs.Meaning.{params_set}
+use Rattle.block_meaning.specs.Meaning.{new_buffer, params_set}
 use Rattle.client_memory.specs.Memory.{Remembered, value_as, set_variable, begun}
 use Rattle.block_code.specs.declared.code.ProcedureCode.{ProcedureCode}
 use Rattle.client_calls.specs.declared.outputs.Output.{Output}
@@ -27,16 +27,16 @@ passes (In e) = true
 passes (InOut y) = true
 passes (Out y) = false
 
--- the frame of procedure n with these variables, and no buffers
-abbrev pub frame_with : ℕ → List Value → List Value → CallFrame
-frame_with n us ks = record { procedure = n; undoable = us; no_undo = ks; buffers = [] }
+-- the frame of procedure n with these variables and buffers
+abbrev pub frame_with : ℕ → List Value → List Value → List Buffer → CallFrame
+frame_with n us ks bs = record { procedure = n; undoable = us; no_undo = ks; buffers = bs }
 
--- the procedure begins, with its initial values and these parameters
+-- the procedure begins, with its initial values, these parameters and empty buffers
 pub record Opens (c : ProcedureCode) (args : List Argument) (vs : List Value) (old new : Remembered) : Type 0 where
   pub undoable : List Value
   pub no_undo : List Value
-  pub is : new ≡ begun undoable no_undo old
-  pub frame : (n : ℕ) → frame_with n undoable no_undo ≡ params_set args c.parameters.items vs (frame_with n c.undoable c.no_undo)
+  pub is : new ≡ begun undoable no_undo (map new_buffer c.buffers.items) old
+  pub frame : (n : ℕ) (bs : List Buffer) → frame_with n undoable no_undo bs ≡ params_set args c.parameters.items vs (frame_with n c.undoable c.no_undo bs)
 
 -- ---- a procedure ends
 

@@ -1,6 +1,7 @@
 //! The frame of a procedure that begins.
 
-ghost use Rattle.std.specs.Prelude.{◌≡◌, ℕ, IfOk, OnOk, map};
+ghost use Rattle.std.specs.Prelude.{◌≡◌, ℕ, List, IfOk, OnOk, map};
+ghost use Rattle.block_meaning.specs.State.{Buffer};
 ghost use Rattle.bound_tree.specs.Bound.{argument_of};
 ghost use Rattle.block_meaning.specs.Frames.{set_in};
 ghost use Rattle.block_meaning.specs.Meaning.{params_set};
@@ -9,6 +10,7 @@ ghost use Rattle.client_calls.specs.Calls.{frame_with, passes, Opens};
 use abl_base::{Row, Value, copy_row};
 use block_code::ProcedureCode;
 use bound_tree::{Argument, Variable};
+use client_memory::buffers::Buffers;
 use client_memory::memory::Memory;
 use client_memory::slots::Slots;
 use std::alloc::AllocError;
@@ -23,7 +25,7 @@ pub struct NewFrame {
 impl NewFrame {
     /// Gives a variable of the procedure a value.
     fn set(&mut self, variable: Variable, value: Value)
-        ensures { (n : ℕ) → frame_with n self.new.undoable self.new.no_undo ≡ set_in variable.undoable variable.number value (frame_with n self.old.undoable self.old.no_undo) }
+        ensures { (n : ℕ) (bs : List Buffer) → frame_with n self.new.undoable self.new.no_undo bs ≡ set_in variable.undoable variable.number value (frame_with n self.old.undoable self.old.no_undo bs) }
     {
         if variable.undoable {
             let _ = self.undoable.replace(variable.number as usize, value);
@@ -34,7 +36,7 @@ impl NewFrame {
 
     /// Gives the INPUT and INPUT-OUTPUT parameters their values, which are moved.
     fn pass(&mut self, arguments: &[Argument], parameters: &[Variable], values: Row)
-        ensures { (n : ℕ) → frame_with n self.new.undoable self.new.no_undo ≡ params_set (map argument_of arguments.now) parameters.now values (frame_with n self.old.undoable self.old.no_undo) }
+        ensures { (n : ℕ) (bs : List Buffer) → frame_with n self.new.undoable self.new.no_undo bs ≡ params_set (map argument_of arguments.now) parameters.now values (frame_with n self.old.undoable self.old.no_undo bs) }
     {
         let mut values = values.into_vec().into_iter();
         for (argument, parameter) in arguments.iter().zip(parameters) {
@@ -65,8 +67,8 @@ fn slots_of(values: &Row) -> Result<Slots, AllocError>
     Ok(Slots::new(copy_row(values)?.into_vec()))
 }
 
-/// Opens the procedure's own frame: initial values, and the INPUT and INPUT-OUTPUT parameters given.
-/// Out of memory is the only error. A procedure with buffers is not built.
+/// Opens the procedure's own frame: initial values, the INPUT and INPUT-OUTPUT parameters given, and
+/// empty buffers. Out of memory is the only error.
 pub fn open_frame(
     memory: &mut Memory,
     procedure: &ProcedureCode,
@@ -81,5 +83,6 @@ pub fn open_frame(
     };
     frame.pass(arguments, &procedure.parameters, values);
     let NewFrame { undoable, no_undo } = frame;
-    memory.begin(undoable, no_undo)
+    let buffers = Buffers::new(*procedure.buffers.allocator(), &procedure.buffers)?;
+    memory.begin(undoable, no_undo, buffers)
 }
