@@ -72,7 +72,7 @@ redirected_fits : (n : ℕ) (change : state.Stream → state.Stream) (rest : Sta
     slice_set (map stream_of old.streams.items) n (change (slice_index_or (map stream_of old.streams.items) n streams.no_stream)) ≡ map stream_of xs.items →
     (let x : Machine = record old { streams = xs } in RestFits (rest_at n change rest) x)
 redirected_fits n change rest old xs f is = record {
-  made = f.made;
+  made_is = f.made_is;
   status_is = f.status_is;
   returned_is = f.returned_is;
   size_is = f.size_is;
@@ -95,7 +95,7 @@ redirected_kept n change old new xs next left retry moved is = λ tree p rest co
       code = ap (λ (m : Machine). m.code) moved;
       fits = subst (λ (m : Machine). FitsIn p rest' m.mode m) (sym moved) (record {
         program = f.program;
-        state = record { made = fits.made; status_is = fits.status_is; returned_is = fits.returned_is; size_is = fits.size_is; streams_are = fits.streams_are; at_is = fits.at_is };
+        state = record { made_is = fits.made_is; status_is = fits.status_is; returned_is = fits.returned_is; size_is = fits.size_is; streams_are = fits.streams_are; at_is = fits.at_is };
         even = f.even;
         whole = f.whole;
         order = f.order;
@@ -120,7 +120,7 @@ wrote_kept n text old new output next left retry moved room size wrote_it = λ t
       code = ap (λ (m : Machine). m.code) moved;
       fits = subst (λ (m : Machine). FitsIn p rest' m.mode m) (sym moved) (record {
         program = f.program;
-        state = record { made = fits.made; status_is = fits.status_is; returned_is = fits.returned_is; size_is = fits.size_is; streams_are = fits.streams_are; at_is = fits.at_is };
+        state = record { made_is = fits.made_is; status_is = fits.status_is; returned_is = fits.returned_is; size_is = fits.size_is; streams_are = fits.streams_are; at_is = fits.at_is };
         even = f.even;
         whole = f.whole;
         order = f.order;
@@ -168,7 +168,7 @@ failed_kept fault quiet old new more next left retry moved pushed = λ tree p re
       code = ap (λ (m : Machine). m.code) moved;
       fits = subst (λ (m : Machine). FitsIn p rest m.mode m) (sym moved) (record {
         program = f.program;
-        state = record { made = f.state.made; status_is = f.state.status_is; returned_is = f.state.returned_is; size_is = f.state.size_is; streams_are = f.state.streams_are; at_is = f.state.at_is };
+        state = record { made_is = f.state.made_is; status_is = f.state.status_is; returned_is = f.state.returned_is; size_is = f.state.size_is; streams_are = f.state.streams_are; at_is = f.state.at_is };
         even = f.even;
         whole = f.whole;
         order = subst (λ ks. ModeInOrder (nesting_of old.memory) (mode.Unwind (completion.Faults (Some fault))) ks) (sym top) (tt, (tt, f.order.1));
@@ -263,7 +263,7 @@ opened_kept n o append old new output xs next left retry moved is room size open
       code = ap (λ (m : Machine). m.code) moved;
       fits = subst (λ (m : Machine). FitsIn p rest' m.mode m) (sym moved) (record {
         program = f.program;
-        state = record { made = fits.made; status_is = fits.status_is; returned_is = fits.returned_is; size_is = fits.size_is; streams_are = fits.streams_are; at_is = fits.at_is };
+        state = record { made_is = fits.made_is; status_is = fits.status_is; returned_is = fits.returned_is; size_is = fits.size_is; streams_are = fits.streams_are; at_is = fits.at_is };
         even = f.even;
         whole = f.whole;
         order = f.order;
@@ -293,7 +293,7 @@ not_opened_kept n o append old new output xs next left retry moved' is same full
       code = ap (λ (m : Machine). m.code) moved;
       fits = subst (λ (m : Machine). FitsIn p rest' m.mode m) (sym moved) (record {
         program = f.program;
-        state = record { made = fits.made; status_is = fits.status_is; returned_is = fits.returned_is; size_is = fits.size_is; streams_are = fits.streams_are; at_is = fits.at_is };
+        state = record { made_is = fits.made_is; status_is = fits.status_is; returned_is = fits.returned_is; size_is = fits.size_is; streams_are = fits.streams_are; at_is = fits.at_is };
         even = f.even;
         whole = f.whole;
         order = tt;

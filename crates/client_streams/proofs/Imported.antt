@@ -62,7 +62,7 @@ read_fits : (o : Option ℕ) (n next : ℕ) (rest : State) (old : Machine) (xs :
     xs.items ≡ streams_read o n next old.streams.items → at ≡ own_read o next old.own_at →
     (let m : Machine = record old { streams = xs; own_at = at } in RestFits (read_up_to o n (stream_at n rest) next rest) m)
 read_fits None n next rest old xs at f is own = record {
-  made = f.made;
+  made_is = f.made_is;
   status_is = f.status_is;
   returned_is = f.returned_is;
   size_is = f.size_is;
@@ -73,7 +73,7 @@ read_fits (Some input) n next rest old xs at f is own =
     let change = λ (x : state.Stream). (let y : state.Stream = record x { at = next } in y) in
     let to = λ (x : Stream). (let y : Stream = record x { at = next } in y) in
     record {
-      made = f.made;
+      made_is = f.made_is;
       status_is = f.status_is;
       returned_is = f.returned_is;
       size_is = f.size_is;
@@ -101,7 +101,7 @@ read_then n next from old new xs at is own keeps = λ tree p rest code f.
     let rest' = read_up_to o n x next rest in
     let k = keeps tree p rest' code (record {
       program = f.program;
-      state = record { made = fits.made; status_is = fits.status_is; returned_is = fits.returned_is; size_is = fits.size_is; streams_are = fits.streams_are; at_is = fits.at_is };
+      state = record { made_is = fits.made_is; status_is = fits.status_is; returned_is = fits.returned_is; size_is = fits.size_is; streams_are = fits.streams_are; at_is = fits.at_is };
       even = f.even;
       whole = f.whole;
       order = f.order;
@@ -140,7 +140,7 @@ ended_kept quiet old new more next left retry moved pushed = λ tree p rest code
       code = ap (λ (m : Machine). m.code) moved;
       fits = subst (λ (m : Machine). FitsIn p rest m.mode m) (sym moved) (record {
         program = f.program;
-        state = record { made = f.state.made; status_is = f.state.status_is; returned_is = f.state.returned_is; size_is = f.state.size_is; streams_are = f.state.streams_are; at_is = f.state.at_is };
+        state = record { made_is = f.state.made_is; status_is = f.state.status_is; returned_is = f.state.returned_is; size_is = f.state.size_is; streams_are = f.state.streams_are; at_is = f.state.at_is };
         even = f.even;
         whole = f.whole;
         order = subst (λ ks. ModeInOrder (nesting_of old.memory) (mode.Unwind (completion.EndKeys none_passed)) ks) (sym top) (tt, (tt, f.order.1));
