@@ -24,7 +24,7 @@ use std::alloc::Global;
 pub fn execute<O: Out>(alloc: Global, out: &mut O, run: &RunArguments<'_>, loaded: Loaded) -> Report
     ensures { (schema : SchemaData) (text : List ℕ) (is_code : IsCodeOf schema text loaded.code) → HasRun run.now.mode run.now.name.now run.now.steps (source_of is_code.bound) loaded.inputs.own loaded.inputs.named.items (O.state out.old) (O.state out.new) result ⊎ IsRefused run.now.name.now Refusal.NoMemory (O.state out.old) (O.state out.new) result }
 {
-    let (Ok(mut database), Ok(ends)) = (LevelDatabase::new(alloc), Vec::with_capacity(alloc, 1))
+    let (Ok(mut database), Ok(ends)) = (LevelDatabase::new(alloc, 1), Vec::with_capacity(alloc, 1))
     else {
         return refused(alloc, out, run.name, Refusal::NoMemory);
     };

@@ -1,5 +1,5 @@
 -- The client does as its source means, and its report is written.
-use Rattle.std.proofs.Common.{◌≡◌, inl, [], sym, ◌∙◌, subst}
+use Rattle.std.proofs.Common.{◌≡◌, inl, [], sym, ◌∙◌, subst, arith}
 use Rattle.client_database.specs.declared.ends.ClientEnd.TheVariants.{NoMemory}
 use Rattle.block_meaning.specs.Meaning.{run}
 use Rattle.bound_tree.specs.Bound.{source_of}
@@ -37,3 +37,6 @@ returns-in-Err g c schema text code =
       legal = λ f contents clients sound. subst (IsLegal f contents) (sym none) (sound, tt);
       reported = c.report-in-Err.ensures.reported;
     })
+
+pub run_client-end-requires-clause-serves : goal.run_client-end-requires-clause-serves
+run_client-end-requires-clause-serves g c = λ op level. c.in-Ok-Ok.ensures.serves 0 op (omega arith) level
