@@ -1,5 +1,5 @@
 -- A buffer of the running procedure, in the memory and in the state.
-use Rattle.std.proofs.Common.{◌≡◌, ℕ, Bool, List, Option, length, sym, ap, ◌∙◌}
+use Rattle.std.proofs.Common.{◌≡◌, Bor, MatchOption, ℕ, Bool, List, Option, Some, None, length, sym, ap, ◌∙◌}
 use Rattle.block_meaning.specs.Program.{Program}
 use Rattle.block_meaning.specs.State.{State, Buffer, Content, Spot}
 use Rattle.block_meaning.specs.Frames as meant
@@ -63,3 +63,9 @@ still_reads p rest ns m n error returned at c reads is = record {
   status_is = reads.status_is;
   returned_is = reads.returned_is;
 }
+
+-- what a call finds at its place
+pub own_found : (r : Option (Bor BufferRs)) (ns : List ℕ) (m : Remembered) (error : Bool) (returned : List ℕ) (at : Place) (b : ℕ) → at ≡ record { out = 0; number = b } → MatchOption r (buffer_at (denoted_place at) m ≡ no_buffer) (λ x. denoted_buffer x.now ≡ buffer_at (denoted_place at) m) →
+    MatchOption r ((p : Program) (rest : State) → Reads p rest ns m error returned → meant.buffer_at b (state_with rest ns m) ≡ no_buffer) (λ x. (p : Program) (rest : State) → Reads p rest ns m error returned → meant.buffer_at b (state_with rest ns m) ≡ denoted_buffer x.now)
+own_found None ns m error returned at b is h = λ p rest fits. sym (own_none rest ns m at b fits.even is h)
+own_found (Some x) ns m error returned at b is h = λ p rest fits. sym (own_is rest ns m at b x.now fits.even is h)

@@ -2,6 +2,7 @@
 //! its memory.
 #![tactic(auto)]
 
+pub mod content;
 pub mod running;
 
 pub use running::RunningBuffers;

@@ -1,0 +1,83 @@
+-- How the steps of a change go on, from the state before to the state after.
+use Rattle.std.specs.Prelude.{◌≡◌, ℕ, Bool, true, false, List, ◌∷◌, Option, Some, None, nat_lt, length}
+use Rattle.abl_base.specs.declared.limits.TheConstants.{MAX_ROW_BYTES}
+use Rattle.abl_base.specs.declared.row.RowId.{RowId}
+use Rattle.abl_base.specs.declared.value.Value.{Value}
+use Rattle.abl_values.specs.Rows.{bytes_of_row}
+use Rattle.block_meaning.specs.Lines.{Complaint, IsMandatory, IsReadNoLock, NoRecordIn, RecordTooLong}
+use Rattle.block_meaning.specs.Program.{Program, table_at}
+use Rattle.block_meaning.specs.State.{State, Held, Record, Pending, Share, Normal}
+use Rattle.block_meaning.specs.Frames.{content_of, emptied, table_of}
+use Rattle.block_meaning.specs.Buffers.{own, missing_field}
+use Rattle.block_flat.specs.Config.{StackEntry, Execute, Unwind, EntersOne, DeletesRow, ThenDo, WasInserted, WasPut, WasUpgraded}
+use Rattle.block_flat.specs.Steps.{ask, config, fault, delete_step, enter_step, insert_unless, lock_step, put_unless, settle_step, upgrade_step}
+use Rattle.complaint_lines.specs.Complaints.{complaint_in}
+use Rattle.client_changes.specs.declared.locks.ChangeLock.{ChangeLock}
+use Rattle.client_changes.specs.declared.locks.ChangeLock.TheVariants as change_lock
+use Rattle.client_changes.specs.declared.deletes.DeleteStep.{DeleteStep}
+use Rattle.client_changes.specs.declared.deletes.DeleteStep.TheVariants as delete
+use Rattle.client_changes.specs.declared.stores.StoreStep.{StoreStep}
+use Rattle.client_changes.specs.declared.stores.StoreStep.TheVariants as store
+
+-- the lock for a change of the record in buffer b: there is one or none is needed, the record is read NO-LOCK, or the share
+-- lock is upgraded
+abbrev pub LockGoes : ChangeLock → ℕ → State → Type 0
+LockGoes change_lock.Enough b s = (ks : List StackEntry) → lock_step (content_of b s) (table_of b s) b ks s ≡ config (Unwind Normal) ks s
+LockGoes change_lock.ReadNoLock b s = (ks : List StackEntry) → lock_step (content_of b s) (table_of b s) b ks s ≡ fault (IsReadNoLock b) ks s
+LockGoes (change_lock.Asks op row) b s = (values : List Value) × (made : Option ℕ) × (content_of b s ≡ Record row values Share made) × ((ks : List StackEntry) → lock_step (content_of b s) (table_of b s) b ks s ≡ ask op (WasUpgraded b row values made) ks s)
+
+-- the same for a row that is held so
+abbrev pub UpgradeGoes : ChangeLock → ℕ → RowId → Held → Type 0
+UpgradeGoes change_lock.Enough t row held = (b : ℕ) (values : List Value) (made : Option ℕ) (ks : List StackEntry) (s : State) → upgrade_step held t b row values made ks s ≡ config (Unwind Normal) ks s
+UpgradeGoes change_lock.ReadNoLock t row held = (b : ℕ) (values : List Value) (made : Option ℕ) (ks : List StackEntry) (s : State) → upgrade_step held t b row values made ks s ≡ fault (IsReadNoLock b) ks s
+UpgradeGoes (change_lock.Asks op r) t row held = (r ≡ row) × (held ≡ Share) × ((b : ℕ) (values : List Value) (made : Option ℕ) (ks : List StackEntry) (s : State) → upgrade_step held t b row values made ks s ≡ ask op (WasUpgraded b row values made) ks s)
+
+-- DELETE of the record in buffer b: there is none, a pending one is dropped, a row is deleted under its exclusive lock
+abbrev pub DeleteGoes : DeleteStep → ℕ → State → State → Type 0
+DeleteGoes delete.NoRecord b s t = (ks : List StackEntry) → delete_step (content_of b s) (table_of b s) b ks s ≡ fault (NoRecordIn b) ks t
+DeleteGoes delete.Dropped b s t = (ks : List StackEntry) → delete_step (content_of b s) (table_of b s) b ks s ≡ config (Unwind Normal) ks t
+DeleteGoes (delete.Row table row) b s t = (t ≡ s) × ((ks : List StackEntry) → delete_step (content_of b s) (table_of b s) b ks s ≡ lock_step (content_of b s) (table_of b s) b (ThenDo (DeletesRow b table row) ∷ ks) s)
+
+-- the same, before the buffer is emptied
+abbrev pub FoundGoes : DeleteStep → ℕ → State → Type 0
+FoundGoes delete.NoRecord b s = (ks : List StackEntry) → delete_step (content_of b s) (table_of b s) b ks s ≡ fault (NoRecordIn b) ks s
+FoundGoes delete.Dropped b s = (ks : List StackEntry) → delete_step (content_of b s) (table_of b s) b ks s ≡ config (Unwind Normal) ks (emptied b s)
+FoundGoes (delete.Row table row) b s = (ks : List StackEntry) → delete_step (content_of b s) (table_of b s) b ks s ≡ lock_step (content_of b s) (table_of b s) b (ThenDo (DeletesRow b table row) ∷ ks) s
+
+-- why a row may not be stored: its first mandatory field that is `?`, else that it has too many bytes
+abbrev pub storing_complaint : Option ℕ → Bool → ℕ → Option Complaint
+storing_complaint (Some f) long t = Some (IsMandatory t f)
+storing_complaint None true t = Some (RecordTooLong t)
+storing_complaint None false t = None
+
+-- of a row of this table
+abbrev pub complaint_about : Program → ℕ → List Value → Option Complaint
+complaint_about p t vs = storing_complaint (missing_field 0 (table_at p t).fields vs) (nat_lt MAX_ROW_BYTES (length (bytes_of_row vs))) t
+
+-- a row that is held is stored, where it may be
+abbrev pub PutGoes : StoreStep → Program → ℕ → RowId → List Value → Type 0
+PutGoes store.Nothing p t row vs = ⊥
+PutGoes store.Inserts p t row vs = ⊥
+PutGoes (store.Fails c) p t row vs = (b : ℕ) (ks : List StackEntry) (s : State) → put_unless (missing_field 0 (table_at p t).fields vs) b t row vs ks s ≡ fault (complaint_in c) ks s
+PutGoes (store.Asks op) p t row vs = (b : ℕ) (ks : List StackEntry) (s : State) → put_unless (missing_field 0 (table_at p t).fields vs) b t row vs ks s ≡ ask op (WasPut b t) ks s
+
+-- a pending record is inserted, where it may be
+abbrev pub InsertGoes : StoreStep → Program → ℕ → List Value → Type 0
+InsertGoes store.Nothing p t vs = ⊥
+InsertGoes store.Inserts p t vs = ⊥
+InsertGoes (store.Fails c) p t vs = (b made : ℕ) (ks : List StackEntry) (s : State) → insert_unless (missing_field 0 (table_at p t).fields vs) p (own b) t vs made ks s ≡ fault (complaint_in c) ks s
+InsertGoes (store.Asks op) p t vs = (b made : ℕ) (ks : List StackEntry) (s : State) → insert_unless (missing_field 0 (table_at p t).fields vs) p (own b) t vs made ks s ≡ ask op (WasInserted (own b) t vs made) ks s
+
+-- a changed record is stored: there is nothing to store, a pending one is inserted now, it may not be stored, or Put is asked
+abbrev pub SettleGoes : StoreStep → Program → ℕ → State → Type 0
+SettleGoes store.Nothing p b s = (ks : List StackEntry) → settle_step p (content_of b s) (table_of b s) b ks s ≡ config (Unwind Normal) ks s
+SettleGoes store.Inserts p b s = (ks : List StackEntry) → settle_step p (content_of b s) (table_of b s) b ks s ≡ config (Execute (EntersOne (own b))) ks s
+SettleGoes (store.Fails c) p b s = (ks : List StackEntry) → settle_step p (content_of b s) (table_of b s) b ks s ≡ fault (complaint_in c) ks s
+SettleGoes (store.Asks op) p b s = (ks : List StackEntry) → settle_step p (content_of b s) (table_of b s) b ks s ≡ ask op (WasPut b (table_of b s)) ks s
+
+-- the record of a buffer of the running procedure is inserted, if it is pending
+abbrev pub EnterGoes : StoreStep → Program → ℕ → State → Type 0
+EnterGoes store.Nothing p b s = (ks : List StackEntry) → enter_step p (own b) (table_of b s) (content_of b s) ks s ≡ config (Unwind Normal) ks s
+EnterGoes store.Inserts p b s = ⊥
+EnterGoes (store.Fails c) p b s = (ks : List StackEntry) → enter_step p (own b) (table_of b s) (content_of b s) ks s ≡ fault (complaint_in c) ks s
+EnterGoes (store.Asks op) p b s = (values : List Value) × (since : List ℕ) × (made : ℕ) × (content_of b s ≡ Pending values since made) × ((ks : List StackEntry) → enter_step p (own b) (table_of b s) (content_of b s) ks s ≡ ask op (WasInserted (own b) (table_of b s) values made) ks s)

@@ -1,0 +1,14 @@
+//! How a record is changed, step by step: the lock before the change, storing a changed record,
+//! inserting a pending one, CREATE and DELETE. It depends on `client_buffers` for the buffers of the
+//! running procedure and on `record_rules` for what may be stored. A layer above may rely on
+//! `specs/Steps.antt`: each call changes the buffers as the step of `block_flat` does, and says how
+//! the step goes on.
+#![tactic(auto)]
+
+pub mod deletes;
+pub mod locks;
+pub mod stores;
+
+pub use deletes::{DeleteStep, begin_delete};
+pub use locks::{ChangeLock, lock_for_change, upgrade};
+pub use stores::{StoreStep, enter, settle};

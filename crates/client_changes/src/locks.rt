@@ -1,0 +1,85 @@
+//! The lock before a change.
+
+ghost use Rattle.std.specs.Prelude.{◌≡◌, Option, ℕ, List};
+ghost use Rattle.abl_base.specs.declared.row.RowId.{RowId};
+ghost use Rattle.abl_base.specs.declared.value.Value.{Value};
+ghost use Rattle.block_meaning.specs.Program.{Program};
+ghost use Rattle.block_meaning.specs.State.{State, Record, Exclusive, Held as HeldMeant};
+ghost use Rattle.block_meaning.specs.Frames.{content_of, holding};
+ghost use Rattle.client_memory.specs.Buffers.{denoted_held};
+ghost use Rattle.client_changes.specs.Buffers.{Fits, state_of};
+ghost use Rattle.client_changes.specs.Steps.{LockGoes, UpgradeGoes};
+
+use abl_base::RowId;
+use client_buffers::RunningBuffers;
+use client_database::Op;
+use client_memory::{Content, Held};
+
+/// The lock before a change of a record.
+#[derive(Drop)]
+pub enum ChangeLock {
+    /// No lock is missing: the buffer holds the row exclusively, a pending record, or nothing.
+    Enough,
+    /// The record was read NO-LOCK, which is a fault.
+    ReadNoLock,
+    /// The share lock of this row is upgraded by this operation.
+    Asks(Op, RowId),
+}
+
+/// The lock before a change of the record in a buffer. (OpenEdge ABL Reference, Record locks.)
+pub fn lock_for_change(buffers: &RunningBuffers<'_>, buffer: u32) -> ChangeLock
+    ensures { (p : Program) (rest : State) → Fits p rest buffers.now → LockGoes result buffer (state_of rest buffers.now) }
+{
+    let Some(found) = buffers.own(buffer) else {
+        return ChangeLock::Enough;
+    };
+    match &found.content {
+        Content::Empty => ChangeLock::Enough,
+        Content::Pending { .. } => ChangeLock::Enough,
+        Content::Record { row, held, .. } => lock_of(found.table, *row, *held),
+    }
+}
+
+/// The same for a row that is held so.
+fn lock_of(table: u16, row: RowId, held: Held) -> ChangeLock
+    ensures { UpgradeGoes result table row (denoted_held held) }
+{
+    match held {
+        Held::NoLock => ChangeLock::ReadNoLock,
+        Held::Share => ChangeLock::Asks(
+            Op::Lock {
+                table,
+                row,
+                exclusive: true,
+                wait: true,
+            },
+            row,
+        ),
+        Held::Exclusive => ChangeLock::Enough,
+    }
+}
+
+/// After the lock was granted: the buffer holds its row exclusively.
+pub fn upgrade(buffers: &mut RunningBuffers<'_>, buffer: u32)
+    ensures fits { (p : Program) (rest : State) → Fits p rest buffers.old → Fits p rest buffers.new }
+    ensures state { (p : Program) (rest : State) (row : RowId) (values : List Value) (held : HeldMeant) (made : Option ℕ) → Fits p rest buffers.old → content_of buffer (state_of rest buffers.old) ≡ Record row values held made → state_of rest buffers.new ≡ holding buffer (Record row values Exclusive made) (state_of rest buffers.old) }
+{
+    match buffers.replace(buffer, Content::Empty) {
+        Content::Record {
+            row,
+            values,
+            made,
+            ..
+        } => {
+            let content = Content::Record {
+                row,
+                values,
+                held: Held::Exclusive,
+                made,
+            };
+            let _ = buffers.replace(buffer, content);
+        }
+        Content::Pending { .. } => {}
+        Content::Empty => {}
+    }
+}

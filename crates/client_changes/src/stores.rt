@@ -1,0 +1,115 @@
+//! Storing a changed record, and inserting a pending one.
+
+ghost use Rattle.std.specs.Prelude.{◌≡◌, IfOk};
+ghost use Rattle.block_meaning.specs.Program.{Program};
+ghost use Rattle.block_meaning.specs.State.{State};
+ghost use Rattle.complaint_lines.specs.Complaints.{complaint_if};
+ghost use Rattle.client_changes.specs.Buffers.{Fits, HasTables, state_of};
+ghost use Rattle.client_changes.specs.Steps.{EnterGoes, InsertGoes, PutGoes, SettleGoes, complaint_about};
+
+use abl_base::{Row, RowId, Value, copy_row};
+use abl_values::Schema;
+use client_buffers::RunningBuffers;
+use client_database::Op;
+use client_memory::Content;
+use complaint_lines::Complaint;
+use complaint_lines::names::{fields_of, indexes_of};
+use record_rules::{all_begun, is_too_long, missing_field};
+use std::alloc::AllocError;
+
+/// How a record is stored.
+#[derive(Drop)]
+pub enum StoreStep {
+    /// There is nothing to store yet.
+    Nothing,
+    /// The pending record is inserted now.
+    Inserts,
+    /// The record may not be stored.
+    Fails(Complaint),
+    /// This operation stores it.
+    Asks(Op),
+}
+
+/// A changed record at the end of its statement: a row is put, and a pending record is inserted once
+/// each unique index has an assigned component. Out of memory is the only error. (OpenEdge ABL
+/// Reference, ASSIGN statement; when a pending record is inserted is this project's choice.)
+pub fn settle(
+    buffers: &RunningBuffers<'_>,
+    schema: &Schema,
+    buffer: u32,
+) -> Result<StoreStep, AllocError>
+    ensures { IfOk result (λ step. (p : Program) (rest : State) → HasTables p schema.now → Fits p rest buffers.now → SettleGoes step p buffer (state_of rest buffers.now)) }
+{
+    let Some(found) = buffers.own(buffer) else {
+        return Ok(StoreStep::Nothing);
+    };
+    match &found.content {
+        Content::Empty => Ok(StoreStep::Nothing),
+        Content::Pending { since, .. } => {
+            if all_begun(indexes_of(schema, found.table), since.as_slice()) {
+                Ok(StoreStep::Inserts)
+            } else {
+                Ok(StoreStep::Nothing)
+            }
+        }
+        Content::Record { row, values, .. } => put(schema, found.table, *row, values),
+    }
+}
+
+/// A pending record of the running procedure is inserted; another content needs nothing. Out of
+/// memory is the only error. (OpenEdge ABL Reference, CREATE and RELEASE statements.)
+pub fn enter(
+    buffers: &RunningBuffers<'_>,
+    schema: &Schema,
+    buffer: u32,
+) -> Result<StoreStep, AllocError>
+    ensures { IfOk result (λ step. (p : Program) (rest : State) → HasTables p schema.now → Fits p rest buffers.now → EnterGoes step p buffer (state_of rest buffers.now)) }
+{
+    let Some(found) = buffers.own(buffer) else {
+        return Ok(StoreStep::Nothing);
+    };
+    match &found.content {
+        Content::Empty => Ok(StoreStep::Nothing),
+        Content::Record { .. } => Ok(StoreStep::Nothing),
+        Content::Pending { values, .. } => insert(schema, found.table, values),
+    }
+}
+
+/// Stores a row that is held.
+fn put(schema: &Schema, table: u16, row: RowId, values: &Row) -> Result<StoreStep, AllocError>
+    ensures { IfOk result (λ step. (p : Program) → HasTables p schema.now → PutGoes step p table row values.now) }
+{
+    if let Some(complaint) = unstorable(schema, table, values.as_slice()) {
+        return Ok(StoreStep::Fails(complaint));
+    }
+    let values = copy_row(values)?;
+    Ok(StoreStep::Asks(Op::Put { table, row, values }))
+}
+
+/// Inserts a pending record.
+fn insert(schema: &Schema, table: u16, values: &Row) -> Result<StoreStep, AllocError>
+    ensures { IfOk result (λ step. (p : Program) → HasTables p schema.now → InsertGoes step p table values.now) }
+{
+    if let Some(complaint) = unstorable(schema, table, values.as_slice()) {
+        return Ok(StoreStep::Fails(complaint));
+    }
+    let values = copy_row(values)?;
+    Ok(StoreStep::Asks(Op::Insert { table, values }))
+}
+
+/// Why a row of the table may not be stored, if so: its first mandatory field that is `?`, else that
+/// it has too many bytes.
+fn unstorable(schema: &Schema, table: u16, values: &[Value]) -> Option<Complaint>
+    ensures { (p : Program) → HasTables p schema.now → complaint_if result ≡ complaint_about p table values.now }
+{
+    match missing_field(fields_of(schema, table), values) {
+        Some(field) => Some(Complaint::Mandatory { table, field }),
+        None => {
+            if is_too_long(values) {
+                Some(Complaint::RecordTooLong(table))
+            } else {
+                None
+            }
+        }
+    }
+}
