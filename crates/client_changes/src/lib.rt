@@ -5,10 +5,12 @@
 //! the step goes on.
 #![tactic(auto)]
 
+pub mod creates;
 pub mod deletes;
 pub mod locks;
 pub mod stores;
 
+pub use creates::new_record;
 pub use deletes::{DeleteStep, begin_delete};
 pub use locks::{ChangeLock, lock_for_change, upgrade};
 pub use stores::{StoreStep, enter, settle};
