@@ -7,10 +7,12 @@
 
 pub mod creates;
 pub mod deletes;
+pub mod fields;
 pub mod locks;
 pub mod stores;
 
 pub use creates::new_record;
 pub use deletes::{DeleteStep, begin_delete};
+pub use fields::set_field;
 pub use locks::{ChangeLock, lock_for_change, upgrade};
 pub use stores::{StoreStep, enter, settle};
