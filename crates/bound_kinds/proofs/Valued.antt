@@ -1,6 +1,6 @@
 -- The value of a well-kinded expression has the expression's sort.
 use Rattle.std.proofs.Common.{◌≡◌, ℕ, Bool, true, false, List, [], ◌∷◌, Option, Some, None, zero, suc, refl, sym, ap, subst, ◌∙◌}
-use Rattle.std.specs.Prelude.{◌&&◌, ◌||◌, not, if◌then◌else◌, length, nat_lt, Ok, Err, ℤ, pos, negsuc}
+use Rattle.std.specs.Prelude.{IfSome, ◌&&◌, ◌||◌, not, if◌then◌else◌, length, nat_lt, Ok, Err, ℤ, pos, negsuc}
 use Rattle.abl_base.specs.declared.value.Kind.{Kind}
 use Rattle.abl_base.specs.declared.value.Kind.TheVariants as kind
 use Rattle.abl_base.specs.declared.value.Value.{Value}
@@ -18,8 +18,8 @@ use Rattle.bind_names.specs.declared.sort.Sort.{Sort}
 use Rattle.bind_names.specs.declared.sort.Sort.TheVariants.{Of, Unknown, Broken}
 use Rattle.bind_names.specs.Sorts.{branch_sort, if_sort, is_broken, is_number_kind, kind_in, may, may_be_logical, mask_fits, result_sort, same_kind, sort_of_value, sort_or_broken, where_holds}
 use Rattle.bind_expressions.specs.WellKinded.{given, sort_of, sort_of_one, sort_of_three}
-use Rattle.bound_kinds.specs.WellKinded.{Surroundings, is_field, is_good, is_marked, is_same_mark, is_shown}
-use Rattle.bound_kinds.specs.Values.{Has, IsKept, has_sort, is_like, is_masked_by}
+use Rattle.bound_kinds.specs.WellKinded.{Surroundings, is_good, is_marked, is_same_mark, is_shown}
+use Rattle.bound_kinds.specs.Values.{Has, Keeps, has_sort, is_like, is_masked_by}
 use Rattle.bound_kinds.proofs.Parts.{both_left, both_right}
 use Rattle.bound_kinds.proofs.Records.{kind_same}
 use Rattle.abl_base.specs.declared.limits.TheConstants.{MAX_TEXT_BYTES}
@@ -186,47 +186,47 @@ literal_has (value.Logical c) = refl
 literal_has (value.Date d) = refl
 literal_has value.Unknown = refl
 
-field_has : (x : Surroundings) (env : Env) → IsKept x env → (buffer field : ℕ) (k : Kind) → is_field x buffer field k ≡ true → (o : Option Value) → env.field buffer field ≡ o → Has (Of k) (field_or o buffer)
-field_has x env i buffer field k m (Some v) e = i.fields buffer field k v m e
-field_has x env i buffer field k m None e = tt
+field_has : (buffer : ℕ) (k : Kind) (o : Option Value) → IfSome o (λ v. has_sort (Of k) v ≡ true) → Has (Of k) (field_or o buffer)
+field_has buffer k (Some v) i = i
+field_has buffer k None i = tt
 
-pub has_kind : (x : Surroundings) (forms : TextForms) (env : Env) → IsKept x env → (e : Expr) → is_marked x e ≡ true → is_broken (sort_of e) ≡ false → Has (sort_of e) (evaluate forms env e)
-has_kind x forms env i (b.Literal v) m h = literal_has v
-has_kind x forms env i (b.TheVariable v) m h = i.variables v m
-has_kind x forms env i (b.TheField buffer field k) m h = field_has x env i buffer field k m (env.field buffer field) refl
-has_kind x forms env i (b.One op a) m h =
-    has_bind (sort_of a) (sort_of_one op (sort_of a)) (evaluate forms env a) (one_of forms op) (has_kind x forms env i a m (one_part op (sort_of a) h)) (λ v g. one_has forms op (sort_of a) v h g)
-has_kind x forms env i (b.Two op a c) m h =
+pub has_kind : (x : Surroundings) (forms : TextForms) (env : Env) (e : Expr) → Keeps env e → is_marked x e ≡ true → is_broken (sort_of e) ≡ false → Has (sort_of e) (evaluate forms env e)
+has_kind x forms env (b.Literal v) i m h = literal_has v
+has_kind x forms env (b.TheVariable v) i m h = i
+has_kind x forms env (b.TheField buffer field k) i m h = field_has buffer k (env.field buffer field) i
+has_kind x forms env (b.One op a) i m h =
+    has_bind (sort_of a) (sort_of_one op (sort_of a)) (evaluate forms env a) (one_of forms op) (has_kind x forms env a i m (one_part op (sort_of a) h)) (λ v g. one_has forms op (sort_of a) v h g)
+has_kind x forms env (b.Two op a c) i m h =
     let s = sort_or_broken (result_sort op (sort_of a) (sort_of c)) in
-    let first = has_kind x forms env i a (both_left (is_marked x a) _ m) (first_part (is_broken (sort_of a)) (is_broken (sort_of c)) _ h) in
-    let second = has_kind x forms env i c (both_right (is_marked x a) _ m) (second_part (is_broken (sort_of a)) (is_broken (sort_of c)) _ h) in
+    let first = has_kind x forms env a i.0 (both_left (is_marked x a) _ m) (first_part (is_broken (sort_of a)) (is_broken (sort_of c)) _ h) in
+    let second = has_kind x forms env c i.1 (both_right (is_marked x a) _ m) (second_part (is_broken (sort_of a)) (is_broken (sort_of c)) _ h) in
     has_bind (sort_of a) s (evaluate forms env a) (λ v. bind (evaluate forms env c) (two_of op v)) first
     (λ v p. has_bind (sort_of c) s (evaluate forms env c) (two_of op v) second (λ w q. two_has op (sort_of a) (sort_of c) v w h p q))
-has_kind x forms env i (b.Three op a c d) m h =
+has_kind x forms env (b.Three op a c d) i m h =
     let s = sort_of_three op (sort_of a) (sort_of c) (sort_of d) in
     let parts = three_parts op (sort_of a) (sort_of c) (sort_of d) h in
     let others = both_right (is_marked x a) _ m in
-    let first = has_kind x forms env i a (both_left (is_marked x a) _ m) parts.first in
-    let second = has_kind x forms env i c (both_left (is_marked x c) _ others) parts.second in
-    let third = has_kind x forms env i d (both_right (is_marked x c) _ others) parts.third in
+    let first = has_kind x forms env a i.0 (both_left (is_marked x a) _ m) parts.first in
+    let second = has_kind x forms env c i.1 (both_left (is_marked x c) _ others) parts.second in
+    let third = has_kind x forms env d i.2 (both_right (is_marked x c) _ others) parts.third in
     has_bind (sort_of a) s (evaluate forms env a) (λ u. bind (evaluate forms env c) (λ v. bind (evaluate forms env d) (three_of op u v))) first
     (λ u p. has_bind (sort_of c) s (evaluate forms env c) (λ v. bind (evaluate forms env d) (three_of op u v)) second
     (λ v q. has_bind (sort_of d) s (evaluate forms env d) (three_of op u v) third (λ w r. three_has op (sort_of a) (sort_of c) (sort_of d) u v w h)))
-has_kind x forms env i (b.Both a c) m h =
-    let first = has_kind x forms env i a (both_left (is_marked x a) _ m) (first_part (is_broken (sort_of a)) (is_broken (sort_of c)) _ h) in
-    let second = has_kind x forms env i c (both_right (is_marked x a) _ m) (second_part (is_broken (sort_of a)) (is_broken (sort_of c)) _ h) in
+has_kind x forms env (b.Both a c) i m h =
+    let first = has_kind x forms env a i.0 (both_left (is_marked x a) _ m) (first_part (is_broken (sort_of a)) (is_broken (sort_of c)) _ h) in
+    let second = has_kind x forms env c i.1 (both_right (is_marked x a) _ m) (second_part (is_broken (sort_of a)) (is_broken (sort_of c)) _ h) in
     let may = both_right (may_be_logical (sort_of a)) _ (fixed_holds (is_broken (sort_of a) || is_broken (sort_of c)) (may_be_logical (sort_of a) && may_be_logical (sort_of c)) (Of kind.Logical) h) in
     has_sort_as (Of kind.Logical) _ (bind (evaluate forms env a) (λ v. and_then v (evaluate forms env c))) (fixed (is_broken (sort_of a) || is_broken (sort_of c)) (may_be_logical (sort_of a) && may_be_logical (sort_of c)) (Of kind.Logical) h)
     (has_bind (sort_of a) (Of kind.Logical) (evaluate forms env a) (λ v. and_then v (evaluate forms env c)) first
     (λ v p. and_has v (evaluate forms env c) (logical_given (sort_of c) (evaluate forms env c) may second)))
-has_kind x forms env i (b.Either a c) m h =
-    let first = has_kind x forms env i a (both_left (is_marked x a) _ m) (first_part (is_broken (sort_of a)) (is_broken (sort_of c)) _ h) in
-    let second = has_kind x forms env i c (both_right (is_marked x a) _ m) (second_part (is_broken (sort_of a)) (is_broken (sort_of c)) _ h) in
+has_kind x forms env (b.Either a c) i m h =
+    let first = has_kind x forms env a i.0 (both_left (is_marked x a) _ m) (first_part (is_broken (sort_of a)) (is_broken (sort_of c)) _ h) in
+    let second = has_kind x forms env c i.1 (both_right (is_marked x a) _ m) (second_part (is_broken (sort_of a)) (is_broken (sort_of c)) _ h) in
     let may = both_right (may_be_logical (sort_of a)) _ (fixed_holds (is_broken (sort_of a) || is_broken (sort_of c)) (may_be_logical (sort_of a) && may_be_logical (sort_of c)) (Of kind.Logical) h) in
     has_sort_as (Of kind.Logical) _ (bind (evaluate forms env a) (λ v. or_else v (evaluate forms env c))) (fixed (is_broken (sort_of a) || is_broken (sort_of c)) (may_be_logical (sort_of a) && may_be_logical (sort_of c)) (Of kind.Logical) h)
     (has_bind (sort_of a) (Of kind.Logical) (evaluate forms env a) (λ v. or_else v (evaluate forms env c)) first
     (λ v p. or_has v (evaluate forms env c) (logical_given (sort_of c) (evaluate forms env c) may second)))
-has_kind x forms env i (b.IfElse test a c k) m h =
+has_kind x forms env (b.IfElse test a c k) i m h =
     let s = sort_of test in
     let branches = branch_sort (sort_of a) (sort_of c) in
     let r = if_sort s branches in
@@ -234,28 +234,28 @@ has_kind x forms env i (b.IfElse test a c k) m h =
     let parts = both_left (is_marked x test && (is_marked x a && is_marked x c)) _ m in
     let others = both_right (is_marked x test) _ parts in
     let inner = gate_in gate (sort_or_broken branches) h in
-    let first = has_kind x forms env i test (both_left (is_marked x test) _ parts) (not_true (is_broken s) (both_right (may_be_logical s) _ (gate_holds gate (sort_or_broken branches) h))) in
-    let second = has_kind x forms env i a (both_left (is_marked x a) _ others) (first_part (is_broken (sort_of a)) (is_broken (sort_of c)) _ inner) in
-    let third = has_kind x forms env i c (both_right (is_marked x a) _ others) (second_part (is_broken (sort_of a)) (is_broken (sort_of c)) _ inner) in
+    let first = has_kind x forms env test i.0 (both_left (is_marked x test) _ parts) (not_true (is_broken s) (both_right (may_be_logical s) _ (gate_holds gate (sort_or_broken branches) h))) in
+    let second = has_kind x forms env a i.1 (both_left (is_marked x a) _ others) (first_part (is_broken (sort_of a)) (is_broken (sort_of c)) _ inner) in
+    let third = has_kind x forms env c i.2 (both_right (is_marked x a) _ others) (second_part (is_broken (sort_of a)) (is_broken (sort_of c)) _ inner) in
     let mark : k ≡ kind_in r = mark_is k (kind_in r) (both_right (is_marked x test && (is_marked x a && is_marked x c)) _ m) in
     let same : r ≡ sort_or_broken branches = gate_is gate (sort_or_broken branches) h in
     has_bind s r (evaluate forms env test) (λ v. bind (branch (holds v) (evaluate forms env a) (evaluate forms env c)) (as_kind k)) first
     (λ v p. subst (λ l. Has r (bind (branch (holds v) (evaluate forms env a) (evaluate forms env c)) (as_kind l))) (sym mark)
     (if_has r (holds v) (evaluate forms env a) (evaluate forms env c) (sort_of a) (sort_of c) second third h (λ e. unknown_branches (sort_of a) (sort_of c) (sym same ∙ e))))
-has_kind x forms env i (b.Masked a mask) m h =
+has_kind x forms env (b.Masked a mask) i m h =
     let gate = mask_fits mask (sort_of a) && not (is_broken (sort_of a)) in
     has_sort_as (Of kind.Character) _ (bind (evaluate forms env a) (λ v. Ok (as_masked forms.masked mask v))) (gate_is gate (Of kind.Character) h)
     (any_bind (Of kind.Character) (evaluate forms env a) (λ v. Ok (as_masked forms.masked mask v)) (λ v. unless_has (is_unknown v) (forms.masked mask v)))
-has_kind x forms env i (b.IsAvailable buffer) m h = refl
-has_kind x forms env i (b.IsLocked buffer) m h = refl
-has_kind x forms env i b.Retry m h = refl
-has_kind x forms env i b.ErrorStatus m h = refl
-has_kind x forms env i b.ReturnValue m h = refl
+has_kind x forms env (b.IsAvailable buffer) i m h = refl
+has_kind x forms env (b.IsLocked buffer) i m h = refl
+has_kind x forms env b.Retry i m h = refl
+has_kind x forms env b.ErrorStatus i m h = refl
+has_kind x forms env b.ReturnValue i m h = refl
 
 -- A GOOD EXPRESSION GIVES A VALUE OF ITS SORT
-pub good_has : (x : Surroundings) (forms : TextForms) (env : Env) (test : Sort → Bool) (e : Expr) → IsKept x env → is_good x test e ≡ true → Has (sort_of e) (evaluate forms env e)
+pub good_has : (x : Surroundings) (forms : TextForms) (env : Env) (test : Sort → Bool) (e : Expr) → Keeps env e → is_good x test e ≡ true → Has (sort_of e) (evaluate forms env e)
 good_has x forms env test e i h =
-    has_kind x forms env i e (both_left (is_marked x e) _ h) (not_true (is_broken (sort_of e)) (both_left (not (is_broken (sort_of e))) _ (both_right (is_marked x e) _ h)))
+    has_kind x forms env e i (both_left (is_marked x e) _ h) (not_true (is_broken (sort_of e)) (both_left (not (is_broken (sort_of e))) _ (both_right (is_marked x e) _ h)))
 
 -- ---- masks
 
@@ -290,6 +290,6 @@ given_masked mask s (Ok u) v m h e = let same : u ≡ v = cc in subst (λ w. is_
 given_masked mask s (Err fault) v m h e = absurd cc
 
 -- EACH MASK FITS THE VALUE THAT IS SHOWN UNDER IT
-pub mask_fits_value : (x : Surroundings) (forms : TextForms) (env : Env) (mask : List ℕ) (e : Expr) (v : Value) → IsKept x env → is_shown x (Some mask) e ≡ true → evaluate forms env e ≡ Ok v → is_masked_by mask v ≡ true
+pub mask_fits_value : (x : Surroundings) (forms : TextForms) (env : Env) (mask : List ℕ) (e : Expr) (v : Value) → Keeps env e → is_shown x (Some mask) e ≡ true → evaluate forms env e ≡ Ok v → is_masked_by mask v ≡ true
 mask_fits_value x forms env mask e v i h g =
     given_masked mask (sort_of e) (evaluate forms env e) v (both_right (not (is_broken (sort_of e))) _ (both_right (is_marked x e) _ h)) (good_has x forms env (mask_fits mask) e i h) g

@@ -1,15 +1,15 @@
 -- The values that well-kinded expressions may have.
-use Rattle.std.specs.Prelude.{◌≡◌, ℕ, Bool, true, ◌&&◌, ◌||◌, List, Some, Ok, Err}
+use Rattle.std.specs.Prelude.{◌≡◌, Bool, true, ◌&&◌, ◌||◌, List, ℕ, IfSome, Ok, Err}
 use Rattle.abl_base.specs.declared.value.Kind.{Kind}
 use Rattle.abl_base.specs.declared.value.Value.{Value}
 use Rattle.abl_values.specs.Masks.{mask_is_for}
-use Rattle.bound_tree.specs.declared.expression.Variable.{Variable}
+use Rattle.bound_tree.specs.Tree as b
+use Rattle.bound_tree.specs.Tree.{Expr}
 use Rattle.abl_expr.specs.Env.{Env}
 use Rattle.abl_expr.specs.Operators.{Given, is_unknown}
 use Rattle.bind_names.specs.declared.sort.Sort.{Sort}
 use Rattle.bind_names.specs.declared.sort.Sort.TheVariants.{Of, Unknown, Broken}
 use Rattle.bind_names.specs.Sorts.{is_whole_kind, may, same_kind, sort_of_value}
-use Rattle.bound_kinds.specs.WellKinded.{Surroundings, is_field, is_variable}
 
 -- INTEGER and INT64 are one here: the sign `+` of an INTEGER gives an INT64
 abbrev pub is_like : Kind → Kind → Bool
@@ -26,10 +26,23 @@ abbrev pub Has : Sort → Given → Type 0
 Has s (Ok v) = has_sort s v ≡ true
 Has s (Err fault) = Unit {0}
 
--- each variable has a value of its kind, and so has each field of a record that is there
-pub record IsKept (x : Surroundings) (env : Env) : Type 0 where
-  pub variables : (v : Variable) → is_variable x v ≡ true → has_sort (Of v.kind) (env.variable v) ≡ true
-  pub fields : (buffer field : ℕ) (kind : Kind) (v : Value) → is_field x buffer field kind ≡ true → env.field buffer field ≡ Some v → has_sort (Of kind) v ≡ true
+-- each variable in the expression has a value of its kind, and so has each field of a record that is there
+abbrev pub Keeps : Env → Expr → Type 0
+Keeps env (b.Literal v) = Unit {0}
+Keeps env (b.TheVariable v) = has_sort (Of v.kind) (env.variable v) ≡ true
+Keeps env (b.TheField buffer field kind) = IfSome (env.field buffer field) (λ v. has_sort (Of kind) v ≡ true)
+Keeps env (b.One op a) = Keeps env a
+Keeps env (b.Two op a c) = Keeps env a × Keeps env c
+Keeps env (b.Three op a c d) = Keeps env a × Keeps env c × Keeps env d
+Keeps env (b.Both a c) = Keeps env a × Keeps env c
+Keeps env (b.Either a c) = Keeps env a × Keeps env c
+Keeps env (b.IfElse test a c kind) = Keeps env test × Keeps env a × Keeps env c
+Keeps env (b.Masked a mask) = Keeps env a
+Keeps env (b.IsAvailable buffer) = Unit {0}
+Keeps env (b.IsLocked buffer) = Unit {0}
+Keeps env b.Retry = Unit {0}
+Keeps env b.ErrorStatus = Unit {0}
+Keeps env b.ReturnValue = Unit {0}
 
 -- the mask is one for values of this kind; under any mask `?` may be shown
 abbrev pub is_masked_by : List ℕ → Value → Bool

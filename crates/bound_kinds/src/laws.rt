@@ -12,7 +12,7 @@ ghost use Rattle.abl_expr.specs.Env.{Env};
 ghost use Rattle.abl_expr.specs.Evaluate.{evaluate};
 ghost use Rattle.bind_names.specs.declared.sort.Sort.{Sort};
 ghost use Rattle.bind_expressions.specs.WellKinded.{sort_of};
-ghost use Rattle.bound_kinds.specs.Values.{Has, IsKept, is_masked_by};
+ghost use Rattle.bound_kinds.specs.Values.{Has, Keeps, is_masked_by};
 ghost use Rattle.abl_types.specs.Sources.{bound};
 ghost use Rattle.bound_kinds.specs.WellKinded.{Surroundings, is_good, is_masked, is_shown, is_well_kinded};
 
@@ -28,13 +28,13 @@ pub fn masks_of_schema_files_fit()
     ensures { (items : List Item) → is_masked (schema_of items) ≡ true }
 {}
 
-/// An expression that is good in its place has a value of its sort, or a fault, wherever variables and
-/// fields have values of their kinds.
+/// An expression that is good in its place has a value of its sort, or a fault, wherever the variables
+/// and fields in it have values of their kinds.
 pub fn values_have_their_sorts()
-    ensures { (x : Surroundings) (forms : TextForms) (env : Env) (test : Sort → Bool) (e : Expr) → IsKept x env → is_good x test e ≡ true → Has (sort_of e) (evaluate forms env e) }
+    ensures { (x : Surroundings) (forms : TextForms) (env : Env) (test : Sort → Bool) (e : Expr) → Keeps env e → is_good x test e ≡ true → Has (sort_of e) (evaluate forms env e) }
 {}
 
 /// So PUT never shows a value under a mask for another kind.
 pub fn masks_fit_the_values_shown()
-    ensures { (x : Surroundings) (forms : TextForms) (env : Env) (mask : List ℕ) (e : Expr) (v : Value) → IsKept x env → is_shown x (Some mask) e ≡ true → evaluate forms env e ≡ Ok v → is_masked_by mask v ≡ true }
+    ensures { (x : Surroundings) (forms : TextForms) (env : Env) (mask : List ℕ) (e : Expr) (v : Value) → Keeps env e → is_shown x (Some mask) e ≡ true → evaluate forms env e ≡ Ok v → is_masked_by mask v ≡ true }
 {}
