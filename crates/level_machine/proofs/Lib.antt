@@ -4,3 +4,4 @@ pub mod Taken
 pub mod Longer
 pub mod Sound
 pub mod Databases
+pub mod Sends
