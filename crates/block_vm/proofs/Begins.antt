@@ -36,7 +36,7 @@ use Rattle.client_machine.specs.Config.{instr_at, header_at, body_at, mode_of, s
 use Rattle.client_machine.specs.Inputs.{AreProceduresOf, IsProgramOf, stream_of}
 use Rattle.client_machine.specs.Machine.{config_of}
 use Rattle.client_machine.specs.Step.{code_in, RestFits}
-use Rattle.block_vm.specs.Refines.{Follows, AreBufferless, HasNoBuffers}
+use Rattle.block_vm.specs.Refines.{Follows}
 use Rattle.block_vm.specs.Begins.{HasFirst, IsFirst, Begins, no_stream}
 
 -- ---- the code
@@ -56,23 +56,22 @@ denotes_as k p tree is = record {
   begins = λ n. ap (λ i. tree (body_in i)) (instr_same k.instrs.items (place_of k.procedures.items n)) ∙ is.begins n;
 }
 
-procedures_are : (code : List Instr) (ts : List Body) (qs : List SourceProcedure) (cs : List ProcedureCode) → AreProcedures (instrs_of code) ts qs cs → AreBufferless qs → AreProceduresOf code cs (map procedure_of qs)
-procedures_are code ts [] [] x b = tt
-procedures_are code ts [] (c ∷ cs) x b = absurd x
-procedures_are code ts (q ∷ qs) [] x b = absurd x
-procedures_are code ts (q ∷ qs) (c ∷ cs) x b = (
-  record { header = ap header_in (instr_same code c.place) ∙ x.0.header; undoable = x.0.undoable; no_undo = x.0.no_undo; parameters = x.0.parameters; buffers = b.0 },
-  procedures_are code ts qs cs x.1 b.1,
+procedures_are : (code : List Instr) (ts : List Body) (qs : List SourceProcedure) (cs : List ProcedureCode) → AreProcedures (instrs_of code) ts qs cs → AreProceduresOf code cs (map procedure_of qs)
+procedures_are code ts [] [] x = tt
+procedures_are code ts [] (c ∷ cs) x = absurd x
+procedures_are code ts (q ∷ qs) [] x = absurd x
+procedures_are code ts (q ∷ qs) (c ∷ cs) x = (
+  record { header = ap header_in (instr_same code c.place) ∙ x.0.header; undoable = x.0.undoable; no_undo = x.0.no_undo; parameters = x.0.parameters; buffers = x.0.buffers },
+  procedures_are code ts qs cs x.1,
 )
 
 -- ---- the external procedure
 
--- its block is at the place, the memory has its variables, and it has no buffers
+-- its block is at the place, and the memory has its variables and buffers
 record FirstFacts (code : List Instr) (cs : List ProcedureCode) (q : Procedure) (place : ℕ) (m : Remembered) : Type 0 where
   place_is : place ≡ place_of cs 0
   header : header_at code place ≡ q.header
-  memory : m ≡ record { undoable = q.undoable ∷ []; no_undo = q.no_undo ∷ []; copies = [] }
-  buffers : q.buffers ≡ []
+  memory : m ≡ record { undoable = q.undoable ∷ []; no_undo = q.no_undo ∷ []; buffers = map new_buffer q.buffers ∷ []; copies = [] }
 
 first_facts : (code : List Instr) (cs : List ProcedureCode) (qs : List Procedure) (place : ℕ) (m : Remembered) → AreProceduresOf code cs qs → HasFirst m cs → IsFirst place cs → FirstFacts code cs (slice_index_or qs 0 no_procedure) place m
 first_facts code [] qs place m x has is = absurd has
@@ -80,8 +79,7 @@ first_facts code (c ∷ cs) [] place m x has is = absurd x
 first_facts code (c ∷ cs) (q ∷ qs) place m x has is = record {
   place_is = is;
   header = ap (header_at code) is ∙ x.0.header;
-  memory = has ∙ ap (λ us. let r : Remembered = record { undoable = us ∷ []; no_undo = c.no_undo ∷ []; copies = [] } in r) x.0.undoable ∙ ap (λ us. let r : Remembered = record { undoable = q.undoable ∷ []; no_undo = us ∷ []; copies = [] } in r) x.0.no_undo;
-  buffers = x.0.buffers;
+  memory = has ∙ ap (λ us. let r : Remembered = record { undoable = us ∷ []; no_undo = c.no_undo ∷ []; buffers = map new_buffer c.buffers.items ∷ []; copies = [] } in r) x.0.undoable ∙ ap (λ us. let r : Remembered = record { undoable = q.undoable ∷ []; no_undo = us ∷ []; buffers = map new_buffer c.buffers.items ∷ []; copies = [] } in r) x.0.no_undo ∙ ap (λ bs. let r : Remembered = record { undoable = q.undoable ∷ []; no_undo = q.no_undo ∷ []; buffers = map new_buffer bs ∷ []; copies = [] } in r) x.0.buffers;
 }
 
 -- ---- the streams
@@ -98,16 +96,16 @@ begins_at p h body us ks bs units = flat.config (flat.Execute (flat.Blocks h fal
 abbrev config_by : Program → List Instr → ℕ → Mode → List StackEntry → List ℕ → Remembered → ℕ → flat.Config
 config_by p code units m os ns mem u = flat.config (mode_of code mem.copies m) (stack_of code mem.copies (reverse os)) (state_of (start p units) ns mem u)
 
-pub begin_follows : (p : Program) (bound : Bound) (c : Machine) (code : Code) (inputs : Inputs) (units : ℕ) → Begins c code inputs units → IsCompiled code bound → HasNoBuffers bound → p.source ≡ source_of bound →
+pub begin_follows : (p : Program) (bound : Bound) (c : Machine) (code : Code) (inputs : Inputs) (units : ℕ) → Begins c code inputs units → IsCompiled code bound → p.source ≡ source_of bound →
     p.input ≡ inputs.own → p.inputs ≡ inputs.named.items → AreForms p.forms → p.forms.line_at ≡ line_at → Follows (run p units) bound.outputs.items [] c
-begin_follows p bound c code inputs units b compiled plain source own named forms lines =
+begin_follows p bound c code inputs units b compiled source own named forms lines =
     let rest = start p units in
     let tree = tree_at compiled.bodies in
     let qs = p.source.procedures in
     let program : IsProgramOf p code inputs = record {
       forms = forms;
       lines = lines;
-      procedures = subst (λ ps. AreProceduresOf code.instrs.items code.procedures.items ps) (sym (ap (λ s. s.procedures) source)) (procedures_are code.instrs.items compiled.bodies bound.procedures.items code.procedures.items compiled.procedures plain);
+      procedures = subst (λ ps. AreProceduresOf code.instrs.items code.procedures.items ps) (sym (ap (λ s. s.procedures) source)) (procedures_are code.instrs.items compiled.bodies bound.procedures.items code.procedures.items compiled.procedures);
       input = own;
       inputs_are = named;
     } in
@@ -118,7 +116,7 @@ begin_follows p bound c code inputs units b compiled plain source own named form
     let facts = first_facts c.code.instrs.items c.code.procedures.items qs b.place c.memory program'.procedures has_first is_first in
     let q = procedure_at p 0 in
     let is_code = c.code.instrs.items in
-    let m0 : Remembered = record { undoable = q.undoable ∷ []; no_undo = q.no_undo ∷ []; copies = [] } in
+    let m0 : Remembered = record { undoable = q.undoable ∷ []; no_undo = q.no_undo ∷ []; buffers = map new_buffer q.buffers ∷ []; copies = [] } in
     let entry = body_at is_code (place_of c.code.procedures.items 0) in
     record {
       tree = tree;
@@ -129,14 +127,14 @@ begin_follows p bound c code inputs units b compiled plain source own named form
       fits = record {
         program = program';
         state = record {
-          made = refl;
+          made_is = sym b.made_is;
           status_is = sym b.status_is;
           returned_is = sym b.returned_is;
           size_is = sym b.size_is;
           streams_are = ap (λ n. replicate (n + 1) meaning.no_stream) (ap (λ s. s.streams) source ∙ sym compiled.streams) ∙ sym (streams_map (code.streams + 1)) ∙ ap (map stream_of) (sym b.streams_are);
           at_is = sym b.at_is;
         };
-        even = subst (λ (ns : List ℕ). AreEven ns c.memory) (sym b.procedures_are) (subst (λ (m : Remembered). AreEven (0 ∷ []) m) (sym facts.memory) (refl, refl));
+        even = subst (λ (ns : List ℕ). AreEven ns c.memory) (sym b.procedures_are) (subst (λ (m : Remembered). AreEven (0 ∷ []) m) (sym facts.memory) (refl, refl, refl));
         whole = subst (λ (m : Remembered). HaveDepths 0 m.copies) (sym facts.memory) tt;
         order = subst (λ (m : Remembered). ModeInOrder (nesting_of m) c.mode (reverse c.stack.items)) (sym facts.memory) (subst (λ (m : Mode). ModeInOrder (nesting_of m0) m (reverse c.stack.items)) (sym b.mode_is) (subst (λ (os : List StackEntry). ModeInOrder (nesting_of m0) (mode.Execute (task.Blocks b.place false 32)) (reverse os)) (sym b.stack_is) (tt, refl)));
       };
@@ -150,7 +148,6 @@ begin_follows p bound c code inputs units b compiled plain source own named form
           ∙ ap (λ ns. config_by p is_code units (mode.Execute (task.Blocks b.place false 32)) [] ns c.memory c.units) b.procedures_are
           ∙ ap (λ m. config_by p is_code units (mode.Execute (task.Blocks b.place false 32)) [] (0 ∷ []) m c.units) facts.memory
           ∙ ap (λ u. config_by p is_code units (mode.Execute (task.Blocks b.place false 32)) [] (0 ∷ []) m0 u) b.units_are
-          ∙ ap (λ h. begins_at p h (body_at is_code b.place) q.undoable q.no_undo [] units) facts.header
-          ∙ ap (λ k. begins_at p q.header (body_at is_code k) q.undoable q.no_undo [] units) facts.place_is
-          ∙ ap (λ bs. begins_at p q.header entry q.undoable q.no_undo (map new_buffer bs) units) (sym facts.buffers)));
+          ∙ ap (λ h. begins_at p h (body_at is_code b.place) q.undoable q.no_undo (map new_buffer q.buffers) units) facts.header
+          ∙ ap (λ k. begins_at p q.header (body_at is_code k) q.undoable q.no_undo (map new_buffer q.buffers) units) facts.place_is));
     }

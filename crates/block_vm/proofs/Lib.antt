@@ -2,3 +2,4 @@ pub mod Asks
 pub mod Works
 pub mod Resumes
 pub mod Begins
+pub mod Still

@@ -1,5 +1,6 @@
 -- The machine of a client that has not begun.
-use Rattle.std.specs.Prelude.{◌≡◌, ◌+◌, ℕ, List, [], ◌∷◌, None, false, replicate}
+use Rattle.std.specs.Prelude.{◌≡◌, ◌+◌, ℕ, List, [], ◌∷◌, None, false, replicate, map}
+use Rattle.block_meaning.specs.Meaning.{new_buffer}
 use Rattle.client_memory.specs.Memory.{Remembered}
 use Rattle.client_output.specs.Written.{HasWritten}
 use Rattle.block_code.specs.declared.code.ProcedureCode.{ProcedureCode}
@@ -10,10 +11,10 @@ use Rattle.client_machine.specs.declared.machine.Machine.{Machine}
 use Rattle.client_machine.specs.declared.mode.Mode.TheVariants as mode
 use Rattle.client_machine.specs.declared.mode.Task.TheVariants as task
 
--- the memory has the initial values of the first procedure, and no other
+-- the memory has the initial values and empty buffers of the first procedure, and no other
 abbrev pub HasFirst : Remembered → List ProcedureCode → Type 0
 HasFirst m [] = ⊥
-HasFirst m (c ∷ cs) = m ≡ record { undoable = c.undoable ∷ []; no_undo = c.no_undo ∷ []; copies = [] }
+HasFirst m (c ∷ cs) = m ≡ record { undoable = c.undoable ∷ []; no_undo = c.no_undo ∷ []; buffers = map new_buffer c.buffers.items ∷ []; copies = [] }
 
 -- the place of the first procedure
 abbrev pub IsFirst : ℕ → List ProcedureCode → Type 0
@@ -35,6 +36,7 @@ pub record Begins (m : Machine) (code : Code) (inputs : Inputs) (units : ℕ) : 
   pub procedures_are : m.procedures.items ≡ 0 ∷ []
   pub memory_is : HasFirst m.memory code.procedures.items
   pub units_are : m.units ≡ units
+  pub made_is : m.made ≡ 0
   pub status_is : m.status ≡ false
   pub returned_is : m.returned ≡ []
   pub streams_are : m.streams.items ≡ replicate (code.streams + 1) no_stream

@@ -8,6 +8,7 @@ use block_code::Code;
 use client_machine::inputs::{Inputs, Stream};
 use client_machine::machine::Machine;
 use client_machine::mode::{Mode, Task};
+use client_memory::buffers::Buffers;
 use client_memory::memory::Memory;
 use client_memory::slots::Slots;
 use client_output::Output;
@@ -51,8 +52,8 @@ fn first_streams(alloc: Global, named: u32) -> Result<Vec<Stream>, AllocError>
     Ok(streams)
 }
 
-/// The memory of a client that begins: the variables of the external procedure, which is the first.
-/// A source has one always.
+/// The memory of a client that begins: the variables and the empty buffers of the external procedure,
+/// which is the first. A source has one always.
 fn first_memory(alloc: Global, code: &Code) -> Result<Memory, AllocError>
     ensures { IfOk result (λ memory. HasFirst memory code.now.procedures.items) }
 {
@@ -60,7 +61,12 @@ fn first_memory(alloc: Global, code: &Code) -> Result<Memory, AllocError>
         return Err(AllocError);
     };
     let mut memory = Memory::new(alloc);
-    memory.begin(slots_of(&first.undoable)?, slots_of(&first.no_undo)?)?;
+    let buffers = Buffers::new(alloc, &first.buffers)?;
+    memory.begin(
+        slots_of(&first.undoable)?,
+        slots_of(&first.no_undo)?,
+        buffers,
+    )?;
     Ok(memory)
 }
 
@@ -100,6 +106,7 @@ pub fn first_machine(
         procedures,
         memory,
         units,
+        made: 0,
         status: false,
         returned: Bytes::empty(alloc),
         alloc,
