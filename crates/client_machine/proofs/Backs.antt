@@ -1,12 +1,12 @@
 -- Back is answered: the copy of its level is restored, and the level is left next.
 use Rattle.std.proofs.Common.{◌≡◌, ℕ, zero, suc, ◌-◌, ◌<◌, ◌≤◌, List, [], ◌∷◌, ◌++◌, length, Some, refl, sym, ap, ◌∙◌, subst, arith, append-nil, append_assoc, take, drop}
-use Rattle.std.specs.Prelude.{map, reverse, slice_index_or}
-use Rattle.std.proofs.lemmas.List.{length-map, length-reverse, length-append, length-take-le, take-append-drop}
+use Rattle.std.specs.Prelude.{reverse, slice_index_or}
+use Rattle.std.proofs.lemmas.List.{length-append, length-take-le, take-append-drop}
 use Rattle.client_database.specs.declared.answer.Answer.{Answer}
 use Rattle.client_database.specs.declared.operation.Op.{Op}
 use Rattle.bound_tree.specs.Tree.{Body}
 use Rattle.block_meaning.specs.Program.{Program}
-use Rattle.block_meaning.specs.State.{State, Copy, Saved, Completion, Normal, Again, Leaves, Nexts, Undoes, Faults, Raises, EndKeys, Returns, Stops, Found, Lost, NotFound, Outcome, Done, Suspended, completes, and_then}
+use Rattle.block_meaning.specs.State.{State, Copy, Completion, Normal, Again, Leaves, Nexts, Undoes, Faults, Raises, EndKeys, Returns, Stops, Found, Lost, NotFound, Outcome, Done, Suspended, completes, and_then}
 use Rattle.block_meaning.specs.Frames.{put_back}
 use Rattle.block_meaning.specs.Buffers.{all_places}
 use Rattle.block_meaning.proofs.Continues.{begins_itself}

@@ -1,5 +1,5 @@
 -- The block at a place.
-use Rattle.std.proofs.Common.{◌≡◌, ℕ, zero, suc, ◌<◌, List, [], ◌∷◌, length, get_or, Some, refl, sym, ap, ◌∙◌, arith}
+use Rattle.std.proofs.Common.{◌≡◌, ℕ, zero, suc, ◌<◌, List, [], ◌∷◌, length, get_or, Some, sym, ap, ◌∙◌, arith}
 use Rattle.std.specs.Prelude.{slice_get, Box}
 use Rattle.std.specs.declared.alloc.Global.{Global}
 use Rattle.bound_tree.specs.declared.block.Header.{Header as SourceHeader}

@@ -1,10 +1,8 @@
 -- A completion reaches an entry of the stack.
-use Rattle.std.proofs.Common.{◌≡◌, List, refl, sym, ap, ◌∙◌, subst, length, ◌∷◌}
+use Rattle.std.proofs.Common.{◌≡◌, refl, sym, ap, ◌∙◌, subst, ◌∷◌}
 use Rattle.std.specs.Prelude.{reverse, Bool}
-use Rattle.client_database.specs.declared.answer.Answer.{Answer}
 use Rattle.block_meaning.specs.Program.{Program}
 use Rattle.block_meaning.specs.State.{State}
-use Rattle.block_meaning.specs.Blocks.{complained}
 use Rattle.block_meaning.proofs.Continues.{begins_itself}
 use Rattle.block_flat.specs.Flat as flat
 use Rattle.block_flat.proofs.Machine.{step_means}
@@ -15,12 +13,11 @@ use Rattle.client_machine.specs.declared.mode.Mode.TheVariants as mode
 use Rattle.client_machine.specs.declared.mode.Completion.{Completion}
 use Rattle.client_machine.specs.declared.mode.Completion.TheVariants as completion
 use Rattle.client_machine.specs.declared.mode.StackEntry.{StackEntry}
-use Rattle.client_machine.specs.declared.mode.StackEntry.TheVariants as stack
 use Rattle.client_machine.specs.Config.{mode_of, entry_of, stack_of, completion_of}
 use Rattle.client_machine.specs.Machine.{config_of, stack_in, state_in}
 use Rattle.client_machine.specs.Inputs.{names_of}
 use Rattle.client_machine.specs.Order.{nesting_of, CompletesInOrder, ModeInOrder, IsNoFault}
-use Rattle.client_machine.specs.Step.{FitsIn, EntryFits, RunKept, KeepsCompletion, KeepsEntry}
+use Rattle.client_machine.specs.Step.{FitsIn, KeepsCompletion, KeepsEntry}
 
 -- the machine goes on in another mode
 pub entry_kept : (entry : StackEntry) (w : Completion) (old new : Machine) (m : Mode) → (let x : Machine = record old { mode = m } in new ≡ x) →

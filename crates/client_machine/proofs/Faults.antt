@@ -1,14 +1,14 @@
 -- The fault of a statement: NO-ERROR, its line, and ERROR. A step with an effect on the rest of the state.
-use Rattle.std.proofs.Common.{◌≡◌, ℕ, ◌+◌, List, [], ◌∷◌, ◌++◌, Option, Some, None, refl, sym, ap, ◌∙◌, subst, length, Bool, true, false}
-use Rattle.std.specs.Prelude.{reverse, nat_lt}
+use Rattle.std.proofs.Common.{◌≡◌, ℕ, ◌+◌, List, [], ◌∷◌, ◌++◌, Option, Some, None, refl, sym, ap, ◌∙◌, subst, length, true, false}
+use Rattle.std.specs.Prelude.{nat_lt}
 use Rattle.abl_base.specs.declared.limits.TheConstants.{MAX_OUTPUT_BYTES}
 use Rattle.block_meaning.specs.declared.wants.Piece.{Piece}
 use Rattle.block_meaning.specs.declared.wants.Piece.TheVariants.{Wrote}
 use Rattle.block_meaning.specs.Program.{Program}
-use Rattle.block_meaning.specs.Lines.{Complaint, line_of}
-use Rattle.block_meaning.specs.State.{State, Normal, Stops, Faults, Raises, nothing_passed, Completed, completed, wrote, written_if, bytes_in}
+use Rattle.block_meaning.specs.Lines.{line_of}
+use Rattle.block_meaning.specs.State.{State, Normal, Stops, Faults, Raises, nothing_passed, completed, wrote, written_if, bytes_in}
 use Rattle.block_meaning.specs.Frames.{own_frame}
-use Rattle.block_meaning.specs.Blocks.{complained, line_piece}
+use Rattle.block_meaning.specs.Blocks.{complained}
 use Rattle.client_database.specs.declared.ends.StopWhy.TheVariants as why
 use Rattle.client_database.specs.declared.ends.ClientEnd.TheVariants as client
 use Rattle.block_meaning.proofs.Continues.{begins_itself}
@@ -25,7 +25,7 @@ use Rattle.client_machine.specs.declared.mode.StackEntry.TheVariants as stack
 use Rattle.client_machine.specs.Config.{complaint_in, complaint_if}
 use Rattle.client_machine.specs.Machine.{config_of, stack_in, state_in}
 use Rattle.client_machine.specs.Inputs.{names_of}
-use Rattle.client_machine.specs.Step.{RestFits, FitsIn, RunKept, KeepsEntry, KeepsComplaint}
+use Rattle.client_machine.specs.Step.{RestFits, FitsIn, KeepsEntry, KeepsComplaint}
 
 -- ---- a piece is written
 

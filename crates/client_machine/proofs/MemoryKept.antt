@@ -1,18 +1,17 @@
 -- Parts of a step that change variables.
-use Rattle.std.proofs.Common.{◌≡◌, ℕ, zero, suc, ◌+◌, List, ◌∷◌, [], ◌++◌, Bool, true, false, length, Some, None, refl, sym, ap, ◌∙◌, subst}
+use Rattle.std.proofs.Common.{◌≡◌, ℕ, List, ◌∷◌, [], ◌++◌, Bool, true, false, length, Some, None, refl, sym, ap, ◌∙◌, subst}
 use Rattle.std.specs.Prelude.{reverse, Vec}
 use Rattle.std.specs.declared.alloc.Global.{Global}
 use Rattle.std.proofs.lemmas.List.{reverse-append}
 use Rattle.abl_base.specs.declared.value.Value.{Value}
 use Rattle.abl_expr.specs.declared.fault.RunFault.{RunFault}
 use Rattle.abl_expr.specs.Operators.{holds}
-use Rattle.bound_tree.specs.Tree.{Body, Expr, Assignment}
+use Rattle.bound_tree.specs.Tree.{Body, Assignment}
 use Rattle.client_database.specs.declared.answer.Answer.{Answer}
 use Rattle.block_meaning.specs.Program.{Program}
-use Rattle.block_meaning.specs.Lines.{Complaint, complaint_of}
+use Rattle.block_meaning.specs.Lines.{complaint_of}
 use Rattle.block_meaning.specs.State as state
 use Rattle.block_meaning.specs.State.{State, Copy, Done, nothing_passed}
-use Rattle.block_meaning.specs.Blocks.{complained}
 use Rattle.block_meaning.specs.Changes.{assigns_each, buffers_in}
 use Rattle.block_meaning.specs.Values.{Evaluated, Gives, Fails}
 use Rattle.block_meaning.specs.Meaning.{handled}
@@ -37,7 +36,7 @@ use Rattle.client_machine.specs.Config.{mode_of, stack_of}
 use Rattle.client_machine.specs.Machine.{stack_in, state_in}
 use Rattle.client_machine.specs.Order.{nesting_of, Named, ModeInOrder, HaveDepths}
 use Rattle.client_machine.proofs.Nestings.{nesting_same}
-use Rattle.client_machine.specs.Step.{code_in, FitsIn, RunKept}
+use Rattle.client_machine.specs.Step.{code_in, FitsIn}
 use Rattle.client_machine.specs.KeepsFrom.{KeepsFrom, place_if}
 
 -- the state with other variables

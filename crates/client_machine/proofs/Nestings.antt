@@ -1,6 +1,6 @@
 -- What is open, of a memory that changes.
 use Rattle.std.proofs.Common.{◌≡◌, ℕ, zero, suc, ◌+◌, ◌-◌, ◌<◌, ◌≤◌, List, [], ◌∷◌, ◌++◌, length, Option, Some, None, refl, sym, ap, ◌∙◌, subst, arith, take}
-use Rattle.std.specs.Prelude.{map, reverse, slice_index_or}
+use Rattle.std.specs.Prelude.{map, slice_index_or}
 use Rattle.std.proofs.lemmas.List.{take-map, length-map, length-reverse, length-append, map-append, get_or_at, get_or-map}
 use Rattle.std.proofs.Math.Seq.{take-append_seam}
 use Rattle.block_meaning.specs.State.{Copy}

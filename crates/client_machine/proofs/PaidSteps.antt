@@ -1,13 +1,10 @@
 -- A task that costs a unit, and the parts of its step.
-use Rattle.std.proofs.Common.{◌≡◌, ℕ, List, ◌∷◌, [], Bool, true, false, None, refl, sym, ap, ◌∙◌, subst}
+use Rattle.std.proofs.Common.{◌≡◌, ℕ, List, [], Bool, true, false, None, refl, sym, ap, ◌∙◌, subst}
 use Rattle.std.specs.Prelude.{reverse}
-use Rattle.bound_tree.specs.Tree.{Body}
-use Rattle.client_database.specs.declared.answer.Answer.{Answer}
 use Rattle.client_database.specs.declared.ends.StopWhy.TheVariants as why
 use Rattle.block_meaning.specs.Program.{Program}
 use Rattle.block_meaning.specs.State.{State}
 use Rattle.block_meaning.specs.Meaning.{cleared}
-use Rattle.block_meaning.proofs.Continues.{begins_itself}
 use Rattle.block_flat.specs.Flat as flat
 use Rattle.block_flat.specs.Flat.{IsCodeOf}
 use Rattle.block_flat.proofs.Machine.{step_means}

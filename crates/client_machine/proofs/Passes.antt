@@ -1,9 +1,9 @@
 -- ERROR and ENDKEY arrive at an iteration.
-use Rattle.std.proofs.Common.{◌≡◌, ℕ, List, [], ◌∷◌, ◌++◌, length, Option, Some, None, Bool, true, false, refl, sym, ap, ◌∙◌, subst}
-use Rattle.std.specs.Prelude.{◌==◌, reverse}
+use Rattle.std.proofs.Common.{◌≡◌, ℕ, List, [], ◌∷◌, length, Option, Some, None, Bool, true, false, refl, sym, ap, ◌∙◌}
+use Rattle.std.specs.Prelude.{◌==◌}
 use Rattle.std.proofs.lemmas.Bool.{eqb-true}
 use Rattle.client_database.specs.declared.answer.Answer.{Answer}
-use Rattle.bound_tree.specs.Tree.{Body, Header, ThenRetry, ThenLeave, OnPhrase}
+use Rattle.bound_tree.specs.Tree.{Body, Header, ThenLeave, OnPhrase}
 use Rattle.block_meaning.specs.Program.{Program}
 use Rattle.block_meaning.specs.State.{State, Copy, Passed, Continuation, Completion, Raises, EndKeys, Done, if_else, completes, and_then}
 use Rattle.block_meaning.specs.Buffers.{releases_all}

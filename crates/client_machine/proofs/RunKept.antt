@@ -1,5 +1,5 @@
 -- What is kept, from one mode to another.
-use Rattle.std.proofs.Common.{◌≤◌, ◌<◌, length, ◌≡◌, ◌⊎◌, Bool, ℕ, ◌+◌, ◌-◌, List, [], ◌∷◌, ◌++◌, Some, None, refl, sym, ap, ◌∙◌, subst, arith}
+use Rattle.std.proofs.Common.{◌≤◌, ◌<◌, length, ◌≡◌, ◌⊎◌, Bool, ℕ, ◌+◌, ◌-◌, List, [], ◌∷◌, ◌++◌, Some, refl, sym, ap, ◌∙◌, subst, arith}
 use Rattle.std.specs.Prelude.{Result, Ok, Err, OnOk, reverse, slice_get}
 use Rattle.client_database.specs.declared.answer.Answer.{Answer}
 use Rattle.client_database.specs.declared.operation.Op.TheVariants as op

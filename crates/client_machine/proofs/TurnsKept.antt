@@ -1,25 +1,17 @@
 -- The header of an iteration.
-use Rattle.std.proofs.Common.{◌≡◌, ℕ, List, Bool, true, false, length, Some, None, Result, Ok, Err, refl, sym, ap, ◌∙◌, subst}
+use Rattle.std.proofs.Common.{◌≡◌, ℕ, List, Bool, true, false, length, Some, None, Ok, refl, sym, ap, ◌∙◌}
 use Rattle.std.specs.Prelude.{reverse}
-use Rattle.abl_base.specs.declared.value.Value.{Value}
 use Rattle.abl_expr.specs.declared.fault.RunFault.{RunFault}
-use Rattle.abl_eval.specs.declared.fault.EvalFault.{EvalFault}
-use Rattle.abl_eval.specs.declared.fault.EvalFault.TheVariants.{Fault}
-use Rattle.bound_tree.specs.Tree.{Header}
-use Rattle.client_database.specs.declared.answer.Answer.{Answer}
 use Rattle.block_meaning.specs.Program.{Program}
 use Rattle.block_meaning.specs.Lines.{complaint_of}
-use Rattle.block_meaning.specs.State as state
-use Rattle.block_meaning.specs.State.{State, Copy, Turn}
+use Rattle.block_meaning.specs.State.{State, Turn}
 use Rattle.block_meaning.specs.Blocks.{retry_in}
 use Rattle.block_flat.specs.Flat as flat
-use Rattle.block_code.specs.declared.code.Instr.{Instr}
 use Rattle.client_memory.specs.Memory.{Remembered}
 use Rattle.client_values.specs.Ends.{Judges}
 use Rattle.client_values.specs.Reads.{Reads}
 use Rattle.client_values.specs.Variables.{HasSameShape, state_with}
 use Rattle.client_machine.specs.declared.machine.Machine.{Machine}
-use Rattle.client_machine.specs.declared.mode.Mode.{Mode}
 use Rattle.client_machine.specs.declared.mode.Mode.TheVariants as mode
 use Rattle.client_machine.specs.declared.mode.Completion.TheVariants as completion
 use Rattle.client_machine.specs.declared.mode.LineFault.TheVariants as line_fault
@@ -29,7 +21,6 @@ use Rattle.client_machine.specs.declared.mode.StackEntry.{StackEntry}
 use Rattle.client_machine.specs.Config.{mode_of, header_at, body_at, turn_of}
 use Rattle.client_machine.specs.Machine.{stack_in, state_in}
 use Rattle.client_machine.specs.Order.{Nesting, nesting_of, Named, ModeInOrder}
-use Rattle.client_machine.specs.Step.{FitsIn}
 use Rattle.client_machine.specs.KeepsFrom.{KeepsFrom, mode_if}
 use Rattle.client_machine.proofs.MemoryKept.{memory_kept, reads_in, state_now}
 

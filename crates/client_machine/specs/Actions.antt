@@ -1,6 +1,6 @@
 -- The expressions of RETURN that stand in an instruction, and what ON ERROR and ON ENDKEY say.
-use Rattle.std.specs.Prelude.{◌≡◌, ℕ, Option, Some, None, Bool, true, false}
-use Rattle.bound_tree.specs.Tree.{Expr, Header, Action, ThenRetry, ThenLeave, ThenNext, ThenReturn, ThenError, OnPhrase, Stmt, UndoBlock, Return, ReturnError}
+use Rattle.std.specs.Prelude.{Option, Some, None, Bool, true, false}
+use Rattle.bound_tree.specs.Tree.{Expr, Header, Action, ThenRetry, ThenLeave, ThenReturn, OnPhrase, Stmt, UndoBlock, Return, ReturnError}
 use Rattle.block_meaning.specs.Blocks.{handles_endkey}
 use Rattle.block_flat.specs.Flat as flat
 use Rattle.block_code.specs.Code.{header_in}

@@ -1,15 +1,11 @@
 -- What the fields of a machine denote.
-use Rattle.std.specs.Prelude.{◌≡◌, ℕ, ◌-◌, ◌≤◌, ◌<◌, List, [], ◌∷◌, Option, Some, None, map, reverse, length, slice_get, slice_index_or}
+use Rattle.std.specs.Prelude.{ℕ, ◌-◌, ◌≤◌, ◌<◌, List, [], ◌∷◌, Option, Some, None, map, reverse, length, slice_get, slice_index_or}
 use Rattle.bound_tree.specs.Tree.{Header, Action, Argument, Run, ThenRetry, ThenLeave, ThenNext, ThenReturn, ThenError}
-use Rattle.bound_tree.specs.Tree as tree
-use Rattle.bound_tree.specs.Bound.{expr_of, action_of, header_of, assignment_of, item_of}
 use Rattle.client_database.specs.declared.ends.ClientEnd.TheVariants as client
-use Rattle.block_meaning.specs.Program.{no_header}
 use Rattle.block_meaning.specs.State as state
 use Rattle.block_meaning.specs.State.{State, CallFrame, Copy, Passed}
 use Rattle.block_meaning.specs.Blocks as blocks
 use Rattle.block_flat.specs.Flat as flat
-use Rattle.client_memory.specs.Undo.{Values}
 use Rattle.client_memory.specs.Memory.{Remembered}
 pub use Rattle.client_values.specs.Variables.{frames_out, AreEven}
 use Rattle.block_code.specs.declared.code.Instr.{Instr}

@@ -1,5 +1,5 @@
 -- How an instruction is executed.
-use Rattle.std.specs.Prelude.{◌≡◌, ℕ}
+use Rattle.std.specs.Prelude.{◌≡◌}
 use Rattle.bound_tree.specs.Tree.{UndoBlock, LeaveBlock, NextBlock, Return, ReturnError, Stop, Assign}
 use Rattle.block_flat.specs.Flat as flat
 use Rattle.client_machine.specs.declared.statements.InstrClass.{InstrClass}

@@ -1,9 +1,9 @@
 -- What each step and each answer keeps.
-use Rattle.std.specs.Prelude.{◌≡◌, ◌<◌, ◌≤◌, length, ℕ, Bool, List, [], ◌∷◌, ◌++◌, Option, None, reverse, map}
+use Rattle.std.specs.Prelude.{◌≡◌, ◌<◌, ◌≤◌, length, ℕ, Bool, List, [], ◌∷◌, ◌++◌, Option, reverse, map}
 use Rattle.client_database.specs.declared.answer.Answer.{Answer}
 use Rattle.client_database.specs.declared.operation.Op.{Op}
 use Rattle.client_database.specs.declared.operation.Op.TheVariants as op
-use Rattle.bound_tree.specs.Tree.{Body, Header}
+use Rattle.bound_tree.specs.Tree.{Body}
 use Rattle.block_meaning.specs.declared.wants.Piece.{Piece}
 use Rattle.client_database.specs.declared.next_step.NextStep.{NextStep}
 use Rattle.client_database.specs.declared.next_step.NextStep.TheVariants as next_step

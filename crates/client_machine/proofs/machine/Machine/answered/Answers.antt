@@ -1,7 +1,7 @@
 use Rattle.std.proofs.Common.{sym, subst}
 use Rattle.std.specs.Prelude.{OnOk}
 use Rattle.client_machine.specs.declared.mode.OnAnswer.{OnAnswer}
-use Rattle.client_machine.specs.AnswerClass.{IsOfAnswerClass, KeepsAnswer}
+use Rattle.client_machine.specs.AnswerClass.{KeepsAnswer}
 use Rattle.client_machine.proofs.machine.Machine.answered.Goals as goal
 
 pub returns-in-WasEntered-clause-ok : goal.returns-in-WasEntered-clause-ok

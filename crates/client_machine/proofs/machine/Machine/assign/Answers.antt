@@ -1,4 +1,4 @@
-use Rattle.std.proofs.Common.{◌≡◌, ◌∷◌, List, sym, ap, ◌∙◌, refl}
+use Rattle.std.proofs.Common.{◌∷◌, List, sym, ap, ◌∙◌, refl}
 use Rattle.block_flat.specs.Flat as flat
 use Rattle.block_meaning.specs.Program.{Program}
 use Rattle.block_meaning.specs.State.{State}

@@ -6,7 +6,6 @@ use Rattle.client_machine.specs.Machine.{stack_in}
 use Rattle.client_machine.specs.declared.machine.Machine.{Machine}
 use Rattle.client_machine.specs.declared.mode.Mode.TheVariants as mode
 use Rattle.client_machine.specs.declared.mode.Task.TheVariants as task
-use Rattle.client_machine.specs.declared.mode.Completion.TheVariants as completion
 use Rattle.client_machine.proofs.MemoryKept.{assigned_kept, assignment_fails, moved_then, pushed_then}
 use Rattle.client_machine.proofs.RunKept.{on_two}
 use Rattle.client_machine.proofs.machine.Machine.assign_cleared.Goals as goal

@@ -1,8 +1,8 @@
-use Rattle.std.proofs.Common.{◌∷◌, sym, ap, subst}
+use Rattle.std.proofs.Common.{◌∷◌, subst}
 use Rattle.block_flat.specs.Flat as flat
 use Rattle.block_meaning.specs.Program.{Program}
 use Rattle.block_meaning.specs.State.{State}
-use Rattle.client_machine.specs.Config.{instr_at, stack_of}
+use Rattle.client_machine.specs.Config.{instr_at}
 use Rattle.client_machine.specs.KeepsFrom.{KeepsFrom, pairs_in}
 use Rattle.client_machine.specs.Machine.{stack_in}
 use Rattle.client_machine.specs.declared.machine.Machine.{Machine}

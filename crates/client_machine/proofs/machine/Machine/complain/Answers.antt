@@ -1,4 +1,4 @@
-use Rattle.std.proofs.Common.{◌≡◌, Option, None, sym, subst}
+use Rattle.std.proofs.Common.{Option, sym, subst}
 use Rattle.std.specs.Prelude.{OnOk}
 use Rattle.client_machine.specs.declared.mode.LineFault.{LineFault}
 use Rattle.client_machine.specs.Step.{KeepsComplaint}

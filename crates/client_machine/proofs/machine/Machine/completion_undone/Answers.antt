@@ -1,4 +1,4 @@
-use Rattle.std.proofs.Common.{◌≡◌, true, sym, ap, ◌∙◌}
+use Rattle.std.proofs.Common.{true, sym, ap, ◌∙◌}
 use Rattle.block_meaning.specs.State.{Leaves, Nexts, Again, Done, completes, if_else}
 use Rattle.block_meaning.specs.Blocks.{Iteration, after_iteration, acts, closes, instead_of_retry, iterates, next_turn}
 use Rattle.client_machine.specs.Config.{header_at, after_undo_of, completion_of, turn_of}

@@ -1,4 +1,4 @@
-use Rattle.std.proofs.Common.{◌≡◌, sym, ap, ◌∙◌, refl, length, subst}
+use Rattle.std.proofs.Common.{sym, ap, ◌∙◌, refl, length, subst}
 use Rattle.std.specs.Prelude.{reverse}
 use Rattle.block_flat.specs.Flat as flat
 use Rattle.block_meaning.specs.State as state

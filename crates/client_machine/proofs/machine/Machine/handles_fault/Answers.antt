@@ -1,4 +1,4 @@
-use Rattle.std.proofs.Common.{◌≡◌, Bool, sym, subst}
+use Rattle.std.proofs.Common.{Bool, sym, subst}
 use Rattle.std.specs.Prelude.{OnOk}
 use Rattle.client_machine.specs.declared.mode.Completion.TheVariants as completion
 use Rattle.client_machine.specs.declared.mode.StackEntry.TheVariants as stack

@@ -1,4 +1,4 @@
-use Rattle.std.proofs.Common.{◌≡◌, sym, subst, ap, ◌∙◌, refl, length}
+use Rattle.std.proofs.Common.{◌≡◌, sym, subst, refl}
 use Rattle.client_memory.specs.Memory.{Remembered, IsWhole, restored}
 use Rattle.client_machine.specs.declared.mode.OnAnswer.TheVariants as on_answer
 use Rattle.client_machine.specs.AnswerClass.{KeepsAnswer}

@@ -1,4 +1,4 @@
-use Rattle.std.proofs.Common.{sym, refl, ◌∙◌}
+use Rattle.std.proofs.Common.{sym, ◌∙◌}
 use Rattle.std.specs.Prelude.{reverse}
 use Rattle.client_memory.specs.Memory.{left}
 use Rattle.client_memory.proofs.LevelFrames.{even_left}

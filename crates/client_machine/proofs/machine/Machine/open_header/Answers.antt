@@ -1,4 +1,4 @@
-use Rattle.std.proofs.Common.{sym, subst, refl, ap, ◌∙◌}
+use Rattle.std.proofs.Common.{sym, subst, refl}
 use Rattle.client_machine.specs.Config.{header_at, body_at}
 use Rattle.client_machine.specs.Machine.{stack_in}
 use Rattle.client_machine.specs.Step.{KeepsTask}

@@ -1,4 +1,4 @@
-use Rattle.std.proofs.Common.{◌≡◌, sym, ap, ◌∙◌}
+use Rattle.std.proofs.Common.{sym, ap, ◌∙◌}
 use Rattle.std.specs.Prelude.{Err}
 use Rattle.block_meaning.specs.Blocks.{text_to_return, text_from}
 use Rattle.client_machine.specs.Machine.{state_in}

@@ -1,4 +1,3 @@
-use Rattle.std.specs.Prelude.{OnOk, Ok, Err}
 use Rattle.client_machine.specs.declared.mode.Task.TheVariants as task
 use Rattle.client_machine.specs.Step.{code_in}
 use Rattle.client_machine.proofs.RunKept.{on_three, task_kept_turn}

@@ -1,4 +1,4 @@
-use Rattle.std.proofs.Common.{◌≡◌, Ok, ap, ◌∙◌}
+use Rattle.std.proofs.Common.{Ok, ap, ◌∙◌}
 use Rattle.client_machine.proofs.Faults.{line_kept, full_kept}
 use Rattle.client_machine.proofs.machine.Machine.write_line.Goals as goal
 
