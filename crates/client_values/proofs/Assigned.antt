@@ -1,16 +1,16 @@
 -- An assignment to a variable is one in the state.
-use Rattle.std.proofs.Common.{◌≡◌, ℕ, zero, suc, ◌+◌, ◌-◌, ◌<◌, List, [], ◌∷◌, ◌++◌, length, Bool, true, false, refl, sym, ap, ◌∙◌, arith}
+use Rattle.std.proofs.Common.{◌≡◌, ℕ, zero, suc, ◌-◌, ◌<◌, List, [], ◌∷◌, ◌++◌, length, Bool, true, false, refl, sym, ap, ◌∙◌, arith}
 use Rattle.std.specs.Prelude.{reverse, slice_index_or, slice_set}
-use Rattle.std.proofs.lemmas.List.{reverse-append, length-append}
+use Rattle.std.proofs.lemmas.List.{reverse-append}
 use Rattle.abl_base.specs.declared.value.Value.{Value}
 use Rattle.bound_tree.specs.declared.expression.Variable.{Variable}
 use Rattle.block_meaning.specs.State.{State, CallFrame, Buffer}
 use Rattle.client_memory.proofs.FramesOut.{AreAlike}
-use Rattle.block_meaning.specs.Frames.{no_frame, own_frame, last_frame, frame_for, with_own, with_last, with_frame_for, set_in, assigned}
+use Rattle.block_meaning.specs.Frames.{no_frame, with_own, with_last, with_frame_for, set_in, assigned}
 use Rattle.client_memory.specs.Undo.{Values, with_value}
 use Rattle.client_memory.specs.Memory.{Remembered, frame_of, set_as, set_variable}
 use Rattle.client_values.specs.Variables.{frames_out, state_with, AreEven, HasSameShape}
-use Rattle.client_values.proofs.Scopes.{outermost, innermost, length_rev_cons, length_out, frame_is}
+use Rattle.client_values.proofs.Scopes.{length_rev_cons, length_out, frame_is}
 
 -- ---- the outermost procedure, and the innermost
 

@@ -1,5 +1,5 @@
 -- Several assignments, one by one.
-use Rattle.std.proofs.Common.{◌≡◌, ℕ, zero, suc, ◌+◌, ◌<◌, ◌≤◌, List, [], ◌∷◌, ◌++◌, length, drop, get_or, Bool, Result, Ok, Err, Option, Some, None, refl, sym, ap, ◌∙◌, subst, add-one, arith}
+use Rattle.std.proofs.Common.{◌≡◌, ℕ, zero, suc, ◌+◌, ◌<◌, ◌≤◌, List, [], ◌∷◌, ◌++◌, length, drop, get_or, Bool, Result, Err, Option, Some, None, refl, sym, ap, ◌∙◌, subst, add-one, arith}
 use Rattle.std.specs.Prelude.{map, reverse}
 use Rattle.std.proofs.Math.Seq.{drop-cons}
 use Rattle.std.proofs.Math.ListN.{drop_of_length-le}
@@ -14,7 +14,6 @@ use Rattle.bound_tree.specs.Bound.{assignment_of}
 use Rattle.client_database.specs.declared.answer.Answer.{Answer}
 use Rattle.block_meaning.specs.Program.{Program}
 use Rattle.block_meaning.specs.State.{State, Completion, Normal, Again, Leaves, Nexts, Undoes, Faults, Raises, EndKeys, Returns, Stops, Found, Lost, NotFound, Outcome, Done, Suspended, Continuation, completes, and_then}
-use Rattle.block_meaning.specs.Lines.{complaint_of}
 use Rattle.block_meaning.specs.Changes.{assigns_one, assigns_each, buffer_first, buffers_in}
 use Rattle.block_meaning.specs.Streams.{pairs_of}
 use Rattle.client_values.specs.Ends.{Ends}

@@ -8,7 +8,7 @@ use Rattle.bound_tree.specs.declared.expression.Variable.{Variable}
 use Rattle.bound_tree.specs.Tree.{Expr, ToPhrase, Header}
 use Rattle.block_meaning.specs.Program.{Program}
 use Rattle.block_meaning.specs.Lines.{Complaint, complaint_of}
-use Rattle.block_meaning.specs.State.{State, Turn, Completion, Completed, Normal, Faults, completed}
+use Rattle.block_meaning.specs.State.{State, Turn, Completed, Normal, Faults, completed}
 use Rattle.block_meaning.specs.Frames.{assigned, value_of}
 use Rattle.block_meaning.specs.Values.{Evaluated, Gives, Fails, value_now, or_range}
 use Rattle.block_meaning.specs.Changes.{stored_value}

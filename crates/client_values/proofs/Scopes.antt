@@ -7,7 +7,7 @@ use Rattle.abl_base.specs.declared.value.Value.TheVariants.{Unknown}
 use Rattle.bound_tree.specs.declared.expression.Variable.{Variable}
 use Rattle.abl_expr.specs.Env.{Env}
 use Rattle.block_meaning.specs.State.{State, CallFrame}
-use Rattle.block_meaning.specs.Frames.{no_frame, no_buffer, own_frame, last_frame, frame_for, value_in, value_of, buffer_at}
+use Rattle.block_meaning.specs.Frames.{no_frame, own_frame, last_frame, frame_for, value_in, value_of}
 use Rattle.bound_tree.specs.Tree.{Expr}
 use Rattle.abl_expr.specs.declared.fault.RunFault.{RunFault}
 use Rattle.text_forms.specs.TextForms.{TextForms}
@@ -16,13 +16,10 @@ use Rattle.abl_eval.specs.declared.fault.EvalFault.{EvalFault}
 use Rattle.abl_eval.specs.declared.fault.EvalFault.TheVariants.{Fault, NoMemory}
 use Rattle.abl_eval.specs.Forms.{AreForms}
 use Rattle.block_meaning.specs.Program.{Program}
-use Rattle.block_meaning.specs.Lines.{complaint_of}
-use Rattle.block_meaning.specs.Values.{field_in, is_available, env_of, as_evaluated, value_now as value_here, Gives, Fails}
-use Rattle.block_meaning.specs.Buffers.{own}
+use Rattle.block_meaning.specs.Values.{field_in, is_available, env_of, as_evaluated, value_now as value_here}
 use Rattle.block_meaning.specs.State.{Buffer}
 use Rattle.client_memory.specs.Undo.{Values}
 use Rattle.client_memory.specs.Memory.{Remembered, frame_of, value_as, value_now}
-use Rattle.client_memory.specs.Memory as memory
 use Rattle.client_memory.proofs.FramesOut.{AreAlike, own_buffer_is}
 use Rattle.client_memory.proofs.FramesOut as frames
 use Rattle.client_values.specs.Variables.{frames_out, state_with, AreEven}

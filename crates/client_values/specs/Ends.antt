@@ -1,6 +1,5 @@
 -- What a call answers, beside what the meaning says.
 use Rattle.std.specs.Prelude.{◌≡◌, List, [], Bool, true, false, Result, Ok, Err}
-use Rattle.abl_expr.specs.declared.fault.RunFault.{RunFault}
 use Rattle.abl_base.specs.declared.value.Value.{Value}
 use Rattle.abl_eval.specs.declared.fault.EvalFault.{EvalFault}
 use Rattle.abl_eval.specs.declared.fault.EvalFault.TheVariants.{Fault, NoMemory}

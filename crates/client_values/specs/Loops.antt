@@ -1,7 +1,7 @@
 -- The values of TO.
 use Rattle.std.specs.Prelude.{◌≡◌, ℕ, List, Bool, Option, Some, None, Result, Ok, Err, pos}
 use Rattle.abl_base.specs.declared.value.Value.{Value}
-use Rattle.abl_base.specs.declared.value.Value.TheVariants.{Int64, Unknown}
+use Rattle.abl_base.specs.declared.value.Value.TheVariants.{Int64}
 use Rattle.abl_values.specs.Arithmetic.{sum_of}
 use Rattle.abl_eval.specs.declared.fault.EvalFault.{EvalFault}
 use Rattle.abl_eval.specs.declared.fault.EvalFault.TheVariants.{Fault, NoMemory}

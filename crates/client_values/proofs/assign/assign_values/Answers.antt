@@ -5,7 +5,7 @@ use Rattle.block_meaning.specs.Changes.{assigns_each}
 use Rattle.block_meaning.specs.Streams.{pairs_of}
 use Rattle.client_values.specs.Variables.{state_with}
 use Rattle.client_values.proofs.Assigned.{shape_after, even_after}
-use Rattle.client_values.proofs.Each.{next_given_at, given_fault_at, no_more_given, last_given}
+use Rattle.client_values.proofs.Each.{next_given_at, given_fault_at, no_more_given}
 use Rattle.client_values.proofs.assign.assign_values.Goals as goal
 
 pub loop-target-preserved : goal.loop-target-preserved

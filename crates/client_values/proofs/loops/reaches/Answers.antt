@@ -1,5 +1,4 @@
-use Rattle.std.proofs.Common.{sym, ap, ◌∙◌}
-use Rattle.block_meaning.specs.Blocks.{counts_down, in_bound}
+use Rattle.std.proofs.Common.{sym, ◌∙◌}
 use Rattle.client_values.specs.Variables.{state_with}
 use Rattle.client_values.proofs.Scopes.{variable_is}
 use Rattle.client_values.proofs.Headers.{judged_end}
