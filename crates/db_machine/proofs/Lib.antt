@@ -1,0 +1,4 @@
+pub mod Rooms
+pub mod Replying
+pub mod Stepping
+pub mod Sessions

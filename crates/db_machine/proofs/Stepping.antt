@@ -1,0 +1,66 @@
+-- What holds of a database, over one event more.
+use Rattle.std.proofs.Common.{◌≡◌, ℕ, ◌+◌, ◌≤◌, ◌||◌, Bool, false, List, [], ◌∷◌, ◌++◌, length, refl, sym, ap, ◌∙◌, subst, arith}
+use Rattle.std.specs.Prelude.{IsTrue}
+use Rattle.std.proofs.lemmas.List.{length_push}
+use Rattle.abl_base.specs.declared.limits.TheConstants.{MAX_TRACE_BYTES}
+use Rattle.abl_values.specs.Schema.{SchemaData}
+use Rattle.client_database.specs.declared.operation.Op.{Op}
+use Rattle.client_database.specs.declared.answer.Answer.{Answer}
+use Rattle.client_database.specs.declared.event.Event.{Event}
+use Rattle.database_meaning.specs.declared.contents.Contents.{Contents}
+use Rattle.database_meaning.specs.Setting.{Setting}
+use Rattle.database_meaning.specs.State.{State}
+use Rattle.database_meaning.specs.Answers.{Answers}
+use Rattle.database_meaning.specs.Steps.{after, is_closed}
+use Rattle.database_meaning.specs.Traces.{Follows, after_event, left_by, opened, state_after}
+use Rattle.abl_rows.specs.Rows.{RowState}
+use Rattle.db_core.specs.declared.control.Control.{Control}
+use Rattle.db_core.specs.Represents.{Represents}
+use Rattle.db_machine.specs.Machine.{IsSafe, WasOpened}
+use Rattle.db_machine.specs.Replies.{IsSize, IsStep, size_after}
+
+state_longer : (f : Setting) (s : State) (events : List Event) (e : Event) → state_after f s (events ++ e ∷ []) ≡ after_event f (state_after f s events) e
+state_longer f s [] e = refl
+state_longer f s (d ∷ events) e = state_longer f (after_event f s d) events e
+
+follows_longer : (f : Setting) (s : State) (events : List Event) (e : Event) → Follows f s events → Answers f (state_after f s events) e.client e.op e.answer → Follows f s (events ++ e ∷ [])
+follows_longer f s [] e h answers = (answers, tt)
+follows_longer f s (d ∷ events) e h answers = (h.0, follows_longer f (after_event f s d) events e h.1 answers)
+
+module _ (rows new : RowState) (control now : Control) (schema : SchemaData) (size size_now : ℕ) (closed closed_now : Bool) (c : ℕ) (op : Op) (a : Answer) (trace longer : List Event)
+    (step : IsStep rows new control now size closed c op a) (is : longer ≡ trace ++ record { client = c; op = op; answer = a } ∷ []) (bound : size_now ≤ MAX_TRACE_BYTES + 1)
+    (counted : (n : ℕ) → IsSize size n → IsSize size_now (size_after n op a)) (shut : closed_now ≡ (closed || is_closed a)) (fine : (closed || is_closed a) ≡ false → new.failed ≡ false) where
+  abbrev e : Event
+  e = record { client = c; op = op; answer = a }
+
+  pub safe_more : IsSafe rows control schema size closed trace → IsSafe new now schema size_now closed_now longer
+  safe_more safe =
+      let more : length longer ≡ length trace + 1 = ap length is ∙ length_push trace e in
+      let counts = step.counts.frees in
+      let before = safe.frees in
+      record {
+        sound = step.sound;
+        few = subst (λ (n : ℕ). n ≤ 16) (sym step.counts.clients) safe.few;
+        same_schema = step.schema ∙ safe.same_schema;
+        sequences = step.counts.sequences ∙ safe.sequences;
+        frees = omega arith;
+        bound = bound;
+        fine = λ unshut. fine (sym shut ∙ unshut);
+        some = λ observable.
+            let seen : IsTrue rows.observable = sym step.observable ∙ observable in
+            let was = safe.some seen in
+            (was.0, after was.0 was.1 c op a, step.represents seen was.0 was.1 was.2);
+      }
+
+  pub opened_more : (f : Setting) (contents : Contents) → WasOpened rows control size closed trace f contents → WasOpened new now size_now closed_now longer f contents
+  opened_more f contents was =
+      let s = left_by f contents trace in
+      let left : left_by f contents longer ≡ after f s c op a = ap (left_by f contents) is ∙ state_longer f (opened contents) trace e in
+      record {
+        observable = step.observable ∙ was.observable;
+        sound_contents = was.sound_contents;
+        follows = subst (λ (es : List Event). Follows f (opened contents) es) (sym is) (follows_longer f (opened contents) trace e was.follows (step.answers was.observable f s was.represents was.size_is was.closed_is));
+        represents = subst (λ (t : State). Represents f new now t) (sym left) (step.represents was.observable f s was.represents);
+        size_is = subst (λ (t : State). IsSize size_now t.size) (sym left) (counted s.size was.size_is);
+        closed_is = shut ∙ (ap (λ (b : Bool). b || is_closed a) was.closed_is ∙ sym (ap (λ (t : State). t.closed) left));
+      }

@@ -1,0 +1,37 @@
+use Rattle.std.proofs.Common.{◌≡◌, ◌∙◌, sym, ap, subst, refl, inl, inr, length}
+use Rattle.client_database.specs.declared.operation.Op.TheVariants.{Leave}
+use Rattle.client_database.specs.declared.answer.Answer.TheVariants.{Committed}
+use Rattle.abl_rows.specs.Rows.{RowState}
+use Rattle.db_core.specs.Keeps.{Keeps}
+use Rattle.db_core.specs.Represents.{Represents}
+use Rattle.db_core.proofs.WriteRows.{not_so}
+use Rattle.db_machine.proofs.Replying.{after_as, from_op, is_outer, outermost_depth, reply_of, still_reply}
+use Rattle.db_machine.proofs.Rooms.{leave_row, moment_place, place_of, refusal_ends, refusal_fails}
+use Rattle.db_machine.proofs.levels.answer_commit.Goals as goal
+
+pub returns-then-is_refusal-clause-reply : goal.returns-then-is_refusal-clause-reply
+returns-then-is_refusal-clause-reply g c =
+    let rows = g.R.RowStore.state c.args.rows.now in
+    let reply = c.in_ok-reply.reply in
+    let is = c.is_refusal.ensures.0 c.if-is_refusal.true in
+    still_reply rows (g.R.RowStore.state c.args.rows.now) c.args.control.now c.end_request.new.control c.args.size c.args.client c.args.op.now (Committed 0) reply.answer
+    refl c.end_request.ensures.counts (c.end_request.ensures.sound rows c.requires.sound)
+    (λ seen f s h. from_op f s c.args.client c.args.op.now (Leave c.args.keep.now) (Committed 0) c.requires.op (leave_row f s c.args.client c.args.keep.now (Committed 0) (inl (outermost_depth f rows c.args.control.now s c.args.client h c.requires.outermost, 0, refl)))) c.in_ok-reply.ensures.fitted
+    (λ seen f s h. c.end_request.ensures.represents f rows s c.args.op.now reply.answer h (refusal_ends reply.answer is s c.args.client c.args.op.now) (inl (refusal_fails reply.answer is)))
+
+pub returns-clause-reply : goal.returns-clause-reply
+returns-clause-reply g c =
+    let rows = g.R.RowStore.state c.args.rows.now in
+    let reply = c.in_ok-reply.reply in
+    let moment = c.in_ok-moment.moment in
+    let middle = g.R.RowStore.state c.staying_rows.new.rows in
+    let new = g.R.RowStore.state c.commit.new.rows in
+    let same = c.in_ok-staying.ensures.same in
+    let place = moment_place c.args.size c.args.op.now 0 moment (place_of c.args.size c.args.op.now (Committed 0) reply.answer c.in_ok-reply.ensures.fitted (λ refusal. not_so c.is_refusal.result c.if-is_refusal.false (c.is_refusal.ensures.1 refusal))) in
+    reply_of rows new c.args.control.now c.commit.new.control c.args.size c.args.client c.args.op.now (Committed moment) (Committed moment)
+    (subst (λ (r : RowState). Keeps r new c.args.control.now c.commit.new.control) same c.in_ok-moment.ensures.keeps) c.in_ok-moment.ensures.sound
+    (λ seen f s h. from_op f s c.args.client c.args.op.now (Leave c.args.keep.now) (Committed moment) c.requires.op (leave_row f s c.args.client c.args.keep.now (Committed moment) (inl (outermost_depth f rows c.args.control.now s c.args.client h c.requires.outermost, moment, refl)))) (inl (place, refl))
+    (λ seen f s h.
+    let outer = is_outer s c.args.client (outermost_depth f rows c.args.control.now s c.args.client h c.requires.outermost) in
+    after_as f new c.commit.new.control s c.args.client c.args.op.now (Leave c.args.keep.now) (Committed moment) (Committed moment) c.requires.op refl
+    (c.in_ok-moment.ensures.represents f s c.args.keep.now moment (subst (λ (r : RowState). Represents f r c.args.control.now s) (sym same) h) outer (c.in_ok-staying.ensures.staying f s c.args.client h seen outer)))

@@ -1,0 +1,16 @@
+use Rattle.std.proofs.Common.{◌∙◌}
+use Rattle.client_database.specs.declared.operation.Op.TheVariants.{End}
+use Rattle.answer_table.proofs.TableLaws.{end_row}
+use Rattle.db_machine.proofs.steps.answer_end.Goals as goal
+
+pub returns-clause-step : goal.returns-clause-step
+returns-clause-step g c =
+    let keeps = c.end.ensures.keeps in
+    record {
+      observable = keeps.observable;
+      schema = keeps.schema;
+      counts = keeps.counts;
+      sound = c.end.ensures.sound;
+      answers = λ observable f s h is closed_is. end_row f s c.args.client (λ refused. refused ((c.refusals_are_known.ensures.allowed f (g.R.RowStore.state c.args.rows.now) c.args.control.now s c.args.schema.now h observable (h.schema ∙ c.requires.schema) c.args.client End).0 (c.is_allowed.ensures.0 c.if-not-is_allowed.false)));
+      represents = λ observable f s h. c.end.ensures.represents f s h;
+    }

@@ -1,0 +1,145 @@
+//! The answers to Enter, Leave and Back.
+
+ghost use Rattle.std.specs.Prelude.{◌≡◌, ◌<◌, ◌≤◌, ◌+◌, ◌^◌, IfOk, IsErrOf, OnErr, length, false};
+ghost use Rattle.abl_base.specs.declared.limits.TheConstants.{MAX_TRACE_BYTES as MOST};
+ghost use Rattle.db_core.specs.Keeps.{Stays};
+ghost use Rattle.db_core.specs.Represents.{IsSound, marks_at};
+ghost use Rattle.db_machine.specs.Replies.{IsReply};
+
+use crate::replies::{Reply, is_refusal, prepare};
+use abl_rows::{RowError, RowStore};
+use client_database::{Answer, Op, RowIds};
+use db_core::Control;
+use db_core::answers::end_request;
+use db_core::levels::{back, commit, enter, leave};
+use db_core::staying::staying_rows;
+use std::alloc::Global;
+
+/// Answers an Enter.
+pub(crate) fn answer_enter<R: RowStore>(
+    rows: &mut R,
+    control: &mut Control,
+    size: u64,
+    client: u16,
+    op: &Op,
+) -> Result<Reply, RowError>
+    requires client { client < 16 }
+    requires known { client < length control.old.sessions.items }
+    requires few { length control.old.sessions.items ≤ 16 }
+    requires sound { IsSound (R.RowStore.state rows.old) control.old }
+    requires fine { (R.RowStore.state rows.old).failed ≡ false }
+    requires size { size ≤ MOST + 1 }
+    requires op { op.now ≡ Op.Enter }
+    ensures reply { IfOk result (λ reply. IsReply (R.RowStore.state rows.old) (R.RowStore.state rows.new) control.old control.new size client op.now reply.answer) }
+    ensures copy { IfOk result (λ reply. reply.copy ≡ reply.answer) }
+    ensures stays { OnErr result (Stays (R.RowStore.state rows.old) (R.RowStore.state rows.new) control.old control.new client) }
+    ensures memory { IsErrOf result RowError.NoMemory → (R.RowStore.state rows.new).failed ≡ (R.RowStore.state rows.old).failed }
+{
+    let reply = prepare(size, op, Answer::Done)?;
+    if is_refusal(&reply.answer) {
+        end_request(control, client);
+        return Ok(reply);
+    }
+    enter(rows, control, client)?;
+    Ok(reply)
+}
+
+/// Answers a Back to a level that is open.
+pub(crate) fn answer_back<R: RowStore>(
+    rows: &mut R,
+    control: &mut Control,
+    size: u64,
+    client: u16,
+    op: &Op,
+    depth: u32,
+) -> Result<Reply, RowError>
+    requires client { client < 16 }
+    requires known { client < length control.old.sessions.items }
+    requires few { length control.old.sessions.items ≤ 16 }
+    requires sound { IsSound (R.RowStore.state rows.old) control.old }
+    requires fine { (R.RowStore.state rows.old).failed ≡ false }
+    requires size { size ≤ MOST + 1 }
+    requires level { 0 < depth }
+    requires open { depth ≤ length (marks_at control.old client) }
+    requires op { op.now ≡ Op.Back depth }
+    ensures reply { IfOk result (λ reply. IsReply (R.RowStore.state rows.old) (R.RowStore.state rows.new) control.old control.new size client op.now reply.answer) }
+    ensures copy { IfOk result (λ reply. reply.copy ≡ reply.answer) }
+    ensures stays { OnErr result (Stays (R.RowStore.state rows.old) (R.RowStore.state rows.new) control.old control.new client) }
+    ensures memory { IsErrOf result RowError.NoMemory → (R.RowStore.state rows.new).failed ≡ (R.RowStore.state rows.old).failed }
+{
+    let reply = prepare(size, op, Answer::Done)?;
+    if is_refusal(&reply.answer) {
+        end_request(control, client);
+        return Ok(reply);
+    }
+    back(rows, control, client, depth)?;
+    Ok(reply)
+}
+
+/// Answers a Leave of an inner level.
+pub(crate) fn answer_inner_leave<R: RowStore>(
+    rows: &mut R,
+    control: &mut Control,
+    size: u64,
+    client: u16,
+    op: &Op,
+    keep: &RowIds,
+) -> Result<Reply, RowError>
+    requires client { client < 16 }
+    requires known { client < length control.old.sessions.items }
+    requires few { length control.old.sessions.items ≤ 16 }
+    requires sound { IsSound (R.RowStore.state rows.old) control.old }
+    requires fine { (R.RowStore.state rows.old).failed ≡ false }
+    requires size { size ≤ MOST + 1 }
+    requires inner { 1 < length (marks_at control.old client) }
+    requires op { op.now ≡ Op.Leave keep.now }
+    ensures reply { IfOk result (λ reply. IsReply (R.RowStore.state rows.old) (R.RowStore.state rows.new) control.old control.new size client op.now reply.answer) }
+    ensures copy { IfOk result (λ reply. reply.copy ≡ reply.answer) }
+    ensures stays { OnErr result (Stays (R.RowStore.state rows.old) (R.RowStore.state rows.new) control.old control.new client) }
+    ensures memory { IsErrOf result RowError.NoMemory → (R.RowStore.state rows.new).failed ≡ (R.RowStore.state rows.old).failed }
+{
+    let reply = prepare(size, op, Answer::Done)?;
+    if is_refusal(&reply.answer) {
+        end_request(control, client);
+        return Ok(reply);
+    }
+    leave(control, client);
+    Ok(reply)
+}
+
+/// Answers a Leave of the outermost level.
+pub(crate) fn answer_commit<R: RowStore>(
+    alloc: Global,
+    rows: &mut R,
+    control: &mut Control,
+    size: u64,
+    client: u16,
+    op: &Op,
+    keep: &RowIds,
+) -> Result<Reply, RowError>
+    requires client { client < 16 }
+    requires known { client < length control.old.sessions.items }
+    requires few { length control.old.sessions.items ≤ 16 }
+    requires sound { IsSound (R.RowStore.state rows.old) control.old }
+    requires fine { (R.RowStore.state rows.old).failed ≡ false }
+    requires size { size ≤ MOST + 1 }
+    requires outermost { length (marks_at control.old client) ≡ 1 }
+    requires frees { control.old.frees + 1 < 2 ^ 64 }
+    requires op { op.now ≡ Op.Leave keep.now }
+    ensures reply { IfOk result (λ reply. IsReply (R.RowStore.state rows.old) (R.RowStore.state rows.new) control.old control.new size client op.now reply.answer) }
+    ensures copy { IfOk result (λ reply. reply.copy ≡ reply.answer) }
+    ensures stays { OnErr result (Stays (R.RowStore.state rows.old) (R.RowStore.state rows.new) control.old control.new client) }
+    ensures memory { IsErrOf result RowError.NoMemory → (R.RowStore.state rows.new).failed ≡ (R.RowStore.state rows.old).failed }
+{
+    let reply = prepare(size, op, Answer::Committed { moment: 0 })?;
+    if is_refusal(&reply.answer) {
+        end_request(control, client);
+        return Ok(reply);
+    }
+    let staying = staying_rows(alloc, rows, control, keep)?;
+    let moment = commit(rows, control, client, &staying)?;
+    Ok(Reply {
+        answer: Answer::Committed { moment },
+        copy: Answer::Committed { moment },
+    })
+}

@@ -1,0 +1,72 @@
+//! Answers in two copies, one for the client and one for the trace.
+
+ghost use Rattle.std.specs.Prelude.{◌≡◌, ◌≤◌, ◌↔◌, ◌+◌, IfErr, IfOk, IsTrue};
+ghost use Rattle.abl_base.specs.declared.limits.TheConstants.{MAX_TRACE_BYTES as MOST};
+ghost use Rattle.db_machine.specs.Replies.{IsFitted, IsRefusal};
+
+use crate::trace_size::has_place;
+use abl_rows::RowError;
+use client_database::{Answer, Op};
+
+/// An answer, and a copy of it for the trace.
+#[derive(Drop)]
+pub(crate) struct Reply {
+    pub answer: Answer,
+    pub copy: Answer,
+}
+
+/// The decided answer, where the trace has room for it, or TraceFull.
+fn fit(size: u64, op: &Op, decided: Answer) -> Answer
+    requires { size ≤ MOST + 1 }
+    ensures { IsFitted size op.now decided result }
+{
+    if has_place(size, op, &decided) {
+        decided
+    } else {
+        Answer::TraceFull
+    }
+}
+
+/// The decided answer, where the trace has room for it, or TraceFull. Both copies are made before
+/// anything changes. The only error is out of memory.
+pub(crate) fn prepare(size: u64, op: &Op, decided: Answer) -> Result<Reply, RowError>
+    requires { size ≤ MOST + 1 }
+    ensures fitted { IfOk result (λ reply. IsFitted size op.now decided reply.answer) }
+    ensures copy { IfOk result (λ reply. reply.copy ≡ reply.answer) }
+    ensures memory { IfErr result (λ error. error ≡ RowError.NoMemory) }
+{
+    let answer = fit(size, op, decided);
+    match answer.copy() {
+        Ok(copy) => Ok(Reply { answer, copy }),
+        Err(_) => Err(RowError::NoMemory),
+    }
+}
+
+/// Whether nothing but the client's blocked request changes after the answer.
+pub(crate) fn is_refusal(answer: &Answer) -> bool
+    ensures { IsTrue result ↔ IsRefusal answer.now }
+{
+    match answer {
+        Answer::TraceFull
+        | Answer::Gone
+        | Answer::KeyTooLong { .. }
+        | Answer::Busy { .. }
+        | Answer::Deadlock { .. }
+        | Answer::Duplicate { .. }
+        | Answer::Full
+        | Answer::TxFull
+        | Answer::SequenceEnd
+        | Answer::AtEnd => true,
+        Answer::Refused
+        | Answer::Closed
+        | Answer::Blocked { .. }
+        | Answer::NoMemory
+        | Answer::Done
+        | Answer::Committed { .. }
+        | Answer::Found { .. }
+        | Answer::Row(_)
+        | Answer::Granted
+        | Answer::Inserted { .. }
+        | Answer::Value(_) => false,
+    }
+}

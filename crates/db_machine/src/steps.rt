@@ -1,0 +1,257 @@
+//! One operation of one client: whether it is refused, and else its answer.
+
+ghost use Rattle.std.specs.Prelude.{◌≡◌, ◌≢◌, ◌<◌, ◌≤◌, ◌+◌, ◌^◌, ◌||◌, IfOk, IsErrOf, OnErr, length, false};
+ghost use Rattle.abl_base.specs.declared.limits.TheConstants.{MAX_TRACE_BYTES as MOST};
+ghost use Rattle.client_database.specs.declared.operation.Op.TheVariants.{End};
+ghost use Rattle.database_meaning.specs.Setting.{increment_of};
+ghost use Rattle.database_meaning.specs.Steps.{is_closed};
+ghost use Rattle.db_core.specs.Keeps.{Stays};
+ghost use Rattle.db_core.specs.Known.{IsAllowed, known, setting_at};
+ghost use Rattle.db_core.specs.Represents.{IsSound};
+ghost use Rattle.db_machine.specs.Machine.{IsSome};
+ghost use Rattle.db_machine.specs.Replies.{IsReply, IsStep};
+
+use crate::levels::{answer_back, answer_commit, answer_enter, answer_inner_leave};
+use crate::queries::{answer_drop, answer_lock, answer_next_value, answer_question};
+use crate::replies::Reply;
+use crate::trace_size::is_end;
+use crate::writes::{answer_delete, answer_insert, answer_put};
+use abl_rows::{RowError, RowStore};
+use abl_values::Schema;
+use client_database::{Answer, Op};
+use db_core::Control;
+use db_core::answers::{end_failed, end_request};
+use db_core::control::depth;
+use db_core::laws::{a_refusal_changes_nothing, refusals_are_known};
+use db_core::levels::end;
+use db_core::refusals::is_allowed;
+use std::alloc::Global;
+
+/// By how much the sequence moves.
+fn increment(schema: &Schema, sequence: u16) -> i64
+    requires { sequence < length schema.now.sequences }
+    ensures { result ≡ increment_of schema.now sequence }
+{
+    schema.sequences()[usize::from(sequence)].increment
+}
+
+/// Answers an allowed operation of an open database. End is no such operation: it has its own call.
+fn answer_allowed<R: RowStore>(
+    alloc: Global,
+    rows: &mut R,
+    control: &mut Control,
+    schema: &Schema,
+    size: u64,
+    client: u16,
+    op: &Op,
+) -> Result<Reply, RowError>
+    requires few { length control.old.sessions.items ≤ 16 }
+    requires sound { IsSound (R.RowStore.state rows.old) control.old }
+    requires fine { (R.RowStore.state rows.old).failed ≡ false }
+    requires size { size ≤ MOST + 1 }
+    requires frees { control.old.frees + 1 < 2 ^ 64 }
+    requires schema { (R.RowStore.state rows.old).schema ≡ schema.now }
+    requires sequences { length control.old.sequences.items ≡ length schema.now.sequences }
+    requires some { IsSome (R.RowStore.state rows.old) control.old }
+    requires allowed { IsAllowed (setting_at schema.now control.old) (known control.old) client op.now }
+    requires other { op.now ≢ End }
+    ensures reply { IfOk result (λ reply. IsReply (R.RowStore.state rows.old) (R.RowStore.state rows.new) control.old control.new size client op.now reply.answer) }
+    ensures copy { IfOk result (λ reply. reply.copy ≡ reply.answer) }
+    ensures stays { OnErr result (Stays (R.RowStore.state rows.old) (R.RowStore.state rows.new) control.old control.new client) }
+    ensures memory { IsErrOf result RowError.NoMemory → (R.RowStore.state rows.new).failed ≡ (R.RowStore.state rows.old).failed }
+{
+    match op {
+        Op::Enter => answer_enter(rows, control, size, client, op),
+        Op::Leave { keep } => {
+            if depth(control, client) == 1 {
+                answer_commit(alloc, rows, control, size, client, op, keep)
+            } else {
+                answer_inner_leave(rows, control, size, client, op, keep)
+            }
+        }
+        Op::Back { depth } => answer_back(rows, control, size, client, op, *depth),
+        Op::Next { .. } | Op::Get { .. } | Op::CurrentValue { .. } => {
+            answer_question(rows, control, size, client, op)
+        }
+        Op::Lock {
+            table,
+            row,
+            exclusive,
+            wait,
+        } => answer_lock(
+            alloc, rows, control, size, client, op, *table, *row, *exclusive, *wait,
+        ),
+        Op::Insert { table, values } => {
+            answer_insert(alloc, rows, control, size, client, op, *table, values)
+        }
+        Op::Put { table, row, values } => {
+            answer_put(alloc, rows, control, size, client, op, *table, *row, values)
+        }
+        Op::Delete { table, row } => {
+            answer_delete(rows, control, size, client, op, *table, *row)
+        }
+        Op::Drop { row } => answer_drop(rows, control, size, client, op, *row),
+        Op::NextValue { sequence } => {
+            let increment = increment(schema, *sequence);
+            answer_next_value(rows, control, size, client, op, *sequence, increment)
+        }
+        Op::End => Err(RowError::NoMemory),
+    }
+}
+
+/// Answers an operation other than End. After an error the operation was allowed, and nothing is
+/// answered yet.
+fn try_answer<R: RowStore>(
+    alloc: Global,
+    rows: &mut R,
+    control: &mut Control,
+    schema: &Schema,
+    size: u64,
+    closed: bool,
+    client: u16,
+    op: &Op,
+) -> Result<Reply, RowError>
+    requires few { length control.old.sessions.items ≤ 16 }
+    requires sound { IsSound (R.RowStore.state rows.old) control.old }
+    requires fine { closed ≡ false → (R.RowStore.state rows.old).failed ≡ false }
+    requires size { size ≤ MOST + 1 }
+    requires frees { control.old.frees + 1 < 2 ^ 64 }
+    requires schema { (R.RowStore.state rows.old).schema ≡ schema.now }
+    requires sequences { length control.old.sequences.items ≡ length schema.now.sequences }
+    requires some { IsSome (R.RowStore.state rows.old) control.old }
+    requires other { op.now ≢ End }
+    ensures step { IfOk result (λ reply. IsStep (R.RowStore.state rows.old) (R.RowStore.state rows.new) control.old control.new size closed client op.now reply.answer) }
+    ensures copy { IfOk result (λ reply. reply.copy ≡ reply.answer) }
+    ensures fine { IfOk result (λ reply. (closed || is_closed reply.answer) ≡ false → (R.RowStore.state rows.new).failed ≡ false) }
+    ensures stays { OnErr result (Stays (R.RowStore.state rows.old) (R.RowStore.state rows.new) control.old control.new client) }
+    ensures allowed { OnErr result (IsAllowed (setting_at schema.now control.old) (known control.old) client op.now) }
+    ensures memory { IsErrOf result RowError.NoMemory → (R.RowStore.state rows.new).failed ≡ (R.RowStore.state rows.old).failed }
+    ensures unshut { OnErr result (closed ≡ false) }
+{
+    a_refusal_changes_nothing();
+    refusals_are_known();
+    if !is_allowed(schema, control, client, op) {
+        return Ok(Reply {
+            answer: Answer::Refused,
+            copy: Answer::Refused,
+        });
+    }
+    if closed {
+        end_request(control, client);
+        return Ok(Reply {
+            answer: Answer::Closed,
+            copy: Answer::Closed,
+        });
+    }
+    answer_allowed(alloc, rows, control, schema, size, client, op)
+}
+
+/// Answers an operation other than End. Where memory runs out the answer is NoMemory, and where the
+/// disk fails it is Closed.
+fn answer_other<R: RowStore>(
+    alloc: Global,
+    rows: &mut R,
+    control: &mut Control,
+    schema: &Schema,
+    size: u64,
+    closed: bool,
+    client: u16,
+    op: &Op,
+) -> Reply
+    requires few { length control.old.sessions.items ≤ 16 }
+    requires sound { IsSound (R.RowStore.state rows.old) control.old }
+    requires fine { closed ≡ false → (R.RowStore.state rows.old).failed ≡ false }
+    requires size { size ≤ MOST + 1 }
+    requires frees { control.old.frees + 1 < 2 ^ 64 }
+    requires schema { (R.RowStore.state rows.old).schema ≡ schema.now }
+    requires sequences { length control.old.sequences.items ≡ length schema.now.sequences }
+    requires some { IsSome (R.RowStore.state rows.old) control.old }
+    requires other { op.now ≢ End }
+    ensures step { IsStep (R.RowStore.state rows.old) (R.RowStore.state rows.new) control.old control.new size closed client op.now result.answer }
+    ensures copy { result.copy ≡ result.answer }
+    ensures fine { (closed || is_closed result.answer) ≡ false → (R.RowStore.state rows.new).failed ≡ false }
+{
+    refusals_are_known();
+    match try_answer(alloc, rows, control, schema, size, closed, client, op) {
+        Ok(reply) => reply,
+        Err(RowError::NoMemory) => {
+            end_failed(control, client);
+            Reply {
+                answer: Answer::NoMemory,
+                copy: Answer::NoMemory,
+            }
+        }
+        Err(RowError::Disk) => {
+            end_failed(control, client);
+            Reply {
+                answer: Answer::Closed,
+                copy: Answer::Closed,
+            }
+        }
+    }
+}
+
+/// Answers an End: Done, or Refused where the client is unknown. It takes no memory.
+fn answer_end<R: RowStore>(
+    rows: &mut R,
+    control: &mut Control,
+    schema: &Schema,
+    size: u64,
+    closed: bool,
+    client: u16,
+) -> Reply
+    requires few { length control.old.sessions.items ≤ 16 }
+    requires sound { IsSound (R.RowStore.state rows.old) control.old }
+    requires fine { closed ≡ false → (R.RowStore.state rows.old).failed ≡ false }
+    requires size { size ≤ MOST + 1 }
+    requires frees { control.old.frees + 1 < 2 ^ 64 }
+    requires schema { (R.RowStore.state rows.old).schema ≡ schema.now }
+    requires sequences { length control.old.sequences.items ≡ length schema.now.sequences }
+    requires some { IsSome (R.RowStore.state rows.old) control.old }
+    ensures step { IsStep (R.RowStore.state rows.old) (R.RowStore.state rows.new) control.old control.new size closed client Op.End result.answer }
+    ensures copy { result.copy ≡ result.answer }
+    ensures fine { (closed || is_closed result.answer) ≡ false → (R.RowStore.state rows.new).failed ≡ false }
+{
+    a_refusal_changes_nothing();
+    refusals_are_known();
+    if !is_allowed(schema, control, client, &Op::End) {
+        return Reply {
+            answer: Answer::Refused,
+            copy: Answer::Refused,
+        };
+    }
+    end(rows, control, client);
+    Reply {
+        answer: Answer::Done,
+        copy: Answer::Done,
+    }
+}
+
+/// Answers an operation.
+pub(crate) fn answer<R: RowStore>(
+    alloc: Global,
+    rows: &mut R,
+    control: &mut Control,
+    schema: &Schema,
+    size: u64,
+    closed: bool,
+    client: u16,
+    op: &Op,
+) -> Reply
+    requires few { length control.old.sessions.items ≤ 16 }
+    requires sound { IsSound (R.RowStore.state rows.old) control.old }
+    requires fine { closed ≡ false → (R.RowStore.state rows.old).failed ≡ false }
+    requires size { size ≤ MOST + 1 }
+    requires frees { control.old.frees + 1 < 2 ^ 64 }
+    requires schema { (R.RowStore.state rows.old).schema ≡ schema.now }
+    requires sequences { length control.old.sequences.items ≡ length schema.now.sequences }
+    requires some { IsSome (R.RowStore.state rows.old) control.old }
+    ensures step { IsStep (R.RowStore.state rows.old) (R.RowStore.state rows.new) control.old control.new size closed client op.now result.answer }
+    ensures copy { result.copy ≡ result.answer }
+    ensures fine { (closed || is_closed result.answer) ≡ false → (R.RowStore.state rows.new).failed ≡ false }
+{
+    if is_end(op) {
+        return answer_end(rows, control, schema, size, closed, client);
+    }
+    answer_other(alloc, rows, control, schema, size, closed, client, op)
+}
