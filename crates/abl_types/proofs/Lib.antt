@@ -8,3 +8,4 @@ pub mod Bound
 pub mod Limits
 pub mod Inside
 pub mod Formals
+pub mod Finding

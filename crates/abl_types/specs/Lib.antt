@@ -1,5 +1,6 @@
 pub mod Statements
 pub mod Sources
+pub mod Taken
 pub mod Items
 pub mod Counted
 pub mod Views

@@ -9,5 +9,6 @@ mod procedures;
 mod signatures;
 mod sources;
 mod statements;
+mod taken;
 
 pub use binding::{TypeRefusal, bind};

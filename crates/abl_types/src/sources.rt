@@ -13,12 +13,14 @@ ghost use Rattle.abl_types.specs.Sources.{beginning, judged, signatures, source_
 use crate::buffers::{buffers_in, named_in};
 use crate::procedures::{frame_of, internal, nothing_defined, procedure_block, procedure_with};
 use crate::statements::{join, statement};
-use abl_base::{Bytes, Items, Rule};
+use crate::taken::TakenNames;
+use abl_base::{Items, Rule};
 use abl_syntax::{Item, Program, Word};
-use abl_values::{Schema, same_name};
+use abl_values::Schema;
 use bind_names::{BindFault, Known, Naming, Notes, Scene, Signature};
 use bound_tree::{Bound, Procedure, Stmt};
 use std::alloc::Global;
+use std::mem;
 
 /// What was bound of the items of a source so far: the statements of the external procedure, and
 /// the internal procedures with their names.
@@ -26,19 +28,7 @@ use std::alloc::Global;
 pub struct Parts {
     pub body: Vec<Stmt>,
     pub procedures: Vec<Procedure>,
-    pub names: Items<Bytes>,
-}
-
-/// Whether one of the names is this one, in any case.
-fn is_taken(names: &[Bytes], name: &[u8]) -> bool
-    ensures { result ≡ list_any (λ n. same_name n name.now) names.now }
-{
-    for one in names {
-        if same_name(one.as_slice(), name) {
-            return true;
-        }
-    }
-    false
+    pub names: TakenNames,
 }
 
 /// The place at the beginning of a source.
@@ -85,13 +75,19 @@ fn next_number(parts: &Parts) -> Result<u32, BindFault>
 }
 
 /// Adds an internal procedure.
-fn add_procedure(parts: &mut Parts, made: Procedure, name: &Word) -> Result<(), BindFault>
+fn add_procedure(
+    alloc: Global,
+    parts: &mut Parts,
+    made: Procedure,
+    name: &Word,
+) -> Result<(), BindFault>
     ensures body { OnOk result (parts.new.body ≡ parts.old.body) }
     ensures procedures { OnOk result (parts.new.procedures.items ≡ parts.old.procedures.items ++ made ∷ []) }
     ensures names { OnOk result (parts.new.names ≡ parts.old.names ++ name.now.spelling ∷ []) }
 {
     parts.procedures.push(made)?;
-    parts.names.push(name.spelling.copy()?)?;
+    let names = mem::replace(&mut parts.names, TakenNames::empty(alloc));
+    parts.names = names.with(&name.spelling)?;
     Ok(())
 }
 
@@ -113,11 +109,11 @@ fn item(
             Ok(())
         }
         Item::Procedure { at, name, body } => {
-            let taken = is_taken(parts.names.as_slice(), name.spelling.as_slice());
+            let taken = parts.names.has(name.spelling.as_slice());
             notes.unless(!taken, Rule::Y3, name.at);
             let number = next_number(parts)?;
             let made = internal(alloc, scene, number, at.line, name, body, notes)?;
-            add_procedure(parts, made, name)?;
+            add_procedure(alloc, parts, made, name)?;
             Ok(())
         }
     }
@@ -138,7 +134,7 @@ pub fn judged(
     let mut parts = Parts {
         body: Vec::new(alloc),
         procedures: Vec::new(alloc),
-        names: Items::empty(alloc),
+        names: TakenNames::empty(alloc),
     };
     for one in &program.items {
         item(alloc, &mut scene, &mut parts, one, notes)?;

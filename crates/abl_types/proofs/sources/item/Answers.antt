@@ -13,10 +13,9 @@ returns-in_ok-join-in-Alone-clause-judged c =
 
 pub returns-in_ok-add_procedure-in-Procedure-clause-judged : goal.returns-in_ok-add_procedure-in-Procedure-clause-judged
 returns-in_ok-add_procedure-in-Procedure-clause-judged c =
-    let taken : c.is_taken-taken.result ≡ list_any (λ (x : List ℕ). same_name x c.in-Procedure.name.spelling) c.args.parts.now.names =
-    c.is_taken-taken.ensures ∙ ap (λ (y : List ℕ). list_any (λ (x : List ℕ). same_name x y) c.as_slice.result.now) c.as_slice-in-Procedure.ensures
-    ∙ ap (list_any (λ (x : List ℕ). same_name x c.in-Procedure.name.spelling)) c.as_slice.ensures in
+    let taken : c.has-taken.result ≡ list_any (λ (x : List ℕ). same_name x c.in-Procedure.name.spelling) c.args.parts.now.names =
+    c.has-taken.ensures ∙ ap (λ (y : List ℕ). list_any (λ (x : List ℕ). same_name x y) c.args.parts.now.names) c.as_slice.ensures in
     procedure_adds (scene_of c.args.scene.now) (scene_of c.internal.new.scene) (item_of c.args.item.now) c.in-Procedure.at c.in-Procedure.name (statements_of c.in-Procedure.body.items) (ap item_of c.in-Procedure.is)
-    c.args.parts.now c.add_procedure.new.parts c.in_ok-made-in-Procedure.made c.in_ok-number-in-Procedure.number c.is_taken-taken.result c.args.notes.now c.unless.new.self c.internal.new.notes
+    c.args.parts.now c.add_procedure.new.parts c.in_ok-made-in-Procedure.made c.in_ok-number-in-Procedure.number c.has-taken.result c.args.notes.now c.unless.new.self c.internal.new.notes
     c.in_ok-add_procedure-in-Procedure.ensures.body c.in_ok-add_procedure-in-Procedure.ensures.names c.in_ok-add_procedure-in-Procedure.ensures.procedures c.in_ok-number-in-Procedure.ensures taken c.unless.ensures.first c.unless.ensures.names
     (rw c.deref.ensures.value at c.in_ok-made-in-Procedure.ensures.judged)
