@@ -1,7 +1,7 @@
 //! What is written of a source.
 
 use abl_base::{Place, Rule};
-use abl_cli::{SourceFault, read_syntax};
+use abl_source::{SourceFault, read_syntax};
 use abl_types::{TypeRefusal, bind};
 use abl_values::Schema;
 use std::alloc::{AllocError, Global};
