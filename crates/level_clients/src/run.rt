@@ -1,0 +1,41 @@
+//! The run.
+
+ghost use Rattle.std.specs.Prelude.{◌≡◌, ◌<◌, ◌≤◌, ℕ, [], length, slice_index_or, IfOk, IfErr};
+ghost use Rattle.client_database.specs.declared.operation.Op.{Op};
+ghost use Rattle.database_meaning.specs.declared.contents.Contents.{Contents};
+ghost use Rattle.database_meaning.specs.Setting.{Setting};
+ghost use Rattle.database_meaning.specs.Traces.{IsLegal};
+ghost use Rattle.level_machine.specs.Turns.{IsLevelOp};
+ghost use Rattle.level_machine.specs.LevelDatabase.{IsOpened, IsActive, Serves};
+ghost use Rattle.level_clients.specs.Ran.{HasRunIn};
+
+use abl_outside::Gate;
+use client_runner::{Task, run_clients};
+use client_session::ClientSession;
+use level_machine::LevelDatabase;
+use std::alloc::Global;
+use std::sync::Wait;
+use std::thread::Threads;
+
+/// Runs each client on a thread of its own over the database, and gives the database back. The
+/// client at place k is client k of the database, whose trace is empty. It calls the gate before
+/// each step. `Err` means that there was no memory for the lock: the database is as it was, and no
+/// client has begun.
+pub fn run_level_clients<R: Threads + Wait + Sync, G: Gate + Sync>(
+    rt: &R,
+    alloc: Global,
+    database: LevelDatabase,
+    tasks: &mut [Task<ClientSession, LevelDatabase>],
+    gate: &G,
+) -> Result<LevelDatabase, LevelDatabase>
+    requires some { 0 < length tasks.old }
+    requires room { length tasks.old ≤ 65535 }
+    requires empty { database.trace.items ≡ [] }
+    requires active { (client : ℕ) → client < length tasks.old → IsActive database client }
+    requires serves { (client : ℕ) (op : Op) → client < length tasks.old → IsLevelOp op → Serves database client op }
+    ensures legal { (setting : Setting) (contents : Contents) → IsOpened database setting contents → IfOk result (λ d. IsLegal setting contents d.trace.items) }
+    ensures ran { IfOk result (λ d. (k : ℕ) (t : _) → k < length tasks.old → HasRunIn database d.trace.items k (slice_index_or tasks.old k t) (slice_index_or tasks.new k t)) }
+    ensures back { IfErr result (λ d. d ≡ database) }
+{
+    run_clients(rt, alloc, database, 0, tasks, gate)
+}
