@@ -22,7 +22,7 @@ use Rattle.block_vm.specs.Standing.{Standing, HasWritten}
 use Rattle.block_vm.specs.Refines.{Refines, HasGivenUp, AfterResume, IsExpected, HasNotBegun, answers_with}
 use Rattle.block_vm.specs.NextStep.{IsAsking, IsEnded, IsOfLevels, IsLevelOp as IsOfLevelOp}
 use Rattle.block_vm.specs.Work.{IsWaiting}
-use Rattle.client_runner.specs.Meant.{Meant, NoneIsRefused, IsSureOf, IsOver as HasEnded, Requests, client_in}
+use Rattle.client_runner.specs.Meant.{Meant, NoneIsRefused, AllFit, IsSureOf, IsOver as HasEnded, Requests, client_in}
 use Rattle.client_runner.specs.Levels.{levels_left}
 use Rattle.client_session.specs.Along.{Along, Goes, AsMeant, AsksEnd, IsOver, IsOpen, IsCareful, WaitsIfAsking, answers_in, operations_in}
 
@@ -98,14 +98,14 @@ end_is_well_formed : (setting : Setting) (s : State) (n : ℕ) (op : Op) → op 
 end_is_well_formed setting s n op is = subst (λ o. IsWellFormed setting s n o) (sym is) tt
 
 pub sure_after : LevelsAreOwn → (client : Standing) (m : Meant) (own : List Event) (next : NextStep) → IsOfLevelOp next → Along client m own next
-    → (setting : Setting) (n : ℕ) (op : Op) → next ≡ Ask op → IsCareful m → NoneIsRefused own → IsSureOf setting n own op
-sure_after law client m own next level (AsMeant waits agrees same) setting n op is careful unrefused contents trace mine =
+    → (setting : Setting) (n : ℕ) (op : Op) → next ≡ Ask op → IsCareful m → AllFit setting own → NoneIsRefused own → IsSureOf setting n own op
+sure_after law client m own next level (AsMeant waits agrees same) setting n op is careful fits unrefused contents trace mine =
     well_formed setting (left_by setting contents trace) n (levels_left 0 own) op (subst IsOfLevelOp is level)
     (law setting contents n trace ∙ ap (levels_left 0) mine)
-    (careful own op same unrefused (ap (λ (d : Progress). d.wants) agrees.meant ∙ is))
-sure_after law client m own next level (AsksEnd waits pieces given is_end same) setting n op is careful unrefused contents trace mine =
+    (careful setting own op same fits unrefused (ap (λ (d : Progress). d.wants) agrees.meant ∙ is))
+sure_after law client m own next level (AsksEnd waits pieces given is_end same) setting n op is careful fits unrefused contents trace mine =
     end_is_well_formed setting (left_by setting contents trace) n op (let e : Ask op ≡ Ask End = sym is ∙ is_end in cc)
-sure_after law client m own next level (IsOver pieces before last has is_ended split end same gave) setting n op is careful unrefused contents trace mine =
+sure_after law client m own next level (IsOver pieces before last has is_ended split end same gave) setting n op is careful fits unrefused contents trace mine =
     absurd (let e : Ask op ≡ Ended NoMemory = sym is ∙ is_ended in cc)
 
 pub next_goes : LevelsAreOwn → (old new : Standing) (m : Meant) (own : List Event) (n : ℕ) (op : Op) (answer : Option Answer) (next : NextStep)

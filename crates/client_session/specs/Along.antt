@@ -14,7 +14,7 @@ use Rattle.block_meaning.specs.GivesUp.{GaveUp}
 use Rattle.block_vm.specs.Standing.{Standing, HasWritten}
 use Rattle.block_vm.specs.Refines.{Agrees, HasGivenUp}
 use Rattle.block_vm.specs.Work.{IsWaiting}
-use Rattle.client_runner.specs.Meant.{Meant, NoneIsRefused, IsSureOf}
+use Rattle.client_runner.specs.Meant.{Meant, NoneIsRefused, AllFit, IsSureOf}
 use Rattle.client_runner.specs.Levels.{levels_left}
 
 abbrev pub answers_in : List Event → List Answer
@@ -44,11 +44,12 @@ IsOpen open_levels (Leave keep) = 0 < open_levels
 IsOpen open_levels (Back depth) = (0 < depth) × (depth ≤ open_levels)
 IsOpen open_levels _ = Unit {0}
 
--- after own events of which none was refused, what m requests names levels that these events have left open
+-- after own events with answers that fit, none of which is Refused, what m requests names levels that these events have left open
 abbrev pub IsCareful : Meant → Type 0
-IsCareful m = (own : List Event) (op : Op) → operations_in own ≡ asked m.run (answers_in own) → NoneIsRefused own → (m.run (answers_in own)).wants ≡ Ask op → IsOpen (levels_left 0 own) op
+IsCareful m =
+    (setting : Setting) (own : List Event) (op : Op) → operations_in own ≡ asked m.run (answers_in own) → AllFit setting own → NoneIsRefused own → (m.run (answers_in own)).wants ≡ Ask op → IsOpen (levels_left 0 own) op
 
 -- the client goes along, and what it then requests is well formed if m is careful
 pub record Goes (client : Standing) (m : Meant) (own : List Event) (next : NextStep) : Type 0 where
   pub along : Along client m own next
-  pub sure : (setting : Setting) (n : ℕ) (op : Op) → next ≡ Ask op → IsCareful m → NoneIsRefused own → IsSureOf setting n own op
+  pub sure : (setting : Setting) (n : ℕ) (op : Op) → next ≡ Ask op → IsCareful m → AllFit setting own → NoneIsRefused own → IsSureOf setting n own op

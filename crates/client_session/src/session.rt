@@ -35,5 +35,5 @@ impl Session for ClientSession {
         self.client.resume(answer)
     }
 
-    ghost sure = { λ c setting m n own op suits careful goes fits unrefused. goes.sure setting n op refl careful unrefused };
+    ghost sure = { λ c setting m n own op suits careful goes fits unrefused. goes.sure setting n op refl careful fits unrefused };
 }
