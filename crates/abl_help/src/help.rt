@@ -1,0 +1,43 @@
+//! The text of `abl --help`. Written by tools/explanations from tools/help.txt.
+
+/// The text of `abl --help`.
+pub const HELP: &str = "abl DATABASE run SCHEMA STEPS MODE NAME=PROG
+abl DATABASE run SCHEMA STEPS MODE NAME=PROG<INPUT
+abl DATABASE check SCHEMA PROG...
+
+run reads the schema file SCHEMA, compiles the ABL source PROG and runs it as
+client NAME, which may spend STEPS units (1 to 999999999). IMPORT reads the file
+INPUT; without it the input is empty. Each file may have 1 MiB (1048576 bytes).
+Put an argument with < in quotation marks, so that a shell does not take it.
+
+The client's output goes to standard output, and in MODE trace the lines of what
+it requested of the database and was answered too; in MODE quiet nothing else.
+
+check lists the blocks of 1 to 16 sources and runs nothing. Each block has a
+line: its line number, what it is, `transaction` if it starts one, else `sub` if
+it can be undone, else `plain`, and the buffers scoped to it.
+
+How a command ended goes to standard error, with the status:
+
+  0  all was done              6  standard output was not taken
+  1  wrong arguments           7  out of memory
+  2  a file cannot be read     8  the client ended in an error or a stop
+  3  the schema breaks a rule  10 a file is too long
+  4  a source breaks a rule
+
+`usage at word N` counts the arguments after DATABASE from 0. Where arguments
+are missing, N is the number of those that are there. A rule that is broken has
+a letter and a number, and the line or the line:column where it is broken first:
+
+  F  the schema file           Y   the names and types of the source
+  L  the tokens of the source  S   the scopes of its buffers
+  G  its grammar               U   its labels and blocks
+  N1 a record or a sequence, which run does not support yet
+
+DATABASE is not read yet.
+
+abl --explain        the rules, statuses and stops, a line each
+abl --explain NAME   the page of one: L1, 4 for a status, Deadlock for a stop
+abl --help           this text
+abl --version        the version
+";

@@ -1,0 +1,12 @@
+//! What the program says about itself: the text of `--help`, and a page for each rule, status and
+//! stop that a command can print. The texts are written by `tools/explanations` from `tools/help.txt`
+//! and `tools/explanations.txt`, which also makes `docs/refusals.md` and the man page of them.
+#![tactic(auto)]
+
+pub mod help;
+pub mod page;
+pub mod pages;
+
+pub use help::HELP;
+pub use page::{Page, page_named};
+pub use pages::PAGES;

@@ -1,0 +1,53 @@
+//! What the program says about itself, without a command.
+
+use abl_help::{PAGES, page_named};
+use std::io;
+
+/// The line on standard error where standard output does not take the text.
+const NO_OUTPUT: &str = "abl: output\n";
+
+/// The line on standard error where no page has the name.
+const NO_PAGE: &str = "abl: there is no page of that name; abl --explain lists them\n";
+
+/// How wide the names of the list are.
+const BLANKS: &str = "             ";
+
+/// Writes the text to standard output; the status that the program then ends with.
+pub fn print(output: &mut impl Print, diagnostics: &mut impl Print, text: &str) -> u8 {
+    status(diagnostics, output.write_all(text.as_bytes()))
+}
+
+/// Writes the page of that name; the status that the program then ends with.
+pub fn explain(output: &mut impl Print, diagnostics: &mut impl Print, name: &[u8]) -> u8 {
+    match page_named(&PAGES, str::from_utf8(name).unwrap_or("")) {
+        Some(page) => print(output, diagnostics, page.text),
+        None => {
+            let _ = diagnostics.write_all(NO_PAGE.as_bytes());
+            1
+        }
+    }
+}
+
+/// Writes a line for each page; the status that the program then ends with.
+pub fn list_pages(output: &mut impl Print, diagnostics: &mut impl Print) -> u8 {
+    for page in &PAGES {
+        let blanks = BLANKS.get(page.name.len()..).unwrap_or(" ");
+        for part in [page.name, blanks, page.summary, "\n"] {
+            if let Err(error) = output.write_all(part.as_bytes()) {
+                return status(diagnostics, Err(error));
+            }
+        }
+    }
+    0
+}
+
+/// The status after a text was written.
+fn status(diagnostics: &mut impl Print, written: io::Result<()>) -> u8 {
+    match written {
+        Ok(()) => 0,
+        Err(_) => {
+            let _ = diagnostics.write_all(NO_OUTPUT.as_bytes());
+            6
+        }
+    }
+}
