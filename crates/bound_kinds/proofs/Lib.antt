@@ -1,5 +1,6 @@
 pub mod Parts
 pub mod Suits
+pub mod KindsKnown
 pub mod Marked
 pub mod Assigned
 pub mod Ran

@@ -1,5 +1,5 @@
 -- What a procedure has defined where it breaks no rule: each variable begins with a value of its kind, under a mask for its kind.
-use Rattle.std.proofs.Common.{◌≡◌, ℕ, Bool, true, false, List, [], ◌∷◌, ◌++◌, Option, Some, None, length, map, zero, suc, refl, ap, ◌∙◌}
+use Rattle.std.proofs.Common.{◌≡◌, ℕ, Bool, true, false, List, [], ◌∷◌, ◌++◌, Option, Some, None, length, map, zero, suc, refl, sym, ap, subst, ◌∙◌, append-nil}
 use Rattle.std.specs.Prelude.{if◌then◌else◌, slice_get, unwrap_or}
 use Rattle.std.specs.Option.{is_some}
 use Rattle.abl_base.specs.declared.value.Kind.{Kind}
@@ -30,15 +30,18 @@ use Rattle.bind_statements.specs.Definitions.{buffer_for, default_mask, define, 
 use Rattle.bind_statements.specs.Runs.{run_numbered}
 use Rattle.bind_blocks.specs.Headers.{head, inside}
 use Rattle.abl_types.specs.Statements.{statement, statements}
-use Rattle.bound_kinds.specs.WellKinded.{is_of_kind}
-use Rattle.bound_kinds.proofs.Parts.{Each, Maybe, each_join, each_map, holds, nil_left, nil_right}
+use Rattle.abl_types.specs.Sources.{nothing_defined}
+use Rattle.bound_kinds.specs.WellKinded.{are_of_kinds, is_kind, is_of_kind}
+use Rattle.bound_kinds.proofs.Suits.{kind_is}
+use Rattle.bound_kinds.proofs.KindsKnown.{no_undo_join, no_undo_kinds, undoable_join, undoable_kinds}
+use Rattle.bound_kinds.proofs.Parts.{Each, Maybe, both, both_left, both_right, each_join, each_map, holds, nil_left, nil_right}
 use Rattle.bound_kinds.proofs.Shown.{default_fits}
-use Rattle.bound_kinds.proofs.Grows.{DefinesMore, IsMore, grows}
+use Rattle.bound_kinds.proofs.Grows.{DefinesMore, grows}
 
 -- ---- values of a kind
 
 abbrev pub IsOne : Kind → Value → Type 0
-IsOne k v = is_of_kind k (Some v) ≡ true
+IsOne k v = is_of_kind k v ≡ true
 
 in_range_is : (k : Kind) (c : Bool) (v : Value) → IsOne k v → Maybe (IsOne k) (value_in (in_range c v))
 in_range_is k true v h = h
@@ -115,59 +118,119 @@ options_make k o (x ∷ xs) h e = options_make k (option k x o).is xs (option_ma
 
 -- ---- variables
 
--- the variable is the procedure's own, and begins with a value of its kind
-pub record HasValue (d : Defined) (v : Variable) : Type 0 where
+-- the variable is the procedure's own, and of the kind that it has there
+pub record HasKind (d : Defined) (v : Variable) : Type 0 where
   pub own : v.external ≡ false
-  pub value : is_of_kind v.kind (slice_get (if v.undoable then d.undoable else d.no_undo) v.number) ≡ true
+  pub kind : is_kind v.kind (slice_get (if v.undoable then undoable_kinds d.variables else no_undo_kinds d.variables) v.number) ≡ true
 
 pub record IsSane (d : Defined) (v : NamedVariable) : Type 0 where
-  pub value : HasValue d v.variable
+  pub has : HasKind d v.variable
   pub masked : mask_is_for v.mask v.variable.kind ≡ true
 
+-- the variables have their kinds, and the values with which they begin are of these
 pub record AreSane (d : Defined) : Type 0 where
   pub variables : Each (IsSane d) d.variables
-  pub parameters : Each (HasValue d) d.parameters
+  pub parameters : Each (HasKind d) d.parameters
+  pub undoable : are_of_kinds (undoable_kinds d.variables) d.undoable ≡ true
+  pub no_undo : are_of_kinds (no_undo_kinds d.variables) d.no_undo ≡ true
 
-still : (k : Kind) (vs us : List Value) (i : ℕ) → is_of_kind k (slice_get vs i) ≡ true → is_of_kind k (slice_get (vs ++ us) i) ≡ true
+-- nothing is defined yet
+pub none_sane : AreSane nothing_defined
+none_sane = record { variables = tt; parameters = tt; undoable = refl; no_undo = refl }
+
+still : (k : Kind) (vs us : List Kind) (i : ℕ) → is_kind k (slice_get vs i) ≡ true → is_kind k (slice_get (vs ++ us) i) ≡ true
 still k [] us i h = absurd cc
 still k (v ∷ vs) us zero h = h
 still k (v ∷ vs) us (suc i) h = still k vs us i h
 
-still_more : (k : Kind) (vs us : List Value) (i : ℕ) → IsMore vs us → is_of_kind k (slice_get vs i) ≡ true → is_of_kind k (slice_get us i) ≡ true
-still_more k vs us i m h = ap (λ l. is_of_kind k (slice_get l i)) m.is ∙ still k vs m.added i h
+still_either : (k : Kind) (c : Bool) (vs us ws zs : List Kind) (i : ℕ) → is_kind k (slice_get (if c then vs else ws) i) ≡ true → is_kind k (slice_get (if c then (vs ++ us) else (ws ++ zs)) i) ≡ true
+still_either k true vs us ws zs i h = still k vs us i h
+still_either k false vs us ws zs i h = still k ws zs i h
 
-still_either : (k : Kind) (c : Bool) (vs us vs' us' : List Value) (i : ℕ) → IsMore vs us → IsMore vs' us' → is_of_kind k (slice_get (if c then vs else vs') i) ≡ true → is_of_kind k (slice_get (if c then us else us') i) ≡ true
-still_either k true vs us vs' us' i m m' h = still_more k vs us i m h
-still_either k false vs us vs' us' i m m' h = still_more k vs' us' i m' h
+kind_still : (d e : Defined) (v : Variable) (more : List NamedVariable) → e.variables ≡ d.variables ++ more → HasKind d v → HasKind e v
+kind_still d e v more m h = record {
+  own = h.own;
+  kind =
+      ap (λ l. is_kind v.kind (slice_get (if v.undoable then l else no_undo_kinds e.variables) v.number)) (ap undoable_kinds m ∙ undoable_join d.variables more)
+      ∙ (ap (λ l. is_kind v.kind (slice_get (if v.undoable then (undoable_kinds d.variables ++ undoable_kinds more) else l) v.number)) (ap no_undo_kinds m ∙ no_undo_join d.variables more)
+      ∙ still_either v.kind v.undoable (undoable_kinds d.variables) (undoable_kinds more) (no_undo_kinds d.variables) (no_undo_kinds more) v.number h.kind);
+}
 
-pub value_later : (d e : Defined) (v : Variable) → DefinesMore d e → HasValue d v → HasValue e v
-value_later d e v m h = record { own = h.own; value = still_either v.kind v.undoable d.undoable e.undoable d.no_undo e.no_undo v.number m.undoable m.no_undo h.value }
+pub kind_later : (d e : Defined) (v : Variable) → DefinesMore d e → HasKind d v → HasKind e v
+kind_later d e v m h = kind_still d e v m.variables.added m.variables.is h
 
 pub sane_later : (d e : Defined) (v : NamedVariable) → DefinesMore d e → IsSane d v → IsSane e v
-sane_later d e v m h = record { value = value_later d e v.variable m h.value; masked = h.masked }
+sane_later d e v m h = record { has = kind_later d e v.variable m h.has; masked = h.masked }
 
-last_value : (k : Kind) (vs : List Value) (v : Value) → IsOne k v → is_of_kind k (slice_get (vs ++ v ∷ []) (length vs)) ≡ true
-last_value k [] v h = h
-last_value k (u ∷ vs) v h = last_value k vs v h
+-- ---- one more variable
 
-new_value : (k : Kind) (c : Bool) (vs us : List Value) (v : Value) → IsOne k v → is_of_kind k (slice_get (if c then (if c then vs ++ v ∷ [] else vs) else (if c then us else us ++ v ∷ [])) (length (if c then vs else us))) ≡ true
-new_value k true vs us v h = last_value k vs v h
-new_value k false vs us v h = last_value k us v h
+last_kind : (k : Kind) (ks : List Kind) (vs : List Value) → are_of_kinds ks vs ≡ true → is_kind k (slice_get (ks ++ k ∷ []) (length vs)) ≡ true
+last_kind k [] [] h = kind_is k
+last_kind k [] (v ∷ vs) h = absurd cc
+last_kind k (l ∷ ks) [] h = absurd cc
+last_kind k (l ∷ ks) (v ∷ vs) h = last_kind k ks vs (both_right (is_of_kind l v) _ h)
 
-new_parameter : (d : Defined) (c : Bool) (ps : List Variable) (v : Variable) → Each (HasValue d) ps → HasValue d v → Each (HasValue d) (if c then ps ++ v ∷ [] else ps)
-new_parameter d true ps v h g = each_join (HasValue d) ps (v ∷ []) h (g, tt)
+one_value : (k : Kind) (v : Value) (ks : List Kind) (vs : List Value) → IsOne k v → are_of_kinds ks vs ≡ true → are_of_kinds (ks ++ k ∷ []) (vs ++ v ∷ []) ≡ true
+one_value k v [] [] g h = both _ _ g refl
+one_value k v [] (u ∷ vs) g h = absurd cc
+one_value k v (l ∷ ks) [] g h = absurd cc
+one_value k v (l ∷ ks) (u ∷ vs) g h = both _ _ (both_left (is_of_kind l u) _ h) (one_value k v ks vs g (both_right (is_of_kind l u) _ h))
+
+-- it has the number after those before it
+new_kind : (k : Kind) (c : Bool) (name mask : List ℕ) (external : Bool) (n : ℕ) (xs : List NamedVariable) (vs us : List Value) → n ≡ length (if c then vs else us) →
+    are_of_kinds (undoable_kinds xs) vs ≡ true → are_of_kinds (no_undo_kinds xs) us ≡ true →
+    let one : NamedVariable = record { name = name; variable = record { external = external; undoable = c; number = n; kind = k }; mask = mask } in
+    is_kind k (slice_get (if c then undoable_kinds (xs ++ one ∷ []) else no_undo_kinds (xs ++ one ∷ [])) n) ≡ true
+new_kind k true name mask external n xs vs us e g h =
+    ap (λ l. is_kind k (slice_get l n)) (undoable_join xs _) ∙ (ap (λ m. is_kind k (slice_get (undoable_kinds xs ++ k ∷ []) m)) e ∙ last_kind k (undoable_kinds xs) vs g)
+new_kind k false name mask external n xs vs us e g h =
+    ap (λ l. is_kind k (slice_get l n)) (no_undo_join xs _) ∙ (ap (λ m. is_kind k (slice_get (no_undo_kinds xs ++ k ∷ []) m)) e ∙ last_kind k (no_undo_kinds xs) us h)
+
+-- its value is of its kind
+new_undoable : (k : Kind) (v : Value) (c : Bool) (name mask : List ℕ) (external : Bool) (n : ℕ) (xs : List NamedVariable) (vs : List Value) → IsOne k v → are_of_kinds (undoable_kinds xs) vs ≡ true →
+    let one : NamedVariable = record { name = name; variable = record { external = external; undoable = c; number = n; kind = k }; mask = mask } in
+    are_of_kinds (undoable_kinds (xs ++ one ∷ [])) (if c then vs ++ v ∷ [] else vs) ≡ true
+new_undoable k v true name mask external n xs vs g h = ap (λ l. are_of_kinds l (vs ++ v ∷ [])) (undoable_join xs _) ∙ one_value k v (undoable_kinds xs) vs g h
+new_undoable k v false name mask external n xs vs g h = ap (λ l. are_of_kinds l vs) (undoable_join xs _ ∙ append-nil (undoable_kinds xs)) ∙ h
+
+new_no_undo : (k : Kind) (v : Value) (c : Bool) (name mask : List ℕ) (external : Bool) (n : ℕ) (xs : List NamedVariable) (vs : List Value) → IsOne k v → are_of_kinds (no_undo_kinds xs) vs ≡ true →
+    let one : NamedVariable = record { name = name; variable = record { external = external; undoable = c; number = n; kind = k }; mask = mask } in
+    are_of_kinds (no_undo_kinds (xs ++ one ∷ [])) (if c then vs else vs ++ v ∷ []) ≡ true
+new_no_undo k v true name mask external n xs vs g h = ap (λ l. are_of_kinds l vs) (no_undo_join xs _ ∙ append-nil (no_undo_kinds xs)) ∙ h
+new_no_undo k v false name mask external n xs vs g h = ap (λ l. are_of_kinds l (vs ++ v ∷ [])) (no_undo_join xs _) ∙ one_value k v (no_undo_kinds xs) vs g h
+
+new_parameter : (d : Defined) (c : Bool) (ps : List Variable) (v : Variable) → Each (HasKind d) ps → HasKind d v → Each (HasKind d) (if c then ps ++ v ∷ [] else ps)
+new_parameter d true ps v h g = each_join (HasKind d) ps (v ∷ []) h (g, tt)
 new_parameter d false ps v h g = h
 
 with_variable_sane : (k : Kind) (name : Word) (o : Options) (is_parameter : Bool) (d : Defined) → DefinesMore d (with_variable k name o is_parameter d) → AreOptions k o → AreSane d → AreSane (with_variable k name o is_parameter d)
 with_variable_sane k name o is_parameter d m g h =
     let e : Defined = with_variable k name o is_parameter d in
-    let v : Variable = record { external = false; undoable = o.undoable; number = length (if o.undoable then d.undoable else d.no_undo); kind = k } in
-    let there : HasValue e v = record { own = refl; value = new_value k o.undoable d.undoable d.no_undo (unwrap_or o.initial (default_initial k)) (unwrapped (IsOne k) o.initial (default_initial k) g.initial (default_is k)) } in
+    let n : ℕ = length (if o.undoable then d.undoable else d.no_undo) in
+    let mask : List ℕ = unwrap_or o.mask (default_mask k) in
+    let first : Value = unwrap_or o.initial (default_initial k) in
+    let is_first : IsOne k first = unwrapped (IsOne k) o.initial (default_initial k) g.initial (default_is k) in
+    let v : Variable = record { external = false; undoable = o.undoable; number = n; kind = k } in
+    let there : HasKind e v = record { own = refl; kind = new_kind k o.undoable name.spelling mask false n d.variables d.undoable d.no_undo refl h.undoable h.no_undo } in
     record {
       variables = each_join (IsSane e) d.variables _ (each_map (IsSane d) (IsSane e) d.variables (λ u. sane_later d e u m) h.variables)
-          (record { value = there; masked = unwrapped (λ m. mask_is_for m k ≡ true) o.mask (default_mask k) g.mask (default_fits k) }, tt);
-      parameters = new_parameter e is_parameter d.parameters v (each_map (HasValue d) (HasValue e) d.parameters (λ u. value_later d e u m) h.parameters) there;
+          (record { has = there; masked = unwrapped (λ m. mask_is_for m k ≡ true) o.mask (default_mask k) g.mask (default_fits k) }, tt);
+      parameters = new_parameter e is_parameter d.parameters v (each_map (HasKind d) (HasKind e) d.parameters (λ u. kind_later d e u m) h.parameters) there;
+      undoable = new_undoable k first o.undoable name.spelling mask false n d.variables d.undoable is_first h.undoable;
+      no_undo = new_no_undo k first o.undoable name.spelling mask false n d.variables d.no_undo is_first h.no_undo;
     }
+
+-- what has the same variables and parameters
+same_sane : (d e : Defined) → e.variables ≡ d.variables → e.parameters ≡ d.parameters → e.undoable ≡ d.undoable → e.no_undo ≡ d.no_undo → AreSane d → AreSane e
+same_sane d e vs ps us ns h = record {
+  variables = subst (Each (IsSane e)) (sym vs) (each_map (IsSane d) (IsSane e) d.variables (λ v g. record { has = again v.variable g.has; masked = g.masked }) h.variables);
+  parameters = subst (Each (HasKind e)) (sym ps) (each_map (HasKind d) (HasKind e) d.parameters again h.parameters);
+  undoable = ap (λ l. are_of_kinds (undoable_kinds l) e.undoable) vs ∙ (ap (are_of_kinds (undoable_kinds d.variables)) us ∙ h.undoable);
+  no_undo = ap (λ l. are_of_kinds (no_undo_kinds l) e.no_undo) vs ∙ (ap (are_of_kinds (no_undo_kinds d.variables)) ns ∙ h.no_undo);
+}
+  where
+    again : (v : Variable) → HasKind d v → HasKind e v
+    again v g = kind_still d e v [] (vs ∙ sym (append-nil d.variables)) g
 
 variable_sane : (w : Scene) (k : Kind) (name : Word) (os : List VariableOption) (is_parameter : Bool) → DefinesMore w.known.own (variable w k name os is_parameter).is.after.own → (variable w k name os is_parameter).breaks ≡ [] → AreSane w.known.own →
     AreSane (variable w k name os is_parameter).is.after.own
@@ -177,13 +240,13 @@ variable_sane w k name os is_parameter m e h =
 
 buffer_sane : (w : Scene) (name table : Word) (o : Option ℕ) → AreSane w.known.own → AreSane (buffer_for w name table o).is.after.own
 buffer_sane w name table None h = h
-buffer_sane w name table (Some t) h = record { variables = each_map _ _ w.known.own.variables (λ v g. record { value = record { own = g.value.own; value = g.value.value }; masked = g.masked }) h.variables; parameters = each_map _ _ w.known.own.parameters (λ v g. record { own = g.own; value = g.value }) h.parameters }
+buffer_sane w name table (Some t) h = same_sane w.known.own _ refl refl refl refl h
 
 define_sane : (w : Scene) (d : s.Definition) → DefinesMore w.known.own (define w d).is.after.own → (define w d).breaks ≡ [] → AreSane w.known.own → AreSane (define w d).is.after.own
 define_sane w (s.Variable name k os) m e h = variable_sane w k name os false m e h
 define_sane w (s.Parameter direction place name k os) m e h = variable_sane w k name os true m (nil_left (variable w k name os true).breaks _ e) h
 define_sane w (s.Buffer name table) m e h = buffer_sane w name table (table_named w.context.schema table.spelling) h
-define_sane w (s.Stream name) m e h = record { variables = each_map _ _ w.known.own.variables (λ v g. record { value = record { own = g.value.own; value = g.value.value }; masked = g.masked }) h.variables; parameters = each_map _ _ w.known.own.parameters (λ v g. record { own = g.own; value = g.value }) h.parameters }
+define_sane w (s.Stream name) m e h = same_sane w.known.own _ refl refl refl refl h
 
 -- ---- statements
 

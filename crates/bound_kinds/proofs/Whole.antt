@@ -3,7 +3,7 @@ use Rattle.std.proofs.Common.{◌≡◌, ℕ, ◌+◌, Bool, true, false, List, 
 use Rattle.std.specs.Prelude.{◌&&◌, ◌==◌, if◌then◌else◌, slice_get, Ok}
 use Rattle.std.specs.List.{filter, list_all, list_any}
 use Rattle.std.proofs.lemmas.Bool.Decides.{nat_tests}
-use Rattle.abl_base.specs.declared.value.Value.{Value}
+use Rattle.abl_base.specs.declared.value.Kind.{Kind}
 use Rattle.abl_values.specs.Schema.{SchemaData, field_named, table_at}
 use Rattle.bind_names.specs.declared.names.NamingKind.TheVariants as naming_kind
 use Rattle.bound_tree.specs.declared.expression.Variable.{Variable}
@@ -21,12 +21,14 @@ use Rattle.bind_names.specs.Names.{Context, Scene, buffers_in, field_among, from
 use Rattle.bind_expressions.specs.Parts.{scene_after}
 use Rattle.abl_types.specs.Sources.{bound, buffer_def, inside_procedure, items, judged, namings, or_first, outside_again, procedure_with, signatures, violations}
 use Rattle.abl_types.specs.Statements.{statement, statements}
-use Rattle.bound_kinds.specs.WellKinded.{Initials, Surroundings, is_body, is_masked, is_of_kind, is_procedure, is_variable, is_well_kinded, parameters_of}
+use Rattle.bound_kinds.specs.Kinds.{inner_kinds, kinds_of_source, kinds_within, outer_kinds}
+use Rattle.bound_kinds.specs.WellKinded.{Surroundings, VariableKinds, are_procedures, is_body, is_kind, is_masked, is_procedure, is_variable, is_well_kinded, parameters_of}
 use Rattle.bound_kinds.proofs.Parts.{Each, Maybe, both, each_join, each_left, each_map, each_right, equal, nil_left, nil_right}
 use Rattle.bound_kinds.proofs.Suits.{IsGood, IsNumbered, IsOf, Match}
 use Rattle.bound_kinds.proofs.Grows.{DefinesMore, all_grow, grows}
 use Rattle.bound_kinds.proofs.Stated.{appended, body_good, statement_good}
-use Rattle.bound_kinds.proofs.Sane.{AreSane, HasValue, IsSane, all_sane}
+use Rattle.bound_kinds.proofs.KindsKnown.{kinds_inside, kinds_known, kinds_outside}
+use Rattle.bound_kinds.proofs.Sane.{AreSane, HasKind, IsSane, all_sane, none_sane}
 use Rattle.bound_kinds.proofs.Related.{AreLeaves, body_relates, moved, statement_relates}
 use Rattle.bound_kinds.proofs.RelatedNames.{field_names_it, naming_or_none}
 use Rattle.bound_kinds.proofs.Apart.{IsAt}
@@ -127,22 +129,22 @@ all_placed schema F said h =
 
 -- ---- variables
 
-value_good : (x : Surroundings) (d : Defined) (v : Variable) → x.own ≡ record { undoable = d.undoable; no_undo = d.no_undo } → HasValue d v → is_variable x v ≡ true
-value_good x d v e h =
-    ap (λ c. is_of_kind v.kind (chosen x v c)) h.own ∙ ap (λ (i : Initials). is_of_kind v.kind (slice_get (if v.undoable then i.undoable else i.no_undo) v.number)) e ∙ h.value
+kind_good : (x : Surroundings) (d : Defined) (v : Variable) → x.own ≡ kinds_known d → HasKind d v → is_variable x v ≡ true
+kind_good x d v e h =
+    ap (λ c. is_kind v.kind (chosen x v c)) h.own ∙ (ap (λ (i : VariableKinds). is_kind v.kind (slice_get (if v.undoable then i.undoable else i.no_undo) v.number)) e ∙ h.kind)
   where
-    chosen : Surroundings → Variable → Bool → Option Value
+    chosen : Surroundings → Variable → Bool → Option Kind
     chosen x v c = let all = if c then x.outer else x.own in slice_get (if v.undoable then all.undoable else all.no_undo) v.number
 
-outer_good : (x : Surroundings) (d : Defined) (v : NamedVariable) → x.outer ≡ record { undoable = d.undoable; no_undo = d.no_undo } → IsSane d v → IsGood x (from_outside v)
+outer_good : (x : Surroundings) (d : Defined) (v : NamedVariable) → x.outer ≡ kinds_known d → IsSane d v → IsGood x (from_outside v)
 outer_good x d v e h = record {
-  there = ap (λ (i : Initials). is_of_kind v.variable.kind (slice_get (if v.variable.undoable then i.undoable else i.no_undo) v.variable.number)) e ∙ h.value.value;
+  there = ap (λ (i : VariableKinds). is_kind v.variable.kind (slice_get (if v.variable.undoable then i.undoable else i.no_undo) v.variable.number)) e ∙ h.has.kind;
   masked = h.masked;
 }
 
-all_values : (x : Surroundings) (d : Defined) (vs : List Variable) → x.own ≡ record { undoable = d.undoable; no_undo = d.no_undo } → Each (HasValue d) vs → list_all (is_variable x) vs ≡ true
-all_values x d [] e h = refl
-all_values x d (v ∷ vs) e h = both _ _ (value_good x d v e h.0) (all_values x d vs e h.1)
+all_kinds : (x : Surroundings) (d : Defined) (vs : List Variable) → x.own ≡ kinds_known d → Each (HasKind d) vs → list_all (is_variable x) vs ≡ true
+all_kinds x d [] e h = refl
+all_kinds x d (v ∷ vs) e h = both _ _ (kind_good x d v e h.0) (all_kinds x d vs e h.1)
 
 -- ---- procedures
 
@@ -151,8 +153,8 @@ abbrev around : SchemaData → List (List Variable) → Defined → List NamedBu
 around schema parameters outer buffers d = record {
   schema = schema;
   buffers = map buffer_def buffers;
-  own = record { undoable = d.undoable; no_undo = d.no_undo };
-  outer = record { undoable = outer.undoable; no_undo = outer.no_undo };
+  own = kinds_known d;
+  outer = kinds_known outer;
   parameters = parameters;
 }
 
@@ -178,15 +180,15 @@ sane_fewer d e m h = each_left (IsSane e) d.variables m.variables.added (subst (
 -- the variables of a procedure are good in its surroundings
 own_good : (schema : SchemaData) (ps : List (List Variable)) (o : Defined) (bs : List NamedBuffer) (d : Defined) (vs : List NamedVariable) → Each (IsSane d) vs → Each (IsGood (around schema ps o bs d)) vs
 own_good schema ps o bs d vs h =
-    each_map (IsSane d) (IsGood (around schema ps o bs d)) vs (λ v g. record { there = value_good (around schema ps o bs d) d v.variable refl g.value; masked = g.masked }) h
+    each_map (IsSane d) (IsGood (around schema ps o bs d)) vs (λ v g. record { there = kind_good (around schema ps o bs d) d v.variable refl g.has; masked = g.masked }) h
 
 outside_good : (schema : SchemaData) (ps : List (List Variable)) (o : Defined) (bs : List NamedBuffer) (d : Defined) (vs : List NamedVariable) → Each (IsSane o) vs → Each (λ v. IsGood (around schema ps o bs d) (from_outside v)) vs
 outside_good schema ps o bs d vs h = each_map (IsSane o) (λ v. IsGood (around schema ps o bs d) (from_outside v)) vs (λ v g. outer_good (around schema ps o bs d) o v refl g) h
 
 -- what the items of a source are bound to is well-kinded, where these are the definitions of the external procedure
-pub record AreGoodItems (schema : SchemaData) (ps : List (List Variable)) (bs : List NamedBuffer) (statements : Body) (others : List Procedure) (o : Defined) : Type 0 where
+pub record AreGoodItems (schema : SchemaData) (ps : List (List Variable)) (bs : List NamedBuffer) (statements : Body) (others : List Procedure) (kinds : List VariableKinds) (o : Defined) : Type 0 where
   pub body : is_body (around schema ps o bs o) statements ≡ true
-  pub procedures : list_all (is_procedure schema (record { undoable = o.undoable; no_undo = o.no_undo }) ps) others ≡ true
+  pub procedures : are_procedures schema (kinds_known o) ps kinds others ≡ true
 
 is_of : (x : Surroundings) (w : Scene) → x.schema ≡ w.context.schema → IsSource w.context x.parameters → IsOf x w
 is_of x w e h = record { schema = e; masked = h.masked; main = h.main; others = h.others; parameters = h.parameters; match = h.match }
@@ -211,14 +213,16 @@ alone_good F ps w t m bs out src more sanity e n =
 -- an internal procedure
 procedure_good : (F : ℕ → Defined) (ps : List (List Variable)) (w : Scene) (p line : ℕ) (name : Word) (body : Statements) → IsSource w.context ps → DefinesMore w.known.own (F 0) → AreSane (F 0) →
     (statements (inside_procedure p w) body).breaks ≡ [] → Each (IsPlaced w.context.schema w.context.namings) (statements (inside_procedure p w) body).names →
-    is_procedure w.context.schema (record { undoable = (F 0).undoable; no_undo = (F 0).no_undo }) ps
+    is_procedure w.context.schema (kinds_known (F 0)) ps (kinds_within body)
     (procedure_with (inside_procedure p w) line name.spelling (statements (inside_procedure p w) body).is.after.own (statements (inside_procedure p w) body).is.body) ≡ true
 procedure_good F ps w p line name body src more sanity e n =
     let v = inside_procedure p w in
     let k = (statements v body).is.after in
     let x = around w.context.schema ps (F 0) v.buffers k.own in
-    let sound : AreSane k.own = all_sane v body e (record { variables = tt; parameters = tt }) in
-    both _ _ (all_values x k.own k.own.parameters refl sound.parameters)
+    let sound : AreSane k.own = all_sane v body e none_sane in
+    subst (λ own. is_procedure w.context.schema (kinds_known (F 0)) ps own (procedure_with v line name.spelling k.own (statements v body).is.body) ≡ true) (kinds_inside w p body)
+    (both _ _ (both _ _ sound.undoable sound.no_undo)
+    (both _ _ (all_kinds x k.own k.own.parameters refl sound.parameters)
     (both _ _ refl
     (body_good x v (is_of x v refl (record { masked = src.masked; main = src.main; others = src.others; parameters = src.parameters; match = src.match })) body
     (record {
@@ -226,11 +230,11 @@ procedure_good F ps w p line name body src more sanity e n =
       outer = subst (Maybe (λ (d : Defined). Each (λ v. IsGood x (from_outside v)) d.variables)) (sym (all_grow v body).outer) (outside_good w.context.schema ps (F 0) v.buffers k.own w.known.own.variables (sane_fewer w.known.own (F 0) more sanity));
     })
     e
-    (both_each (IsIn p) (IsPlaced w.context.schema w.context.namings) (IsNumbered x v) (statements v body).names (λ y g h. numbered_in x v y refl refl refl g h) (body_in v body) n)))
+    (both_each (IsIn p) (IsPlaced w.context.schema w.context.namings) (IsNumbered x v) (statements v body).names (λ y g h. numbered_in x v y refl refl refl g h) (body_in v body) n)))))
 
 items_good : (F : ℕ → Defined) (ps : List (List Variable)) (w : Scene) (names : List Word) (program : Program) → IsMain w → w.buffers ≡ buffers_in 0 w.context.namings → w.known.outer ≡ None → IsSource w.context ps →
     AreFinal F w names program → AreSane (F 0) → (items w names program).breaks ≡ [] → Each (IsPlaced w.context.schema w.context.namings) (items w names program).names →
-    AreGoodItems w.context.schema ps w.buffers (items w names program).is.body (items w names program).is.procedures (F 0)
+    AreGoodItems w.context.schema ps w.buffers (items w names program).is.body (items w names program).is.procedures (inner_kinds program) (F 0)
 items_good F ps w names [] m bs out src f sanity e n = record { body = refl; procedures = refl }
 items_good F ps w names (s.Alone t ∷ rest) m bs out src f sanity e n =
     let k = (statement w t).is.after in
@@ -272,14 +276,18 @@ items_match w names (s.Procedure place name body ∷ rest) =
 
 -- a source whose parts are good is well-kinded
 source_good : (schema : SchemaData) (program : Program) (said : List Naming) → let w = start schema program said in let it = (items w [] program).is in
-    AreSane it.after.own → AreGoodItems schema (it.after.own.parameters ∷ parameters_of it.procedures) w.buffers it.body it.procedures it.after.own → is_well_kinded schema (judged schema program said).is ≡ true
+    AreSane it.after.own → AreGoodItems schema (it.after.own.parameters ∷ parameters_of it.procedures) w.buffers it.body it.procedures (inner_kinds program) it.after.own → is_well_kinded schema (kinds_of_source program) (judged schema program said).is ≡ true
 source_good schema program said sanity h =
     let w = start schema program said in
     let it = (items w [] program).is in
     let d = it.after.own in
-    both _ _ (both _ _ (all_values (around schema (d.parameters ∷ parameters_of it.procedures) d w.buffers d) d d.parameters refl sanity.parameters) (both _ _ refl h.body)) h.procedures
+    subst (λ main. is_well_kinded schema (main ∷ inner_kinds program) (judged schema program said).is ≡ true) (kinds_outside w program refl)
+    (both _ _
+    (both _ _ (both _ _ sanity.undoable sanity.no_undo)
+    (both _ _ (all_kinds (around schema (d.parameters ∷ parameters_of it.procedures) d w.buffers d) d d.parameters refl sanity.parameters) (both _ _ refl h.body)))
+    h.procedures)
 
-judged_good : (schema : SchemaData) (program : Program) → is_masked schema ≡ true → (judged schema program (namings schema program)).breaks ≡ [] → is_well_kinded schema (judged schema program (namings schema program)).is ≡ true
+judged_good : (schema : SchemaData) (program : Program) → is_masked schema ≡ true → (judged schema program (namings schema program)).breaks ≡ [] → is_well_kinded schema (kinds_of_source program) (judged schema program (namings schema program)).is ≡ true
 judged_good schema program masked e =
     let said = namings schema program in
     let w = start schema program said in
@@ -290,11 +298,11 @@ judged_good schema program masked e =
     let fine : Each (IsFine (λ e. true) schema F) said = subst (Each (IsFine (λ e. true) schema F)) same (names_fine (λ e. true) schema program said e (λ c p. named_at_end schema F said p explicit)) in
     let says : Each (Says schema F) said = each_map (IsFine (λ e. true) schema F) (Says schema F) said (λ n g. g refl) fine in
     let placed : Each (IsPlaced schema said) (judged schema program said).names = subst (Each (IsPlaced schema said)) (sym same) (all_placed schema F said says) in
-    let sound : AreSane it.after.own = main_sane w [] program e (record { variables = tt; parameters = tt }) in
+    let sound : AreSane it.after.own = main_sane w [] program e none_sane in
     let at : F 0 ≡ it.after.own = final_main w [] program in
     let source : IsSource w.context (it.after.own.parameters ∷ parameters_of it.procedures) = record { masked = masked; main = it.after.own.parameters; others = parameters_of it.procedures; parameters = refl; match = items_match w [] program } in
     source_good schema program said sound
-    (subst (AreGoodItems schema (it.after.own.parameters ∷ parameters_of it.procedures) w.buffers it.body it.procedures) at
+    (subst (AreGoodItems schema (it.after.own.parameters ∷ parameters_of it.procedures) w.buffers it.body it.procedures (inner_kinds program)) at
     (items_good F (it.after.own.parameters ∷ parameters_of it.procedures) w [] program (record { procedure = refl; named = refl }) refl refl source (ends_final schema program said) (subst AreSane (sym at) sound) e placed))
 
 stays : (v : Violation) (vs : List Violation) → first_of (Some v) vs ≡ None → ⊥
@@ -314,8 +322,8 @@ is_bound : (o : Option Violation) (t tree : Source) → or_first o t ≡ Ok tree
 is_bound None t tree e = record { none = refl; tree = cc }
 is_bound (Some v) t tree e = absurd cc
 
-pub well_kinded : (schema : SchemaData) (program : Program) (tree : Source) → is_masked schema ≡ true → bound schema program ≡ Ok tree → is_well_kinded schema tree ≡ true
+pub well_kinded : (schema : SchemaData) (program : Program) (tree : Source) → is_masked schema ≡ true → bound schema program ≡ Ok tree → is_well_kinded schema (kinds_of_source program) tree ≡ true
 well_kinded schema program tree masked e =
     let it = is_bound (first (violations schema program)) (judged schema program (namings schema program)).is tree e in
     let fine = no_first (violations schema program) it.none in
-    subst (λ t. is_well_kinded schema t ≡ true) it.tree (judged_good schema program masked (nil_left (judged schema program (namings schema program)).breaks _ fine))
+    subst (λ t. is_well_kinded schema (kinds_of_source program) t ≡ true) it.tree (judged_good schema program masked (nil_left (judged schema program (namings schema program)).breaks _ fine))

@@ -1,3 +1,4 @@
 pub mod WellKinded
+pub mod Kinds
 pub mod Values
 pub mod Examples

@@ -20,18 +20,18 @@ use Rattle.bind_names.specs.declared.sort.Sort.{Sort}
 use Rattle.bind_names.specs.Sorts.{same_kind, is_whole_kind, is_number_kind, may, may_be_logical, may_be_number, fits, sort_of_value, is_broken, branch_sort, if_sort, kind_in, mask_fits}
 use Rattle.bind_expressions.specs.WellKinded.{sort_of}
 
--- the initial values of a procedure's variables
-pub record Initials : Type 0 where
-  pub undoable : List Value
-  pub no_undo : List Value
+-- the kinds of a procedure's variables by their numbers: of those that an UNDO restores, and of the NO-UNDO ones
+pub record VariableKinds : Type 0 where
+  pub undoable : List Kind
+  pub no_undo : List Kind
 
--- what the statements of a procedure refer to: the schema, the procedure's buffers, its own variables and those of the external
--- procedure, and the parameters of each procedure of the source
+-- what the statements of a procedure refer to: the schema, the procedure's buffers, the kinds of its own variables and of those of the
+-- external procedure, and the parameters of each procedure of the source
 pub record Surroundings : Type 0 where
   pub schema : SchemaData
   pub buffers : List BufferDef
-  pub own : Initials
-  pub outer : Initials
+  pub own : VariableKinds
+  pub outer : VariableKinds
   pub parameters : List (List Variable)
 
 -- ---- marks of kinds
@@ -57,20 +57,15 @@ kind_of_field t field = (slice_index_or t.fields field no_field).kind
 abbrev pub is_field : Surroundings → ℕ → ℕ → Kind → Bool
 is_field x buffer field kind = is_kind kind (kind_of_field (table_of x buffer) field)
 
--- the value is of the kind, or `?`
-abbrev pub is_of_kind : Kind → Option Value → Bool
-is_of_kind kind None = false
-is_of_kind kind (Some v) = may (same_kind kind) (sort_of_value v)
-
--- the value with which a variable begins
-abbrev pub initial_value : Surroundings → Variable → Option Value
-initial_value x v =
+-- the kind of a variable, where the procedure has it
+abbrev pub kind_of_variable : Surroundings → Variable → Option Kind
+kind_of_variable x v =
     let all = if v.external then x.outer else x.own in
     slice_get (if v.undoable then all.undoable else all.no_undo) v.number
 
 -- the procedure has this variable, of this kind
 abbrev pub is_variable : Surroundings → Variable → Bool
-is_variable x v = is_of_kind v.kind (initial_value x v)
+is_variable x v = is_kind v.kind (kind_of_variable x v)
 
 -- each mark in an expression is right: a variable's and a field's are those of what they name, that of an IF is what its branches make
 abbrev pub is_marked : Surroundings → Expr → Bool
@@ -234,30 +229,45 @@ abbrev mutual
 
 -- ---- the whole source
 
-abbrev pub initials : Procedure → Initials
-initials q = record { undoable = q.undoable; no_undo = q.no_undo }
+-- the value is of the kind, or `?`
+abbrev pub is_of_kind : Kind → Value → Bool
+is_of_kind kind v = may (same_kind kind) (sort_of_value v)
+
+-- each value is of the kind beside it, or `?`, and there are as many values as kinds
+abbrev pub are_of_kinds : List Kind → List Value → Bool
+are_of_kinds [] [] = true
+are_of_kinds [] (v ∷ vs) = false
+are_of_kinds (k ∷ ks) [] = false
+are_of_kinds (k ∷ ks) (v ∷ vs) = is_of_kind k v && are_of_kinds ks vs
 
 abbrev pub parameters_of : List Procedure → List (List Variable)
 parameters_of = map (λ q. q.parameters)
 
--- inside a procedure of a source with this external procedure and these parameters
-abbrev pub inside : SchemaData → Initials → List (List Variable) → Procedure → Surroundings
-inside schema outer parameters q = record { schema = schema; buffers = q.buffers; own = initials q; outer = outer; parameters = parameters }
+-- inside a procedure with variables of these kinds, of a source with these kinds of the external procedure and these parameters
+abbrev pub inside : SchemaData → VariableKinds → List (List Variable) → VariableKinds → Procedure → Surroundings
+inside schema outer parameters own q = record { schema = schema; buffers = q.buffers; own = own; outer = outer; parameters = parameters }
+
+-- its variables begin with values of their kinds
+abbrev pub begins_well : VariableKinds → Procedure → Bool
+begins_well own q = are_of_kinds own.undoable q.undoable && are_of_kinds own.no_undo q.no_undo
 
 abbrev pub is_good_procedure : Surroundings → Procedure → Bool
-is_good_procedure x q = list_all (is_variable x) q.parameters && (is_header x q.header && is_body x q.body)
+is_good_procedure x q = begins_well x.own q && (list_all (is_variable x) q.parameters && (is_header x q.header && is_body x q.body))
 
-abbrev pub is_procedure : SchemaData → Initials → List (List Variable) → Procedure → Bool
-is_procedure schema outer parameters q = is_good_procedure (inside schema outer parameters q) q
+abbrev pub is_procedure : SchemaData → VariableKinds → List (List Variable) → VariableKinds → Procedure → Bool
+is_procedure schema outer parameters own q = is_good_procedure (inside schema outer parameters own q) q
 
--- the external procedure comes first
-abbrev pub are_procedures : SchemaData → List Procedure → Bool
-are_procedures schema [] = false
-are_procedures schema (main ∷ others) = list_all (is_procedure schema (initials main) (parameters_of (main ∷ others))) (main ∷ others)
+-- each procedure with the kinds beside it
+abbrev pub are_procedures : SchemaData → VariableKinds → List (List Variable) → List VariableKinds → List Procedure → Bool
+are_procedures schema outer parameters [] [] = true
+are_procedures schema outer parameters [] (q ∷ qs) = false
+are_procedures schema outer parameters (own ∷ kinds) [] = false
+are_procedures schema outer parameters (own ∷ kinds) (q ∷ qs) = is_procedure schema outer parameters own q && are_procedures schema outer parameters kinds qs
 
--- IT IS WELL-KINDED
-abbrev pub is_well_kinded : SchemaData → Source → Bool
-is_well_kinded schema source = are_procedures schema source.procedures
+-- IT IS WELL-KINDED where the variables of its procedures have these kinds, those of the external one first: one kind a variable, wherever it is used
+abbrev pub is_well_kinded : SchemaData → List VariableKinds → Source → Bool
+is_well_kinded schema [] source = false
+is_well_kinded schema (main ∷ others) source = are_procedures schema main (parameters_of source.procedures) (main ∷ others) source.procedures
 
 -- ---- the schema
 

@@ -14,12 +14,15 @@ ghost use Rattle.bind_names.specs.declared.sort.Sort.{Sort};
 ghost use Rattle.bind_expressions.specs.WellKinded.{sort_of};
 ghost use Rattle.bound_kinds.specs.Values.{Has, Keeps, is_masked_by};
 ghost use Rattle.abl_types.specs.Sources.{bound};
+ghost use Rattle.bound_kinds.specs.Kinds.{kinds_of_source};
 ghost use Rattle.bound_kinds.specs.WellKinded.{Surroundings, is_good, is_masked, is_shown, is_well_kinded};
 
 /// Where the mask of each field of the schema is one for its kind, every source that breaks none of
-/// the rules Y is bound to a well-kinded tree. `bind` of `abl_types` returns what `bound` says.
+/// the rules Y is bound to a tree that is well-kinded with the kinds that its definitions of variables
+/// and parameters say: each use of a variable has the one kind of its definition. `bind` of `abl_types`
+/// returns what `bound` says.
 pub fn what_is_bound_is_well_kinded()
-    ensures { (schema : SchemaData) (program : Program) (tree : Source) → is_masked schema ≡ true → bound schema program ≡ Ok tree → is_well_kinded schema tree ≡ true }
+    ensures { (schema : SchemaData) (program : Program) (tree : Source) → is_masked schema ≡ true → bound schema program ≡ Ok tree → is_well_kinded schema (kinds_of_source program) tree ≡ true }
 {}
 
 /// The schema that a file means has such masks: a FORMAT that is no mask for the field's kind counts
