@@ -9,3 +9,5 @@ pub mod Denoted
 pub mod FramesOut
 pub mod LevelFrames
 pub mod NoBuffers
+pub mod Everywhere
+pub mod LastMade

@@ -94,6 +94,11 @@ last_copy [] = None
 last_copy (c ∷ []) = Some c
 last_copy (c ∷ d ∷ cs) = last_copy (d ∷ cs)
 
+-- the number of CREATEs before the level of a copy began; 0 without a level
+abbrev pub made_before : Option Copy → ℕ
+made_before None = 0
+made_before (Some c) = c.made
+
 -- the variables in a copy, the outermost procedure first
 abbrev pub variables_in : Copy → Values
 variables_in c = reverse (map (λ x. x.undoable) c.frames)

@@ -40,3 +40,9 @@ abbrev pub innermost_frames : List SavepointRs → ℕ
 innermost_frames [] = 0
 innermost_frames (m ∷ []) = m.frames
 innermost_frames (m ∷ k ∷ ms) = innermost_frames (k ∷ ms)
+
+-- the number of CREATEs before the innermost level began; 0 where no level is open
+abbrev pub innermost_made : List SavepointRs → ℕ
+innermost_made [] = 0
+innermost_made (m ∷ []) = m.made
+innermost_made (m ∷ k ∷ ms) = innermost_made (k ∷ ms)

@@ -6,7 +6,9 @@ pub mod buffer;
 pub mod buffers;
 pub mod laws;
 pub mod memory;
+pub mod places;
 pub mod records;
+pub mod rows;
 pub mod slots;
 
 pub use buffer::{Buffer, Content, Held, Place, Spot};

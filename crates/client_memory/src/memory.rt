@@ -5,20 +5,23 @@ ghost use Rattle.abl_base.specs.declared.value.Value.{Value};
 ghost use Rattle.bound_tree.specs.declared.expression.Variable.{Variable};
 ghost use Rattle.block_meaning.specs.Frames.{no_buffer};
 ghost use Rattle.client_memory.specs.Undo.{Values, with_value, value_at, restored_to, old_values_before, copy_at};
-ghost use Rattle.client_memory.specs.Buffers.{denoted_buffer, denoted_content, denoted_place, denoted_spot_if};
-ghost use Rattle.client_memory.specs.Memory.{Remembered, begun, ended, IsOuter, frame_of as procedure_of, value_now, set_variable, buffer_at, holding, marked_locked, with_spot, HasNoBuffers, entered, left, left_to, restored, IsWhole};
+ghost use Rattle.client_memory.specs.Buffers.{denoted_buffer, denoted_content, denoted_place, denoted_spot_if, places_in, rows_kept as kept};
+ghost use Rattle.client_memory.specs.Memory.{Remembered, begun, ended, IsOuter, frame_of as procedure_of, value_now, set_variable, buffer_at, holding, marked_locked, with_spot, HasNoBuffers, entered, left, left_to, restored, IsWhole, last_copy, made_before};
 ghost use Rattle.client_memory.specs.OldValues.{old_values_of};
-ghost use Rattle.client_memory.specs.Savepoints.{innermost_frames};
+ghost use Rattle.client_memory.specs.Savepoints.{innermost_frames, innermost_made};
 
 use crate::buffer::{Buffer, Content, Place, Spot};
 use crate::buffers::{Buffers, SavedContents};
+use crate::places::all_places;
 use crate::records::{
     buffer_in, copy_records, has_some, replace_in, restore_records, saved_records, set_locked_in,
     set_spot_in, share_all,
 };
+use crate::rows::kept_rows;
 use crate::slots::Slots;
-use abl_base::Value;
+use abl_base::{Items, Value};
 use bound_tree::Variable;
+use client_database::RowIds;
 use std::alloc::{AllocError, Global};
 use std::marker::Model;
 
@@ -87,6 +90,16 @@ fn outer_procedures(savepoints: &[Savepoint]) -> usize
 {
     match savepoints.last() {
         Some(savepoint) => savepoint.frames,
+        None => 0,
+    }
+}
+
+/// The number of CREATEs before the innermost level began; 0 where no level is open.
+fn creates_before(savepoints: &[Savepoint]) -> u64
+    ensures { result ≡ innermost_made savepoints.now }
+{
+    match savepoints.last() {
+        Some(savepoint) => savepoint.made,
         None => 0,
     }
 }
@@ -169,6 +182,13 @@ impl Memory {
         self.depth
     }
 
+    /// The number of CREATEs before the innermost level began; 0 where no level is open.
+    pub fn made_before(&self) -> u64
+        ensures { result ≡ made_before (last_copy self.now.copies) }
+    {
+        creates_before(&self.savepoints)
+    }
+
     /// The value of a variable; `unknown` where there is no such variable.
     pub fn get<'a>(&'a self, variable: Variable, unknown: &'a Value) -> &'a Value
         requires { unknown.now ≡ Value.Unknown }
@@ -236,6 +256,24 @@ impl Memory {
         ensures { self.new ≡ with_spot (denoted_place place) (denoted_spot_if spot) self.old }
     {
         set_spot_in(&mut self.buffers, place, spot);
+    }
+
+    /// The places of all buffers, the outermost procedure first. Without a buffer it needs no memory.
+    /// Out of memory is the only error.
+    pub fn places(&self) -> Result<Vec<Place>, AllocError>
+        ensures { IfOk result (λ places. map denoted_place places.items ≡ places_in self.now.buffers) }
+    {
+        all_places(*self.savepoints.allocator(), &self.buffers)
+    }
+
+    /// The rows that the buffers hold with a lock, in ascending order and each once, but those that
+    /// only the buffers `but` of the running procedure hold. Without such a row it needs no memory.
+    /// Out of memory is the only error.
+    pub fn rows_kept(&self, but: &[u32]) -> Result<RowIds, AllocError>
+        ensures { IfOk result (λ rows. rows ≡ kept but.now self.now.buffers) }
+    {
+        let rows = kept_rows(*self.savepoints.allocator(), &self.buffers, but)?;
+        Ok(Items::from_vec(rows))
     }
 
     /// Whether a procedure has a buffer.
