@@ -1,4 +1,6 @@
+pub mod Clients
 pub mod CheckForms
 pub mod Forms
 pub mod Numbers
+pub mod RunForms
 pub mod Splits

@@ -1,8 +1,9 @@
 -- The arguments of the command line: their form, and the number of the wrong one.
-use Rattle.std.specs.Prelude.{◌≡◌, ◌⊎◌, ℕ, ◌+◌, ◌*◌, ◌-◌, ◌<◌, ◌≤◌, ◌≢◌, List, [], ◌∷◌, ◌++◌, length, All, take, codes, fold, slice_index, Option, Some, None, option_copied}
+use Rattle.std.specs.Prelude.{◌≡◌, ◌⊎◌, ℕ, ◌+◌, ◌*◌, ◌-◌, ◌<◌, ◌≤◌, ◌≢◌, List, [], ◌∷◌, ◌++◌, length, All, take, codes, fold, slice_index, Option, Some, None, option_copied, map}
 use Rattle.abl_arguments.specs.declared.parts.Mode.{Mode}
 use Rattle.abl_arguments.specs.declared.parts.Mode.TheVariants.{Trace, Quiet}
 use Rattle.abl_arguments.specs.declared.run.RunArguments.{RunArguments}
+use Rattle.abl_arguments.specs.declared.client.ClientArgument.{ClientArgument}
 use Rattle.abl_arguments.specs.declared.check.CheckArguments.{CheckArguments}
 use Rattle.abl_arguments.specs.declared.command.Command.{Command}
 use Rattle.abl_arguments.specs.declared.command.Command.TheVariants.{Run as ToRun, Check as ToCheck}
@@ -43,18 +44,18 @@ abbrev pub IsInput : Option (List ℕ) → Type 0
 IsInput None = Unit {0}
 IsInput (Some name) = IsFileName name
 
--- the files that a run reads first: the schema file, the source, and the client's input, if it is named
-pub record RunFiles : Type 0 where
-  pub schema : List ℕ
+-- a client: its name, its source, and its input, if it has one
+pub record ClientFiles : Type 0 where
+  pub name : List ℕ
   pub program : List ℕ
   pub input : Option (List ℕ)
 
--- what the arguments `run SCHEMA STEPS MODE NAME=PROG` or `run SCHEMA STEPS MODE NAME=PROG<INPUT` name
+-- what the arguments `run SCHEMA STEPS MODE CLIENT...` name, each CLIENT `NAME=PROG` or `NAME=PROG<INPUT`
 pub record Run : Type 0 where
-  pub files : RunFiles
+  pub schema : List ℕ
   pub steps : List ℕ
   pub mode : Mode
-  pub name : List ℕ
+  pub clients : List ClientFiles
 
 -- `<INPUT`, or nothing
 abbrev pub input_part : Option (List ℕ) → List ℕ
@@ -62,20 +63,32 @@ input_part None = []
 input_part (Some name) = 60 ∷ name
 
 -- `NAME=PROG` or `NAME=PROG<INPUT`
-abbrev pub client_argument : List ℕ → RunFiles → List ℕ
-client_argument name files = name ++ 61 ∷ (files.program ++ input_part files.input)
+abbrev pub client_argument : ClientFiles → List ℕ
+client_argument c = c.name ++ 61 ∷ (c.program ++ input_part c.input)
 
 -- the arguments that name it
 abbrev pub arguments_of : Run → List (List ℕ)
-arguments_of run = codes "run" ∷ run.files.schema ∷ run.steps ∷ mode_argument run.mode ∷ client_argument run.name run.files ∷ []
+arguments_of run = codes "run" ∷ run.schema ∷ run.steps ∷ mode_argument run.mode ∷ map client_argument run.clients
 
--- each part has its form
+-- each part of a client has its form
+pub record IsClientFiles (c : ClientFiles) : Type 0 where
+  pub name : IsName c.name
+  pub program : IsFileName c.program
+  pub input : IsInput c.input
+
+-- no two of the clients have one name
+abbrev pub HaveOwnNames : List ClientFiles → Type 0
+HaveOwnNames [] = Unit {0}
+HaveOwnNames (c ∷ cs) = All (λ (d : ClientFiles). c.name ≢ d.name) cs × HaveOwnNames cs
+
+-- each part has its form, and there are 1 to 16 clients, whose names differ
 pub record IsRun (run : Run) : Type 0 where
-  pub schema : 0 < length run.files.schema
+  pub schema : 0 < length run.schema
   pub steps : IsSteps run.steps
-  pub name : IsName run.name
-  pub program : IsFileName run.files.program
-  pub input : IsInput run.files.input
+  pub some : 0 < length run.clients
+  pub few : length run.clients ≤ 16
+  pub clients : All IsClientFiles run.clients
+  pub names : HaveOwnNames run.clients
 
 -- the arguments have the form of a run
 abbrev pub HaveRunForm : List (List ℕ) → Type 0
@@ -119,20 +132,26 @@ pub data IsWrongIn (form : List (List ℕ) → Type 0) : List (List ℕ) → ℕ
 abbrev pub IsWrong : List (List ℕ) → ℕ → Type 0
 IsWrong = IsWrongIn HaveForm
 
--- the files that were read off the arguments
-abbrev pub files_of : RunArguments → RunFiles
-files_of read = record { schema = read.schema.now; program = read.program.now; input = option_copied read.input }
+-- the client that was read off an argument
+abbrev pub client_in : ClientArgument → ClientFiles
+client_in read = record { name = read.name.now; program = read.program.now; input = option_copied read.input }
 
--- and the run, where STEPS is this argument
-abbrev pub run_of : RunArguments → List ℕ → Run
-run_of read steps = record { files = files_of read; steps = steps; mode = read.mode; name = read.name.now }
+-- the arguments are those of clients whose parts have their form, and whose names differ
+pub record AreClients (arguments : List (List ℕ)) : Type 0 where
+  pub clients : List ClientFiles
+  pub good : All IsClientFiles clients
+  pub names : HaveOwnNames clients
+  pub arguments_are : arguments ≡ map client_argument clients
 
 -- the arguments name what was read
 pub record Names (arguments : List (List ℕ)) (read : RunArguments) : Type 0 where
-  pub steps : List ℕ
-  pub is_run : IsRun (run_of read steps)
-  pub arguments_are : arguments ≡ arguments_of (run_of read steps)
-  pub number : read.steps ≡ number_of steps
+  pub run : Run
+  pub is_run : IsRun run
+  pub arguments_are : arguments ≡ arguments_of run
+  pub schema : read.schema.now ≡ run.schema
+  pub steps : read.steps ≡ number_of run.steps
+  pub mode : read.mode ≡ run.mode
+  pub clients : read.clients.now ≡ map client_argument run.clients
 
 -- what a check reads off the arguments
 abbrev pub check_of : CheckArguments → Check

@@ -1,12 +1,12 @@
--- The form of the command line, argument by argument.
+-- The form of the arguments of a run, argument by argument.
 use Rattle.std.specs.Prelude.{◌≡◌, ℕ, ◌<◌, List, [], ◌∷◌, ◌++◌, length, codes, Option}
 use Rattle.abl_arguments.specs.declared.run.Argument.{Argument}
-use Rattle.abl_arguments.specs.declared.run.Argument.TheVariants.{Command, Schema, Steps, Mode, Client}
+use Rattle.abl_arguments.specs.declared.run.Argument.TheVariants.{Command, Schema, Steps, Mode}
 use Rattle.abl_arguments.specs.CommandLine.{IsMode, IsSteps, IsName, IsFileName, IsInput, input_part}
 
--- the places of the form, in order
+-- the places before the clients, in order
 abbrev pub form : List Argument
-form = Command ∷ Schema ∷ Steps ∷ Mode ∷ Client ∷ []
+form = Command ∷ Schema ∷ Steps ∷ Mode ∷ []
 
 -- `PROG` or `PROG<INPUT`
 pub record AreFiles (part : List ℕ) : Type 0 where
@@ -30,7 +30,6 @@ Fits Command arg = arg ≡ codes "run"
 Fits Schema arg = 0 < length arg
 Fits Steps arg = IsSteps arg
 Fits Mode arg = IsMode arg
-Fits Client arg = IsClient arg
 
 -- each argument fits its place, and there are no more arguments than places
 abbrev pub FitAll : List Argument → List (List ℕ) → Type 0

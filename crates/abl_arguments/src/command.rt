@@ -10,7 +10,7 @@ use crate::run::{RunArguments, read_run};
 /// The command that the arguments name.
 #[derive(Clone, Copy)]
 pub enum Command<'a> {
-    /// Run a source.
+    /// Run sources, each as a client.
     Run(RunArguments<'a>),
     /// List the blocks of sources.
     Check(CheckArguments<'a>),
@@ -29,9 +29,9 @@ fn after_check(arguments: &[Arg]) -> Option<&[Arg]>
     }
 }
 
-/// The command that the arguments name, where they have the form `run SCHEMA STEPS MODE NAME=PROG`,
-/// `run SCHEMA STEPS MODE NAME=PROG<INPUT` or `check SCHEMA PROG...` with 1 to 16 PROG; else the number
-/// of the wrong argument, from 0, which is the count of arguments where more are missing.
+/// The command that the arguments name, where they have the form `run SCHEMA STEPS MODE CLIENT...` with
+/// 1 to 16 clients whose names differ, or `check SCHEMA PROG...` with 1 to 16 PROG; else the number of
+/// the wrong argument, from 0, which is the count of arguments where more are missing.
 pub fn read_command(arguments: &[Arg]) -> Result<Command<'_>, u32>
     ensures form { IfOk result (NamesCommand arguments.now) }
     ensures wrong { IfErr result (IsWrong arguments.now) }

@@ -5,12 +5,13 @@
 #![tactic(auto)]
 
 pub mod check;
-mod client;
+pub mod client;
 pub mod command;
 pub mod parts;
 pub mod run;
 
 pub use check::CheckArguments;
+pub use client::{ClientArgument, client_of};
 pub use command::{Command, read_command};
 pub use parts::{Arg, Mode};
 pub use run::RunArguments;

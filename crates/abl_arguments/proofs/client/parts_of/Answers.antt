@@ -2,7 +2,7 @@
 use Rattle.std.proofs.Common.{subst, sym}
 use Rattle.abl_arguments.specs.Places.{AreFiles}
 use Rattle.abl_arguments.proofs.Splits.{parts_of_client, no_client}
-use Rattle.abl_arguments.proofs.client.client_of.Goals as goal
+use Rattle.abl_arguments.proofs.client.parts_of.Goals as goal
 
 pub returns-in_err-at-clause-none : goal.returns-in_err-at-clause-none
 returns-in_err-at-clause-none c = rw c.from_residual.ensures (no_client _ c.in_err-at.ensures.none)
