@@ -1,6 +1,8 @@
 -- What a database of levels is a database of.
 use Rattle.std.proofs.Common.{◌≡◌, ℕ, ◌≤◌, List, [], Some, length, replicate, sym, ◌∙◌, subst}
 use Rattle.std.proofs.lemmas.List.{length-replicate}
+use Rattle.std.proofs.lemmas.List.Elements.{All-nil}
+use Rattle.std.specs.Prelude.{All}
 use Rattle.database_meaning.specs.declared.contents.Contents.{Contents}
 use Rattle.client_database.specs.declared.event.Event.{Event}
 use Rattle.abl_base.specs.declared.limits.TheConstants.{MAX_TRACE_BYTES}
@@ -8,7 +10,7 @@ use Rattle.database_meaning.specs.Setting.{Setting}
 use Rattle.database_meaning.specs.Traces.{IsSoundContents}
 use Rattle.level_machine.specs.declared.level_database.LevelDatabase.{LevelDatabase}
 use Rattle.level_machine.specs.Reached.{Reached}
-use Rattle.level_machine.specs.Turns.{IsAfter}
+use Rattle.level_machine.specs.Turns.{IsAfter, IsLevelOp}
 use Rattle.level_machine.specs.LevelDatabase.{IsOpened}
 use Rattle.level_machine.proofs.Longer.{begins_legal}
 
@@ -23,4 +25,5 @@ opened_first database clients setting contents levels trace few sound =
         at = after.at;
       };
       legal = after.legal;
+      levels = subst (All (λ (e : Event). IsLevelOp e.op)) (sym trace) (All-nil (λ (e : Event). IsLevelOp e.op));
     }

@@ -1,6 +1,8 @@
 -- The settings and contents of which a database of levels is one, and which of its clients are active.
 use Rattle.std.specs.Prelude.{◌+◌, ◌<◌, ◌≤◌, ℕ, length, vec_len, vec_capacity}
+use Rattle.std.specs.Prelude.{All}
 use Rattle.database_meaning.specs.declared.contents.Contents.{Contents}
+use Rattle.client_database.specs.declared.event.Event.{Event}
 use Rattle.client_database.specs.declared.operation.Op.{Op}
 use Rattle.database_meaning.specs.Setting.{Setting}
 use Rattle.database_meaning.specs.Traces.{IsLegal}
@@ -13,10 +15,11 @@ pub record HasSetting (database : LevelDatabase) (setting : Setting) : Type 0 wh
   pub clients : length database.levels.clients ≤ setting.clients
   pub at : IsLeft setting database.levels database.trace.items
 
--- and the trace is legal from these contents
+-- and the trace is legal from these contents, and each operation in it is one of levels
 pub record IsOpened (database : LevelDatabase) (setting : Setting) (contents : Contents) : Type 0 where
   pub of_setting : HasSetting database setting
   pub legal : IsLegal setting contents database.trace.items
+  pub levels : All (λ (e : Event). IsLevelOp e.op) database.trace.items
 
 -- an operation of levels of a client of the database
 abbrev pub Serves : LevelDatabase → ℕ → Op → Type 0
