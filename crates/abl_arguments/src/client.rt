@@ -77,10 +77,12 @@ fn parts_of(arg: &[u8]) -> Option<(&[u8], FilesPart<'_>)>
     }
 }
 
-/// The client that the argument names, where it has the form `NAME=PROG` or `NAME=PROG<INPUT`.
+/// The client that the argument names, where it has the form `NAME=PROG` or `NAME=PROG<INPUT`. An
+/// argument names one client at most.
 pub fn client_of(arg: &[u8]) -> Option<ClientArgument<'_>>
     ensures some { IfSome result (λ client. IsClientFiles (client_in client) × (arg.now ≡ client_argument (client_in client))) }
     ensures none { IfNone result ((c : ClientFiles) → IsClientFiles c → ¬ (arg.now ≡ client_argument c)) }
+    ensures one { (c : ClientFiles) → IsClientFiles c → arg.now ≡ client_argument c → IfSome result (λ client. client_in client ≡ c) }
 {
     match parts_of(arg) {
         Some((name, files)) => Some(ClientArgument {
