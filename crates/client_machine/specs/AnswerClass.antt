@@ -12,7 +12,7 @@ use Rattle.client_machine.specs.declared.answers.AnswerClass.{AnswerClass as Ins
 use Rattle.client_machine.specs.declared.answers.AnswerClass.TheVariants as answer_class
 use Rattle.client_machine.specs.declared.mode.OnAnswer.{OnAnswer}
 use Rattle.client_machine.specs.declared.mode.Mode.TheVariants as mode
-use Rattle.client_machine.specs.Config.{op_of, on_answer_of}
+use Rattle.client_machine.specs.Config.{on_answer_of}
 use Rattle.client_machine.specs.Machine.{stack_in, state_in}
 use Rattle.client_machine.specs.Step.{code_in, FitsIn, RunKept}
 
@@ -23,6 +23,6 @@ IsOfAnswerClass answer_class.NoMemory a = Unit {0}
 IsOfAnswerClass answer_class.Done a = (p : Program) (o : Op) (k : flat.OnAnswer) (ks : List flat.StackEntry) (s : State) → flat.answered p a o k ks s ≡ flat.answer_step p k a ks s
 
 -- the answer to the operation was taken: the run is kept
-abbrev pub KeepsAnswer : OnAnswer → Answer → Machine → Machine → Type 0
-KeepsAnswer on_answer a old new = (tree : ℕ → Body) (p : Program) (rest : State) → flat.IsCodeOf (code_in old) p tree → FitsIn p rest (mode.Await on_answer) old →
-    RunKept tree p (flat.config (flat.Await (op_of old.memory.copies on_answer) (on_answer_of old.code.instrs.items old.memory.copies on_answer)) (stack_in old) (state_in rest old)) (a ∷ []) rest.written old new
+abbrev pub KeepsAnswer : Op → OnAnswer → Answer → Machine → Machine → Type 0
+KeepsAnswer o on_answer a old new = (tree : ℕ → Body) (p : Program) (rest : State) → flat.IsCodeOf (code_in old) p tree → FitsIn p rest (mode.Await o on_answer) old →
+    RunKept tree p (flat.config (flat.Await o (on_answer_of old.code.instrs.items old.memory.copies o on_answer)) (stack_in old) (state_in rest old)) (a ∷ []) rest.written old new

@@ -1,22 +1,29 @@
 -- What the fields of a machine denote.
-use Rattle.std.specs.Prelude.{ℕ, ◌-◌, ◌≤◌, ◌<◌, List, [], ◌∷◌, Option, Some, None, map, reverse, length, slice_get, slice_index_or}
-use Rattle.bound_tree.specs.Tree.{Header, Action, Argument, Run, ThenRetry, ThenLeave, ThenNext, ThenReturn, ThenError}
+use Rattle.std.specs.Prelude.{ℕ, ◌-◌, ◌≤◌, ◌<◌, Bool, List, [], ◌∷◌, Option, Some, None, drop, map, reverse, length, slice_get, slice_index_or}
+use Rattle.bound_tree.specs.Tree.{Header, Action, Argument, Assignment, Fetch, Given, Reading, Run, ThenRetry, ThenLeave, ThenNext, ThenReturn, ThenError}
 use Rattle.client_database.specs.declared.ends.ClientEnd.TheVariants as client
 use Rattle.block_meaning.specs.State as state
 use Rattle.block_meaning.specs.State.{State, CallFrame, Copy, Passed}
 use Rattle.block_meaning.specs.Blocks as blocks
+use Rattle.block_meaning.specs.Reads.{Search}
 use Rattle.block_flat.specs.Flat as flat
+use Rattle.abl_base.specs.declared.value.Value.{Value}
+use Rattle.abl_base.specs.declared.value.Value.TheVariants.{Unknown}
+use Rattle.client_database.specs.declared.row_order.Cursor.{Cursor}
+use Rattle.client_memory.specs.Buffers.{denoted_content, denoted_held, denoted_place}
+use Rattle.complaint_lines.specs.Complaints as complaints
 use Rattle.client_memory.specs.Memory.{Remembered}
 pub use Rattle.client_values.specs.Variables.{frames_out, AreEven}
 use Rattle.block_code.specs.declared.code.Instr.{Instr}
 use Rattle.block_code.specs.Code.{instr_of, header_in, body_in}
 use Rattle.client_machine.specs.Actions.{returned_in}
+use Rattle.client_machine.specs.Statements.{reading_in, fetch_in, find_word_in, wait_in, pairs_in, import_stream_in, import_targets_in, no_assignment, inserted_table, inserted_values}
 use Rattle.client_machine.specs.declared.mode.TurnData.{TurnData}
 use Rattle.client_machine.specs.declared.mode.IterationData.{IterationData}
 use Rattle.client_machine.specs.declared.mode.AfterUndo.{AfterUndo}
 use Rattle.client_machine.specs.declared.mode.AfterUndo.TheVariants as after_undo
 use Rattle.client_machine.specs.declared.mode.PassedLevels.{PassedLevels}
-use Rattle.block_meaning.specs.Lines.{Complaint, complaint_of, BadField}
+use Rattle.block_meaning.specs.Lines.{Complaint, complaint_of}
 use Rattle.client_machine.specs.declared.mode.LineFault.{LineFault}
 use Rattle.client_machine.specs.declared.mode.LineFault.TheVariants as line_fault
 use Rattle.client_machine.specs.declared.mode.Completion.{Completion}
@@ -29,8 +36,31 @@ use Rattle.client_machine.specs.declared.mode.OnAnswer.{OnAnswer}
 use Rattle.client_machine.specs.declared.mode.OnAnswer.TheVariants as on_answer
 use Rattle.client_machine.specs.declared.mode.Mode.{Mode}
 use Rattle.client_machine.specs.declared.mode.Mode.TheVariants as mode
+use Rattle.client_machine.specs.declared.mode.ends.BufferList.{BufferList}
+use Rattle.client_machine.specs.declared.mode.ends.BufferList.TheVariants as buffer_list
+use Rattle.client_machine.specs.declared.mode.ends.EndTask.{EndTask}
+use Rattle.client_machine.specs.declared.mode.ends.EndTask.TheVariants as end_task
+use Rattle.client_machine.specs.declared.mode.ends.EndEntry.{EndEntry}
+use Rattle.client_machine.specs.declared.mode.ends.EndEntry.TheVariants as end_entry
+use Rattle.client_machine.specs.declared.mode.ends.EndAnswer.{EndAnswer}
+use Rattle.client_machine.specs.declared.mode.ends.EndAnswer.TheVariants as end_answer
+use Rattle.client_machine.specs.declared.mode.reads.SearchData.{SearchData}
+use Rattle.client_machine.specs.declared.mode.reads.ReadTask.{ReadTask}
+use Rattle.client_machine.specs.declared.mode.reads.ReadTask.TheVariants as read_task
+use Rattle.client_machine.specs.declared.mode.reads.ReadEntry.{ReadEntry}
+use Rattle.client_machine.specs.declared.mode.reads.ReadEntry.TheVariants as read_entry
+use Rattle.client_machine.specs.declared.mode.reads.ReadAnswer.{ReadAnswer}
+use Rattle.client_machine.specs.declared.mode.reads.ReadAnswer.TheVariants as read_answer
+use Rattle.client_machine.specs.declared.mode.changes.GivenValue.{GivenValue}
+use Rattle.client_machine.specs.declared.mode.changes.AssignmentList.{AssignmentList}
+use Rattle.client_machine.specs.declared.mode.changes.AssignmentList.TheVariants as assignment_list
+use Rattle.client_machine.specs.declared.mode.changes.ChangeTask.{ChangeTask}
+use Rattle.client_machine.specs.declared.mode.changes.ChangeTask.TheVariants as change_task
+use Rattle.client_machine.specs.declared.mode.changes.ChangeEntry.{ChangeEntry}
+use Rattle.client_machine.specs.declared.mode.changes.ChangeEntry.TheVariants as change_entry
+use Rattle.client_machine.specs.declared.mode.changes.ChangeAnswer.{ChangeAnswer}
+use Rattle.client_machine.specs.declared.mode.changes.ChangeAnswer.TheVariants as change_answer
 use Rattle.client_database.specs.declared.operation.Op.{Op}
-use Rattle.client_database.specs.declared.operation.Op.TheVariants as op
 
 -- ---- code
 
@@ -72,7 +102,7 @@ copy_in cs (Some d) = Some (slice_index_or cs (d - 1) no_copy)
 -- ---- the stack
 
 abbrev pub turn_of : TurnData → state.Turn
-turn_of t = record { retry = t.retry; start = t.start; by = t.by; own = None }
+turn_of t = record { retry = t.retry; start = t.start; by = t.by; own = t.own }
 
 -- an iteration whose level is left
 abbrev pub iteration_without : TurnData → blocks.Iteration
@@ -88,13 +118,19 @@ after_undo_of code (after_undo.Next l) = ThenNext l
 after_undo_of code (after_undo.Return error k source) = ThenReturn error (returned_in source (instr_at code k))
 after_undo_of code after_undo.Error = ThenError
 
-abbrev pub passed_of : List Copy → PassedLevels → Passed
-passed_of cs x = record { first = copy_in cs x.first; buffers = [] }
+-- the buffers of a list
+abbrev pub buffers_of : List Instr → BufferList → List ℕ
+buffers_of code buffer_list.None = []
+buffers_of code (buffer_list.Scoped k) = (header_at code k).scoped
+buffers_of code (buffer_list.These bs) = bs
+
+abbrev pub passed_of : List Instr → List Copy → PassedLevels → Passed
+passed_of code cs x = record { first = copy_in cs x.first; buffers = buffers_of code x.buffers }
 
 -- the complaint about a fault
 abbrev pub complaint_in : LineFault → Complaint
 complaint_in (line_fault.Expression f) = complaint_of f
-complaint_in (line_fault.BadField n) = BadField n
+complaint_in (line_fault.Complaint c) = complaints.complaint_in c
 
 -- the same, if there is one
 abbrev pub complaint_if : Option LineFault → Option Complaint
@@ -106,12 +142,130 @@ completion_of code cs completion.Normal = state.Normal
 completion_of code cs (completion.Again t) = state.Again (turn_of t)
 completion_of code cs (completion.Leaves l) = state.Leaves l
 completion_of code cs (completion.Nexts l) = state.Nexts l
-completion_of code cs (completion.Undoes block a retry x) = state.Undoes block (after_undo_of code a) retry (passed_of cs x)
+completion_of code cs (completion.Undoes block a retry x) = state.Undoes block (after_undo_of code a) retry (passed_of code cs x)
 completion_of code cs (completion.Faults f) = state.Faults (complaint_if f)
-completion_of code cs (completion.Raises x) = state.Raises (passed_of cs x)
-completion_of code cs (completion.EndKeys x) = state.EndKeys (passed_of cs x)
+completion_of code cs (completion.Raises x) = state.Raises (passed_of code cs x)
+completion_of code cs (completion.EndKeys x) = state.EndKeys (passed_of code cs x)
+completion_of code cs (completion.Found c) = state.Found c
+completion_of code cs completion.Lost = state.Lost
+completion_of code cs completion.NotFound = state.NotFound
 completion_of code cs (completion.Returns error) = state.Returns error
 completion_of code cs (completion.Stops why) = state.Stops (client.Stop why)
+
+-- ---- the ends of iterations
+
+abbrev pub end_task_of : List Instr → List Copy → EndTask → flat.Task
+end_task_of code cs (end_task.EntersOne at) = flat.EntersOne (denoted_place at)
+end_task_of code cs (end_task.Enters places from) = flat.Enters (drop from (map denoted_place places))
+end_task_of code cs (end_task.Drops b) = flat.Drops b
+end_task_of code cs (end_task.Releases k from) = flat.Releases (drop from (header_at code k).scoped)
+end_task_of code cs (end_task.EntersRest depth) = flat.EntersRest (copy_in cs depth)
+end_task_of code cs (end_task.LeavesIf depth k) = flat.LeavesIf (copy_in cs depth) (header_at code k).scoped
+end_task_of code cs (end_task.LeavesNow but) = flat.LeavesNow (buffers_of code but)
+end_task_of code cs (end_task.Closing k o) = flat.Closing (header_at code k) (iteration_of cs o)
+end_task_of code cs (end_task.GoesBack depth but) = flat.GoesBack (copy_in cs depth) (buffers_of code but)
+end_task_of code cs (end_task.AfterBack depth but) = flat.AfterBack (slice_index_or cs (depth - 1) no_copy) (buffers_of code but)
+end_task_of code cs (end_task.UpdatesOne made at) = flat.UpdatesOne made (denoted_place at)
+end_task_of code cs (end_task.Updates made but places from) = flat.Updates made (buffers_of code but) (drop from (map denoted_place places))
+end_task_of code cs (end_task.Empties but) = flat.Empties (buffers_of code but)
+end_task_of code cs (end_task.Closes k t w) = flat.Closes (header_at code k) (iteration_without t) (completion_of code cs w)
+end_task_of code cs (end_task.Passes k ended left) = flat.Passes (header_at code k) (completion_of code cs ended) (completion_of code cs left)
+
+abbrev pub end_entry_of : List Instr → List Copy → EndEntry → flat.StackEntry
+end_entry_of code cs (end_entry.AfterClosing k o w) = flat.AfterClosing (header_at code k) (iteration_of cs o) (completion_of code cs w)
+
+-- the operation has the row of an Insert
+abbrev pub end_answer_of : List Instr → List Copy → Op → EndAnswer → flat.OnAnswer
+end_answer_of code cs o (end_answer.WasInserted at made) = flat.WasInserted (denoted_place at) (inserted_table o) (inserted_values o) made
+end_answer_of code cs o end_answer.WasDropped = flat.WasDropped
+end_answer_of code cs o (end_answer.WasBack depth but) = flat.WasBack (slice_index_or cs (depth - 1) no_copy) (buffers_of code but)
+end_answer_of code cs o (end_answer.WasGot at row held made) = flat.WasGot (denoted_place at) row (denoted_held held) made
+
+-- ---- readings
+
+-- that of the statement or header at a place
+abbrev pub reading_at : List Instr → ℕ → Reading
+reading_at code k = reading_in (instr_at code k)
+
+-- that of a FOR
+abbrev pub fetch_at : List Instr → ℕ → Fetch
+fetch_at code k = fetch_in (header_at code k).fetch
+
+abbrev pub search_of : List Instr → SearchData → Search
+search_of code k = record { reading = reading_at code k.place; forward = k.forward; only = k.only; wait = k.wait; retry = k.retry; prefix = k.prefix }
+
+-- what the reading of a FOR takes of the data of its iteration
+abbrev pub turn_read : Bool → Option Cursor → state.Turn
+turn_read again own = record { retry = again; start = None; by = Unknown; own = own }
+
+abbrev pub read_task_of : List Instr → ReadTask → flat.Task
+read_task_of code (read_task.Takes k c values) = flat.Takes (search_of code k) c values
+read_task_of code (read_task.IsOnly k c values) = flat.IsOnly (search_of code k) c values
+read_task_of code (read_task.Seconds n k c values from) = flat.Seconds n (search_of code k) c values from
+read_task_of code (read_task.TakesAs k wait retry row) = flat.TakesAs (reading_at code k) wait retry row
+read_task_of code (read_task.TakesAgain k retry row) = flat.TakesAgain (reading_at code k) retry row
+read_task_of code (read_task.Looks n k from) = flat.Looks n (search_of code k) from
+read_task_of code (read_task.Searches k forward only wait retry from) = flat.Searches (reading_at code k) forward only wait retry from
+read_task_of code (read_task.FetchesFrom k again retry own) = flat.FetchesFrom again (fetch_at code k) retry own
+read_task_of code (read_task.Fetches k again retry own) = flat.Fetches (fetch_at code k) (turn_read again own) retry
+read_task_of code (read_task.FindsAs k retry) = flat.FindsAs (find_word_in (instr_at code k)) (reading_at code k) (wait_in (instr_at code k)) retry
+read_task_of code (read_task.Finds k retry) = flat.Finds (find_word_in (instr_at code k)) (reading_at code k) (wait_in (instr_at code k)) retry
+read_task_of code (read_task.FindsCurrent k) = flat.FindsCurrent (reading_at code k) (wait_in (instr_at code k))
+
+abbrev pub read_entry_of : List Instr → List Copy → ReadEntry → flat.StackEntry
+read_entry_of code cs (read_entry.OrDo t) = flat.OrDo (read_task_of code t)
+read_entry_of code cs (read_entry.FoundAs k) = flat.FoundAs (find_word_in (instr_at code k)) (reading_at code k).buffer
+read_entry_of code cs (read_entry.FetchedAs k depth t retry d) = flat.FetchedAs (header_at code k) (copy_in cs depth) (turn_of t) (fetch_at code k).reading.buffer (body_at code k) d retry
+read_entry_of code cs (read_entry.Quiet quiet) = flat.Quiet quiet
+
+abbrev pub read_answer_of : List Instr → ReadAnswer → flat.OnAnswer
+read_answer_of code (read_answer.WasNext n k) = flat.WasNext n (search_of code k)
+read_answer_of code (read_answer.WasSecond n k c values) = flat.WasSecond n (search_of code k) c values
+read_answer_of code (read_answer.WasGranted k retry row) = flat.WasGranted (reading_at code k) retry row
+read_answer_of code (read_answer.WasRead k retry row held) = flat.WasRead (reading_at code k) retry row (denoted_held held)
+read_answer_of code (read_answer.CurrentGranted k row made) = flat.CurrentGranted (reading_at code k) row made
+read_answer_of code (read_answer.WasCurrent k row made) = flat.WasCurrent (reading_at code k) row made
+
+-- ---- changes
+
+-- a value that IMPORT has read
+abbrev pub given_of : GivenValue → Assignment
+given_of x = record { target = x.target; right = Given x.value }
+
+-- the assignments that are left
+abbrev pub assignments_of : List Instr → AssignmentList → List Assignment
+assignments_of code (assignment_list.Statement k from) = drop from (pairs_in (instr_at code k))
+assignments_of code (assignment_list.Given vs) = map given_of (reverse vs.items)
+
+-- one assignment of a statement
+abbrev pub assignment_at : List Instr → ℕ → ℕ → Assignment
+assignment_at code k i = slice_index_or (pairs_in (instr_at code k)) i no_assignment
+
+abbrev pub change_task_of : List Instr → ChangeTask → flat.Task
+change_task_of code (change_task.Assigns pairs retry) = flat.Assigns (assignments_of code pairs) retry
+change_task_of code (change_task.AssignsEach pairs retry) = flat.AssignsEach (assignments_of code pairs) retry
+change_task_of code (change_task.AssignsOne k i retry) = flat.AssignsOne (assignment_at code k i).target (assignment_at code k i).right retry
+change_task_of code (change_task.LocksOne b) = flat.LocksOne b
+change_task_of code (change_task.LocksAll bs) = flat.LocksAll bs
+change_task_of code (change_task.SettlesOne b) = flat.SettlesOne b
+change_task_of code (change_task.SettlesAll contents bs) = flat.SettlesAll (map denoted_content contents) bs
+change_task_of code (change_task.Creates b) = flat.Creates b
+change_task_of code (change_task.Begun b) = flat.Begun b
+change_task_of code (change_task.Deletes b) = flat.Deletes b
+change_task_of code (change_task.DeletesRow b t row) = flat.DeletesRow b t row
+change_task_of code (change_task.Imports k retry) = flat.Imports (import_stream_in (instr_at code k)) (import_targets_in (instr_at code k)) retry
+
+abbrev pub change_entry_of : ChangeEntry → flat.StackEntry
+change_entry_of (change_entry.AsBefore b content) = flat.AsBefore (denoted_content content ∷ []) (b ∷ [])
+change_entry_of (change_entry.AllAsBefore contents bs) = flat.AsBefore (map denoted_content contents) bs
+
+abbrev pub change_answer_of : ChangeAnswer → flat.OnAnswer
+change_answer_of (change_answer.WasCounted t) = flat.WasCounted t
+change_answer_of (change_answer.WasUpgraded b row values made) = flat.WasUpgraded b row values made
+change_answer_of (change_answer.WasPut b t) = flat.WasPut b t
+change_answer_of (change_answer.WasDeleted b) = flat.WasDeleted b
+
+-- ---- all of them
 
 abbrev pub task_of : List Instr → List Copy → Task → flat.Task
 task_of code cs (task.RunsFrom k d retry) = flat.RunsFrom k d retry
@@ -120,13 +274,16 @@ task_of code cs (task.Turns n k outer d t) = flat.Turns n (header_at code k) out
 task_of code cs (task.EntersLevel k t retry d) = flat.EntersLevel (header_at code k) (turn_of t) retry (body_at code k) d
 task_of code cs (task.Begins k depth t retry d) = flat.Begins (header_at code k) (copy_in cs depth) (turn_of t) retry (body_at code k) d
 task_of code cs (task.Iterates k outer d t) = flat.Iterates (header_at code k) outer (body_at code k) d (turn_of t)
-task_of code cs (task.UndoComes k o block a retry x) = flat.UndoComes (header_at code k) (iteration_of cs o) block (after_undo_of code a) retry (passed_of cs x)
+task_of code cs (task.UndoComes k o block a retry x) = flat.UndoComes (header_at code k) (iteration_of cs o) block (after_undo_of code a) retry (passed_of code cs x)
 task_of code cs (task.GoesBack depth) = flat.GoesBack (copy_in cs depth) []
 task_of code cs (task.Acts k t a retry) = flat.Acts (header_at code k) (iteration_without t) (after_undo_of code a) retry
 task_of code cs task.LeavesNow = flat.LeavesNow []
 task_of code cs (task.Completes w) = flat.Completes (completion_of code cs w)
 task_of code cs (task.EndsWith k o w) = flat.EndsWith (header_at code k) (iteration_of cs o) (completion_of code cs w)
 task_of code cs (task.Calls k d vs) = flat.Calls d (run_procedure (instr_at code k)) (run_arguments (instr_at code k)) vs
+task_of code cs (task.End t) = end_task_of code cs t
+task_of code cs (task.Read t) = read_task_of code t
+task_of code cs (task.Change t) = change_task_of code t
 
 abbrev pub entry_of : List Instr → List Copy → StackEntry → flat.StackEntry
 entry_of code cs (stack.Then t) = flat.ThenDo (task_of code cs t)
@@ -134,26 +291,27 @@ entry_of code cs (stack.Handles quiet) = flat.Handles quiet
 entry_of code cs (stack.In k o) = flat.In (header_at code k) (iteration_of cs o)
 entry_of code cs (stack.AndAgain n k outer d) = flat.AndAgain n (header_at code k) outer (body_at code k) d
 entry_of code cs (stack.Called k) = flat.Called (run_arguments (instr_at code k)) (run_procedure (instr_at code k))
+entry_of code cs (stack.End e) = end_entry_of code cs e
+entry_of code cs (stack.Read e) = read_entry_of code cs e
+entry_of code cs (stack.Change e) = change_entry_of e
 
 -- all of it, the innermost first
 abbrev pub stack_of : List Instr → List Copy → List StackEntry → List flat.StackEntry
 stack_of code cs ks = map (entry_of code cs) ks
 
-abbrev pub on_answer_of : List Instr → List Copy → OnAnswer → flat.OnAnswer
-on_answer_of code cs (on_answer.WasEntered k t retry d) = flat.WasEntered (header_at code k) (turn_of t) retry (body_at code k) d
-on_answer_of code cs (on_answer.WasBack depth) = flat.WasBack (slice_index_or cs (depth - 1) no_copy) []
-on_answer_of code cs on_answer.WasLeft = flat.WasLeft
-
--- the operation that is asked
-abbrev pub op_of : List Copy → OnAnswer → Op
-op_of cs (on_answer.WasEntered k t retry d) = op.Enter
-op_of cs (on_answer.WasBack depth) = op.Back (slice_index_or cs (depth - 1) no_copy).depth
-op_of cs on_answer.WasLeft = op.Leave []
+-- what follows the answer to this operation
+abbrev pub on_answer_of : List Instr → List Copy → Op → OnAnswer → flat.OnAnswer
+on_answer_of code cs o (on_answer.WasEntered k t retry d) = flat.WasEntered (header_at code k) (turn_of t) retry (body_at code k) d
+on_answer_of code cs o (on_answer.WasBack depth) = flat.WasBack (slice_index_or cs (depth - 1) no_copy) []
+on_answer_of code cs o on_answer.WasLeft = flat.WasLeft
+on_answer_of code cs o (on_answer.End k) = end_answer_of code cs o k
+on_answer_of code cs o (on_answer.Read k) = read_answer_of code k
+on_answer_of code cs o (on_answer.Change k) = change_answer_of k
 
 abbrev pub mode_of : List Instr → List Copy → Mode → flat.Mode
 mode_of code cs (mode.Execute t) = flat.Execute (task_of code cs t)
 mode_of code cs (mode.Unwind w) = flat.Unwind (completion_of code cs w)
-mode_of code cs (mode.Await k) = flat.Await (op_of cs k) (on_answer_of code cs k)
+mode_of code cs (mode.Await o k) = flat.Await o (on_answer_of code cs o k)
 
 -- ---- the state
 
@@ -174,13 +332,28 @@ WayBelow n (completion.Raises x) = IsBelow n x.first
 WayBelow n (completion.EndKeys x) = IsBelow n x.first
 WayBelow n other = Unit {0}
 
+abbrev pub EndTaskBelow : ℕ → EndTask → Type 0
+EndTaskBelow n (end_task.EntersRest depth) = IsBelow n depth
+EndTaskBelow n (end_task.LeavesIf depth k) = IsBelow n depth
+EndTaskBelow n (end_task.Closing k o) = IsBelow n o.depth
+EndTaskBelow n (end_task.GoesBack depth but) = IsBelow n depth
+EndTaskBelow n (end_task.AfterBack depth but) = IsBelow n (Some depth)
+EndTaskBelow n (end_task.Closes k t w) = WayBelow n w
+EndTaskBelow n (end_task.Passes k ended left) = WayBelow n ended × WayBelow n left
+EndTaskBelow n other = Unit {0}
+
 abbrev pub TaskBelow : ℕ → Task → Type 0
 TaskBelow n (task.Begins k depth t retry d) = IsBelow n depth
 TaskBelow n (task.UndoComes k o block a retry x) = IsBelow n o.depth × IsBelow n x.first
 TaskBelow n (task.GoesBack depth) = IsBelow n depth
 TaskBelow n (task.Completes w) = WayBelow n w
 TaskBelow n (task.EndsWith k o w) = IsBelow n o.depth × WayBelow n w
+TaskBelow n (task.End t) = EndTaskBelow n t
 TaskBelow n other = Unit {0}
+
+abbrev pub ReadEntryBelow : ℕ → ReadEntry → Type 0
+ReadEntryBelow n (read_entry.FetchedAs k depth t retry d) = IsBelow n depth
+ReadEntryBelow n other = Unit {0}
 
 abbrev pub OpenBelow : ℕ → StackEntry → Type 0
 OpenBelow n (stack.Then t) = TaskBelow n t
@@ -188,6 +361,9 @@ OpenBelow n (stack.Handles quiet) = Unit {0}
 OpenBelow n (stack.In k o) = IsBelow n o.depth
 OpenBelow n (stack.AndAgain fuel k outer d) = Unit {0}
 OpenBelow n (stack.Called k) = Unit {0}
+OpenBelow n (stack.End (end_entry.AfterClosing k o w)) = IsBelow n o.depth × WayBelow n w
+OpenBelow n (stack.Read e) = ReadEntryBelow n e
+OpenBelow n (stack.Change e) = Unit {0}
 
 abbrev pub AllBelow : ℕ → List StackEntry → Type 0
 AllBelow n [] = Unit {0}

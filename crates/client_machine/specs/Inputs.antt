@@ -30,6 +30,7 @@ AreProceduresOf code (c ∷ cs) (q ∷ qs) = IsProcedureOf code c q × AreProced
 -- the code and the inputs are those of the program
 pub record IsProgramOf (p : Program) (code : Code) (inputs : Inputs) : Type 0 where
   pub forms : AreForms p.forms
+  pub tables : p.tables ≡ inputs.schema.tables
   pub lines : p.forms.line_at ≡ line_at
   pub procedures : AreProceduresOf code.instrs.items code.procedures.items p.source.procedures
   pub input : p.input ≡ inputs.own

@@ -1,7 +1,7 @@
 -- What a part of a step keeps, and what instructions have.
-use Rattle.std.specs.Prelude.{ℕ, Bool, true, false, List, []}
+use Rattle.std.specs.Prelude.{ℕ, Bool, true, false, []}
 use Rattle.abl_base.specs.declared.value.Value.TheVariants.{Unknown}
-use Rattle.bound_tree.specs.Tree.{Body, Expr, Literal, Assignment, Assign}
+use Rattle.bound_tree.specs.Tree.{Body, Expr, Literal}
 use Rattle.block_meaning.specs.Program.{Program}
 use Rattle.block_meaning.specs.State.{State}
 use Rattle.block_flat.specs.Flat as flat
@@ -10,6 +10,7 @@ use Rattle.client_machine.specs.declared.mode.Mode.{Mode}
 use Rattle.client_machine.specs.declared.mode.Mode.TheVariants as mode
 use Rattle.client_machine.specs.declared.mode.Completion.TheVariants as completion
 use Rattle.client_machine.specs.Machine.{state_in}
+pub use Rattle.client_machine.specs.Statements.{pairs_in}
 use Rattle.client_machine.specs.Step.{code_in, FitsIn, RunKept}
 
 -- the machine keeps the rest of the run from a configuration that is a function of the program and the state; no level
@@ -21,11 +22,6 @@ KeepsFrom from old new = (tree : ℕ → Body) (p : Program) (rest : State) → 
 abbrev pub test_in : flat.Instr → Expr
 test_in (flat.Tests e one other) = e
 test_in i = Literal Unknown
-
--- the assignments of an instruction
-abbrev pub pairs_in : flat.Instr → List Assignment
-pairs_in (flat.Plain (Assign xs quiet) next) = xs
-pairs_in i = []
 
 -- the place of the branch that is chosen
 abbrev pub place_if : Bool → ℕ → ℕ → ℕ

@@ -1,4 +1,5 @@
 pub mod Actions
+pub mod Statements
 pub mod Config
 pub mod Machine
 pub mod Inputs

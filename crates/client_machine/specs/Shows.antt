@@ -6,11 +6,10 @@ use Rattle.client_database.specs.declared.next_step.NextStep.TheVariants.{Ask}
 use Rattle.client_machine.specs.declared.mode.StackEntry.{StackEntry}
 use Rattle.client_machine.specs.declared.mode.Mode.{Mode}
 use Rattle.client_machine.specs.declared.mode.Mode.TheVariants as mode
-use Rattle.client_machine.specs.Step.{asked_op}
 
 -- in a mode, with a stack: the operation that it awaits; End, where all is over
 abbrev pub Shows : Mode → List StackEntry → NextStep → Type 0
 Shows (mode.Execute t) ks wants = ⊥
-Shows (mode.Await k) ks wants = wants ≡ Ask (asked_op k)
+Shows (mode.Await o k) ks wants = wants ≡ Ask o
 Shows (mode.Unwind w) [] wants = wants ≡ Ask End
 Shows (mode.Unwind w) (k ∷ ks) wants = ⊥

@@ -101,19 +101,12 @@ KeepsEntry entry completion old new = (tree : ℕ → Body) (p : Program) (rest 
 abbrev pub KeepsComplaint : Option LineFault → Machine → Machine → Type 0
 KeepsComplaint fault old new = (tree : ℕ → Body) (p : Program) (rest : State) → IsCodeOf (code_in old) p tree → FitsIn p rest (mode.Unwind completion.Normal) old → RunKept tree p (errs_step (complained p (complaint_if fault) (state_in rest old)) (Completes (state.Raises nothing_passed)) (stack_in old)) [] rest.written old new
 
--- the operation that it awaits
-abbrev pub asked_op : OnAnswer → Op
-asked_op (on_answer.WasEntered k t retry d) = op.Enter
-asked_op (on_answer.WasBack depth) = op.Back depth
-asked_op on_answer.WasLeft = op.Leave []
-
--- with n levels open: Enter, Leave of the innermost level, Back to an open one, or the end. There is no row to keep
+-- with n levels open: Leave of the innermost level, Back to an open one, or an operation that names no level
 abbrev pub IsOfOpenLevels : ℕ → NextStep → Type 0
-IsOfOpenLevels n (next_step.Ask op.Enter) = Unit {0}
-IsOfOpenLevels n (next_step.Ask (op.Leave keep)) = (keep ≡ []) × (0 < n)
+IsOfOpenLevels n (next_step.Ask (op.Leave keep)) = 0 < n
 IsOfOpenLevels n (next_step.Ask (op.Back depth)) = (0 < depth) × (depth ≤ n)
-IsOfOpenLevels n (next_step.Ask op.End) = Unit {0}
-IsOfOpenLevels n other = ⊥
+IsOfOpenLevels n (next_step.Ask other) = Unit {0}
+IsOfOpenLevels n (next_step.Ended end) = ⊥
 
 -- it asks so, with the levels that are open
 abbrev pub AsksOpenLevels : NextStep → Machine → Type 0
@@ -123,13 +116,13 @@ AsksOpenLevels wants m = (p : Program) (rest : State) → Fits p rest m → IsOf
 abbrev pub IsAwaiting : Mode → Type 0
 IsAwaiting (mode.Execute t) = ⊥
 IsAwaiting (mode.Unwind w) = ⊥
-IsAwaiting (mode.Await k) = Unit {0}
+IsAwaiting (mode.Await o k) = Unit {0}
 
 -- it unwinds
 abbrev pub IsOver : Mode → Type 0
 IsOver (mode.Execute t) = ⊥
 IsOver (mode.Unwind w) = Unit {0}
-IsOver (mode.Await k) = ⊥
+IsOver (mode.Await o k) = ⊥
 
 -- and the stack is empty
 abbrev pub IsAtEnd : Machine → Type 0

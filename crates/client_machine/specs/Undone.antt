@@ -13,7 +13,7 @@ use Rattle.client_machine.specs.Order.{outer_of}
 -- what an unwinding has passed once it leaves the iteration of this level too; with no level open it passes none
 abbrev pub passed_if : Bool → Option ℕ → PassedLevels → PassedLevels
 passed_if true depth x = x
-passed_if false depth x = record { first = outer_of depth x.first }
+passed_if false depth x = record x { first = outer_of depth x.first }
 
 abbrev pub passed_at : ℕ → Option ℕ → PassedLevels → PassedLevels
 passed_at n depth x = passed_if (n == 0) depth x

@@ -146,6 +146,7 @@ impl Machine {
                         retry: true,
                         start: turn.start,
                         by: turn.by,
+                        own: turn.own,
                     })
                 } else {
                     let number = self.number_at(place);

@@ -50,7 +50,7 @@ pub enum AnswerClass {
 }
 
 /// How a client treats an answer.
-fn answer_class(answer: &Answer) -> AnswerClass
+pub fn answer_class(answer: &Answer) -> AnswerClass
     ensures { IsOfAnswerClass result answer.now }
 {
     match answer {
@@ -85,56 +85,71 @@ impl Machine {
         ensures err { OnErr result (IsUnchanged self.old.output self.new.output) }
     {
         match mem::replace(&mut self.mode, Mode::Unwind(Completion::Normal)) {
-            Mode::Await(on_answer) => self.answered(on_answer, &answer),
+            Mode::Await { op, on_answer } => self.answered(op, on_answer, answer),
             Mode::Execute(_) => Err(AllocError),
             Mode::Unwind(_) => Err(AllocError),
         }
     }
 
     /// Takes the answer to this one.
-    pub fn answered(&mut self, on_answer: OnAnswer, answer: &Answer) -> Result<(), AllocError>
-        ensures ok { OnOk result (KeepsAnswer on_answer answer.now self.old self.new) }
+    pub fn answered(
+        &mut self,
+        op: Op,
+        on_answer: OnAnswer,
+        answer: Answer,
+    ) -> Result<(), AllocError>
+        ensures ok { OnOk result (KeepsAnswer op on_answer answer self.old self.new) }
         ensures err { OnErr result (IsUnchanged self.old.output self.new.output) }
     {
-        match answer_class(answer) {
+        match answer_class(&answer) {
             AnswerClass::NoMemory => Err(AllocError),
-            AnswerClass::Blocked => self.await_again(on_answer, answer),
-            AnswerClass::Stops(why) => self.stop(on_answer, answer, why),
+            AnswerClass::Blocked => self.await_again(op, on_answer, answer),
+            AnswerClass::Stops(why) => self.stop(op, on_answer, answer, why),
             AnswerClass::Done => match on_answer {
                 OnAnswer::WasEntered {
                     place,
                     turn,
                     retry,
                     left,
-                } => self.on_entered(answer, place, turn, retry, left),
-                OnAnswer::WasBack(depth) => self.on_back(answer, depth),
-                OnAnswer::WasLeft => self.on_left(answer),
+                } => self.on_entered(op, answer, place, turn, retry, left),
+                OnAnswer::WasBack(depth) => self.on_back(op, answer, depth),
+                OnAnswer::WasLeft => self.on_left(op, answer),
+                OnAnswer::End(_) => Err(AllocError),
+                OnAnswer::Read(_) => Err(AllocError),
+                OnAnswer::Change(_) => Err(AllocError),
             },
         }
     }
 
     /// Blocked: asks for the same operation again.
-    pub fn await_again(&mut self, on_answer: OnAnswer, answer: &Answer) -> Result<(), AllocError>
-        requires { IsOfAnswerClass AnswerClass.Blocked answer.now }
-        ensures ok { OnOk result (KeepsAnswer on_answer answer.now self.old self.new) }
+    pub fn await_again(
+        &mut self,
+        op: Op,
+        on_answer: OnAnswer,
+        answer: Answer,
+    ) -> Result<(), AllocError>
+        requires { IsOfAnswerClass AnswerClass.Blocked answer }
+        ensures ok { OnOk result (KeepsAnswer op on_answer answer self.old self.new) }
         ensures err { OnErr result (IsUnchanged self.old.output self.new.output) }
     {
-        self.set_mode(Mode::Await(on_answer));
+        let _ = answer;
+        self.set_mode(Mode::Await { op, on_answer });
         Ok(())
     }
 
     /// The client stops.
     pub fn stop(
         &mut self,
+        op: Op,
         on_answer: OnAnswer,
-        answer: &Answer,
+        answer: Answer,
         why: StopWhy,
     ) -> Result<(), AllocError>
-        requires { IsOfAnswerClass (AnswerClass.Stops why) answer.now }
-        ensures ok { OnOk result (KeepsAnswer on_answer answer.now self.old self.new) }
+        requires { IsOfAnswerClass (AnswerClass.Stops why) answer }
+        ensures ok { OnOk result (KeepsAnswer op on_answer answer self.old self.new) }
         ensures err { OnErr result (IsUnchanged self.old.output self.new.output) }
     {
-        let _ = on_answer;
+        let _ = (op, on_answer, answer);
         self.set_mode(Mode::Unwind(Completion::Stops(why)));
         Ok(())
     }
@@ -142,23 +157,25 @@ impl Machine {
     /// After Enter: the level begins.
     pub fn on_entered(
         &mut self,
-        answer: &Answer,
+        op: Op,
+        answer: Answer,
         place: usize,
         turn: TurnData,
         retry: bool,
         left: u32,
     ) -> Result<(), AllocError>
-        requires { IsOfAnswerClass AnswerClass.Done answer.now }
-        ensures ok { OnOk result (KeepsAnswer (OnAnswer.WasEntered place turn retry left) answer.now self.old self.new) }
+        requires { IsOfAnswerClass AnswerClass.Done answer }
+        ensures ok { OnOk result (KeepsAnswer op (OnAnswer.WasEntered place turn retry left) answer self.old self.new) }
         ensures err { OnErr result (IsUnchanged self.old.output self.new.output) }
     {
+        let _ = (op, answer);
         self.entered(place, turn, retry, left)
     }
 
     /// After Back: restores the copy of the level, and leaves the level next.
-    pub fn on_back(&mut self, answer: &Answer, depth: u32) -> Result<(), AllocError>
-        requires { IsOfAnswerClass AnswerClass.Done answer.now }
-        ensures ok { OnOk result (KeepsAnswer (OnAnswer.WasBack depth) answer.now self.old self.new) }
+    pub fn on_back(&mut self, op: Op, answer: Answer, depth: u32) -> Result<(), AllocError>
+        requires { IsOfAnswerClass AnswerClass.Done answer }
+        ensures ok { OnOk result (KeepsAnswer op (OnAnswer.WasBack depth) answer self.old self.new) }
         ensures err { OnErr result (IsUnchanged self.old.output self.new.output) }
     {
         if self.memory.has_buffers() {
@@ -171,11 +188,12 @@ impl Machine {
     }
 
     /// After Leave: the level is left.
-    pub fn on_left(&mut self, answer: &Answer) -> Result<(), AllocError>
-        requires { IsOfAnswerClass AnswerClass.Done answer.now }
-        ensures ok { OnOk result (KeepsAnswer OnAnswer.WasLeft answer.now self.old self.new) }
+    pub fn on_left(&mut self, op: Op, answer: Answer) -> Result<(), AllocError>
+        requires { IsOfAnswerClass AnswerClass.Done answer }
+        ensures ok { OnOk result (KeepsAnswer op OnAnswer.WasLeft answer self.old self.new) }
         ensures err { OnErr result (IsUnchanged self.old.output self.new.output) }
     {
+        let _ = (op, answer);
         self.was_left();
         Ok(())
     }

@@ -30,6 +30,7 @@ ghost use Rattle.client_machine.specs.declared.mode.Task.{Task};
 ghost use Rattle.client_machine.specs.declared.mode.Completion.{Completion};
 
 use crate::machine::{Machine, mode_again, mode_then};
+use crate::mode::ends::{BufferList, EndTask};
 use crate::mode::{
     AfterUndo, Completion, IterationData, Mode, OnAnswer, PassedLevels, StackEntry, Task, TurnData,
 };
@@ -68,12 +69,15 @@ impl Machine {
         ensures err { OnErr result (IsUnchanged self.old.output self.new.output) }
     {
         if self.enters(place) {
-            self.ask(OnAnswer::WasEntered {
-                place,
-                turn,
-                retry,
-                left,
-            });
+            self.ask(
+                Op::Enter,
+                OnAnswer::WasEntered {
+                    place,
+                    turn,
+                    retry,
+                    left,
+                },
+            );
         } else {
             self.set_mode(Mode::Execute(Task::Begins {
                 place,
@@ -130,9 +134,11 @@ impl Machine {
         ensures err { OnErr result (IsUnchanged self.old.output self.new.output) }
     {
         if self.memory.has_buffers() {
-            return Err(AllocError);
+            self.set_mode(Mode::Execute(Task::End(EndTask::LeavesNow(BufferList::None))));
+            return Ok(());
         }
-        self.ask(OnAnswer::WasLeft);
+        let keep = RowIds::empty(self.alloc);
+        self.ask(Op::Leave { keep }, OnAnswer::WasLeft);
         Ok(())
     }
 }

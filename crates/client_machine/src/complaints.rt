@@ -14,6 +14,7 @@ ghost use Rattle.client_machine.specs.Order.{IsNoFault};
 ghost use Rattle.client_machine.specs.Step.{KeepsComplaint, KeepsEntry};
 
 use crate::machine::Machine;
+use crate::mode::ends::BufferList;
 use crate::mode::{Completion, LineFault, Mode, PassedLevels};
 use abl_expr::RunFault;
 use client_database::StopWhy;
@@ -75,9 +76,12 @@ impl Machine {
 
     /// Raises ERROR.
     fn raise(&mut self)
-        ensures { self.new ≡ record self.old { mode = Mode.Unwind (Completion.Raises (record { first = None })) } }
+        ensures { self.new ≡ record self.old { mode = Mode.Unwind (Completion.Raises (record { first = None; buffers = BufferList.None })) } }
     {
-        self.set_mode(Mode::Unwind(Completion::Raises(PassedLevels { first: None })));
+        self.set_mode(Mode::Unwind(Completion::Raises(PassedLevels {
+            first: None,
+            buffers: BufferList::None,
+        })));
     }
 
     /// Writes the line about a fault, and raises ERROR.

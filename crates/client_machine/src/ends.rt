@@ -139,6 +139,7 @@ impl Machine {
                         retry: false,
                         start: turn.start,
                         by: turn.by,
+                        own: turn.own,
                     })
                 } else {
                     Completion::Normal
@@ -157,6 +158,7 @@ impl Machine {
                         retry: false,
                         start: turn.start,
                         by: turn.by,
+                        own: turn.own,
                     })
                 } else {
                     Completion::Nexts(block)
@@ -194,6 +196,9 @@ impl Machine {
                 left,
             } => self.again(fuel, place, outer, left, completion),
             StackEntry::Called(_) => Err(AllocError),
+            StackEntry::End(_) => Err(AllocError),
+            StackEntry::Read(_) => Err(AllocError),
+            StackEntry::Change(_) => Err(AllocError),
         }
     }
 

@@ -1,10 +1,12 @@
 //! What a client reads, and where its streams stand.
 
 use abl_base::Bytes;
+use abl_values::Schema;
 
-/// The texts that a client may read.
+/// What a client reads and does not change: the schema, and the texts.
 #[derive(Drop)]
 pub struct Inputs {
+    pub schema: Schema,
     /// The client's own input.
     pub own: Bytes,
     /// Those after INPUT FROM, in the order of their names.

@@ -73,7 +73,7 @@ impl Machine {
 
     /// The iterations begin with these values.
     fn begin_turns(&mut self, place: usize, outer: bool, left: u32, values: LoopValues)
-        ensures { self.new ≡ record self.old { mode = Mode.Execute (Task.Turns self.old.units place outer left (record { retry = false; start = values.start; by = values.by })) } }
+        ensures { self.new ≡ record self.old { mode = Mode.Execute (Task.Turns self.old.units place outer left (record { retry = false; start = values.start; by = values.by; own = None })) } }
     {
         let LoopValues { start, by } = values;
         self.set_mode(Mode::Execute(Task::Turns {
@@ -85,6 +85,7 @@ impl Machine {
                 retry: false,
                 start,
                 by,
+                own: None,
             },
         }));
     }
@@ -125,14 +126,21 @@ impl Machine {
         ensures err { OnErr result (IsUnchanged self.old.output self.new.output) }
     {
         let TurnData {
-            retry: own,
+            retry: again,
             start,
             by,
+            own,
         } = turn;
-        let retry = self.retry_in(place, own, outer);
-        match self.judge_at(place, own, start, &by, retry) {
+        let retry = self.retry_in(place, again, outer);
+        match self.judge_at(place, again, start, &by, retry) {
             Ok(begins) => {
-                self.begin_or_complete(begins, place, own, by, retry, left);
+                let turn = TurnData {
+                    retry: again,
+                    start: None,
+                    by,
+                    own,
+                };
+                self.begin_or_complete(begins, place, turn, retry, left);
                 Ok(())
             }
             Err(EvalFault::Fault(fault)) => {
@@ -179,21 +187,16 @@ impl Machine {
         &mut self,
         begins: bool,
         place: usize,
-        own: bool,
-        by: Value,
+        turn: TurnData,
         retry: bool,
         left: u32,
     )
-        ensures { self.new ≡ record self.old { mode = mode_if begins (Mode.Execute (Task.EntersLevel place (record { retry = own; start = None; by = by }) retry left)) (Mode.Unwind Completion.Normal) } }
+        ensures { self.new ≡ record self.old { mode = mode_if begins (Mode.Execute (Task.EntersLevel place turn retry left)) (Mode.Unwind Completion.Normal) } }
     {
         if begins {
             self.set_mode(Mode::Execute(Task::EntersLevel {
                 place,
-                turn: TurnData {
-                    retry: own,
-                    start: None,
-                    by,
-                },
+                turn,
                 retry,
                 left,
             }));

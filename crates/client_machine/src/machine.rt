@@ -7,7 +7,7 @@ ghost use Rattle.client_memory.specs.Memory.{IsWhole, last_copy, left, entered a
 ghost use Rattle.block_code.specs.declared.code.Instr.{Instr};
 ghost use Rattle.block_meaning.specs.Blocks.{enters_at as enters_here};
 ghost use Rattle.block_flat.specs.Flat as flat;
-ghost use Rattle.client_database.specs.declared.operation.Op.TheVariants as op;
+ghost use Rattle.client_database.specs.declared.operation.Op.{Op};
 ghost use Rattle.client_database.specs.declared.answer.Answer.{Answer};
 ghost use Rattle.block_meaning.specs.Program.{Program};
 ghost use Rattle.block_meaning.specs.Lines.{complaint_of};
@@ -22,7 +22,7 @@ ghost use Rattle.client_database.specs.declared.ends.StopWhy.{StopWhy};
 ghost use Rattle.client_machine.specs.declared.mode.OnAnswer.{OnAnswer};
 ghost use Rattle.client_machine.specs.declared.mode.StackEntry.{StackEntry};
 ghost use Rattle.client_machine.specs.Order.{CompletesInOrder, InOrder, ModeInOrder, Nesting, first_in};
-ghost use Rattle.client_machine.specs.Config.{header_at, body_at, turn_of, completion_of, copy_in, task_of, entry_of, mode_of, on_answer_of, op_of, AllBelow, AreEven};
+ghost use Rattle.client_machine.specs.Config.{header_at, body_at, turn_of, completion_of, copy_in, task_of, entry_of, mode_of, on_answer_of, AllBelow, AreEven};
 ghost use Rattle.client_output.specs.Written.{IsUnchanged};
 ghost use Rattle.client_machine.specs.Machine.{config_of, stack_in, state_in};
 
@@ -32,6 +32,7 @@ use abl_base::{Bytes, Value};
 use abl_eval::EvalFault;
 use block_code::{Code, Instr};
 use bound_tree::Expr;
+use client_database::Op;
 use client_memory::Memory;
 use client_output::Output;
 use client_values::value::{Status, value_of};
@@ -160,15 +161,15 @@ impl Machine {
     }
 
     /// Asks for an operation, which costs a unit, or stops the client.
-    pub fn ask(&mut self, on_answer: OnAnswer)
+    pub fn ask(&mut self, op: Op, on_answer: OnAnswer)
         ensures moved { self.new ≡ record self.old { mode = self.new.mode; units = self.new.units } }
-        ensures mode { (self.new.mode ≡ Mode.Await on_answer) ⊎ (self.new.mode ≡ Mode.Unwind (Completion.Stops StopWhy.Budget)) }
-        ensures asks { (rest : State) → config_of rest self.new ≡ flat.ask (op_of self.old.memory.copies on_answer) (on_answer_of self.old.code.instrs.items self.old.memory.copies on_answer) (stack_in self.old) (state_in rest self.old) }
+        ensures mode { (self.new.mode ≡ Mode.Await op on_answer) ⊎ (self.new.mode ≡ Mode.Unwind (Completion.Stops StopWhy.Budget)) }
+        ensures asks { (rest : State) → config_of rest self.new ≡ flat.ask op (on_answer_of self.old.code.instrs.items self.old.memory.copies op on_answer) (stack_in self.old) (state_in rest self.old) }
     {
         match self.units.checked_sub(1) {
             Some(units) => {
                 self.units = units;
-                self.set_mode(Mode::Await(on_answer));
+                self.set_mode(Mode::Await { op, on_answer });
             }
             None => self.set_mode(Mode::Unwind(Completion::Stops(
                 client_database::StopWhy::Budget,
@@ -234,7 +235,7 @@ impl Machine {
     ) -> Result<(), AllocError>
         ensures moved { OnOk result (self.new ≡ record self.old { mode = Mode.Execute (Task.Begins place (Some (length self.old.memory.copies + 1)) turn retry left); memory = enters self.old.made self.old.memory }) }
         ensures err { OnErr result (IsUnchanged self.old.output self.new.output) }
-        ensures ok { OnOk result (AllBelow (length self.old.memory.copies) (reverse self.old.stack.items) → AreEven self.old.procedures.items self.old.memory → (rest : State) (p : Program) (a : Answer) → rest.made ≡ self.old.made → config_of rest self.new ≡ flat.answer_step p (on_answer_of self.old.code.instrs.items self.old.memory.copies (OnAnswer.WasEntered place turn retry left)) a (stack_in self.old) (state_in rest self.old)) }
+        ensures ok { OnOk result (AllBelow (length self.old.memory.copies) (reverse self.old.stack.items) → AreEven self.old.procedures.items self.old.memory → (rest : State) (p : Program) (o : Op) (a : Answer) → rest.made ≡ self.old.made → config_of rest self.new ≡ flat.answer_step p (on_answer_of self.old.code.instrs.items self.old.memory.copies o (OnAnswer.WasEntered place turn retry left)) a (stack_in self.old) (state_in rest self.old)) }
     {
         let Some(depth) = self.memory.depth().checked_add(1) else {
             return Err(AllocError);

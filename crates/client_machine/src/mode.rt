@@ -1,8 +1,18 @@
-//! What a machine does next, and the entries of its stack.
+//! What a machine does next, and the entries of its stack. The tasks, entries and answers of records
+//! are families of their own: ends of iterations, reads, and changes.
 
+pub mod changes;
+pub mod ends;
+pub mod reads;
+
+use crate::mode::changes::{ChangeAnswer, ChangeEntry, ChangeTask};
+use crate::mode::ends::{BufferList, EndAnswer, EndEntry, EndTask};
+use crate::mode::reads::{ReadAnswer, ReadEntry, ReadTask};
 use abl_base::{Row, Value};
 use abl_expr::RunFault;
 use block_meaning::StopWhy;
+use client_database::{Cursor, Op};
+use complaint_lines::Complaint;
 
 /// The data with which an iteration, or a retry of one, begins.
 #[derive(Drop)]
@@ -11,6 +21,8 @@ pub struct TurnData {
     /// The start value of TO, until it is set.
     pub start: Option<Value>,
     pub by: Value,
+    /// FOR: the place of the record that it has read last.
+    pub own: Option<Cursor>,
 }
 
 /// An iteration: the level that it opened, if any, and its data.
@@ -49,19 +61,21 @@ pub enum AfterUndo {
     Error,
 }
 
-/// What an unwinding has passed: the outermost level that was opened there.
-#[derive(Clone, Copy, Debug)]
+/// What an unwinding has passed: the outermost level that was opened there, and the buffers that are
+/// scoped there.
+#[derive(Drop)]
 pub struct PassedLevels {
     pub first: Option<u32>,
+    pub buffers: BufferList,
 }
 
 /// What a statement or a header fails with, where it has a line.
-#[derive(Clone, Copy, Debug)]
+#[derive(Clone, Copy)]
 pub enum LineFault {
     /// An expression, or a value that is assigned.
     Expression(RunFault),
-    /// The field of this number in a line of input.
-    BadField(u32),
+    /// A record, the database or a line of input.
+    Complaint(Complaint),
 }
 
 /// How a statement, an iteration or a block completes.
@@ -81,6 +95,12 @@ pub enum Completion {
     Faults(Option<LineFault>),
     Raises(PassedLevels),
     EndKeys(PassedLevels),
+    /// A search has found a record, which its buffer holds now.
+    Found(Cursor),
+    /// A search has found a record that was gone then.
+    Lost,
+    /// A search has found no record.
+    NotFound,
     Returns(bool),
     Stops(StopWhy),
 }
@@ -154,6 +174,9 @@ pub enum Task {
         left: u32,
         values: Row,
     },
+    End(EndTask),
+    Read(ReadTask),
+    Change(ChangeTask),
 }
 
 /// An entry of the stack: what follows when the task above it has completed.
@@ -173,6 +196,9 @@ pub enum StackEntry {
     },
     /// The procedure that the RUN at the place runs.
     Called(usize),
+    End(EndEntry),
+    Read(ReadEntry),
+    Change(ChangeEntry),
 }
 
 /// What follows an answer.
@@ -184,8 +210,12 @@ pub enum OnAnswer {
         retry: bool,
         left: u32,
     },
+    /// No buffer was passed.
     WasBack(u32),
     WasLeft,
+    End(EndAnswer),
+    Read(ReadAnswer),
+    Change(ChangeAnswer),
 }
 
 /// What a machine does next.
@@ -193,5 +223,5 @@ pub enum OnAnswer {
 pub enum Mode {
     Execute(Task),
     Unwind(Completion),
-    Await(OnAnswer),
+    Await { op: Op, on_answer: OnAnswer },
 }

@@ -30,6 +30,7 @@ ghost use Rattle.client_machine.specs.declared.mode.Task.{Task};
 ghost use Rattle.client_machine.specs.declared.mode.Completion.{Completion};
 
 use crate::machine::Machine;
+use crate::mode::ends::BufferList;
 use crate::mode::{
     AfterUndo, Completion, IterationData, Mode, OnAnswer, PassedLevels, StackEntry, Task, TurnData,
 };
@@ -74,7 +75,10 @@ impl Machine {
                     block,
                     after_undo: self.undo_action_at(place),
                     retry,
-                    passed: PassedLevels { first: None },
+                    passed: PassedLevels {
+                        first: None,
+                        buffers: BufferList::None,
+                    },
                 },
                 next,
                 left,
@@ -105,7 +109,10 @@ impl Machine {
                     block,
                     after_undo: AfterUndo::Error,
                     retry,
-                    passed: PassedLevels { first: None },
+                    passed: PassedLevels {
+                        first: None,
+                        buffers: BufferList::None,
+                    },
                 },
                 next,
                 left,

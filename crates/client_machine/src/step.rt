@@ -1,6 +1,6 @@
 //! What the machine does from one operation to the next.
 
-ghost use Rattle.std.specs.Prelude.{Bool, Option, ◌≡◌, ◌⊎◌, ◌∷◌, [], ℕ, List, None, Some, OnOk, OnErr, IfSome, true, false, reverse};
+ghost use Rattle.std.specs.Prelude.{Bool, Option, ◌≡◌, ◌⊎◌, ◌∷◌, [], ℕ, List, None, Some, OnOk, OnErr, IfOk, Ok, IfSome, true, false, reverse};
 ghost use Rattle.client_database.specs.declared.answer.Answer.{Answer};
 ghost use Rattle.client_database.specs.declared.operation.Op.{Op};
 ghost use Rattle.client_database.specs.declared.next_step.NextStep.{NextStep};
@@ -25,7 +25,7 @@ ghost use Rattle.client_machine.specs.AnswerClass.{IsOfAnswerClass, KeepsAnswer}
 ghost use Rattle.client_machine.specs.declared.answers.AnswerClass.{AnswerClass};
 ghost use Rattle.client_machine.specs.declared.mode.OnAnswer.{OnAnswer};
 ghost use Rattle.client_machine.specs.Shows.{Shows};
-ghost use Rattle.client_machine.specs.Step.{Fits, KeepsRun, KeepsTask, KeepsCompletion, Wants, AsksOpenLevels, IsAwaiting, IsAtEnd, asked_op};
+ghost use Rattle.client_machine.specs.Step.{Fits, KeepsRun, KeepsTask, KeepsCompletion, Wants, AsksOpenLevels, IsAwaiting, IsAtEnd};
 ghost use Rattle.client_machine.specs.declared.mode.Mode.{Mode};
 ghost use Rattle.client_machine.specs.declared.mode.Task.{Task};
 ghost use Rattle.client_machine.specs.declared.mode.Completion.{Completion};
@@ -41,38 +41,28 @@ use client_database::{Answer, ClientEnd, NextStep, Op, RowIds, StopWhy};
 use std::alloc::{AllocError, Global};
 use std::mem;
 
-/// The operation that it awaits.
-fn op_asked(alloc: Global, on_answer: &OnAnswer) -> Op
-    ensures { result ≡ asked_op on_answer.now }
-{
-    match on_answer {
-        OnAnswer::WasEntered { .. } => Op::Enter,
-        OnAnswer::WasBack(depth) => Op::Back { depth: *depth },
-        OnAnswer::WasLeft => Op::Leave {
-            keep: RowIds::empty(alloc),
-        },
-    }
-}
-
 impl Machine {
-    /// What it asks for, where it does not run by itself.
-    pub fn next_step(&self) -> Option<NextStep>
-        ensures some { IfSome result (λ wants. Wants wants self.now) }
-        ensures none { result ≡ None → IsRunning (mode_of self.now.code.instrs.items self.now.memory.copies self.now.mode) }
-        ensures waits { IfSome result (λ _. IsAwaiting self.now.mode ⊎ IsAtEnd self.now) }
-        ensures levels { IfSome result (λ wants. AsksOpenLevels wants self.now) }
-        ensures shows { IfSome result (λ wants. Shows self.now.mode self.now.stack.items wants) }
+    /// What it asks for, where it does not run by itself. Out of memory is the only error.
+    pub fn next_step(&self) -> Result<Option<NextStep>, AllocError>
+        ensures some { IfOk result (λ step. IfSome step (λ wants. Wants wants self.now)) }
+        ensures none { result ≡ Ok None → IsRunning (mode_of self.now.code.instrs.items self.now.memory.copies self.now.mode) }
+        ensures waits { IfOk result (λ step. IfSome step (λ _. IsAwaiting self.now.mode ⊎ IsAtEnd self.now)) }
+        ensures levels { IfOk result (λ step. IfSome step (λ wants. AsksOpenLevels wants self.now)) }
+        ensures shows { IfOk result (λ step. IfSome step (λ wants. Shows self.now.mode self.now.stack.items wants)) }
     {
         match &self.mode {
-            Mode::Execute(_) => None,
+            Mode::Execute(_) => Ok(None),
             Mode::Unwind(_) => {
                 if self.stack.is_empty() {
-                    Some(NextStep::Ask(Op::End))
+                    Ok(Some(NextStep::Ask(Op::End)))
                 } else {
-                    None
+                    Ok(None)
                 }
             }
-            Mode::Await(on_answer) => Some(NextStep::Ask(op_asked(self.alloc, on_answer))),
+            Mode::Await { op, .. } => {
+                let op = op.copy()?;
+                Ok(Some(NextStep::Ask(op)))
+            }
         }
     }
 
@@ -81,7 +71,7 @@ impl Machine {
         ensures yes { result ≡ true → IsAwaiting self.now.mode }
         ensures no { result ≡ false → IsAwaiting self.now.mode → ⊥ }
     {
-        matches!(self.mode, Mode::Await(_))
+        matches!(self.mode, Mode::Await { .. })
     }
 
     /// Executes a task. A RUN is executed by the layer above.
@@ -141,6 +131,9 @@ impl Machine {
                 retry,
             } => self.act(place, turn, after_undo, retry),
             Task::Calls { .. } => Err(AllocError),
+            Task::End(_) => Err(AllocError),
+            Task::Read(_) => Err(AllocError),
+            Task::Change(_) => Err(AllocError),
         }
     }
 

@@ -103,7 +103,7 @@ impl Machine {
     {
         match depth {
             None => self.set_mode(Mode::Unwind(Completion::Normal)),
-            Some(depth) => self.ask(OnAnswer::WasBack(depth)),
+            Some(depth) => self.ask(Op::Back { depth }, OnAnswer::WasBack(depth)),
         }
         Ok(())
     }
