@@ -26,7 +26,7 @@ use Rattle.client_machine.specs.declared.mode.Mode.{Mode}
 use Rattle.client_machine.specs.declared.mode.Mode.TheVariants as mode
 use Rattle.client_machine.specs.declared.mode.Task.TheVariants as task
 use Rattle.client_machine.specs.declared.mode.StackEntry.{StackEntry}
-use Rattle.client_machine.specs.Config.{stack_of, state_of, no_copy, on_answer_of, op_of, AllBelow, AreEven}
+use Rattle.client_machine.specs.Config.{stack_of, state_of, no_copy, on_answer_of, AllBelow, AreEven}
 use Rattle.client_machine.specs.Machine.{config_of, stack_in, state_in}
 use Rattle.client_machine.specs.Order.{nesting_of, outside, IsOwn, HaveDepths, ModeInOrder}
 use Rattle.client_machine.proofs.Fits.{refits, same_code, has_same, moved_by}
@@ -84,22 +84,22 @@ stack_more code xs (y ∷ ys) ks below =
 
 -- ---- the answer
 
-pub answered_means_by : (on_answer : OnAnswer) (a : Answer) (old new : Machine) (m : Mode) (mem : Remembered) → (let x : Machine = record old { mode = m; memory = mem } in new ≡ x) →
-    ((p : Program) (rest : State) → FitsIn p rest (mode.Await on_answer) old → AreEven old.procedures.items mem × (HaveDepths 0 mem.copies × ModeInOrder (nesting_of mem) m (reverse old.stack.items))) →
-    ((tree : ℕ → Body) (p : Program) (rest : State) → FitsIn p rest (mode.Await on_answer) old → (ans : List Answer) → means tree p (flat.answered p a (op_of old.memory.copies on_answer) (on_answer_of old.code.instrs.items old.memory.copies on_answer) (stack_in old) (state_in rest old)) ans ≡ means tree p (config_of rest new) ans) →
-    KeepsAnswer on_answer a old new
-answered_means_by on_answer a old new m mem moved inv steps = λ tree p rest is f.
+pub answered_means_by : (op : Op) (on_answer : OnAnswer) (a : Answer) (old new : Machine) (m : Mode) (mem : Remembered) → (let x : Machine = record old { mode = m; memory = mem } in new ≡ x) →
+    ((p : Program) (rest : State) → FitsIn p rest (mode.Await op on_answer) old → AreEven old.procedures.items mem × (HaveDepths 0 mem.copies × ModeInOrder (nesting_of mem) m (reverse old.stack.items))) →
+    ((tree : ℕ → Body) (p : Program) (rest : State) → FitsIn p rest (mode.Await op on_answer) old → (ans : List Answer) → means tree p (flat.answered p a op (on_answer_of old.code.instrs.items old.memory.copies op on_answer) (stack_in old) (state_in rest old)) ans ≡ means tree p (config_of rest new) ans) →
+    KeepsAnswer op on_answer a old new
+answered_means_by op on_answer a old new m mem moved inv steps = λ tree p rest is f.
     let moved' = moved_by old new m mem moved in
     record {
       rest = rest;
       code = same_code old new moved';
-      fits = refits p rest (mode.Await on_answer) new.mode old new moved' f
+      fits = refits p rest (mode.Await op on_answer) new.mode old new moved' f
           (subst (λ (n : Machine). AreEven n.procedures.items n.memory) (sym moved) (inv p rest f).0)
           (subst (λ (n : Machine). HaveDepths 0 n.memory.copies) (sym moved) (inv p rest f).1.0)
           (subst (λ (n : Machine). ModeInOrder (nesting_of n.memory) n.mode (reverse n.stack.items)) (sym moved) (inv p rest f).1.1);
       more = begins_itself rest.written;
       has = has_same old new rest.written moved';
-      same = λ ans. answered_means tree p a (op_of old.memory.copies on_answer) (on_answer_of old.code.instrs.items old.memory.copies on_answer) (stack_in old) (state_in rest old) ans ∙ steps tree p rest f ans;
+      same = λ ans. answered_means tree p a op (on_answer_of old.code.instrs.items old.memory.copies op on_answer) (stack_in old) (state_in rest old) ans ∙ steps tree p rest f ans;
     }
 
 -- what holds of the restored memory
@@ -137,34 +137,34 @@ is_back ns old mem d restores own even depths =
       state_is = λ rest units. level_comes_back rest ns (left_to d old) mem units c mem_is last deep is_whole even;
     }
 
-pub back_keeps : (a : Answer) (depth : ℕ) (old new : Machine) (mem : Remembered) → (let x : Machine = record old { mode = mode.Execute task.LeavesNow; memory = mem } in new ≡ x) →
+pub back_keeps : (op : Op) (a : Answer) (depth : ℕ) (old new : Machine) (mem : Remembered) → (let x : Machine = record old { mode = mode.Execute task.LeavesNow; memory = mem } in new ≡ x) →
     (IsWhole (left_to depth old.memory) → mem ≡ restored (left_to depth old.memory)) →
     HasNoBuffers old.memory →
     ((p : Program) (o : Op) (k : flat.OnAnswer) (ks : List flat.StackEntry) (s : State) → flat.answered p a o k ks s ≡ flat.answer_step p k a ks s) →
-    KeepsAnswer (on_answer.WasBack depth) a old new
-back_keeps a depth old new mem moved restores bufferless done =
+    KeepsAnswer op (on_answer.WasBack depth) a old new
+back_keeps op a depth old new mem moved restores bufferless done =
     let ns = old.procedures.items in
     let cs = old.memory.copies in
     let os = reverse old.stack.items in
     let c = slice_index_or cs (depth - 1) no_copy in
     let code = old.code.instrs.items in
-    let facts : (p : Program) (rest : State) → FitsIn p rest (mode.Await (on_answer.WasBack depth)) old → IsBack ns old.memory mem depth = λ p rest f. is_back ns old.memory mem depth restores f.order.0 f.even f.whole in
-    answered_means_by (on_answer.WasBack depth) a old new (mode.Execute task.LeavesNow) mem moved
+    let facts : (p : Program) (rest : State) → FitsIn p rest (mode.Await op (on_answer.WasBack depth)) old → IsBack ns old.memory mem depth = λ p rest f. is_back ns old.memory mem depth restores f.order.1.0 f.even f.whole in
+    answered_means_by op (on_answer.WasBack depth) a old new (mode.Execute task.LeavesNow) mem moved
     (λ p rest f.
     let b = facts p rest f in
-    (b.even, (b.whole, subst (λ n. ModeInOrder n (mode.Execute task.LeavesNow) os) (sym b.nesting_is) (back_order (nesting_of old.memory) depth os f.order))))
+    (b.even, (b.whole, subst (λ n. ModeInOrder n (mode.Execute task.LeavesNow) os) (sym b.nesting_is) (back_order (nesting_of old.memory) depth os f.order.1))))
     (λ tree p rest f ans.
     let b = facts p rest f in
     let s = state_in rest old in
     let ks = stack_in old in
     let s' : state_of rest ns mem old.units ≡ put_back c s = b.state_is rest old.units in
     let none : all_places (put_back c s) ≡ [] = ap all_places (sym s') ∙ no_places rest ns mem old.units b.even (b.none bufferless) in
-    let low : length (take depth cs) ≡ depth = length-take-le depth cs (level_open old.memory depth f.order.0) in
+    let low : length (take depth cs) ≡ depth = length-take-le depth cs (level_open old.memory depth f.order.1.0) in
     let same_stack : stack_of code mem.copies os ≡ stack_of code cs os =
     ap (λ xs. stack_of code xs os) b.copies_is
-    ∙ sym (stack_more code (take depth cs) (drop depth cs) os (λ n le. outer_below n (depth - 1) (nesting_of old.memory) os (omega (arith, le, low)) f.order.1))
+    ∙ sym (stack_more code (take depth cs) (drop depth cs) os (λ n le. outer_below n (depth - 1) (nesting_of old.memory) os (omega (arith, le, low)) f.order.1.1))
     ∙ ap (λ xs. stack_of code xs os) (take-append-drop depth cs) in
-    ap (λ k. means tree p k ans) (done p (op_of cs (on_answer.WasBack depth)) (flat.WasBack c []) ks s)
+    ap (λ k. means tree p k ans) (done p op (flat.WasBack c []) ks s)
     ∙ back_at_once tree p c ks s ans none
     ∙ ap (λ xs. means tree p (config (flat.Execute (flat.LeavesNow [])) xs (put_back c s)) ans) (sym same_stack)
     ∙ ap (λ x. means tree p (config (flat.Execute (flat.LeavesNow [])) (stack_of code mem.copies os) x) ans) (sym s')

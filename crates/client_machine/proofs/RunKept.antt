@@ -2,6 +2,7 @@
 use Rattle.std.proofs.Common.{◌≤◌, ◌<◌, length, ◌≡◌, ◌⊎◌, Bool, ℕ, ◌+◌, ◌-◌, List, [], ◌∷◌, ◌++◌, Some, refl, sym, ap, ◌∙◌, subst, arith}
 use Rattle.std.specs.Prelude.{Result, Ok, Err, OnOk, reverse, slice_get}
 use Rattle.client_database.specs.declared.answer.Answer.{Answer}
+use Rattle.client_database.specs.declared.operation.Op.{Op}
 use Rattle.client_database.specs.declared.operation.Op.TheVariants as op
 use Rattle.bound_tree.specs.Tree.{Body, Header}
 use Rattle.client_database.specs.declared.next_step.NextStep.TheVariants.{Ask}
@@ -26,16 +27,17 @@ use Rattle.block_meaning.specs.Blocks.{retry_in, closes, after_iteration}
 use Rattle.block_meaning.specs.Buffers.{releases_all}
 use Rattle.client_machine.specs.declared.mode.OnAnswer.{OnAnswer}
 use Rattle.client_machine.specs.declared.mode.OnAnswer.TheVariants as on_answer
+use Rattle.client_machine.specs.declared.mode.ends.EndAnswer.TheVariants as end_answer
 use Rattle.block_code.specs.declared.code.Instr.{Instr}
 use Rattle.client_machine.specs.declared.mode.Task.TheVariants as task
 use Rattle.block_meaning.specs.State as state
 use Rattle.block_meaning.specs.Blocks as blocks
-use Rattle.client_machine.specs.Config.{instr_or, instr_at, mode_of, task_of, completion_of, on_answer_of, op_of, AreEven}
+use Rattle.client_machine.specs.Config.{instr_or, instr_at, mode_of, task_of, completion_of, on_answer_of, AreEven}
 use Rattle.block_code.specs.Code.{instr_of, header_in, body_in}
 use Rattle.client_machine.specs.Machine.{config_of, stack_in, state_in}
-use Rattle.client_machine.specs.Order.{Nesting, nesting_of, InOrder, HaveDepths, AskingInOrder, ModeInOrder, TaskInOrder, CompletesInOrder}
+use Rattle.client_machine.specs.Order.{Nesting, nesting_of, InOrder, HaveDepths, IsNotOnLevels, IsLeave, IsAskedFor, AskingInOrder, ModeInOrder, TaskInOrder, CompletesInOrder}
 use Rattle.client_machine.proofs.Fits.{refits, refit, same_code, has_same}
-use Rattle.client_machine.specs.Step.{code_in, FitsIn, RunKept, KeepsRun, KeepsTask, KeepsCompletion, Wants, IsOfOpenLevels, AsksOpenLevels, asked_op}
+use Rattle.client_machine.specs.Step.{code_in, FitsIn, RunKept, KeepsRun, KeepsTask, KeepsCompletion, Wants, IsOfOpenLevels, AsksOpenLevels}
 
 pub on_ok : {A E : Type 0} {P Q : Type 0} (r : Result A E) → (P → Q) → OnOk r P → OnOk r Q
 on_ok (Ok x) f p = f p
@@ -66,30 +68,62 @@ unwind_keeps completion x old new e task_kept = λ tree p rest is fits.
 
 -- ---- the operation that is asked
 
-asked_is : (k : OnAnswer) (p : Program) (rest : State) (m : Machine) → FitsIn p rest (mode.Await k) m → op_of m.memory.copies k ≡ asked_op k
-asked_is (on_answer.WasEntered k t retry d) p rest m f = refl
-asked_is (on_answer.WasBack depth) p rest m f =
-    ap op.Back (depth_at 0 m.memory.copies (depth - 1) f.whole (let le = level_open m.memory depth f.order.0 in omega (arith, f.order.0.0, le)) ∙ (let e : 0 + (depth - 1) + 1 ≡ depth = omega (arith, f.order.0.0) in e))
-asked_is on_answer.WasLeft p rest m f = refl
-
-shows_by : (k : OnAnswer) (m : Machine) (x : Mode) → x ≡ mode.Await k → (tree : ℕ → Body) (p : Program) (rest : State) → FitsIn p rest x m →
-    finished (flat.means tree p (flat.config (mode_of m.code.instrs.items m.memory.copies x) (stack_in m) (state_in rest m)) []) ≡ (let d : Progress = record { written = rest.written; wants = Ask (asked_op k) } in d)
-shows_by k m x e tree p rest f =
+shows_by : (op : Op) (k : OnAnswer) (m : Machine) (x : Mode) → x ≡ mode.Await op k → (tree : ℕ → Body) (p : Program) (rest : State) →
+    finished (flat.means tree p (flat.config (mode_of m.code.instrs.items m.memory.copies x) (stack_in m) (state_in rest m)) []) ≡ (let d : Progress = record { written = rest.written; wants = Ask op } in d)
+shows_by op k m x e tree p rest =
     ap (λ x. finished (flat.means tree p (flat.config (mode_of m.code.instrs.items m.memory.copies x) (stack_in m) (state_in rest m)) [])) e
-    ∙ ap finished (asks_means tree p (op_of m.memory.copies k) (on_answer_of m.code.instrs.items m.memory.copies k) (stack_in m) (state_in rest m))
-    ∙ ap (λ o. let d : Progress = record { written = rest.written; wants = Ask o } in d) (asked_is k p rest m (subst (λ x. FitsIn p rest x m) e f))
+    ∙ ap finished (asks_means tree p op (on_answer_of m.code.instrs.items m.memory.copies op k) (stack_in m) (state_in rest m))
 
-pub shows_asked : (k : OnAnswer) (m : Machine) → m.mode ≡ mode.Await k → Wants (Ask (asked_op k)) m
-shows_asked k m e = λ tree p rest f. shows_by k m m.mode e tree p rest f
+pub shows_asked : (op : Op) (k : OnAnswer) (m : Machine) → m.mode ≡ mode.Await op k → Wants (Ask op) m
+shows_asked op k m e = λ tree p rest f. shows_by op k m m.mode e tree p rest
 
 -- with these levels open
-levels_by : (k : OnAnswer) (m : Machine) → AskingInOrder (nesting_of m.memory) k (reverse m.stack.items) → IsOfOpenLevels (length m.memory.copies) (Ask (asked_op k))
-levels_by (on_answer.WasEntered k t retry d) m o = tt
-levels_by (on_answer.WasBack depth) m o = (o.0.0, subst (λ n. depth ≤ n) (level_count m.memory) o.0.1)
-levels_by on_answer.WasLeft m o = (refl, subst (λ n. 0 < n) (level_count m.memory) o.0)
+names_no_level : (n : ℕ) (o : Op) → IsNotOnLevels o → IsOfOpenLevels n (Ask o)
+names_no_level n op.Enter x = tt
+names_no_level n (op.Leave keep) x = absurd x
+names_no_level n (op.Back depth) x = absurd x
+names_no_level n (op.Next table index prefix cursor forward) x = tt
+names_no_level n (op.Get table row) x = tt
+names_no_level n (op.Lock table row exclusive wait) x = tt
+names_no_level n (op.Insert table values) x = tt
+names_no_level n (op.Put table row values) x = tt
+names_no_level n (op.Delete table row) x = tt
+names_no_level n (op.Drop row) x = tt
+names_no_level n (op.NextValue sequence) x = tt
+names_no_level n (op.CurrentValue sequence) x = tt
+names_no_level n op.End x = tt
 
-pub asks_open_levels : (k : OnAnswer) (m : Machine) → m.mode ≡ mode.Await k → AsksOpenLevels (Ask (asked_op k)) m
-asks_open_levels k m e = λ p rest f. levels_by k m (subst (λ x. ModeInOrder (nesting_of m.memory) x (reverse m.stack.items)) e f.order)
+leaves_level : (n : ℕ) (o : Op) → IsLeave o → 0 < n → IsOfOpenLevels n (Ask o)
+leaves_level n (op.Leave keep) x lt = lt
+leaves_level n op.Enter x lt = absurd x
+leaves_level n (op.Back depth) x lt = absurd x
+leaves_level n (op.Next table index prefix cursor forward) x lt = absurd x
+leaves_level n (op.Get table row) x lt = absurd x
+leaves_level n (op.Lock table row exclusive wait) x lt = absurd x
+leaves_level n (op.Insert table values) x lt = absurd x
+leaves_level n (op.Put table row values) x lt = absurd x
+leaves_level n (op.Delete table row) x lt = absurd x
+leaves_level n (op.Drop row) x lt = absurd x
+leaves_level n (op.NextValue sequence) x lt = absurd x
+leaves_level n (op.CurrentValue sequence) x lt = absurd x
+leaves_level n op.End x lt = absurd x
+
+back_level : (o : Op) (depth : ℕ) (m : Machine) → o ≡ op.Back depth → (0 < depth) × (depth ≤ length (nesting_of m.memory).levels) → IsOfOpenLevels (length m.memory.copies) (Ask o)
+back_level o depth m e own = subst (λ (o : Op). IsOfOpenLevels (length m.memory.copies) (Ask o)) (sym e) (own.0, subst (λ n. depth ≤ n) (level_count m.memory) own.1)
+
+levels_by : (o : Op) (k : OnAnswer) (m : Machine) → IsAskedFor k o → AskingInOrder (nesting_of m.memory) k (reverse m.stack.items) → IsOfOpenLevels (length m.memory.copies) (Ask o)
+levels_by o (on_answer.WasEntered k t retry d) m asked x = subst (λ (o : Op). IsOfOpenLevels (length m.memory.copies) (Ask o)) (sym asked) tt
+levels_by o (on_answer.WasBack depth) m asked x = back_level o depth m asked (x.0.0, x.0.1)
+levels_by o on_answer.WasLeft m asked x = leaves_level (length m.memory.copies) o asked (subst (λ n. 0 < n) (level_count m.memory) x.0)
+levels_by o (on_answer.End (end_answer.WasInserted at made)) m asked x = names_no_level (length m.memory.copies) o asked
+levels_by o (on_answer.End end_answer.WasDropped) m asked x = names_no_level (length m.memory.copies) o asked
+levels_by o (on_answer.End (end_answer.WasBack depth but)) m asked x = back_level o depth m asked (x.0.0, x.0.1)
+levels_by o (on_answer.End (end_answer.WasGot at row held made)) m asked x = names_no_level (length m.memory.copies) o asked
+levels_by o (on_answer.Read k) m asked x = names_no_level (length m.memory.copies) o asked
+levels_by o (on_answer.Change k) m asked x = names_no_level (length m.memory.copies) o asked
+
+pub asks_open_levels : (o : Op) (k : OnAnswer) (m : Machine) → m.mode ≡ mode.Await o k → AsksOpenLevels (Ask o) m
+asks_open_levels o k m e = λ p rest f. let x = subst (λ x. ModeInOrder (nesting_of m.memory) x (reverse m.stack.items)) e f.order in levels_by o k m x.0 x.1
 
 -- ---- a task, by the step of the machine
 
@@ -143,14 +177,15 @@ pub pushed : {A : Type 0} (xs ys : List A) (x : A) → ys ≡ xs ++ x ∷ [] →
 pushed xs ys x e = ap reverse e ∙ reverse-append xs (x ∷ [])
 
 -- where it asks
-pub task_kept_ask : (task : Task) (k : OnAnswer) (old new : Machine) → (let m : Machine = record old { mode = new.mode; units = new.units } in new ≡ m) → (new.mode ≡ mode.Await k) ⊎ (new.mode ≡ mode.Unwind (completion.Stops why.Budget)) →
+pub task_kept_ask : (task : Task) (op : Op) (k : OnAnswer) (old new : Machine) → (let m : Machine = record old { mode = new.mode; units = new.units } in new ≡ m) → (new.mode ≡ mode.Await op k) ⊎ (new.mode ≡ mode.Unwind (completion.Stops why.Budget)) →
+    IsAskedFor k op →
     (TaskInOrder (nesting_of old.memory) task (reverse old.stack.items) → AskingInOrder (nesting_of old.memory) k (reverse old.stack.items)) →
     ((tree : ℕ → Body) (p : Program) (rest : State) → FitsIn p rest (mode.Execute task) old → config_of rest new ≡ flat.task_step (code_in old) p (task_of old.code.instrs.items old.memory.copies task) (stack_in old) (state_in rest old)) →
     KeepsTask task old new
-task_kept_ask task k old new moved is order steps =
+task_kept_ask task op k old new moved is asked order steps =
     let same : new.stack ≡ old.stack = ap (λ (m : Machine). m.stack) moved in
     task_kept task old new (moved ∙ ap (λ o. record old { mode = new.mode; stack = o; units = new.units }) (sym same))
-    (λ x. ask_order (nesting_of old.memory) k new.mode (reverse new.stack.items) is (subst (λ o. AskingInOrder (nesting_of old.memory) k (reverse o.items)) (sym same) (order x))) steps
+    (λ x. ask_order (nesting_of old.memory) op k new.mode (reverse new.stack.items) is asked (subst (λ o. AskingInOrder (nesting_of old.memory) k (reverse o.items)) (sym same) (order x))) steps
 
 -- a turn
 pub task_kept_turn : (task : Task) (old new : Machine) → (let m : Machine = record old { mode = new.mode; stack = new.stack } in new ≡ m) →

@@ -17,7 +17,7 @@ pub use Rattle.client_values.specs.Variables.{frames_out, AreEven}
 use Rattle.block_code.specs.declared.code.Instr.{Instr}
 use Rattle.block_code.specs.Code.{instr_of, header_in, body_in}
 use Rattle.client_machine.specs.Actions.{returned_in}
-use Rattle.client_machine.specs.Statements.{reading_in, fetch_in, find_word_in, wait_in, pairs_in, import_stream_in, import_targets_in, no_assignment, inserted_table, inserted_values}
+use Rattle.client_machine.specs.Statements.{reading_in, fetch_in, find_word_in, wait_in, pairs_in, inserted_table, inserted_values}
 use Rattle.client_machine.specs.declared.mode.TurnData.{TurnData}
 use Rattle.client_machine.specs.declared.mode.IterationData.{IterationData}
 use Rattle.client_machine.specs.declared.mode.AfterUndo.{AfterUndo}
@@ -152,6 +152,10 @@ completion_of code cs completion.NotFound = state.NotFound
 completion_of code cs (completion.Returns error) = state.Returns error
 completion_of code cs (completion.Stops why) = state.Stops (client.Stop why)
 
+-- the data of an iteration so far as the reading of a FOR takes them
+abbrev pub turn_read : Bool → Option Cursor → state.Turn
+turn_read again own = record { retry = again; start = None; by = Unknown; own = own }
+
 -- ---- the ends of iterations
 
 abbrev pub end_task_of : List Instr → List Copy → EndTask → flat.Task
@@ -162,14 +166,13 @@ end_task_of code cs (end_task.Releases k from) = flat.Releases (drop from (heade
 end_task_of code cs (end_task.EntersRest depth) = flat.EntersRest (copy_in cs depth)
 end_task_of code cs (end_task.LeavesIf depth k) = flat.LeavesIf (copy_in cs depth) (header_at code k).scoped
 end_task_of code cs (end_task.LeavesNow but) = flat.LeavesNow (buffers_of code but)
-end_task_of code cs (end_task.Closing k o) = flat.Closing (header_at code k) (iteration_of cs o)
+end_task_of code cs (end_task.Closing k depth) = flat.Closing (header_at code k) (record { copy = copy_in cs depth; turn = turn_read false None })
 end_task_of code cs (end_task.GoesBack depth but) = flat.GoesBack (copy_in cs depth) (buffers_of code but)
 end_task_of code cs (end_task.AfterBack depth but) = flat.AfterBack (slice_index_or cs (depth - 1) no_copy) (buffers_of code but)
 end_task_of code cs (end_task.UpdatesOne made at) = flat.UpdatesOne made (denoted_place at)
 end_task_of code cs (end_task.Updates made but places from) = flat.Updates made (buffers_of code but) (drop from (map denoted_place places))
 end_task_of code cs (end_task.Empties but) = flat.Empties (buffers_of code but)
 end_task_of code cs (end_task.Closes k t w) = flat.Closes (header_at code k) (iteration_without t) (completion_of code cs w)
-end_task_of code cs (end_task.Passes k ended left) = flat.Passes (header_at code k) (completion_of code cs ended) (completion_of code cs left)
 
 abbrev pub end_entry_of : List Instr → List Copy → EndEntry → flat.StackEntry
 end_entry_of code cs (end_entry.AfterClosing k o w) = flat.AfterClosing (header_at code k) (iteration_of cs o) (completion_of code cs w)
@@ -194,16 +197,8 @@ fetch_at code k = fetch_in (header_at code k).fetch
 abbrev pub search_of : List Instr → SearchData → Search
 search_of code k = record { reading = reading_at code k.place; forward = k.forward; only = k.only; wait = k.wait; retry = k.retry; prefix = k.prefix }
 
--- what the reading of a FOR takes of the data of its iteration
-abbrev pub turn_read : Bool → Option Cursor → state.Turn
-turn_read again own = record { retry = again; start = None; by = Unknown; own = own }
-
 abbrev pub read_task_of : List Instr → ReadTask → flat.Task
-read_task_of code (read_task.Takes k c values) = flat.Takes (search_of code k) c values
-read_task_of code (read_task.IsOnly k c values) = flat.IsOnly (search_of code k) c values
-read_task_of code (read_task.Seconds n k c values from) = flat.Seconds n (search_of code k) c values from
 read_task_of code (read_task.TakesAs k wait retry row) = flat.TakesAs (reading_at code k) wait retry row
-read_task_of code (read_task.TakesAgain k retry row) = flat.TakesAgain (reading_at code k) retry row
 read_task_of code (read_task.Looks n k from) = flat.Looks n (search_of code k) from
 read_task_of code (read_task.Searches k forward only wait retry from) = flat.Searches (reading_at code k) forward only wait retry from
 read_task_of code (read_task.FetchesFrom k again retry own) = flat.FetchesFrom again (fetch_at code k) retry own
@@ -237,27 +232,18 @@ abbrev pub assignments_of : List Instr → AssignmentList → List Assignment
 assignments_of code (assignment_list.Statement k from) = drop from (pairs_in (instr_at code k))
 assignments_of code (assignment_list.Given vs) = map given_of (reverse vs.items)
 
--- one assignment of a statement
-abbrev pub assignment_at : List Instr → ℕ → ℕ → Assignment
-assignment_at code k i = slice_index_or (pairs_in (instr_at code k)) i no_assignment
-
 abbrev pub change_task_of : List Instr → ChangeTask → flat.Task
 change_task_of code (change_task.Assigns pairs retry) = flat.Assigns (assignments_of code pairs) retry
 change_task_of code (change_task.AssignsEach pairs retry) = flat.AssignsEach (assignments_of code pairs) retry
-change_task_of code (change_task.AssignsOne k i retry) = flat.AssignsOne (assignment_at code k i).target (assignment_at code k i).right retry
 change_task_of code (change_task.LocksOne b) = flat.LocksOne b
-change_task_of code (change_task.LocksAll bs) = flat.LocksAll bs
 change_task_of code (change_task.SettlesOne b) = flat.SettlesOne b
-change_task_of code (change_task.SettlesAll contents bs) = flat.SettlesAll (map denoted_content contents) bs
 change_task_of code (change_task.Creates b) = flat.Creates b
 change_task_of code (change_task.Begun b) = flat.Begun b
 change_task_of code (change_task.Deletes b) = flat.Deletes b
 change_task_of code (change_task.DeletesRow b t row) = flat.DeletesRow b t row
-change_task_of code (change_task.Imports k retry) = flat.Imports (import_stream_in (instr_at code k)) (import_targets_in (instr_at code k)) retry
 
 abbrev pub change_entry_of : ChangeEntry → flat.StackEntry
 change_entry_of (change_entry.AsBefore b content) = flat.AsBefore (denoted_content content ∷ []) (b ∷ [])
-change_entry_of (change_entry.AllAsBefore contents bs) = flat.AsBefore (map denoted_content contents) bs
 
 abbrev pub change_answer_of : ChangeAnswer → flat.OnAnswer
 change_answer_of (change_answer.WasCounted t) = flat.WasCounted t
@@ -335,11 +321,10 @@ WayBelow n other = Unit {0}
 abbrev pub EndTaskBelow : ℕ → EndTask → Type 0
 EndTaskBelow n (end_task.EntersRest depth) = IsBelow n depth
 EndTaskBelow n (end_task.LeavesIf depth k) = IsBelow n depth
-EndTaskBelow n (end_task.Closing k o) = IsBelow n o.depth
+EndTaskBelow n (end_task.Closing k depth) = IsBelow n depth
 EndTaskBelow n (end_task.GoesBack depth but) = IsBelow n depth
 EndTaskBelow n (end_task.AfterBack depth but) = IsBelow n (Some depth)
 EndTaskBelow n (end_task.Closes k t w) = WayBelow n w
-EndTaskBelow n (end_task.Passes k ended left) = WayBelow n ended × WayBelow n left
 EndTaskBelow n other = Unit {0}
 
 abbrev pub TaskBelow : ℕ → Task → Type 0

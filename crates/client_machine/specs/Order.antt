@@ -126,7 +126,7 @@ IsAboveClosing (Some d) ks = ⊥
 abbrev pub EndFollows : Nesting → EndTask → List StackEntry → Type 0 → Type 0 → Type 0
 EndFollows n (end_task.EntersRest depth) ks in_order left = IsInnermost n depth × in_order
 EndFollows n (end_task.LeavesIf depth k) ks in_order left = (IsInnermost n depth × IsAboveClosing depth ks) × in_order
-EndFollows n (end_task.LeavesNow but) ks in_order left = (0 < length n.levels) × left
+EndFollows n (end_task.LeavesNow but) ks in_order left = IsOwn n (Some (length n.levels)) × left
 EndFollows n t ks in_order left = EndNamesNone t × in_order
 
 abbrev pub Follows : Nesting → Task → List StackEntry → Type 0 → Type 0 → Type 0
@@ -145,6 +145,21 @@ InOrder n (stack.End (end_entry.AfterClosing k o w) ∷ ks) = ClosesIteration w 
 InOrder n (stack.Read (read_entry.FetchedAs k depth t retry d) ∷ ks) = IsLast n depth × IsOwn n depth × InOrder (under n depth) ks
 InOrder n (stack.Read e ∷ ks) = InOrder n ks
 InOrder n (stack.Change e ∷ ks) = InOrder n ks
+
+-- a completion that reaches a task that leaves a level is normal, or stops the client
+abbrev pub IsNormalOrStop : Completion → Type 0
+IsNormalOrStop completion.Normal = Unit {0}
+IsNormalOrStop (completion.Stops why) = Unit {0}
+IsNormalOrStop w = ⊥
+
+abbrev pub CanReach : Task → Completion → Type 0
+CanReach (task.End (end_task.LeavesNow but)) w = IsNormalOrStop w
+CanReach t w = Unit {0}
+
+-- what a completion does at a task that follows
+abbrev pub mode_after : Completion → Task → Mode
+mode_after completion.Normal t = mode.Execute t
+mode_after w t = mode.Unwind w
 
 -- an unwinding has passed the level, and those inside it
 abbrev pub Named : Nesting → Option ℕ → List StackEntry → Type 0
@@ -168,11 +183,10 @@ abbrev pub EndTaskInOrder : Nesting → EndTask → List StackEntry → Type 0
 EndTaskInOrder n (end_task.EntersRest depth) ks = IsInnermost n depth × InOrder n ks
 EndTaskInOrder n (end_task.LeavesIf depth k) ks = (IsInnermost n depth × IsAboveClosing depth ks) × InOrder n ks
 EndTaskInOrder n (end_task.LeavesNow but) ks = LeavesInOrder n ks
-EndTaskInOrder n (end_task.Closing k o) ks = (IsInnermost n o.depth × IsAboveClosing o.depth ks) × InOrder n ks
+EndTaskInOrder n (end_task.Closing k depth) ks = (IsInnermost n depth × IsAboveClosing depth ks) × InOrder n ks
 EndTaskInOrder n (end_task.GoesBack depth but) ks = Named n depth ks
 EndTaskInOrder n (end_task.AfterBack depth but) ks = Named n (Some depth) ks
 EndTaskInOrder n (end_task.Closes k t w) ks = (first_in w ≡ None) × InOrder n ks
-EndTaskInOrder n (end_task.Passes k ended left) ks = (n.levels ≡ [] → (first_in ended ≡ None) × CompletesInOrder n ended ks) × CompletesInOrder n left ks
 EndTaskInOrder n t ks = Named n None ks
 
 abbrev pub TaskInOrder : Nesting → Task → List StackEntry → Type 0

@@ -1,15 +1,11 @@
 -- What the statements and headers of code have.
 use Rattle.std.specs.Prelude.{ℕ, Bool, true, List, [], Option, Some, None}
 use Rattle.abl_base.specs.declared.value.Value.{Value}
-use Rattle.abl_base.specs.declared.value.Value.TheVariants.{Unknown}
-use Rattle.abl_base.specs.declared.value.Kind.TheVariants as kind
 use Rattle.bound_tree.specs.declared.block.FetchWord.TheVariants as fetch
 use Rattle.bound_tree.specs.declared.block.LockWanted.TheVariants as wanted
 use Rattle.bound_tree.specs.declared.statement.FindWord.{FindWord}
 use Rattle.bound_tree.specs.declared.statement.FindWord.TheVariants as find
-use Rattle.bound_tree.specs.declared.statement.Target.{Target}
-use Rattle.bound_tree.specs.declared.statement.Target.TheVariants as target
-use Rattle.bound_tree.specs.Tree.{Assign, Assignment, Fetch, Find, FindCurrent, Given, Import, Reading}
+use Rattle.bound_tree.specs.Tree.{Assign, Assignment, Fetch, Find, FindCurrent, Reading}
 use Rattle.client_database.specs.declared.operation.Op.{Op}
 use Rattle.client_database.specs.declared.operation.Op.TheVariants as op
 use Rattle.block_flat.specs.Flat as flat
@@ -44,23 +40,10 @@ wait_in i = true
 
 -- ---- assignments
 
--- the default where there is no assignment
-abbrev pub no_assignment : Assignment
-no_assignment = record { target = target.Variable (record { undoable = true; external = true; number = 0; kind = kind.Integer }); right = Given Unknown }
-
 -- those of an assignment statement
 abbrev pub pairs_in : flat.Instr → List Assignment
 pairs_in (flat.Plain (Assign xs quiet) next) = xs
 pairs_in i = []
-
--- the stream and the targets of an IMPORT
-abbrev pub import_stream_in : flat.Instr → ℕ
-import_stream_in (flat.Plain (Import n ts quiet) next) = n
-import_stream_in i = 0
-
-abbrev pub import_targets_in : flat.Instr → List (Option Target)
-import_targets_in (flat.Plain (Import n ts quiet) next) = ts
-import_targets_in i = []
 
 -- ---- operations
 

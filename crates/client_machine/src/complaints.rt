@@ -1,13 +1,18 @@
 //! The faults of statements: the line about each, NO-ERROR, and ERROR.
 
-ghost use Rattle.std.specs.Prelude.{◌≡◌, ℕ, IfOk, OnOk, OnErr, ◌++◌, Some, None, true, false};
-ghost use Rattle.std.specs.Fmt.{decimal};
+ghost use Rattle.std.specs.Prelude.{◌≡◌, IfOk, IfSome, OnOk, OnErr, Some, None, true, false};
 ghost use Rattle.block_meaning.specs.Lines.{line_of};
-ghost use Rattle.block_meaning.specs.Program.{Program};
+ghost use Rattle.block_meaning.specs.Program.{Program, procedure_at};
+ghost use Rattle.block_meaning.specs.State.{State};
+ghost use Rattle.block_meaning.specs.Frames.{own_frame};
+ghost use Rattle.complaint_lines.specs.Complaints as complaints;
 ghost use Rattle.client_output.specs.Written.{IsUnchanged};
 ghost use Rattle.client_machine.specs.declared.mode.Completion.{Completion};
 ghost use Rattle.client_machine.specs.declared.mode.StackEntry.{StackEntry};
-ghost use Rattle.client_machine.specs.Config.{complaint_in};
+ghost use Rattle.client_machine.specs.Config.{complaint_in, AreEven};
+ghost use Rattle.client_machine.specs.Inputs.{IsProcedureOf, IsProgramOf};
+ghost use Rattle.client_machine.specs.Machine.{state_in};
+ghost use Rattle.client_machine.specs.declared.mode.ends.BufferList.{BufferList};
 ghost use Rattle.client_machine.specs.declared.mode.LineFault.{LineFault};
 ghost use Rattle.client_machine.specs.declared.mode.Mode.{Mode};
 ghost use Rattle.client_machine.specs.Order.{IsNoFault};
@@ -16,9 +21,10 @@ ghost use Rattle.client_machine.specs.Step.{KeepsComplaint, KeepsEntry};
 use crate::machine::Machine;
 use crate::mode::ends::BufferList;
 use crate::mode::{Completion, LineFault, Mode, PassedLevels};
-use abl_expr::RunFault;
+use block_code::ProcedureCode;
 use client_database::StopWhy;
-use std::alloc::{AllocError, Global};
+use complaint_lines::{Complaint, complaint_about, complaint_line};
+use std::alloc::AllocError;
 
 impl Machine {
     /// A completion reaches the entry that handles the fault of a statement: under NO-ERROR it sets
@@ -89,7 +95,7 @@ impl Machine {
         ensures ok { OnOk result (KeepsComplaint (Some fault) self.old self.new) }
         ensures err { OnErr result (IsUnchanged self.old.output self.new.output) }
     {
-        let line = line_text(self.alloc, fault)?;
+        let line = self.line_about(fault)?;
         if self.output.write(None, line.as_slice())? {
             self.raise();
             return Ok(());
@@ -97,46 +103,38 @@ impl Machine {
         self.set_mode(Mode::Unwind(Completion::Stops(StopWhy::OutputFull)));
         Ok(())
     }
-}
 
-/// The line about a fault.
-fn line_text(alloc: Global, fault: LineFault) -> Result<Vec<u8>, AllocError>
-    ensures { IfOk result (λ line. (p : Program) (n : ℕ) → line.items ≡ line_of p n (complaint_in fault)) }
-{
-    let mut line = Vec::new(alloc);
-    push_line(alloc, &mut line, fault)?;
-    Ok(line)
-}
+    /// The line about a fault. Its buffers are those of the running procedure.
+    fn line_about(&self, fault: LineFault) -> Result<Vec<u8>, AllocError>
+        ensures { IfOk result (λ line. (p : Program) (rest : State) → IsProgramOf p self.now.code self.now.inputs → AreEven self.now.procedures.items self.now.memory → line.items ≡ line_of p (own_frame (state_in rest self.now).frames).procedure (complaint_in fault)) }
+    {
+        let Some(procedure) = self.running_procedure() else {
+            return Err(AllocError);
+        };
+        complaint_line(
+            self.alloc,
+            &self.inputs.schema,
+            procedure.buffers.as_slice(),
+            complaint_of(fault),
+        )
+    }
 
-/// Writes the line about a fault. A client without buffers has none about an empty one.
-fn push_line(alloc: Global, line: &mut Vec<u8>, fault: LineFault) -> Result<(), AllocError>
-    ensures { OnOk result ((p : Program) (n : ℕ) → line.new.items ≡ line.old.items ++ line_of p n (complaint_in fault)) }
-{
-    match fault {
-        LineFault::Expression(RunFault::Range) => line.extend_from_slice(
-            b"** value out of range\n",
-        ),
-        LineFault::Expression(RunFault::Convert) => line.extend_from_slice(b"** bad conversion\n"),
-        LineFault::Expression(RunFault::Argument) => line.extend_from_slice(b"** bad argument\n"),
-        LineFault::Expression(RunFault::EmptyBuffer(_)) => Err(AllocError),
-        LineFault::BadField(number) => push_bad_field(alloc, line, number),
+    /// The code of the running procedure.
+    pub fn running_procedure(&self) -> Option<&ProcedureCode>
+        ensures { IfSome result (λ procedure. (p : Program) (rest : State) → IsProgramOf p self.now.code self.now.inputs → AreEven self.now.procedures.items self.now.memory → IsProcedureOf self.now.code.instrs.items procedure.now (procedure_at p (own_frame (state_in rest self.now).frames).procedure)) }
+    {
+        let last = self.procedures.len().checked_sub(1)?;
+        let number = *self.procedures.get(last)?;
+        self.code.procedures.get(number as usize)
     }
 }
 
-/// Writes the line about a field of input.
-fn push_bad_field(alloc: Global, line: &mut Vec<u8>, number: u32) -> Result<(), AllocError>
-    ensures { OnOk result ((p : Program) (n : ℕ) → line.new.items ≡ line.old.items ++ line_of p n (complaint_in (LineFault.BadField number))) }
+/// What the line about a fault reports.
+fn complaint_of(fault: LineFault) -> Complaint
+    ensures { complaints.complaint_in result ≡ complaint_in fault }
 {
-    line.extend_from_slice(b"** input field ")?;
-    push_number(alloc, line, number)?;
-    line.extend_from_slice(b" is bad\n")?;
-    Ok(())
-}
-
-/// Writes a number in digits.
-fn push_number(alloc: Global, line: &mut Vec<u8>, number: u32) -> Result<(), AllocError>
-    ensures { OnOk result (line.new.items ≡ line.old.items ++ decimal number) }
-{
-    let text = format!(in alloc; "{number}")?;
-    line.extend_from_slice(text.as_bytes())
+    match fault {
+        LineFault::Expression(fault) => complaint_about(fault),
+        LineFault::Complaint(complaint) => complaint,
+    }
 }

@@ -98,6 +98,7 @@ impl Machine {
         } else {
             PassedLevels {
                 first: outer(depth, passed.first),
+                buffers: passed.buffers,
             }
         }
     }

@@ -17,7 +17,7 @@ ghost use Rattle.bound_tree.specs.Bound.{action_of};
 ghost use Rattle.block_code.specs.declared.code.Instr.{Instr};
 ghost use Rattle.client_machine.specs.declared.mode.StackEntry.{StackEntry};
 ghost use Rattle.client_machine.specs.InstrClasses.{IsOfClass};
-ghost use Rattle.client_machine.specs.Order.{ClosesIteration, CompletesInOrder, InOrder, ModeInOrder, Nesting, first_in, outer_of};
+ghost use Rattle.client_machine.specs.Order.{CanReach, ClosesIteration, CompletesInOrder, InOrder, ModeInOrder, Nesting, first_in, outer_of};
 ghost use Rattle.client_machine.specs.Config.{mode_of, entry_of, completion_of, turn_of, after_undo_of, instr_at, header_at, body_at};
 ghost use Rattle.client_output.specs.Written.{IsUnchanged};
 ghost use Rattle.client_machine.specs.Machine.{config_of, stack_in, state_in};
@@ -30,6 +30,7 @@ ghost use Rattle.client_machine.specs.declared.mode.Task.{Task};
 ghost use Rattle.client_machine.specs.declared.mode.Completion.{Completion};
 
 use crate::machine::{Machine, mode_again, mode_then};
+use crate::mode::ends::EndTask;
 use crate::mode::{
     AfterUndo, Completion, IterationData, Mode, OnAnswer, PassedLevels, StackEntry, Task, TurnData,
 };
@@ -202,11 +203,14 @@ impl Machine {
         }
     }
 
-    /// A task follows a normal completion.
+    /// A task follows a normal completion. No other one but a stop comes while a level is left.
     fn then_executes(&mut self, task: Task, completion: Completion) -> Result<(), AllocError>
         ensures ok { OnOk result (KeepsEntry (StackEntry.Then task) completion self.old self.new) }
         ensures err { OnErr result (IsUnchanged self.old.output self.new.output) }
     {
+        if !can_reach(&task, &completion) {
+            return Err(AllocError);
+        }
         let mode = mode_then(task, completion);
         self.set_mode(mode);
         Ok(())
@@ -245,6 +249,19 @@ impl Machine {
         let mode = mode_again(fuel, place, outer, left, completion);
         self.set_mode(mode);
         Ok(())
+    }
+}
+
+/// Whether the completion may reach the task: where that leaves a level it is normal, or a stop.
+fn can_reach(task: &Task, completion: &Completion) -> bool
+    ensures { result ≡ true → CanReach task.now completion.now }
+{
+    match task {
+        Task::End(EndTask::LeavesNow(_)) => matches!(
+            completion,
+            Completion::Normal | Completion::Stops(_)
+        ),
+        _ => true,
     }
 }
 

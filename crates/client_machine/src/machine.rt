@@ -21,7 +21,7 @@ ghost use Rattle.client_machine.specs.declared.mode.Completion.{Completion};
 ghost use Rattle.client_database.specs.declared.ends.StopWhy.{StopWhy};
 ghost use Rattle.client_machine.specs.declared.mode.OnAnswer.{OnAnswer};
 ghost use Rattle.client_machine.specs.declared.mode.StackEntry.{StackEntry};
-ghost use Rattle.client_machine.specs.Order.{CompletesInOrder, InOrder, ModeInOrder, Nesting, first_in};
+ghost use Rattle.client_machine.specs.Order.{CanReach, CompletesInOrder, InOrder, ModeInOrder, Nesting, first_in};
 ghost use Rattle.client_machine.specs.Config.{header_at, body_at, turn_of, completion_of, copy_in, task_of, entry_of, mode_of, on_answer_of, AllBelow, AreEven};
 ghost use Rattle.client_output.specs.Written.{IsUnchanged};
 ghost use Rattle.client_machine.specs.Machine.{config_of, stack_in, state_in};
@@ -254,7 +254,7 @@ impl Machine {
 
 /// The task follows a normal completion.
 pub fn mode_then(task: Task, completion: Completion) -> Mode
-    ensures order { (n : Nesting) (os : List StackEntry) → CompletesInOrder n completion (StackEntry.Then task ∷ os) → ModeInOrder n result os }
+    ensures order { (n : Nesting) (os : List StackEntry) → CanReach task completion → CompletesInOrder n completion (StackEntry.Then task ∷ os) → ModeInOrder n result os }
     ensures same { (code : List Instr) (cs : List Copy) (ks : List flat.StackEntry) (s : State) → flat.config (mode_of code cs result) ks s ≡ flat.then_step (completion_of code cs completion) (task_of code cs task) ks s }
 {
     match completion {

@@ -81,7 +81,10 @@ impl Machine {
             block,
             after_undo,
             retry,
-            passed: PassedLevels { first },
+            passed: PassedLevels {
+                first,
+                buffers: passed.buffers,
+            },
         }));
         Ok(())
     }

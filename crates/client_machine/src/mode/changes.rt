@@ -1,6 +1,6 @@
 //! Assignments to fields and from sequences, CREATE and DELETE.
 
-use abl_base::{Items, Row, RowId, Value};
+use abl_base::{Row, RowId, Value};
 use bound_tree::Target;
 use client_memory::buffer::Content;
 
@@ -23,57 +23,22 @@ pub enum AssignmentList {
 /// A task of a change.
 #[derive(Drop)]
 pub enum ChangeTask {
-    Assigns {
-        pairs: AssignmentList,
-        retry: bool,
-    },
-    AssignsEach {
-        pairs: AssignmentList,
-        retry: bool,
-    },
-    /// The assignment of this index in the statement at the place.
-    AssignsOne {
-        place: usize,
-        index: usize,
-        retry: bool,
-    },
+    Assigns { pairs: AssignmentList, retry: bool },
+    AssignsEach { pairs: AssignmentList, retry: bool },
     LocksOne(u32),
-    LocksAll(Items<u32>),
     SettlesOne(u32),
-    /// Stores the changed buffers, which had these contents before the statement.
-    SettlesAll {
-        contents: Items<Content>,
-        buffers: Items<u32>,
-    },
     Creates(u32),
     /// The buffer holds the new record.
     Begun(u32),
     Deletes(u32),
-    DeletesRow {
-        buffer: u32,
-        table: u16,
-        row: RowId,
-    },
-    /// The IMPORT at the place.
-    Imports {
-        place: usize,
-        retry: bool,
-    },
+    DeletesRow { buffer: u32, table: u16, row: RowId },
 }
 
 /// An entry of a change.
 #[derive(Drop)]
 pub enum ChangeEntry {
     /// After a fault the buffer has this content again.
-    AsBefore {
-        buffer: u32,
-        content: Content,
-    },
-    /// The same for several buffers.
-    AllAsBefore {
-        contents: Items<Content>,
-        buffers: Items<u32>,
-    },
+    AsBefore { buffer: u32, content: Content },
 }
 
 /// What follows an answer in a change.

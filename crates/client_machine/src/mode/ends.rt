@@ -45,7 +45,7 @@ pub enum EndTask {
     /// Closes an iteration, whose `AfterClosing` is below.
     Closing {
         place: usize,
-        iteration: IterationData,
+        depth: Option<u32>,
     },
     GoesBack {
         depth: Option<u32>,
@@ -73,13 +73,6 @@ pub enum EndTask {
         place: usize,
         turn: TurnData,
         completion: Completion,
-    },
-    /// Leaves an iteration of the block at the place: with no level open its buffers are released and
-    /// it completes as `ended`, else it completes as `left`.
-    Passes {
-        place: usize,
-        ended: Completion,
-        left: Completion,
     },
 }
 

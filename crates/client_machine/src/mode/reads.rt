@@ -20,34 +20,9 @@ pub struct SearchData {
 /// A task of a reading.
 #[derive(Drop)]
 pub enum ReadTask {
-    /// Takes the match at the cursor.
-    Takes {
-        search: SearchData,
-        cursor: Cursor,
-        values: Row,
-    },
-    /// Looks for a second match, where there may be none.
-    IsOnly {
-        search: SearchData,
-        cursor: Cursor,
-        values: Row,
-    },
-    /// Looks for a second match after `from`.
-    Seconds {
-        fuel: u64,
-        search: SearchData,
-        cursor: Cursor,
-        values: Row,
-        from: Cursor,
-    },
     TakesAs {
         place: usize,
         wait: bool,
-        retry: bool,
-        row: RowId,
-    },
-    TakesAgain {
-        place: usize,
         retry: bool,
         row: RowId,
     },
