@@ -97,13 +97,14 @@ abbrev config_by : Program → List Instr → ℕ → Mode → List StackEntry �
 config_by p code units m os ns mem u = flat.config (mode_of code mem.copies m) (stack_of code mem.copies (reverse os)) (state_of (start p units) ns mem u)
 
 pub begin_follows : (p : Program) (bound : Bound) (c : Machine) (code : Code) (inputs : Inputs) (units : ℕ) → Begins c code inputs units → IsCompiled code bound → p.source ≡ source_of bound →
-    p.input ≡ inputs.own → p.inputs ≡ inputs.named.items → AreForms p.forms → p.forms.line_at ≡ line_at → Follows (run p units) bound.outputs.items [] c
-begin_follows p bound c code inputs units b compiled source own named forms lines =
+    p.tables ≡ inputs.schema.tables → p.input ≡ inputs.own → p.inputs ≡ inputs.named.items → AreForms p.forms → p.forms.line_at ≡ line_at → Follows (run p units) bound.outputs.items [] c
+begin_follows p bound c code inputs units b compiled source tables own named forms lines =
     let rest = start p units in
     let tree = tree_at compiled.bodies in
     let qs = p.source.procedures in
     let program : IsProgramOf p code inputs = record {
       forms = forms;
+      tables = tables;
       lines = lines;
       procedures = subst (λ ps. AreProceduresOf code.instrs.items code.procedures.items ps) (sym (ap (λ s. s.procedures) source)) (procedures_are code.instrs.items compiled.bodies bound.procedures.items code.procedures.items compiled.procedures);
       input = own;

@@ -3,3 +3,4 @@ pub mod Works
 pub mod Resumes
 pub mod Begins
 pub mod Still
+pub mod AnswerWrites

@@ -1,6 +1,5 @@
 -- A call of a client, from an answer to what it wants next.
-use Rattle.std.proofs.Common.{◌≡◌, ℕ, ◌⊎◌, inl, inr, List, [], ◌∷◌, ◌++◌, Some, None, refl, sym, ap, ◌∙◌, subst, append_assoc, append-nil, Bool, true, false}
-use Rattle.std.specs.Prelude.{◌==◌}
+use Rattle.std.proofs.Common.{◌≡◌, ℕ, ◌⊎◌, inl, inr, List, [], ◌∷◌, ◌++◌, Some, None, refl, sym, ap, ◌∙◌, subst, append_assoc, append-nil}
 use Rattle.client_database.specs.declared.operation.Op.{Op}
 use Rattle.client_database.specs.declared.operation.Op.TheVariants.{End}
 use Rattle.client_database.specs.declared.answer.Answer.{Answer}
@@ -12,7 +11,6 @@ use Rattle.block_meaning.specs.declared.wants.Piece.{Piece}
 use Rattle.client_database.specs.declared.next_step.NextStep.{NextStep}
 use Rattle.client_database.specs.declared.next_step.NextStep.TheVariants.{Ask, Ended}
 use Rattle.block_meaning.specs.State.{State, Progress}
-use Rattle.block_meaning.specs.Buffers.{left, left_if}
 use Rattle.block_meaning.specs.Program.{Program}
 use Rattle.block_meaning.specs.Meaning.{finished}
 use Rattle.block_meaning.specs.GivesUp.{Begins, IsAsked, before_last, written_at, GaveUp}
@@ -27,15 +25,13 @@ use Rattle.client_output.proofs.Unchanged.{still_written}
 use Rattle.block_code.specs.declared.code.Code.{Code as SourceCode}
 use Rattle.block_code.specs.Code.{place_of}
 use Rattle.client_machine.specs.Inputs.{names_of}
-use Rattle.block_code.specs.declared.code.Instr.{Instr}
 use Rattle.client_machine.specs.declared.machine.Machine.{Machine}
 use Rattle.client_machine.specs.declared.mode.Mode.{Mode}
 use Rattle.client_machine.specs.declared.mode.Mode.TheVariants as mode
-use Rattle.client_machine.specs.declared.mode.OnAnswer.{OnAnswer}
-use Rattle.client_machine.specs.declared.mode.OnAnswer.TheVariants as on_answer
-use Rattle.client_machine.specs.Config.{instr_at, body_at, on_answer_of, op_of, mode_of}
+use Rattle.client_machine.specs.Config.{instr_at, body_at, on_answer_of, mode_of}
 use Rattle.client_machine.specs.Machine.{config_of, stack_in, state_in}
 use Rattle.client_machine.specs.Step.{code_in, Fits, RunKept, KeepsRun as StepKeeps, Wants, IsAwaiting}
+use Rattle.block_vm.proofs.AnswerWrites.{answer_step_writes}
 use Rattle.block_vm.specs.declared.client.Client.{Client}
 use Rattle.block_vm.specs.declared.client.Phase.{Phase}
 use Rattle.block_vm.specs.declared.client.Phase.TheVariants as phase
@@ -55,15 +51,6 @@ asked_in tree p (flat.Unwind completion) ks s = something_is_asked tree p (confi
 asked_in tree p (flat.Await o k) ks s = subst (λ r. IsAsked (finished r).wants) (sym (asks_means tree p o k ks s)) tt
 
 -- ---- what an answer writes
-
-left_writes : (b : Bool) (s : State) → (left_if b s).written ≡ s.written
-left_writes true s = refl
-left_writes false s = refl
-
-heard_writes : (code : List Instr) (cs : List _) (p : Program) (k : OnAnswer) (a : Answer) (ks : List flat.StackEntry) (s : State) → (answer_step p (on_answer_of code cs k) a ks s).state.written ≡ s.written
-heard_writes code cs p (on_answer.WasEntered k t retry d) a ks s = refl
-heard_writes code cs p (on_answer.WasBack depth) a ks s = refl
-heard_writes code cs p on_answer.WasLeft a ks s = left_writes (s.level == 1) s
 
 answer_writes : (p : Program) (a : Answer) (o : Op) (k : flat.OnAnswer) (ks : List flat.StackEntry) (s : State) → (answer_step p k a ks s).state.written ≡ s.written → (answered p a o k ks s).state.written ≡ s.written
 answer_writes p (answer.Blocked holders) o k ks s e = refl
@@ -102,7 +89,7 @@ recode tree p a b e is = subst (λ (k : SourceCode). IsCodeOf (record { instr = 
 pub begin_going : (m : List Answer → Progress) (names : List (List ℕ)) (from : List Piece) (c : Machine) → Follows m names from c → RunsFrom m names from c
 begin_going m names from c f = record { pieces = from; more = begins_itself from; follows = f }
 
--- a machine that went on, and has heard these answers
+-- a machine that went on, and was given these answers
 went : (m m' : List Answer → Progress) (names : List (List ℕ)) (from : List Piece) (answers : List Answer) (c c' : Machine) → ((ans : List Answer) → m' ans ≡ m (answers ++ ans)) → Follows m names from c → StepKeeps answers c c' → RunsFrom m' names from c'
 went m m' names from answers c c' is f k =
     let x = k f.tree f.program f.rest f.code f.fits in
@@ -134,7 +121,7 @@ stands_going m names from c wants run_from shows g =
     f.same [] ∙ shows f.tree f.program f.rest f.fits ∙ ap (λ ps. let d : Progress = record { written = ps; wants = wants } in d) f.is in
     record { pieces = g.pieces; more = g.more; has = f.has; at = inl (record { run_from = run_from; follows = f; refines = refines }) }
 
--- memory is wanting; the sections are as they were
+-- out of memory; the sections are as they were
 pub fails_going : (m : List Answer → Progress) (names : List (List ℕ)) (from : List Piece) (c : Machine) (new : Client) (wants : NextStep) → new.phase ≡ phase.GivingUp → wants ≡ Ask End → IsUnchanged c.output new.machine.output → RunsFrom m names from c → RunsOn m names from new wants
 fails_going m names from c new wants gives asks same g =
     let f = g.follows in
@@ -195,35 +182,35 @@ first_call names m answers old new w begun none will d =
 asking_now : (x : Mode) (m : List Answer → Progress) (names : List (List ℕ)) (written : List Piece) (c : Machine) → x ≡ c.mode → IsAwaiting x → Follows m names written c → (m []).written ≡ written
 asking_now (mode.Execute t) m names written c e waits f = absurd waits
 asking_now (mode.Unwind w) m names written c e waits f = absurd waits
-asking_now (mode.Await k) m names written c e waits f =
+asking_now (mode.Await o k) m names written c e waits f =
     ap (λ (d : Progress). d.written) (f.same [])
     ∙ ap (λ x. (finished (means f.tree f.program (config (mode_of c.code.instrs.items c.memory.copies x) (stack_in c) (state_in f.rest c)) [])).written) (sym e)
-    ∙ ap (λ r. (finished r).written) (asks_means f.tree f.program (op_of c.memory.copies k) (on_answer_of c.code.instrs.items c.memory.copies k) (stack_in c) (state_in f.rest c))
+    ∙ ap (λ r. (finished r).written) (asks_means f.tree f.program o (on_answer_of c.code.instrs.items c.memory.copies o k) (stack_in c) (state_in f.rest c))
     ∙ f.is
 
 least_at : (m : List Answer → Progress) (answers : List Answer) (a : Answer) (written : List Piece) → (after answers m []).written ≡ written → Begins (written_at m (answers ++ a ∷ [])) written
 least_at m answers a written e = begins_same _ _ (written_before m answers a ∙ ap (λ (d : Progress). d.written) (sym (now answers m)) ∙ e)
 
--- it was heard, and the client went on
-pub heard_call : (names : List (List ℕ)) (a : Answer) (m : List Answer → Progress) (answers : List Answer) (old new : Client) (mid : Machine) (w : NextStep) → old.phase ≡ phase.Running → IsAwaiting old.machine.mode → StepKeeps (a ∷ []) old.machine mid → WillGoOn old.phase mid new w → Refines old names m answers → AfterResume new names m (answers ++ a ∷ []) w
-heard_call names a m answers old new mid w run_from waits k will d =
+-- the answer was taken, and the client went on
+pub answered_call : (names : List (List ℕ)) (a : Answer) (m : List Answer → Progress) (answers : List Answer) (old new : Client) (mid : Machine) (w : NextStep) → old.phase ≡ phase.Running → IsAwaiting old.machine.mode → StepKeeps (a ∷ []) old.machine mid → WillGoOn old.phase mid new w → Refines old names m answers → AfterResume new names m (answers ++ a ∷ []) w
+answered_call names a m answers old new mid w run_from waits k will d =
     let f = followed old.phase old.machine (after answers m) names d.written run_from d.follows in
     let g = went (after answers m) (after (answers ++ a ∷ []) m) names d.written (a ∷ []) old.machine mid (one_more answers a m) f k in
     let least = least_at m answers a d.written (asking_now old.machine.mode (after answers m) names d.written old.machine refl waits f) in
     came m names (answers ++ a ∷ []) g.pieces new w (begins_further _ d.written g.pieces least g.more) (will names (after (answers ++ a ∷ []) m) g.pieces run_from g.follows)
 
--- memory was wanting where it was to be heard
+-- out of memory where the answer was to be taken
 fails_by : (x : Mode) (a : Answer) (m : List Answer → Progress) (names : List (List ℕ)) (written : List Piece) (c : Machine) → x ≡ c.mode → IsAwaiting x → Follows m names written c → IsAsked (m (a ∷ [])).wants × Begins written (m (a ∷ [])).written
 fails_by (mode.Execute t) a m names written c e waits f = absurd waits
 fails_by (mode.Unwind w) a m names written c e waits f = absurd waits
-fails_by (mode.Await k) a m names written c e waits f =
+fails_by (mode.Await o k) a m names written c e waits f =
     let ks = stack_in c in
     let s = state_in f.rest c in
-    let x = answered f.program a (op_of c.memory.copies k) (on_answer_of c.code.instrs.items c.memory.copies k) ks s in
+    let x = answered f.program a o (on_answer_of c.code.instrs.items c.memory.copies o k) ks s in
     let is : m (a ∷ []) ≡ finished (means f.tree f.program x []) =
     f.same (a ∷ []) ∙ ap (λ x. finished (means f.tree f.program (config (mode_of c.code.instrs.items c.memory.copies x) ks s) (a ∷ []))) (sym e)
-    ∙ ap finished (answered_means f.tree f.program a (op_of c.memory.copies k) (on_answer_of c.code.instrs.items c.memory.copies k) ks s []) in
-    let stays : x.state.written ≡ written = answer_writes f.program a (op_of c.memory.copies k) (on_answer_of c.code.instrs.items c.memory.copies k) ks s (heard_writes c.code.instrs.items c.memory.copies f.program k a ks s) ∙ f.is in
+    ∙ ap finished (answered_means f.tree f.program a o (on_answer_of c.code.instrs.items c.memory.copies o k) ks s []) in
+    let stays : x.state.written ≡ written = answer_writes f.program a o (on_answer_of c.code.instrs.items c.memory.copies o k) ks s (answer_step_writes f.program (on_answer_of c.code.instrs.items c.memory.copies o k) a ks s) ∙ f.is in
     (subst (λ (d : Progress). IsAsked d.wants) (sym is) (asked_in f.tree f.program x.mode x.stack x.state), subst (λ (d : Progress). Begins written d.written) (sym is) (subst (λ ps. Begins ps (finished (means f.tree f.program x [])).written) stays (written_in f.tree f.program x.mode x.stack x.state)))
 
 pub failed_call : (names : List (List ℕ)) (a : Answer) (m : List Answer → Progress) (answers : List Answer) (old new : Client) (w : NextStep) → old.phase ≡ phase.Running → IsAwaiting old.machine.mode → new.phase ≡ phase.GivingUp → w ≡ Ask End → IsUnchanged old.machine.output new.machine.output → Refines old names m answers → AfterResume new names m (answers ++ a ∷ []) w

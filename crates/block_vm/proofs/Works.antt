@@ -6,37 +6,27 @@ use Rattle.client_database.specs.declared.next_step.NextStep.{NextStep}
 use Rattle.client_database.specs.declared.next_step.NextStep.TheVariants.{Ask, Ended}
 use Rattle.client_machine.specs.declared.mode.Mode.{Mode}
 use Rattle.client_machine.specs.declared.mode.Mode.TheVariants as mode
-use Rattle.client_machine.specs.declared.mode.OnAnswer.{OnAnswer}
-use Rattle.client_machine.specs.declared.mode.OnAnswer.TheVariants as on_answer
 use Rattle.client_machine.specs.declared.mode.StackEntry.{StackEntry}
-use Rattle.client_machine.specs.Step.{asked_op, IsAwaiting, IsOver}
+use Rattle.client_machine.specs.Step.{IsAwaiting, IsOver}
 use Rattle.client_machine.specs.Shows.{Shows}
 use Rattle.block_vm.specs.declared.client.Phase.{Phase}
 use Rattle.block_vm.specs.declared.client.Phase.TheVariants as phase
-use Rattle.block_vm.specs.NextStep.{IsAsking, IsEnded, IsOfLevels, IsLevelOp}
+use Rattle.block_vm.specs.NextStep.{IsAsking, IsEnded, IsLevelOp}
 use Rattle.block_vm.specs.Standing.{Standing}
-use Rattle.block_vm.specs.Work.{operations_in, WaitsIn, EndsIn, ShowsIn, IsWaiting, IsEnding, ShowsWants}
+use Rattle.block_vm.specs.Work.{operations_in, WaitsIn, EndsIn, ShowsIn, IsWaiting, IsEnding, IsRequest, ShowsWants}
 
--- where it waits and awaits nonething, all is over
+-- where it waits and awaits no answer, all is over
 pub at_end : (ph : Phase) (m : Mode) (ks : List StackEntry) → ph ≡ phase.Running → WaitsIn ph m ks → (IsAwaiting m → ⊥) → IsOver m × (ks ≡ [])
 at_end phase.Running (mode.Execute t) ks e waits none = absurd waits
-at_end phase.Running (mode.Await k) ks e waits none = absurd (none tt)
+at_end phase.Running (mode.Await o k) ks e waits none = absurd (none tt)
 at_end phase.Running (mode.Unwind w) [] e waits none = (tt, refl)
 at_end phase.Running (mode.Unwind w) (k ∷ ks) e waits none = absurd waits
 at_end phase.GivingUp m ks e waits none = absurd (cc)
 at_end phase.Ended m ks e waits none = absurd (cc)
 
 -- what it shows is an operation of levels
-asked_levels : (k : OnAnswer) → IsOfLevels (asked_op k)
-asked_levels (on_answer.WasEntered k t retry d) = tt
-asked_levels (on_answer.WasBack depth) = tt
-asked_levels on_answer.WasLeft = refl
-
 shows_level_in : (ph : Phase) (m : Mode) (ks : List StackEntry) (w : NextStep) → ShowsIn ph m ks w → IsLevelOp w
-shows_level_in phase.Running (mode.Execute t) ks w shows = absurd shows
-shows_level_in phase.Running (mode.Await k) ks w shows = subst IsLevelOp (sym shows) (asked_levels k)
-shows_level_in phase.Running (mode.Unwind x) [] w shows = subst IsLevelOp (sym shows) tt
-shows_level_in phase.Running (mode.Unwind x) (k ∷ ks) w shows = absurd shows
+shows_level_in phase.Running m ks w shows = shows.1.level
 shows_level_in phase.GivingUp m ks w shows = subst IsLevelOp (sym shows) tt
 shows_level_in phase.Ended m ks (Ask o) shows = absurd shows
 shows_level_in phase.Ended m ks (Ended e) shows = tt
@@ -46,10 +36,10 @@ shows_level c w shows = shows_level_in c.phase c.machine.mode c.machine.stack.it
 
 -- where it asks it waits
 waits_in : (ph : Phase) (m : Mode) (ks : List StackEntry) (w : NextStep) → ShowsIn ph m ks w → IsAsking w → WaitsIn ph m ks
-waits_in phase.Running (mode.Execute t) ks w shows asks = absurd shows
-waits_in phase.Running (mode.Await k) ks w shows asks = tt
+waits_in phase.Running (mode.Execute t) ks w shows asks = absurd shows.0
+waits_in phase.Running (mode.Await o k) ks w shows asks = tt
 waits_in phase.Running (mode.Unwind x) [] w shows asks = tt
-waits_in phase.Running (mode.Unwind x) (k ∷ ks) w shows asks = absurd shows
+waits_in phase.Running (mode.Unwind x) (k ∷ ks) w shows asks = absurd shows.0
 waits_in phase.GivingUp m ks w shows asks = tt
 waits_in phase.Ended m ks (Ask o) shows asks = absurd shows
 waits_in phase.Ended m ks (Ended e) shows asks = absurd asks
@@ -58,16 +48,11 @@ pub shows_waits : (c : Standing) (w : NextStep) → ShowsWants c w → IsAsking 
 shows_waits c w shows asks = waits_in c.phase c.machine.mode c.machine.stack.items w shows asks
 
 -- where it asks End it waits for the answer to it
-not_end : (k : OnAnswer) → Ask op.End ≡ Ask (asked_op k) → ⊥
-not_end (on_answer.WasEntered k t retry d) e = absurd (cc)
-not_end (on_answer.WasBack depth) e = absurd (cc)
-not_end on_answer.WasLeft e = absurd (cc)
-
 ends_in : (ph : Phase) (m : Mode) (ks : List StackEntry) → ShowsIn ph m ks (Ask op.End) → EndsIn ph m ks
-ends_in phase.Running (mode.Execute t) ks shows = absurd shows
-ends_in phase.Running (mode.Await k) ks shows = absurd (not_end k shows)
+ends_in phase.Running (mode.Execute t) ks shows = absurd shows.0
+ends_in phase.Running (mode.Await o k) ks shows = absurd (shows.1.no_end refl tt)
 ends_in phase.Running (mode.Unwind x) [] shows = tt
-ends_in phase.Running (mode.Unwind x) (k ∷ ks) shows = absurd shows
+ends_in phase.Running (mode.Unwind x) (k ∷ ks) shows = absurd shows.0
 ends_in phase.GivingUp m ks shows = tt
 ends_in phase.Ended m ks shows = absurd shows
 
@@ -77,15 +62,15 @@ shows_end c shows = ends_in c.phase c.machine.mode c.machine.stack.items shows
 -- an answer to an operation leaves fewer
 pub fewer_left : (ph : Phase) (m : Mode) (ks : List StackEntry) (units limit : ℕ) (w : NextStep) → ph ≡ phase.Running → Shows m ks w → (IsAwaiting m → units < limit) → operations_in ph m ks units < limit + 2
 fewer_left phase.Running (mode.Execute t) ks units limit w e shows less = absurd shows
-fewer_left phase.Running (mode.Await k) ks units limit w e shows less = let lt = less tt in omega (arith, lt)
+fewer_left phase.Running (mode.Await o k) ks units limit w e shows less = let lt = less tt in omega (arith, lt)
 fewer_left phase.Running (mode.Unwind x) [] units limit w e shows less = omega arith
 fewer_left phase.Running (mode.Unwind x) (k ∷ ks) units limit w e shows less = absurd shows
 fewer_left phase.GivingUp m ks units limit w e shows less = absurd (cc)
 fewer_left phase.Ended m ks units limit w e shows less = absurd (cc)
 
 -- what it shows while it runs
-pub shows_running : (ph : Phase) (m : Mode) (ks : List StackEntry) (w : NextStep) → ph ≡ phase.Running → Shows m ks w → ShowsIn ph m ks w
-shows_running ph m ks w e shows = subst (λ x. ShowsIn x m ks w) (sym e) shows
+pub shows_running : (ph : Phase) (m : Mode) (ks : List StackEntry) (w : NextStep) → ph ≡ phase.Running → Shows m ks w → IsRequest m w → ShowsIn ph m ks w
+shows_running ph m ks w e shows request = subst (λ x. ShowsIn x m ks w) (sym e) (shows, request)
 
 -- it gives up, or has ended
 pub gives_shows : (ph : Phase) (m : Mode) (ks : List StackEntry) (w : NextStep) → ph ≡ phase.GivingUp → w ≡ Ask op.End → ShowsIn ph m ks w
@@ -96,7 +81,7 @@ gives_fewer ph m ks units limit e = subst (λ x. operations_in x m ks units < li
 
 pub ended_fewer : (ph : Phase) (m : Mode) (ks : List StackEntry) (units units' : ℕ) (m' : Mode) (ks' : List StackEntry) (ph' : Phase) → ph' ≡ phase.Ended → WaitsIn ph m ks → operations_in ph' m' ks' units' < operations_in ph m ks units
 ended_fewer phase.Running (mode.Execute t) ks units units' m' ks' ph' e waits = absurd waits
-ended_fewer phase.Running (mode.Await k) ks units units' m' ks' ph' e waits = subst (λ x. operations_in x m' ks' units' < units + 2) (sym e) (let lt : 0 < units + 2 = omega arith in lt)
+ended_fewer phase.Running (mode.Await o k) ks units units' m' ks' ph' e waits = subst (λ x. operations_in x m' ks' units' < units + 2) (sym e) (let lt : 0 < units + 2 = omega arith in lt)
 ended_fewer phase.Running (mode.Unwind w) [] units units' m' ks' ph' e waits = subst (λ x. operations_in x m' ks' units' < 1) (sym e) (let lt : 0 < 1 = omega arith in lt)
 ended_fewer phase.Running (mode.Unwind w) (k ∷ ks) units units' m' ks' ph' e waits = absurd waits
 ended_fewer phase.GivingUp m ks units units' m' ks' ph' e waits = subst (λ x. operations_in x m' ks' units' < 1) (sym e) (let lt : 0 < 1 = omega arith in lt)
@@ -105,7 +90,7 @@ ended_fewer phase.Ended m ks units units' m' ks' ph' e waits = absurd waits
 -- the most operations of one that awaits an answer
 pub awaiting_has : (ph : Phase) (m : Mode) (ks : List StackEntry) (units : ℕ) → ph ≡ phase.Running → IsAwaiting m → operations_in ph m ks units ≡ units + 2
 awaiting_has phase.Running (mode.Execute t) ks units e waits = absurd waits
-awaiting_has phase.Running (mode.Await k) ks units e waits = refl
+awaiting_has phase.Running (mode.Await o k) ks units e waits = refl
 awaiting_has phase.Running (mode.Unwind w) ks units e waits = absurd waits
 awaiting_has phase.GivingUp m ks units e waits = absurd (cc)
 awaiting_has phase.Ended m ks units e waits = absurd (cc)
@@ -113,7 +98,7 @@ awaiting_has phase.Ended m ks units e waits = absurd (cc)
 -- one that awaits an answer does not wait for that of End
 pub awaiting_not_ending : (ph : Phase) (m : Mode) (ks : List StackEntry) → ph ≡ phase.Running → IsAwaiting m → EndsIn ph m ks → ⊥
 awaiting_not_ending phase.Running (mode.Execute t) ks e waits ends = absurd waits
-awaiting_not_ending phase.Running (mode.Await k) ks e waits ends = absurd ends
+awaiting_not_ending phase.Running (mode.Await o k) ks e waits ends = absurd ends
 awaiting_not_ending phase.Running (mode.Unwind w) ks e waits ends = absurd waits
 awaiting_not_ending phase.GivingUp m ks e waits ends = absurd (cc)
 awaiting_not_ending phase.Ended m ks e waits ends = absurd (cc)

@@ -59,7 +59,7 @@ pub record Refines (client : Client) (names : List (List ℕ)) (m : List Answer 
   pub written : List Piece
   pub follows : FollowsIn client.phase (after answers m) names written client.machine
 
--- memory was wanting after these answers: the client has written these pieces, and asks End
+-- out of memory after these answers: the client has written these pieces, and asks End
 pub record HasGivenUp (client : Client) (names : List (List ℕ)) (m : List Answer → Progress) (answers : List Answer) (pieces : List Piece) : Type 0 where
   pub ends : client.phase ≡ phase.GivingUp
   pub has : HasWritten client names pieces
@@ -110,7 +110,7 @@ pub record IsAt (m : List Answer → Progress) (names : List (List ℕ)) (pieces
   pub follows : Follows m names pieces c.machine
   pub refines : m [] ≡ record { written = pieces; wants = wants }
 
--- memory is wanting
+-- out of memory
 pub record GaveIn (m : List Answer → Progress) (pieces : List Piece) (c : Client) (wants : NextStep) : Type 0 where
   pub gives_up : c.phase ≡ phase.GivingUp
   pub asks : wants ≡ Ask End

@@ -10,13 +10,14 @@ use Rattle.client_machine.specs.Shows.{Shows}
 use Rattle.block_vm.specs.declared.client.Phase.{Phase}
 use Rattle.block_vm.specs.declared.client.Phase.TheVariants as phase
 use Rattle.block_vm.specs.Standing.{Standing}
-use Rattle.block_vm.specs.NextStep.{IsEnded}
+use Rattle.client_machine.specs.Step.{IsAwaiting}
+use Rattle.block_vm.specs.NextStep.{IsEnded, IsLevelOp}
 
 -- the most operations that a client will still ask, the one that it asks included and beside those it asks again after
 -- Blocked: each one but End costs a unit
 abbrev pub operations_in : Phase → Mode → List StackEntry → ℕ → ℕ
 operations_in phase.Running (mode.Execute t) ks units = units + 2
-operations_in phase.Running (mode.Await k) ks units = units + 2
+operations_in phase.Running (mode.Await o k) ks units = units + 2
 operations_in phase.Running (mode.Unwind w) [] units = 1
 operations_in phase.Running (mode.Unwind w) (k ∷ ks) units = units + 2
 operations_in phase.GivingUp m ks units = 1
@@ -28,7 +29,7 @@ most_operations c = operations_in c.phase c.machine.mode c.machine.stack.items c
 -- it waits for an answer
 abbrev pub WaitsIn : Phase → Mode → List StackEntry → Type 0
 WaitsIn phase.Running (mode.Execute t) ks = ⊥
-WaitsIn phase.Running (mode.Await k) ks = Unit {0}
+WaitsIn phase.Running (mode.Await o k) ks = Unit {0}
 WaitsIn phase.Running (mode.Unwind w) [] = Unit {0}
 WaitsIn phase.Running (mode.Unwind w) (k ∷ ks) = ⊥
 WaitsIn phase.GivingUp m ks = Unit {0}
@@ -40,7 +41,7 @@ IsWaiting c = WaitsIn c.phase c.machine.mode c.machine.stack.items
 -- it waits for the answer to End
 abbrev pub EndsIn : Phase → Mode → List StackEntry → Type 0
 EndsIn phase.Running (mode.Execute t) ks = ⊥
-EndsIn phase.Running (mode.Await k) ks = ⊥
+EndsIn phase.Running (mode.Await o k) ks = ⊥
 EndsIn phase.Running (mode.Unwind w) [] = Unit {0}
 EndsIn phase.Running (mode.Unwind w) (k ∷ ks) = ⊥
 EndsIn phase.GivingUp m ks = Unit {0}
@@ -49,9 +50,14 @@ EndsIn phase.Ended m ks = ⊥
 abbrev pub IsEnding : Standing → Type 0
 IsEnding c = EndsIn c.phase c.machine.mode c.machine.stack.items
 
+-- it asks an operation of levels, and End alone at the end
+pub record IsRequest (m : Mode) (wants : NextStep) : Type 0 where
+  pub level : IsLevelOp wants
+  pub no_end : wants ≡ Ask End → IsAwaiting m → ⊥
+
 -- what it wants
 abbrev pub ShowsIn : Phase → Mode → List StackEntry → NextStep → Type 0
-ShowsIn phase.Running m ks wants = Shows m ks wants
+ShowsIn phase.Running m ks wants = Shows m ks wants × IsRequest m wants
 ShowsIn phase.GivingUp m ks wants = wants ≡ Ask End
 ShowsIn phase.Ended m ks wants = IsEnded wants
 

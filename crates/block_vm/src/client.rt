@@ -19,10 +19,11 @@ ghost use Rattle.client_machine.specs.Step.{IsAwaiting};
 ghost use Rattle.block_vm.specs.declared.client.Phase.{Phase};
 ghost use Rattle.block_vm.specs.NextStep.{IsAsking, IsEnded, IsPlain, IsLevelOp};
 ghost use Rattle.block_vm.specs.Standing.{HasWritten};
-ghost use Rattle.block_vm.specs.Work.{most_operations, IsWaiting, IsEnding, ShowsWants};
+ghost use Rattle.block_vm.specs.Work.{most_operations, IsWaiting, IsEnding, IsRequest, ShowsWants};
 ghost use Rattle.block_vm.specs.Refines.{HasNoBuffers, Refines, HasGivenUp, AfterResume, HasNotBegun, IsExpected, answers_with, Follows, RunsOn};
 
 use crate::begin::first_machine;
+use crate::requests::may_ask;
 use crate::steps::step;
 use block_code::Code;
 use client_database::{Answer, ClientEnd, NextStep, Op};
@@ -35,12 +36,12 @@ use std::alloc::{AllocError, Global};
 #[derive(Clone, Copy, Debug)]
 pub enum Phase {
     Running,
-    /// Memory was wanting: End was asked.
+    /// It is out of memory: End was asked.
     GivingUp,
     Ended,
 }
 
-/// A client in the midst of its run.
+/// A client that runs.
 #[derive(Drop)]
 pub struct Client {
     pub machine: Machine,
@@ -48,9 +49,9 @@ pub struct Client {
 }
 
 impl Client {
-    /// A client that has not begun, with so many units. Want of memory is the only refusal.
+    /// A client that has not begun, with this number of units. Out of memory is the only error.
     pub fn new(alloc: Global, code: Code, inputs: Inputs, units: u64) -> Result<Client, AllocError>
-        ensures refines { IfOk result (λ client. (bound : Bound) (p : Program) → IsCompiled code bound → HasNoBuffers bound → p.source ≡ source_of bound → p.input ≡ inputs.own → p.inputs ≡ inputs.named.items → AreForms p.forms → p.forms.line_at ≡ line_at → Refines client bound.outputs.items (run_of p units) []) }
+        ensures refines { IfOk result (λ client. (bound : Bound) (p : Program) → IsCompiled code bound → HasNoBuffers bound → p.source ≡ source_of bound → p.tables ≡ inputs.schema.tables → p.input ≡ inputs.own → p.inputs ≡ inputs.named.items → AreForms p.forms → p.forms.line_at ≡ line_at → Refines client bound.outputs.items (run_of p units) []) }
         ensures begins { IfOk result (λ client. HasNotBegun client) }
     {
         let machine = first_machine(alloc, code, inputs, units)?;
@@ -139,8 +140,15 @@ impl Client {
         ensures wants { self.old.phase ≡ Phase.Running → ShowsWants self.new result }
     {
         for _ in 0..u64::MAX {
-            if let Some(wants) = self.machine.next_step() {
+            let wants = match self.machine.next_step() {
+                Ok(wants) => wants,
+                Err(_) => return self.give_up(),
+            };
+            if let Some(wants) = wants {
                 if self.asks_too_much(limit) {
+                    return self.give_up();
+                }
+                if !self.may_ask(&wants) {
                     return self.give_up();
                 }
                 return wants;
@@ -160,7 +168,14 @@ impl Client {
         self.machine.is_awaiting() && self.machine.units >= limit
     }
 
-    /// Memory is wanting.
+    /// Whether the database of levels answers it.
+    fn may_ask(&self, wants: &NextStep) -> bool
+        ensures { result ≡ true → IsRequest self.now.machine.mode wants.now }
+    {
+        may_ask(self.machine.is_awaiting(), wants)
+    }
+
+    /// The client is out of memory.
     fn give_up(&mut self) -> NextStep
         ensures asks { result ≡ NextStep.Ask Op.End }
         ensures new { self.new ≡ record self.old { phase = Phase.GivingUp } }

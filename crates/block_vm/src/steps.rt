@@ -41,8 +41,8 @@ pub fn step(machine: &mut Machine) -> Result<(), AllocError>
     match mem::replace(&mut machine.mode, Mode::Unwind(Completion::Normal)) {
         Mode::Execute(task) => execute(machine, task),
         Mode::Unwind(completion) => unwind(machine, completion),
-        Mode::Await(on_answer) => {
-            machine.set_mode(Mode::Await(on_answer));
+        Mode::Await { op, on_answer } => {
+            machine.set_mode(Mode::Await { op, on_answer });
             Ok(())
         }
     }

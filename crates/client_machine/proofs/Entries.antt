@@ -1,8 +1,9 @@
 -- A completion reaches an entry of the stack.
 use Rattle.std.proofs.Common.{◌≡◌, refl, sym, ap, ◌∙◌, subst, ◌∷◌}
-use Rattle.std.specs.Prelude.{reverse, Bool}
+use Rattle.std.specs.Prelude.{reverse, Bool, List}
+use Rattle.block_code.specs.declared.code.Instr.{Instr}
 use Rattle.block_meaning.specs.Program.{Program}
-use Rattle.block_meaning.specs.State.{State}
+use Rattle.block_meaning.specs.State.{State, Copy}
 use Rattle.block_meaning.proofs.Continues.{begins_itself}
 use Rattle.block_flat.specs.Flat as flat
 use Rattle.block_flat.proofs.Machine.{step_means}
@@ -64,4 +65,24 @@ passes quiet (completion.Faults c) old p rest x = absurd x
 passes quiet (completion.Raises y) old p rest x = refl
 passes quiet (completion.EndKeys y) old p rest x = refl
 passes quiet (completion.Returns error) old p rest x = refl
+passes quiet (completion.Found c) old p rest x = refl
+passes quiet completion.Lost old p rest x = refl
+passes quiet completion.NotFound old p rest x = refl
 passes quiet (completion.Stops why) old p rest x = refl
+
+-- a task that follows is passed by another completion
+pub then_past : (w : Completion) (code : List Instr) (cs : List Copy) (t : flat.Task) (ks : List flat.StackEntry) (s : State) → (w ≡ completion.Normal → ⊥) →
+    flat.config (flat.Unwind (completion_of code cs w)) ks s ≡ flat.then_step (completion_of code cs w) t ks s
+then_past completion.Normal code cs t ks s x = absurd (x refl)
+then_past (completion.Again y) code cs t ks s x = refl
+then_past (completion.Leaves l) code cs t ks s x = refl
+then_past (completion.Nexts l) code cs t ks s x = refl
+then_past (completion.Undoes block a retry y) code cs t ks s x = refl
+then_past (completion.Faults c) code cs t ks s x = refl
+then_past (completion.Raises y) code cs t ks s x = refl
+then_past (completion.EndKeys y) code cs t ks s x = refl
+then_past (completion.Found c) code cs t ks s x = refl
+then_past completion.Lost code cs t ks s x = refl
+then_past completion.NotFound code cs t ks s x = refl
+then_past (completion.Returns error) code cs t ks s x = refl
+then_past (completion.Stops why) code cs t ks s x = refl

@@ -22,9 +22,10 @@ use Rattle.client_machine.specs.declared.mode.Mode.TheVariants as mode
 use Rattle.client_machine.specs.declared.mode.LineFault.{LineFault}
 use Rattle.client_machine.specs.declared.mode.Completion.TheVariants as completion
 use Rattle.client_machine.specs.declared.mode.StackEntry.TheVariants as stack
-use Rattle.client_machine.specs.Config.{complaint_in, complaint_if}
+use Rattle.client_machine.specs.declared.mode.ends.BufferList.TheVariants as buffer_list
+use Rattle.client_machine.specs.Config.{complaint_in, complaint_if, AreEven}
 use Rattle.client_machine.specs.Machine.{config_of, stack_in, state_in}
-use Rattle.client_machine.specs.Inputs.{names_of}
+use Rattle.client_machine.specs.Inputs.{IsProgramOf, names_of}
 use Rattle.client_machine.specs.Step.{RestFits, FitsIn, KeepsEntry, KeepsComplaint}
 
 -- ---- a piece is written
@@ -92,7 +93,7 @@ complained_kept fault old new kept = λ tree p rest is f.
     }
 
 -- no line
-pub raised_kept : (old new : Machine) → (let x : Machine = record old { mode = mode.Unwind (completion.Raises (record { first = None })) } in new ≡ x) → KeepsComplaint None old new
+pub raised_kept : (old new : Machine) → (let x : Machine = record old { mode = mode.Unwind (completion.Raises (record { first = None; buffers = buffer_list.None })) } in new ≡ x) → KeepsComplaint None old new
 raised_kept old new moved = λ tree p rest is f.
     record {
       rest = rest;
@@ -104,18 +105,18 @@ raised_kept old new moved = λ tree p rest is f.
     }
 
 -- the line is written
-pub line_kept : (fault : LineFault) (line : List ℕ) (old new : Machine) (output : Output) → ((p : Program) (n : ℕ) → line ≡ line_of p n (complaint_in fault)) →
-    (let x : Machine = record old { output = output; mode = mode.Unwind (completion.Raises (record { first = None })) } in new ≡ x) →
+pub line_kept : (fault : LineFault) (line : List ℕ) (old new : Machine) (output : Output) → ((p : Program) (rest : State) → IsProgramOf p old.code old.inputs → AreEven old.procedures.items old.memory → line ≡ line_of p (own_frame (state_in rest old).frames).procedure (complaint_in fault)) →
+    (let x : Machine = record old { output = output; mode = mode.Unwind (completion.Raises (record { first = None; buffers = buffer_list.None })) } in new ≡ x) →
     nat_lt MAX_OUTPUT_BYTES (old.output.size + length line) ≡ false → output.size ≡ old.output.size + length line →
     ((names : List (List ℕ)) (pieces : List Piece) → HasWritten old.output names pieces → HasWritten output names (pieces ++ Wrote None line ∷ [])) →
     KeepsComplaint (Some fault) old new
 line_kept fault line old new output is_line moved room size wrote_it = λ tree p rest is f.
-    let x : Machine = record old { output = output; mode = mode.Unwind (completion.Raises (record { first = None })) } in
+    let x : Machine = record old { output = output; mode = mode.Unwind (completion.Raises (record { first = None; buffers = buffer_list.None })) } in
     let piece = Wrote None line in
     let rest' = rest_with piece rest in
     let s = state_in rest old in
     let wrote_line : complained p (Some (complaint_in fault)) s ≡ completed Normal (state_in rest' old) =
-    ap (λ l. wrote (Wrote None l) s) (sym (is_line p (own_frame s.frames).procedure)) ∙ wrote_fits piece rest old f.state room in
+    ap (λ l. wrote (Wrote None l) s) (sym (is_line p rest f.program f.even)) ∙ wrote_fits piece rest old f.state room in
     record {
       rest = rest';
       code = ap (λ (m : Machine). m.code) moved;
@@ -134,7 +135,7 @@ line_kept fault line old new output is_line moved room size wrote_it = λ tree p
     }
 
 -- the output is full
-pub full_kept : (fault : LineFault) (line : List ℕ) (old new : Machine) (output : Output) → ((p : Program) (n : ℕ) → line ≡ line_of p n (complaint_in fault)) →
+pub full_kept : (fault : LineFault) (line : List ℕ) (old new : Machine) (output : Output) → ((p : Program) (rest : State) → IsProgramOf p old.code old.inputs → AreEven old.procedures.items old.memory → line ≡ line_of p (own_frame (state_in rest old).frames).procedure (complaint_in fault)) →
     (let x : Machine = record old { output = output; mode = mode.Unwind (completion.Stops why.OutputFull) } in new ≡ x) → output ≡ old.output →
     nat_lt MAX_OUTPUT_BYTES (old.output.size + length line) ≡ true →
     KeepsComplaint (Some fault) old new
@@ -144,7 +145,7 @@ full_kept fault line old new output is_line moved same full = λ tree p rest is 
     let piece = Wrote None line in
     let s = state_in rest old in
     let stops : complained p (Some (complaint_in fault)) s ≡ completed (Stops (client.Stop why.OutputFull)) s =
-    ap (λ l. wrote (Wrote None l) s) (sym (is_line p (own_frame s.frames).procedure)) ∙ wrote_full piece rest old f.state full in
+    ap (λ l. wrote (Wrote None l) s) (sym (is_line p rest f.program f.even)) ∙ wrote_full piece rest old f.state full in
     record {
       rest = rest;
       code = ap (λ (m : Machine). m.code) moved;

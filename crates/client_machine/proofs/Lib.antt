@@ -17,3 +17,5 @@ pub mod PaidSteps
 pub mod MemoryKept
 pub mod TurnsKept
 pub mod BlocksAt
+pub mod Running
+pub mod RecordsKept

@@ -112,6 +112,10 @@ depth_at n [] k x lt = absurd (omega (arith, lt))
 depth_at n (c ∷ cs) zero x lt = x.0 ∙ omega arith
 depth_at n (c ∷ cs) (suc k) x lt = depth_at (n + 1) cs k x.1 (omega (arith, lt)) ∙ omega arith
 
+-- the depth of an open level's copy
+pub depth_is : (m : Remembered) (d : ℕ) → HaveDepths 0 m.copies → IsOwn (nesting_of m) (Some d) → (slice_index_or m.copies (d - 1) no_copy).depth ≡ d
+depth_is m d whole own = depth_at 0 m.copies (d - 1) whole (let le = level_open m d own in omega (arith, own.0, le)) ∙ (let e : 0 + (d - 1) + 1 ≡ d = omega (arith, own.0) in e)
+
 -- ---- a procedure ends
 
 last_is : (cs : List Copy) (c : Copy) → last_copy cs ≡ Some c → slice_index_or (map (λ c. length c.frames) cs) (length (map (λ c. length c.frames) cs) - 1) 0 ≡ length c.frames

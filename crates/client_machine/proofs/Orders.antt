@@ -18,7 +18,7 @@ use Rattle.client_machine.specs.declared.mode.OnAnswer.{OnAnswer}
 use Rattle.client_machine.specs.declared.mode.Mode.{Mode}
 use Rattle.client_machine.specs.declared.mode.Mode.TheVariants as mode
 use Rattle.client_database.specs.declared.ends.StopWhy.TheVariants as why
-use Rattle.client_machine.specs.Order.{Nesting, returned_in, outside, under, left_in, IsOwn, IsLast, outer_of, first_in, EndFollows, Follows, InOrder, CanReach, mode_after, Named, LeavesInOrder, CompletesInOrder, ClosesIteration, IsAskedFor, AskingInOrder, ModeInOrder, EndTaskInOrder, TaskInOrder}
+use Rattle.client_machine.specs.Order.{Nesting, returned_in, outside, under, left_in, IsOwn, IsLast, outer_of, first_in, IsAboveClosing, EndFollows, Follows, InOrder, CanReach, Named, LeavesInOrder, CompletesInOrder, ClosesIteration, IsAskedFor, AskingInOrder, ModeInOrder, EndTaskInOrder, TaskInOrder}
 
 -- ---- outer levels
 
@@ -249,66 +249,50 @@ then_order n (task.Change t) ks x = (tt, x.1)
 
 -- a task that is passed
 end_passed : (t : EndTask) (w : Completion) (ks : List StackEntry) (n : Nesting) → CanReach (task.End t) w → CompletesInOrder n w (stack.Then (task.End t) ∷ ks) → (w ≡ completion.Normal → ⊥) → CompletesInOrder n w ks
-end_passed (end_task.EntersOne at) w ks n can o no = after_order w (stack.Then (task.End (end_task.EntersOne at)) ∷ ks) ks (λ n x. x.1) n o
-end_passed (end_task.Enters places from) w ks n can o no = after_order w (stack.Then (task.End (end_task.Enters places from)) ∷ ks) ks (λ n x. x.1) n o
-end_passed (end_task.Drops b) w ks n can o no = after_order w (stack.Then (task.End (end_task.Drops b)) ∷ ks) ks (λ n x. x.1) n o
-end_passed (end_task.Releases k from) w ks n can o no = after_order w (stack.Then (task.End (end_task.Releases k from)) ∷ ks) ks (λ n x. x.1) n o
-end_passed (end_task.EntersRest depth) w ks n can o no = after_order w (stack.Then (task.End (end_task.EntersRest depth)) ∷ ks) ks (λ n x. x.1) n o
-end_passed (end_task.LeavesIf depth k) w ks n can o no = after_order w (stack.Then (task.End (end_task.LeavesIf depth k)) ∷ ks) ks (λ n x. x.1) n o
-end_passed (end_task.LeavesNow but) completion.Normal ks n can o no = absurd (no refl)
-end_passed (end_task.LeavesNow but) (completion.Stops why) ks n can o no = tt
-end_passed (end_task.LeavesNow but) (completion.Again t) ks n can o no = absurd can
-end_passed (end_task.LeavesNow but) (completion.Leaves l) ks n can o no = absurd can
-end_passed (end_task.LeavesNow but) (completion.Nexts l) ks n can o no = absurd can
-end_passed (end_task.LeavesNow but) (completion.Undoes block a retry x) ks n can o no = absurd can
-end_passed (end_task.LeavesNow but) (completion.Faults f) ks n can o no = absurd can
-end_passed (end_task.LeavesNow but) (completion.Raises x) ks n can o no = absurd can
-end_passed (end_task.LeavesNow but) (completion.EndKeys x) ks n can o no = absurd can
-end_passed (end_task.LeavesNow but) (completion.Found c) ks n can o no = absurd can
-end_passed (end_task.LeavesNow but) completion.Lost ks n can o no = absurd can
-end_passed (end_task.LeavesNow but) completion.NotFound ks n can o no = absurd can
-end_passed (end_task.LeavesNow but) (completion.Returns error) ks n can o no = absurd can
-end_passed (end_task.Closing k depth) w ks n can o no = after_order w (stack.Then (task.End (end_task.Closing k depth)) ∷ ks) ks (λ n x. x.1) n o
-end_passed (end_task.GoesBack depth but) w ks n can o no = after_order w (stack.Then (task.End (end_task.GoesBack depth but)) ∷ ks) ks (λ n x. x.1) n o
-end_passed (end_task.AfterBack depth but) w ks n can o no = after_order w (stack.Then (task.End (end_task.AfterBack depth but)) ∷ ks) ks (λ n x. x.1) n o
-end_passed (end_task.UpdatesOne made at) w ks n can o no = after_order w (stack.Then (task.End (end_task.UpdatesOne made at)) ∷ ks) ks (λ n x. x.1) n o
-end_passed (end_task.Updates made but places from) w ks n can o no = after_order w (stack.Then (task.End (end_task.Updates made but places from)) ∷ ks) ks (λ n x. x.1) n o
-end_passed (end_task.Empties but) w ks n can o no = after_order w (stack.Then (task.End (end_task.Empties but)) ∷ ks) ks (λ n x. x.1) n o
-end_passed (end_task.Closes k t w') w ks n can o no = after_order w (stack.Then (task.End (end_task.Closes k t w')) ∷ ks) ks (λ n x. x.1) n o
+end_passed (end_task.EntersOne at) w ks n can o past = after_order w (stack.Then (task.End (end_task.EntersOne at)) ∷ ks) ks (λ n x. x.1) n o
+end_passed (end_task.Enters places from) w ks n can o past = after_order w (stack.Then (task.End (end_task.Enters places from)) ∷ ks) ks (λ n x. x.1) n o
+end_passed (end_task.Drops b) w ks n can o past = after_order w (stack.Then (task.End (end_task.Drops b)) ∷ ks) ks (λ n x. x.1) n o
+end_passed (end_task.Releases k from) w ks n can o past = after_order w (stack.Then (task.End (end_task.Releases k from)) ∷ ks) ks (λ n x. x.1) n o
+end_passed (end_task.EntersRest depth) w ks n can o past = after_order w (stack.Then (task.End (end_task.EntersRest depth)) ∷ ks) ks (λ n x. x.1) n o
+end_passed (end_task.LeavesIf depth k) w ks n can o past = after_order w (stack.Then (task.End (end_task.LeavesIf depth k)) ∷ ks) ks (λ n x. x.1) n o
+end_passed (end_task.LeavesNow but) completion.Normal ks n can o past = absurd (past refl)
+end_passed (end_task.LeavesNow but) (completion.Stops why) ks n can o past = tt
+end_passed (end_task.LeavesNow but) (completion.Again t) ks n can o past = absurd can
+end_passed (end_task.LeavesNow but) (completion.Leaves l) ks n can o past = absurd can
+end_passed (end_task.LeavesNow but) (completion.Nexts l) ks n can o past = absurd can
+end_passed (end_task.LeavesNow but) (completion.Undoes block a retry x) ks n can o past = absurd can
+end_passed (end_task.LeavesNow but) (completion.Faults f) ks n can o past = absurd can
+end_passed (end_task.LeavesNow but) (completion.Raises x) ks n can o past = absurd can
+end_passed (end_task.LeavesNow but) (completion.EndKeys x) ks n can o past = absurd can
+end_passed (end_task.LeavesNow but) (completion.Found c) ks n can o past = absurd can
+end_passed (end_task.LeavesNow but) completion.Lost ks n can o past = absurd can
+end_passed (end_task.LeavesNow but) completion.NotFound ks n can o past = absurd can
+end_passed (end_task.LeavesNow but) (completion.Returns error) ks n can o past = absurd can
+end_passed (end_task.Closing k depth) w ks n can o past = after_order w (stack.Then (task.End (end_task.Closing k depth)) ∷ ks) ks (λ n x. x.1) n o
+end_passed (end_task.GoesBack depth but) w ks n can o past = after_order w (stack.Then (task.End (end_task.GoesBack depth but)) ∷ ks) ks (λ n x. x.1) n o
+end_passed (end_task.AfterBack depth but) w ks n can o past = after_order w (stack.Then (task.End (end_task.AfterBack depth but)) ∷ ks) ks (λ n x. x.1) n o
+end_passed (end_task.UpdatesOne made at) w ks n can o past = after_order w (stack.Then (task.End (end_task.UpdatesOne made at)) ∷ ks) ks (λ n x. x.1) n o
+end_passed (end_task.Updates made but places from) w ks n can o past = after_order w (stack.Then (task.End (end_task.Updates made but places from)) ∷ ks) ks (λ n x. x.1) n o
+end_passed (end_task.Empties but) w ks n can o past = after_order w (stack.Then (task.End (end_task.Empties but)) ∷ ks) ks (λ n x. x.1) n o
+end_passed (end_task.Closes k t w') w ks n can o past = after_order w (stack.Then (task.End (end_task.Closes k t w')) ∷ ks) ks (λ n x. x.1) n o
 
 pub then_passed : (n : Nesting) (w : Completion) (t : Task) (ks : List StackEntry) → CanReach t w → (w ≡ completion.Normal → ⊥) → CompletesInOrder n w (stack.Then t ∷ ks) → CompletesInOrder n w ks
-then_passed n w (task.RunsFrom k d retry) ks can no o = after_order w (stack.Then (task.RunsFrom k d retry) ∷ ks) ks (λ n x. x.1) n o
-then_passed n w (task.Completes w') ks can no o = after_order w (stack.Then (task.Completes w') ∷ ks) ks (λ n x. x.1) n o
-then_passed n w (task.Blocks k outer d) ks can no o = after_order w (stack.Then (task.Blocks k outer d) ∷ ks) ks (λ n x. x.1) n o
-then_passed n w (task.Turns f k outer d t) ks can no o = after_order w (stack.Then (task.Turns f k outer d t) ∷ ks) ks (λ n x. x.1) n o
-then_passed n w (task.EntersLevel k t retry d) ks can no o = after_order w (stack.Then (task.EntersLevel k t retry d) ∷ ks) ks (λ n x. x.1) n o
-then_passed n w (task.Begins k depth t retry d) ks can no o = after_order w (stack.Then (task.Begins k depth t retry d) ∷ ks) ks (λ n x. x.1) n o
-then_passed n w (task.Iterates k outer d t) ks can no o = after_order w (stack.Then (task.Iterates k outer d t) ∷ ks) ks (λ n x. x.1) n o
-then_passed n w (task.UndoComes k it block a retry y) ks can no o = after_order w (stack.Then (task.UndoComes k it block a retry y) ∷ ks) ks (λ n x. x.1) n o
-then_passed n w (task.GoesBack depth) ks can no o = after_order w (stack.Then (task.GoesBack depth) ∷ ks) ks (λ n x. x.1) n o
-then_passed n w (task.Acts k t a retry) ks can no o = after_order w (stack.Then (task.Acts k t a retry) ∷ ks) ks (λ n x. x.1) n o
-then_passed n w task.LeavesNow ks can no o = after_order w (stack.Then task.LeavesNow ∷ ks) ks (λ n x. x.1) n o
-then_passed n w (task.EndsWith k it w') ks can no o = after_order w (stack.Then (task.EndsWith k it w') ∷ ks) ks (λ n x. x.1) n o
-then_passed n w (task.Calls k d vs) ks can no o = after_order w (stack.Then (task.Calls k d vs) ∷ ks) ks (λ n x. x.1) n o
-then_passed n w (task.End t) ks can no o = end_passed t w ks n can o no
-then_passed n w (task.Read t) ks can no o = after_order w (stack.Then (task.Read t) ∷ ks) ks (λ n x. x.1) n o
-then_passed n w (task.Change t) ks can no o = after_order w (stack.Then (task.Change t) ∷ ks) ks (λ n x. x.1) n o
-
--- a completion reaches a task that follows
-pub then_mode : (n : Nesting) (w : Completion) (t : Task) (ks : List StackEntry) → CanReach t w → CompletesInOrder n w (stack.Then t ∷ ks) → ModeInOrder n (mode_after w t) ks
-then_mode n completion.Normal t ks can o = then_order n t ks o.1
-then_mode n (completion.Again x) t ks can o = then_passed n (completion.Again x) t ks can (λ e. cc) o
-then_mode n (completion.Leaves l) t ks can o = then_passed n (completion.Leaves l) t ks can (λ e. cc) o
-then_mode n (completion.Nexts l) t ks can o = then_passed n (completion.Nexts l) t ks can (λ e. cc) o
-then_mode n (completion.Undoes block a retry x) t ks can o = then_passed n (completion.Undoes block a retry x) t ks can (λ e. cc) o
-then_mode n (completion.Faults f) t ks can o = then_passed n (completion.Faults f) t ks can (λ e. cc) o
-then_mode n (completion.Raises x) t ks can o = then_passed n (completion.Raises x) t ks can (λ e. cc) o
-then_mode n (completion.EndKeys x) t ks can o = then_passed n (completion.EndKeys x) t ks can (λ e. cc) o
-then_mode n (completion.Found c) t ks can o = then_passed n (completion.Found c) t ks can (λ e. cc) o
-then_mode n completion.Lost t ks can o = then_passed n completion.Lost t ks can (λ e. cc) o
-then_mode n completion.NotFound t ks can o = then_passed n completion.NotFound t ks can (λ e. cc) o
-then_mode n (completion.Returns error) t ks can o = then_passed n (completion.Returns error) t ks can (λ e. cc) o
-then_mode n (completion.Stops why) t ks can o = tt
+then_passed n w (task.RunsFrom k d retry) ks can past o = after_order w (stack.Then (task.RunsFrom k d retry) ∷ ks) ks (λ n x. x.1) n o
+then_passed n w (task.Completes w') ks can past o = after_order w (stack.Then (task.Completes w') ∷ ks) ks (λ n x. x.1) n o
+then_passed n w (task.Blocks k outer d) ks can past o = after_order w (stack.Then (task.Blocks k outer d) ∷ ks) ks (λ n x. x.1) n o
+then_passed n w (task.Turns f k outer d t) ks can past o = after_order w (stack.Then (task.Turns f k outer d t) ∷ ks) ks (λ n x. x.1) n o
+then_passed n w (task.EntersLevel k t retry d) ks can past o = after_order w (stack.Then (task.EntersLevel k t retry d) ∷ ks) ks (λ n x. x.1) n o
+then_passed n w (task.Begins k depth t retry d) ks can past o = after_order w (stack.Then (task.Begins k depth t retry d) ∷ ks) ks (λ n x. x.1) n o
+then_passed n w (task.Iterates k outer d t) ks can past o = after_order w (stack.Then (task.Iterates k outer d t) ∷ ks) ks (λ n x. x.1) n o
+then_passed n w (task.UndoComes k it block a retry y) ks can past o = after_order w (stack.Then (task.UndoComes k it block a retry y) ∷ ks) ks (λ n x. x.1) n o
+then_passed n w (task.GoesBack depth) ks can past o = after_order w (stack.Then (task.GoesBack depth) ∷ ks) ks (λ n x. x.1) n o
+then_passed n w (task.Acts k t a retry) ks can past o = after_order w (stack.Then (task.Acts k t a retry) ∷ ks) ks (λ n x. x.1) n o
+then_passed n w task.LeavesNow ks can past o = after_order w (stack.Then task.LeavesNow ∷ ks) ks (λ n x. x.1) n o
+then_passed n w (task.EndsWith k it w') ks can past o = after_order w (stack.Then (task.EndsWith k it w') ∷ ks) ks (λ n x. x.1) n o
+then_passed n w (task.Calls k d vs) ks can past o = after_order w (stack.Then (task.Calls k d vs) ∷ ks) ks (λ n x. x.1) n o
+then_passed n w (task.End t) ks can past o = end_passed t w ks n can o past
+then_passed n w (task.Read t) ks can past o = after_order w (stack.Then (task.Read t) ∷ ks) ks (λ n x. x.1) n o
+then_passed n w (task.Change t) ks can past o = after_order w (stack.Then (task.Change t) ∷ ks) ks (λ n x. x.1) n o
 
 pub handles_passed : (n : Nesting) (w : Completion) (quiet : _) (ks : List StackEntry) → CompletesInOrder n w (stack.Handles quiet ∷ ks) → CompletesInOrder n w ks
 handles_passed n w quiet ks o = after_order w (stack.Handles quiet ∷ ks) ks (λ n x. x) n o
@@ -385,6 +369,16 @@ closes_level n k d it w w' ks e closes none o =
     let o' = closing_order n w (stack.In k it ∷ ks) closes o in
     let left = level_closed n d it.depth ks e o'.0 o'.1 o'.2 in
     (left.0, (none, left.1))
+
+above_closing : (d : Option ℕ) (k : ℕ) (it : IterationData) (w : Completion) (ks : List StackEntry) → it.depth ≡ d → IsAboveClosing d (stack.End (end_entry.AfterClosing k it w) ∷ ks)
+above_closing None k it w ks e = tt
+above_closing (Some d) k it w ks e = e
+
+pub closes_records : (n : Nesting) (k : ℕ) (it : IterationData) (w : Completion) (ks : List StackEntry) → ClosesIteration w → CompletesInOrder n w (stack.In k it ∷ ks) →
+    TaskInOrder n (task.End (end_task.Closing k it.depth)) (stack.End (end_entry.AfterClosing k it w) ∷ ks)
+closes_records n k it w ks closes o =
+    let o' = closing_order n w (stack.In k it ∷ ks) closes o in
+    (((o'.0, o'.1), above_closing it.depth k it w ks refl), (closes, o'))
 
 -- ---- after Back
 

@@ -102,3 +102,17 @@ cleared_to quiet from old new keeps = λ tree p rest is f.
 pub cleared_kept : (quiet : Bool) (from : Program → State → flat.Config) (old m new : Machine) → (let x : Machine = record old { status = status_if quiet old.status } in m ≡ x) →
     KeepsFrom from m new → KeepsFrom (λ p s. from p (cleared quiet s)) old new
 cleared_kept quiet from old m new e keeps = cleared_to quiet from old new (subst (λ (y : Machine). KeepsFrom from y new) e keeps)
+
+-- ---- two configurations that are the same
+
+pub from_same : (from from' : Program → State → flat.Config) (old new : Machine) → ((p : Program) (rest : State) → from p (state_in rest old) ≡ from' p (state_in rest old)) → KeepsFrom from' old new → KeepsFrom from old new
+from_same from from' old new same keeps = λ tree p rest is f.
+    let k = keeps tree p rest is f in
+    record {
+      rest = k.rest;
+      code = k.code;
+      fits = k.fits;
+      more = k.more;
+      has = k.has;
+      same = λ ans. ap (λ c. flat.means tree p c ans) (same p rest) ∙ k.same ans;
+    }

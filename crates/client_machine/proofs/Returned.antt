@@ -6,7 +6,7 @@ use Rattle.bound_tree.specs.Tree.{Body, Header, Action, ThenRetry, ThenLeave, Th
 use Rattle.block_meaning.specs.Program.{Program}
 use Rattle.block_meaning.specs.State.{State, Copy, Passed, Continuation, Completion, Normal, Again, Leaves, Nexts, Undoes, Faults, Raises, EndKeys, Returns, Stops, Found, Lost, NotFound, Done, if_else, completes, and_then}
 use Rattle.block_meaning.specs.Buffers.{releases_all}
-use Rattle.block_meaning.specs.Blocks.{Iteration, after_iteration, acts, closes, instead_of_retry, iterates, next_turn, returns_with, first_of_two, passed_with, goes_back, undone, passes}
+use Rattle.block_meaning.specs.Blocks.{Iteration, after_iteration, acts, closes, instead_of_retry, iterates, next_turn, returns_with, passed_with, goes_back, undone, passes}
 use Rattle.block_meaning.proofs.Continues.{begins_itself}
 use Rattle.block_flat.specs.Flat as flat
 use Rattle.block_flat.specs.Flat.{IsCodeOf, means, config, after_stack}
@@ -15,14 +15,16 @@ use Rattle.client_output.proofs.Unchanged.{written_same}
 use Rattle.client_machine.specs.declared.machine.Machine.{Machine}
 use Rattle.client_machine.specs.declared.mode.Task.{Task}
 use Rattle.client_machine.specs.declared.mode.Task.TheVariants as task
+use Rattle.client_machine.specs.declared.mode.Mode.{Mode}
 use Rattle.client_machine.specs.declared.mode.Mode.TheVariants as mode
+use Rattle.client_machine.specs.declared.mode.StackEntry.{StackEntry}
 use Rattle.abl_eval.specs.Forms.{AreForms}
 use Rattle.block_code.specs.declared.code.Instr.{Instr}
 use Rattle.client_machine.specs.declared.mode.AfterUndo.{AfterUndo}
 use Rattle.client_machine.specs.declared.mode.TurnData.{TurnData}
 use Rattle.client_machine.specs.declared.mode.Completion.{Completion as MyCompletion}
 use Rattle.client_machine.specs.Undone.{after_action}
-use Rattle.client_machine.specs.Config.{task_of, instr_at, header_at, turn_of, after_undo_of, completion_of, AreEven}
+use Rattle.client_machine.specs.Config.{task_of, mode_of, instr_at, header_at, turn_of, iteration_without, after_undo_of, completion_of, AreEven}
 use Rattle.client_machine.specs.Inputs.{IsProgramOf, names_of}
 use Rattle.client_machine.specs.Machine.{config_of, stack_in, state_in}
 use Rattle.client_machine.specs.Order.{Nesting, nesting_of, HaveDepths, InOrder, ModeInOrder, TaskInOrder, first_in}
@@ -104,15 +106,13 @@ acts_same p b o (ThenReturn error e) retry s ans = closes_same p b o (Returns er
 acts_same p b o ThenError retry s ans = closes_same p b o (Returns true) s ans
 
 -- the block of an UNDO is reached
-pub undo_acts : (tree : ℕ → Body) (p : Program) (b : Header) (o : Iteration) (target : ℕ) (act : Action) (retry : Bool) (passed : Passed) (ks : List flat.StackEntry) (s : State) (ans : List Answer) (first : Option Copy) →
-    (target == b.number) ≡ true → b.scoped ≡ [] → passed.buffers ≡ [] → first_of_two o.copy passed.first ≡ first →
-    means tree p (config (flat.Execute (flat.UndoComes b o target act retry passed)) ks s) ans ≡ means tree p (config (flat.Execute (flat.GoesBack first [])) (flat.ThenDo (flat.Acts b (without_copy o) act retry) ∷ ks) s) ans
-undo_acts tree p b o target act retry passed ks s ans first e none nobuf fe =
+pub undo_reaches : (tree : ℕ → Body) (p : Program) (b : Header) (o : Iteration) (target : ℕ) (act : Action) (retry : Bool) (passed next : Passed) (ks : List flat.StackEntry) (s : State) (ans : List Answer) →
+    (target == b.number) ≡ true → passed_with b o passed ≡ next →
+    means tree p (config (flat.Execute (flat.UndoComes b o target act retry passed)) ks s) ans ≡ means tree p (config (flat.Execute (flat.GoesBack next.first next.buffers)) (flat.ThenDo (flat.Acts b (without_copy o) act retry) ∷ ks) s) ans
+undo_reaches tree p b o target act retry passed next ks s ans e is =
     ap (λ x. after_stack tree p ks (if_else x (undone p b o act retry (passed_with b o passed)) (passes p b (Undoes target act retry passed) (Undoes target act retry (passed_with b o passed))) s ans)) e
-    ∙ ap (λ bs. after_stack tree p ks (and_then (goes_back (first_of_two o.copy passed.first) (bs ++ passed.buffers) s ans) (acts p b o act retry))) none
-    ∙ ap (λ bs. after_stack tree p ks (and_then (goes_back (first_of_two o.copy passed.first) bs s ans) (acts p b o act retry))) nobuf
-    ∙ ap (λ f. after_stack tree p ks (and_then (goes_back f [] s ans) (acts p b o act retry))) fe
-    ∙ ap (λ (g : Continuation). after_stack tree p ks (and_then (goes_back first [] s ans) g)) (λ i s ans. acts_same p b o act retry s ans i)
+    ∙ ap (λ (x : Passed). after_stack tree p ks (and_then (goes_back x.first x.buffers s ans) (acts p b o act retry))) is
+    ∙ ap (λ (g : Continuation). after_stack tree p ks (and_then (goes_back next.first next.buffers s ans) g)) (λ i s ans. acts_same p b o act retry s ans i)
 
 -- ---- the action after an UNDO
 
@@ -136,3 +136,23 @@ act_keeps old mid place turn a retry w moved text same plain none =
     (λ tree p rest is f ans.
     ap (after_stack tree p (stack_in old)) (same' cs p None retry (state_in rest old) ans none)
     ∙ ap (λ s. after_stack tree p (stack_in old) (Done (completion_of code cs w) s ans)) (text f.even rest p f.program.forms f.state.status_is f.state.returned_is)))
+
+-- the same where buffers are released then
+pub act_closes : (old mid : Machine) (place : ℕ) (turn : TurnData) (a : AfterUndo) (retry : Bool) (x : Mode) → (let m : Machine = record old { returned = mid.returned } in mid ≡ m) →
+    (AreEven old.procedures.items old.memory → (rest : State) (p : Program) → AreForms p.forms → rest.status ≡ old.status → rest.returned ≡ old.returned → after_action p (after_undo_of old.code.instrs.items a) retry (state_in rest old) ≡ state_in (rest_with rest mid.returned) old) →
+    ((cs : List Copy) (p : Program) (retry : Bool) (ks : List flat.StackEntry) (s : State) → config (mode_of mid.code.instrs.items cs x) ks (after_action p (after_undo_of mid.code.instrs.items a) retry s) ≡ flat.act_step p (after_undo_of mid.code.instrs.items a) (header_at mid.code.instrs.items place) (iteration_without turn) retry ks s) →
+    ((n : Nesting) (ks : List StackEntry) → InOrder n ks → ModeInOrder n x ks) →
+    (let m : Machine = record mid { mode = x } in KeepsTask (task.Acts place turn a retry) old m)
+act_closes old mid place turn a retry x moved text same order =
+    let t = task.Acts place turn a retry in
+    let code = old.code.instrs.items in
+    let cs = old.memory.copies in
+    let new : Machine = record old { returned = mid.returned; mode = x } in
+    let same' : (cs : List Copy) (p : Program) (retry : Bool) (ks : List flat.StackEntry) (s : State) → config (mode_of code cs x) ks (after_action p (after_undo_of code a) retry s) ≡ flat.act_step p (after_undo_of code a) (header_at code place) (iteration_without turn) retry ks s =
+    subst (λ (m : Machine). (cs : List Copy) (p : Program) (retry : Bool) (ks : List flat.StackEntry) (s : State) → config (mode_of m.code.instrs.items cs x) ks (after_action p (after_undo_of m.code.instrs.items a) retry s) ≡ flat.act_step p (after_undo_of m.code.instrs.items a) (header_at m.code.instrs.items place) (iteration_without turn) retry ks s) moved same in
+    subst (λ (m : Machine). KeepsTask t old (record m { mode = x })) (sym moved)
+    (task_kept_returned t old new refl (λ o. order (nesting_of old.memory) (reverse old.stack.items) o.1)
+    (λ tree p rest is f ans.
+    step_means (code_in old) tree p is (config (flat.Execute (task_of code cs t)) (stack_in old) (state_in rest old)) ans
+    ∙ ap (λ c. means tree p c ans) (sym (same' cs p retry (stack_in old) (state_in rest old)))
+    ∙ ap (λ s. means tree p (config (mode_of code cs x) (stack_in old) s) ans) (text f.even rest p f.program.forms f.state.status_is f.state.returned_is)))

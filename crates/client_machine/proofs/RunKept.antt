@@ -1,6 +1,6 @@
 -- What is kept, from one mode to another.
 use Rattle.std.proofs.Common.{◌≤◌, ◌<◌, length, ◌≡◌, ◌⊎◌, Bool, ℕ, ◌+◌, ◌-◌, List, [], ◌∷◌, ◌++◌, Some, refl, sym, ap, ◌∙◌, subst, arith}
-use Rattle.std.specs.Prelude.{Result, Ok, Err, OnOk, reverse, slice_get}
+use Rattle.std.specs.Prelude.{Result, Ok, Err, OnOk, IfOk, IfSome, Option, None, reverse, slice_get}
 use Rattle.client_database.specs.declared.answer.Answer.{Answer}
 use Rattle.client_database.specs.declared.operation.Op.{Op}
 use Rattle.client_database.specs.declared.operation.Op.TheVariants as op
@@ -22,7 +22,7 @@ use Rattle.client_machine.specs.declared.mode.Completion.{Completion}
 use Rattle.client_machine.specs.declared.mode.Completion.TheVariants as completion
 use Rattle.client_database.specs.declared.ends.StopWhy.TheVariants as why
 use Rattle.client_machine.proofs.Orders.{ask_order}
-use Rattle.client_machine.proofs.Nestings.{depth_at, level_count, level_open}
+use Rattle.client_machine.proofs.Nestings.{level_count}
 use Rattle.block_meaning.specs.Blocks.{retry_in, closes, after_iteration}
 use Rattle.block_meaning.specs.Buffers.{releases_all}
 use Rattle.client_machine.specs.declared.mode.OnAnswer.{OnAnswer}
@@ -50,6 +50,14 @@ on_two (Err e) f p q = p
 pub on_three : {A E : Type 0} {P Q R S : Type 0} (r : Result A E) → (P → Q → R → S) → OnOk r P → OnOk r Q → OnOk r R → OnOk r S
 on_three (Ok x) f p q s = f p q s
 on_three (Err e) f p q s = p
+
+pub if_ok : {A E : Type 0} {P Q : A → Type 0} (r : Result A E) → ((x : A) → P x → Q x) → IfOk r P → IfOk r Q
+if_ok (Ok x) f p = f x p
+if_ok (Err e) f p = p
+
+pub if_some : {A : Type 0} {P Q : A → Type 0} (r : Option A) → ((x : A) → P x → Q x) → IfSome r P → IfSome r Q
+if_some (Some x) f p = f x p
+if_some None f p = p
 
 rekept : (tree : ℕ → Body) (p : Program) (c : flat.Config) (rest : State) (x : Mode) (old new : Machine) → RunKept tree p c [] rest.written (record old { mode = x }) new → RunKept tree p c [] rest.written old new
 rekept tree p c rest x old new k = record { rest = k.rest; code = k.code; fits = k.fits; more = k.more; has = k.has; same = k.same }

@@ -33,8 +33,8 @@ split_last (m ∷ k ∷ ns) n e =
 
 own_out : (n : ℕ) (ns : List ℕ) (uss kss : Values) (bss : List (List Buffer)) → AreAlike (n ∷ ns) uss kss bss → (own_frame (frames_out (n ∷ ns) uss kss bss)).procedure ≡ n
 own_out n ns [] kss bss e = absurd (omega (arith, e.0))
-own_out n ns (us ∷ uss) [] bss e = absurd (omega (arith, e.1.0))
-own_out n ns (us ∷ uss) (ks ∷ kss) [] e = absurd (omega (arith, e.1.1))
+own_out n ns (us ∷ uss) [] bss e = absurd (omega (arith, e.1))
+own_out n ns (us ∷ uss) (ks ∷ kss) [] e = absurd (omega (arith, e.2))
 own_out n ns (us ∷ uss) (ks ∷ kss) (bs ∷ bss) e = refl
 
 -- it is the last one
@@ -47,7 +47,7 @@ running_is ns m n even e =
     let c = length-reverse m.no_undo in
     let d = length-reverse m.buffers in
     let alike : AreAlike (reverse ns) (reverse m.undoable) (reverse m.no_undo) (reverse m.buffers) =
-    (omega (arith, a, b, even.0), omega (arith, a, c, even.1.0), omega (arith, a, d, even.1.1)) in
+    (omega (arith, a, b, even.0), omega (arith, a, c, even.1), omega (arith, a, d, even.2)) in
     ap (λ fs. (own_frame fs).procedure) (frames_reverse ns m.undoable m.no_undo m.buffers even)
     ∙ ap (λ xs. (own_frame (frames_out xs (reverse m.undoable) (reverse m.no_undo) (reverse m.buffers))).procedure) back
     ∙ own_out n (reverse r.0) (reverse m.undoable) (reverse m.no_undo) (reverse m.buffers) (subst (λ xs. AreAlike xs (reverse m.undoable) (reverse m.no_undo) (reverse m.buffers)) back alike)

@@ -1,5 +1,5 @@
 -- What the fields of a machine denote.
-use Rattle.std.specs.Prelude.{ℕ, ◌-◌, ◌≤◌, ◌<◌, Bool, List, [], ◌∷◌, Option, Some, None, drop, map, reverse, length, slice_get, slice_index_or}
+use Rattle.std.specs.Prelude.{ℕ, ◌-◌, ◌≤◌, ◌<◌, Bool, false, List, [], ◌∷◌, Option, Some, None, drop, map, reverse, length, slice_get, slice_index_or}
 use Rattle.bound_tree.specs.Tree.{Header, Action, Argument, Assignment, Fetch, Given, Reading, Run, ThenRetry, ThenLeave, ThenNext, ThenReturn, ThenError}
 use Rattle.client_database.specs.declared.ends.ClientEnd.TheVariants as client
 use Rattle.block_meaning.specs.State as state

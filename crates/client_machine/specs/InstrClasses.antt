@@ -8,6 +8,7 @@ use Rattle.client_machine.specs.Actions.{action_in, returned_in}
 use Rattle.client_machine.specs.declared.mode.ReturnSource.TheVariants as source
 use Rattle.block_code.specs.Code.{header_in, body_in}
 use Rattle.client_machine.specs.KeepsFrom.{test_in, pairs_in}
+use Rattle.client_machine.specs.Records.{stmt_of_kind}
 
 abbrev pub IsOfClass : InstrClass → flat.Instr → Type 0
 IsOfClass kind.End i = i ≡ flat.Ends
@@ -20,4 +21,5 @@ IsOfClass (kind.ReturnError block next) i = i ≡ flat.Plain (ReturnError block 
 IsOfClass (kind.Stop next) i = i ≡ flat.Plain Stop next
 IsOfClass (kind.Test one other) i = i ≡ flat.Tests (test_in i) one other
 IsOfClass (kind.Assign no_error next) i = i ≡ flat.Plain (Assign (pairs_in i) no_error) next
+IsOfClass (kind.Record stmt no_error next) i = i ≡ flat.Plain (stmt_of_kind stmt no_error i) next
 IsOfClass kind.Other i = Unit {0}

@@ -1,5 +1,6 @@
 pub mod Actions
 pub mod Statements
+pub mod Records
 pub mod Config
 pub mod Machine
 pub mod Inputs

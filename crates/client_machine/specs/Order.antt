@@ -156,11 +156,6 @@ abbrev pub CanReach : Task → Completion → Type 0
 CanReach (task.End (end_task.LeavesNow but)) w = IsNormalOrStop w
 CanReach t w = Unit {0}
 
--- what a completion does at a task that follows
-abbrev pub mode_after : Completion → Task → Mode
-mode_after completion.Normal t = mode.Execute t
-mode_after w t = mode.Unwind w
-
 -- an unwinding has passed the level, and those inside it
 abbrev pub Named : Nesting → Option ℕ → List StackEntry → Type 0
 Named n level ks = IsOwn n level × InOrder (under n level) ks

@@ -1,22 +1,12 @@
 -- What an UNDO, ERROR or ENDKEY does at an iteration, and what the action after an UNDO leaves.
-use Rattle.std.specs.Prelude.{ℕ, ◌==◌, Bool, true, false, List, Option}
+use Rattle.std.specs.Prelude.{Bool, List}
 use Rattle.bound_tree.specs.Tree.{Action, ThenReturn, OnPhrase}
 use Rattle.block_meaning.specs.State.{State}
 use Rattle.block_meaning.specs.Program.{Program}
 use Rattle.block_meaning.specs.Blocks.{returns_with}
 use Rattle.block_code.specs.declared.code.Instr.{Instr}
-use Rattle.client_machine.specs.declared.mode.PassedLevels.{PassedLevels}
 use Rattle.client_machine.specs.declared.actions.OnCondition.{OnCondition}
 use Rattle.client_machine.specs.Config.{after_undo_of}
-use Rattle.client_machine.specs.Order.{outer_of}
-
--- what an unwinding has passed once it leaves the iteration of this level too; with no level open it passes none
-abbrev pub passed_if : Bool → Option ℕ → PassedLevels → PassedLevels
-passed_if true depth x = x
-passed_if false depth x = record x { first = outer_of depth x.first }
-
-abbrev pub passed_at : ℕ → Option ℕ → PassedLevels → PassedLevels
-passed_at n depth x = passed_if (n == 0) depth x
 
 -- the block that a condition undoes, and what happens then
 abbrev pub phrase_of : List Instr → OnCondition → OnPhrase

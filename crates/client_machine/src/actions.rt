@@ -1,7 +1,7 @@
 //! What follows an UNDO: RETRY, LEAVE, NEXT or RETURN. The expression of a RETURN stays in the code:
 //! an action names the place of its instruction, and where it stands there.
 
-ghost use Rattle.std.specs.Prelude.{Bool, Option, ◌≡◌, [], ℕ, List, None, Some, OnOk, OnErr, IfOk, MatchOption};
+ghost use Rattle.std.specs.Prelude.{Bool, Option, ◌≡◌, [], ℕ, List, None, Some, OnOk, OnErr, IfOk, MatchOption, true};
 ghost use Rattle.client_database.specs.declared.answer.Answer.{Answer};
 ghost use Rattle.block_meaning.specs.State.{State, Copy, Done};
 ghost use Rattle.block_meaning.specs.Program.{Program};
@@ -13,15 +13,21 @@ ghost use Rattle.block_code.specs.Code.{instr_of};
 ghost use Rattle.client_output.specs.Written.{IsUnchanged};
 ghost use Rattle.client_machine.specs.Actions.{value_in, value_on, returned_in, action_in};
 ghost use Rattle.client_machine.specs.Undone.{after_action};
-ghost use Rattle.client_machine.specs.Order.{ClosesIteration, first_in};
-ghost use Rattle.client_machine.specs.Config.{completion_of, turn_of, after_undo_of, instr_at, header_at, AreEven};
+ghost use Rattle.block_flat.specs.Flat as flat;
+ghost use Rattle.client_machine.specs.Order.{ClosesIteration, InOrder, ModeInOrder, Nesting, first_in};
+ghost use Rattle.client_machine.specs.Config.{completion_of, turn_of, iteration_without, mode_of, after_undo_of, instr_at, header_at, AreEven};
 ghost use Rattle.client_machine.specs.Machine.{state_in};
 ghost use Rattle.client_machine.specs.Step.{KeepsTask};
 ghost use Rattle.client_machine.specs.declared.mode.Task.{Task};
+ghost use Rattle.client_machine.specs.declared.mode.Mode.{Mode};
+ghost use Rattle.client_machine.specs.declared.mode.Completion.{Completion};
+ghost use Rattle.client_machine.specs.declared.mode.StackEntry.{StackEntry};
+ghost use Rattle.client_machine.specs.declared.mode.ends.EndTask.{EndTask};
 ghost use Rattle.client_machine.specs.declared.mode.ReturnSource.{ReturnSource};
 
 use crate::machine::Machine;
-use crate::mode::{AfterUndo, Completion, Mode, ReturnSource, TurnData};
+use crate::mode::ends::EndTask;
+use crate::mode::{AfterUndo, Completion, Mode, ReturnSource, Task, TurnData};
 use abl_base::Bytes;
 use abl_eval::EvalFault;
 use abl_masks::plain;
@@ -48,10 +54,12 @@ impl Machine {
         ensures ok { OnOk result (KeepsTask (Task.Acts place turn after_undo retry) self.old self.new) }
         ensures err { OnErr result (IsUnchanged self.old.output self.new.output) }
     {
-        if !self.is_bufferless(place) {
-            return Err(AllocError);
-        }
         self.set_returned(after_undo, retry)?;
+        if !self.is_bufferless(place) {
+            let mode = self.mode_undone(place, turn, after_undo);
+            self.set_mode(mode);
+            return Ok(());
+        }
         let completion = self.completion_undone(place, turn, after_undo);
         self.set_mode(Mode::Unwind(completion));
         Ok(())
@@ -127,6 +135,28 @@ impl Machine {
         }
     }
 
+    /// What follows an UNDO of the block at the place, whose buffers are released then.
+    fn mode_undone(&self, place: usize, turn: TurnData, after_undo: AfterUndo) -> Mode
+        ensures same { (cs : List Copy) (p : Program) (retry : Bool) (ks : List flat.StackEntry) (s : State) → flat.config (mode_of self.now.code.instrs.items cs result) ks (after_action p (after_undo_of self.now.code.instrs.items after_undo) retry s) ≡ flat.act_step p (after_undo_of self.now.code.instrs.items after_undo) (header_at self.now.code.instrs.items place) (iteration_without turn) retry ks s }
+        ensures order { (n : Nesting) (ks : List StackEntry) → InOrder n ks → ModeInOrder n result ks }
+    {
+        match after_undo {
+            AfterUndo::Retry => {
+                if self.names_retry(place) {
+                    again_mode(turn)
+                } else {
+                    let number = self.number_at(place);
+                    let completion = instead_of_retry_at(self.iterates_at(place), number);
+                    closes_mode(place, turn, completion)
+                }
+            }
+            AfterUndo::Leave(block) => closes_mode(place, turn, Completion::Leaves(block)),
+            AfterUndo::Next(block) => closes_mode(place, turn, Completion::Nexts(block)),
+            AfterUndo::Return { error, .. } => closes_mode(place, turn, Completion::Returns(error)),
+            AfterUndo::Error => closes_mode(place, turn, Completion::Returns(true)),
+        }
+    }
+
     /// The completion of the block after it was undone.
     pub fn completion_undone(
         &self,
@@ -164,6 +194,29 @@ impl Machine {
             AfterUndo::Error => Completion::Returns(true),
         }
     }
+}
+
+/// A retry with the data of the iteration.
+fn again_mode(turn: TurnData) -> Mode
+    ensures { result ≡ Mode.Unwind (Completion.Again (record turn { retry = true })) }
+{
+    Mode::Unwind(Completion::Again(TurnData {
+        retry: true,
+        start: turn.start,
+        by: turn.by,
+        own: turn.own,
+    }))
+}
+
+/// The buffers of the undone iteration are released, and it ends.
+fn closes_mode(place: usize, turn: TurnData, completion: Completion) -> Mode
+    ensures { result ≡ Mode.Execute (Task.End (EndTask.Closes place turn completion)) }
+{
+    Mode::Execute(Task::End(EndTask::Closes {
+        place,
+        turn,
+        completion,
+    }))
 }
 
 /// What happens after a block was undone, by an action that stands there.

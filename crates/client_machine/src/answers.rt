@@ -24,12 +24,13 @@ ghost use Rattle.client_machine.specs.Machine.{config_of, stack_in, state_in};
 ghost use Rattle.client_machine.specs.AnswerClass.{IsOfAnswerClass, KeepsAnswer};
 ghost use Rattle.client_machine.specs.declared.answers.AnswerClass.{AnswerClass};
 ghost use Rattle.client_machine.specs.declared.mode.OnAnswer.{OnAnswer};
-ghost use Rattle.client_machine.specs.Step.{Fits, KeepsRun, KeepsTask, KeepsCompletion, Wants, IsAwaiting, IsAtEnd, asked_op};
+ghost use Rattle.client_machine.specs.Step.{Fits, KeepsRun, KeepsTask, KeepsCompletion, Wants, IsAwaiting, IsAtEnd};
 ghost use Rattle.client_machine.specs.declared.mode.Mode.{Mode};
 ghost use Rattle.client_machine.specs.declared.mode.Task.{Task};
 ghost use Rattle.client_machine.specs.declared.mode.Completion.{Completion};
 
 use crate::machine::{Machine, mode_again, mode_then};
+use crate::mode::ends::{BufferList, EndTask};
 use crate::mode::{
     AfterUndo, Completion, IterationData, Mode, OnAnswer, PassedLevels, StackEntry, Task, TurnData,
 };
@@ -178,8 +179,13 @@ impl Machine {
         ensures ok { OnOk result (KeepsAnswer op (OnAnswer.WasBack depth) answer self.old self.new) }
         ensures err { OnErr result (IsUnchanged self.old.output self.new.output) }
     {
+        let _ = (op, answer);
         if self.memory.has_buffers() {
-            return Err(AllocError);
+            self.set_mode(Mode::Execute(Task::End(EndTask::AfterBack {
+                depth,
+                but: BufferList::None,
+            })));
+            return Ok(());
         }
         self.memory.leave_to(depth);
         self.memory.back()?;

@@ -18,19 +18,20 @@ ghost use Rattle.block_code.specs.declared.code.Instr.{Instr};
 ghost use Rattle.client_machine.specs.declared.mode.StackEntry.{StackEntry};
 ghost use Rattle.client_machine.specs.InstrClasses.{IsOfClass};
 ghost use Rattle.client_machine.specs.Order.{outer_of, ClosesIteration, InOrder, Named, first_in, ModeInOrder};
-ghost use Rattle.client_machine.specs.Config.{mode_of, entry_of, completion_of, turn_of, after_undo_of, instr_at, header_at, body_at};
+ghost use Rattle.client_machine.specs.Config.{mode_of, entry_of, completion_of, turn_of, after_undo_of, instr_at, header_at, body_at, fetch_at};
 ghost use Rattle.client_output.specs.Written.{IsUnchanged};
 ghost use Rattle.client_machine.specs.Machine.{config_of, stack_in, state_in};
 ghost use Rattle.client_machine.specs.AnswerClass.{IsOfAnswerClass, KeepsAnswer};
 ghost use Rattle.client_machine.specs.declared.answers.AnswerClass.{AnswerClass};
 ghost use Rattle.client_machine.specs.declared.mode.OnAnswer.{OnAnswer};
-ghost use Rattle.client_machine.specs.Step.{Fits, KeepsRun, KeepsTask, KeepsCompletion, Wants, IsAwaiting, IsAtEnd, asked_op};
+ghost use Rattle.client_machine.specs.Step.{Fits, KeepsRun, KeepsTask, KeepsCompletion, Wants, IsAwaiting, IsAtEnd};
 ghost use Rattle.client_machine.specs.declared.mode.Mode.{Mode};
 ghost use Rattle.client_machine.specs.declared.mode.Task.{Task};
 ghost use Rattle.client_machine.specs.declared.mode.Completion.{Completion};
 
 use crate::machine::{Machine, mode_again, mode_then};
 use crate::mode::ends::{BufferList, EndTask};
+use crate::mode::reads::{ReadEntry, ReadTask};
 use crate::mode::{
     AfterUndo, Completion, IterationData, Mode, OnAnswer, PassedLevels, StackEntry, Task, TurnData,
 };
@@ -103,7 +104,7 @@ impl Machine {
         ensures err { OnErr result (IsUnchanged self.old.output self.new.output) }
     {
         if !self.has_no_fetch(place) {
-            return Err(AllocError);
+            return self.begins_fetch(place, depth, turn, retry, left);
         }
         let body = self.body_at(place);
         self.stack.push(StackEntry::In {
@@ -118,9 +119,50 @@ impl Machine {
         Ok(())
     }
 
+    /// A FOR reads its record.
+    fn begins_fetch(
+        &mut self,
+        place: usize,
+        depth: Option<u32>,
+        turn: TurnData,
+        retry: bool,
+        left: u32,
+    ) -> Result<(), AllocError>
+        requires reads { (header_at self.old.code.instrs.items place).fetch ≡ Some (fetch_at self.old.code.instrs.items place) }
+        ensures ok { OnOk result (KeepsTask (Task.Begins place depth turn retry left) self.old self.new) }
+        ensures err { OnErr result (IsUnchanged self.old.output self.new.output) }
+    {
+        let TurnData {
+            retry: again,
+            start,
+            by,
+            own,
+        } = turn;
+        self.stack.push(StackEntry::Read(ReadEntry::FetchedAs {
+            place,
+            depth,
+            turn: TurnData {
+                retry: again,
+                start,
+                by,
+                own: None,
+            },
+            retry,
+            left,
+        }))?;
+        self.set_mode(Mode::Execute(Task::Read(ReadTask::Fetches {
+            place,
+            again,
+            retry,
+            own,
+        })));
+        Ok(())
+    }
+
     /// Whether the block at the place is no FOR.
     fn has_no_fetch(&self, place: usize) -> bool
-        ensures { result ≡ true → (header_at self.now.code.instrs.items place).fetch ≡ None }
+        ensures none { result ≡ true → (header_at self.now.code.instrs.items place).fetch ≡ None }
+        ensures some { result ≡ false → (header_at self.now.code.instrs.items place).fetch ≡ Some (fetch_at self.now.code.instrs.items place) }
     {
         match self.code.instrs.get(place) {
             Some(Instr::Block { header, .. }) => header.fetch.is_none(),

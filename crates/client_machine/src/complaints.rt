@@ -1,6 +1,6 @@
 //! The faults of statements: the line about each, NO-ERROR, and ERROR.
 
-ghost use Rattle.std.specs.Prelude.{◌≡◌, IfOk, IfSome, OnOk, OnErr, Some, None, true, false};
+ghost use Rattle.std.specs.Prelude.{◌≡◌, ◌-◌, IfOk, IfSome, OnOk, OnErr, Some, None, true, false, length, slice_get};
 ghost use Rattle.block_meaning.specs.Lines.{line_of};
 ghost use Rattle.block_meaning.specs.Program.{Program, procedure_at};
 ghost use Rattle.block_meaning.specs.State.{State};
@@ -21,7 +21,7 @@ ghost use Rattle.client_machine.specs.Step.{KeepsComplaint, KeepsEntry};
 use crate::machine::Machine;
 use crate::mode::ends::BufferList;
 use crate::mode::{Completion, LineFault, Mode, PassedLevels};
-use block_code::ProcedureCode;
+use block_code::{Code, ProcedureCode};
 use client_database::StopWhy;
 use complaint_lines::{Complaint, complaint_about, complaint_line};
 use std::alloc::AllocError;
@@ -123,10 +123,29 @@ impl Machine {
     pub fn running_procedure(&self) -> Option<&ProcedureCode>
         ensures { IfSome result (λ procedure. (p : Program) (rest : State) → IsProgramOf p self.now.code self.now.inputs → AreEven self.now.procedures.items self.now.memory → IsProcedureOf self.now.code.instrs.items procedure.now (procedure_at p (own_frame (state_in rest self.now).frames).procedure)) }
     {
-        let last = self.procedures.len().checked_sub(1)?;
-        let number = *self.procedures.get(last)?;
-        self.code.procedures.get(number as usize)
+        let Some(number) = last_of(self.procedures.as_slice()) else {
+            return None;
+        };
+        procedure_code(&self.code, number)
     }
+}
+
+/// The last number.
+fn last_of(numbers: &[u32]) -> Option<u32>
+    ensures { IfSome result (λ n. slice_get numbers.now (length numbers.now - 1) ≡ Some n) }
+{
+    let last = numbers.len().checked_sub(1)?;
+    match numbers.get(last) {
+        Some(number) => Some(*number),
+        None => None,
+    }
+}
+
+/// The code of the procedure of this number.
+fn procedure_code<'a>(code: &'a Code, number: u32) -> Option<&'a ProcedureCode>
+    ensures { IfSome result (λ found. slice_get code.now.procedures.items number ≡ Some found.now) }
+{
+    code.procedures.get(number as usize)
 }
 
 /// What the line about a fault reports.

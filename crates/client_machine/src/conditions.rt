@@ -7,7 +7,8 @@ ghost use Rattle.client_output.specs.Written.{IsUnchanged};
 ghost use Rattle.bound_tree.specs.Bound.{action_of};
 ghost use Rattle.block_meaning.specs.Blocks.{is_endkey_block};
 ghost use Rattle.client_machine.specs.Actions.{value_in, returned_in, error_phrase, endkey_phrase};
-ghost use Rattle.client_machine.specs.Undone.{passed_at as passed_there, phrase_of};
+ghost use Rattle.client_machine.specs.Undone.{phrase_of};
+ghost use Rattle.client_machine.specs.declared.mode.TurnData.{TurnData};
 ghost use Rattle.client_machine.specs.Config.{instr_at, header_at};
 ghost use Rattle.client_machine.specs.Step.{KeepsTask};
 ghost use Rattle.client_machine.specs.declared.mode.Task.{Task};
@@ -16,7 +17,6 @@ ghost use Rattle.client_machine.specs.declared.mode.Completion.{Completion};
 use crate::actions::{OnCondition, after_undo_at};
 use crate::machine::Machine;
 use crate::mode::{AfterUndo, Completion, IterationData, Mode, PassedLevels, ReturnSource, Task};
-use crate::undo::outer;
 use block_code::Instr;
 use bound_tree::{BlockKind, OnPhrase};
 use std::alloc::AllocError;
@@ -46,10 +46,10 @@ impl Machine {
             }));
             return Ok(());
         }
-        if !self.is_bufferless(place) {
-            return Err(AllocError);
+        if self.memory.depth() == 0 {
+            return self.ends_passed(place, Completion::Raises(passed));
         }
-        let passed = self.passed_at(iteration.depth, passed);
+        let passed = self.passed_with(place, iteration.depth, passed)?;
         self.set_mode(Mode::Unwind(Completion::Raises(passed)));
         Ok(())
     }
@@ -78,29 +78,27 @@ impl Machine {
                 }));
                 Ok(())
             }
-            None => {
-                if !self.is_bufferless(place) {
-                    return Err(AllocError);
-                }
-                let passed = self.passed_at(iteration.depth, passed);
-                self.set_mode(Mode::Unwind(Completion::EndKeys(passed)));
-                Ok(())
-            }
+            None => self.endkey_passes(place, iteration.depth, passed),
         }
     }
 
-    /// What an unwinding has passed once it leaves an iteration of this level too.
-    fn passed_at(&self, depth: Option<u32>, passed: PassedLevels) -> PassedLevels
-        ensures { result ≡ passed_there (length self.now.memory.copies) depth passed }
+    /// ENDKEY passes an iteration of the block at the place, of this level.
+    fn endkey_passes(
+        &mut self,
+        place: usize,
+        depth: Option<u32>,
+        passed: PassedLevels,
+    ) -> Result<(), AllocError>
+        requires passes { endkey_phrase (header_at self.old.code.instrs.items place) (header_at self.old.code.instrs.items place).on_endkey ≡ None }
+        ensures ok { OnOk result ((turn : TurnData) → KeepsTask (Task.EndsWith place (record { depth = depth; turn = turn }) (Completion.EndKeys passed)) self.old self.new) }
+        ensures err { OnErr result (IsUnchanged self.old.output self.new.output) }
     {
         if self.memory.depth() == 0 {
-            passed
-        } else {
-            PassedLevels {
-                first: outer(depth, passed.first),
-                buffers: passed.buffers,
-            }
+            return self.ends_passed(place, Completion::EndKeys(passed));
         }
+        let passed = self.passed_with(place, depth, passed)?;
+        self.set_mode(Mode::Unwind(Completion::EndKeys(passed)));
+        Ok(())
     }
 
     /// What ERROR does at the block, which has the undo property.

@@ -24,13 +24,13 @@ ghost use Rattle.client_machine.specs.Machine.{config_of, stack_in, state_in};
 ghost use Rattle.client_machine.specs.AnswerClass.{IsOfAnswerClass, KeepsAnswer};
 ghost use Rattle.client_machine.specs.declared.answers.AnswerClass.{AnswerClass};
 ghost use Rattle.client_machine.specs.declared.mode.OnAnswer.{OnAnswer};
-ghost use Rattle.client_machine.specs.Step.{Fits, KeepsRun, KeepsTask, KeepsCompletion, KeepsEntry, Wants, IsAwaiting, IsAtEnd, asked_op};
+ghost use Rattle.client_machine.specs.Step.{Fits, KeepsRun, KeepsTask, KeepsCompletion, KeepsEntry, Wants, IsAwaiting, IsAtEnd};
 ghost use Rattle.client_machine.specs.declared.mode.Mode.{Mode};
 ghost use Rattle.client_machine.specs.declared.mode.Task.{Task};
 ghost use Rattle.client_machine.specs.declared.mode.Completion.{Completion};
 
 use crate::machine::{Machine, mode_again, mode_then};
-use crate::mode::ends::EndTask;
+use crate::mode::ends::{EndEntry, EndTask};
 use crate::mode::{
     AfterUndo, Completion, IterationData, Mode, OnAnswer, PassedLevels, StackEntry, Task, TurnData,
 };
@@ -72,10 +72,18 @@ impl Machine {
                 }));
                 Ok(())
             }
-            Completion::Stops(why) => self.stop_iteration(place, iteration, why),
             Completion::Raises(passed) => self.error_comes(place, iteration, passed),
             Completion::EndKeys(passed) => self.endkey_comes(place, iteration, passed),
-            _ => Err(AllocError),
+            Completion::Stops(why) => self.stop_iteration(place, iteration, why),
+            Completion::Normal => Err(AllocError),
+            Completion::Again(_turn) => Err(AllocError),
+            Completion::Leaves(_block) => Err(AllocError),
+            Completion::Nexts(_block) => Err(AllocError),
+            Completion::Faults(_fault) => Err(AllocError),
+            Completion::Found(_cursor) => Err(AllocError),
+            Completion::Lost => Err(AllocError),
+            Completion::NotFound => Err(AllocError),
+            Completion::Returns(_error) => Err(AllocError),
         }
     }
 
@@ -105,10 +113,10 @@ impl Machine {
         ensures err { OnErr result (IsUnchanged self.old.output self.new.output) }
     {
         if !self.is_bufferless(place) {
-            return Err(AllocError);
+            return self.closes_records(place, iteration, completion);
         }
         if self.memory.has_buffers() {
-            return Err(AllocError);
+            return self.closes_records(place, iteration, completion);
         }
         let depth = iteration.depth;
         let completion = self.completion_after(place, iteration.turn, completion);
@@ -120,6 +128,28 @@ impl Machine {
                 self.set_mode(Mode::Execute(Task::LeavesNow));
             }
         }
+        Ok(())
+    }
+
+    /// The same where there are record buffers: pending records are inserted and buffers released
+    /// first.
+    fn closes_records(
+        &mut self,
+        place: usize,
+        iteration: IterationData,
+        completion: Completion,
+    ) -> Result<(), AllocError>
+        requires plain { ClosesIteration completion }
+        ensures ok { OnOk result (KeepsTask (Task.EndsWith place iteration completion) self.old self.new) }
+        ensures err { OnErr result (IsUnchanged self.old.output self.new.output) }
+    {
+        let depth = iteration.depth;
+        self.stack.push(StackEntry::End(EndEntry::AfterClosing {
+            place,
+            iteration,
+            completion,
+        }))?;
+        self.set_mode(Mode::Execute(Task::End(EndTask::Closing { place, depth })));
         Ok(())
     }
 

@@ -16,6 +16,7 @@ pub mod inputs;
 pub mod loops;
 pub mod machine;
 pub mod mode;
+pub mod records;
 pub mod returns;
 pub mod statements;
 pub mod step;

@@ -4,7 +4,9 @@ ghost use Rattle.std.specs.Prelude.{Bool, Option, ◌≡◌, ◌⊎◌, ◌∷�
 ghost use Rattle.client_database.specs.declared.answer.Answer.{Answer};
 ghost use Rattle.client_database.specs.declared.operation.Op.{Op};
 ghost use Rattle.client_database.specs.declared.next_step.NextStep.{NextStep};
-ghost use Rattle.bound_tree.specs.Tree.{Body};
+ghost use Rattle.bound_tree.specs.Tree.{Assign, Body};
+ghost use Rattle.bound_tree.specs.Tree.{Assignment as AssignmentMeant};
+ghost use Rattle.bound_tree.specs.Bound.{stmt_of};
 ghost use Rattle.block_meaning.specs.State.{State};
 ghost use Rattle.block_meaning.specs.Program.{Program};
 ghost use Rattle.block_meaning.specs.Meaning.{finished};
@@ -24,7 +26,7 @@ ghost use Rattle.client_machine.specs.Machine.{config_of, stack_in, state_in};
 ghost use Rattle.client_machine.specs.AnswerClass.{IsOfAnswerClass, KeepsAnswer};
 ghost use Rattle.client_machine.specs.declared.answers.AnswerClass.{AnswerClass};
 ghost use Rattle.client_machine.specs.declared.mode.OnAnswer.{OnAnswer};
-ghost use Rattle.client_machine.specs.Step.{Fits, KeepsRun, KeepsTask, KeepsCompletion, Wants, IsAwaiting, IsAtEnd, asked_op};
+ghost use Rattle.client_machine.specs.Step.{Fits, KeepsRun, KeepsTask, KeepsCompletion, Wants, IsAwaiting, IsAtEnd};
 ghost use Rattle.client_machine.specs.declared.mode.Mode.{Mode};
 ghost use Rattle.client_machine.specs.declared.mode.Task.{Task};
 ghost use Rattle.client_machine.specs.declared.mode.Completion.{Completion};
@@ -36,7 +38,7 @@ use crate::mode::{
 };
 use abl_base::{Bytes, Value};
 use block_code::Instr;
-use bound_tree::{Action, BlockKind, Stmt};
+use bound_tree::{Action, Assignment, BlockKind, Right, Stmt, Target};
 use client_database::{Answer, ClientEnd, NextStep, Op, RowIds, StopWhy};
 use std::alloc::{AllocError, Global};
 use std::mem;
@@ -46,19 +48,61 @@ use std::mem;
 pub enum InstrClass {
     End,
     Block(usize),
-    Undo { block: u32, next: usize },
-    Leave { block: u32, next: usize },
-    Next { block: u32, next: usize },
+    Undo {
+        block: u32,
+        next: usize,
+    },
+    Leave {
+        block: u32,
+        next: usize,
+    },
+    Next {
+        block: u32,
+        next: usize,
+    },
     /// RETURN.
     Return(usize),
-    ReturnError { block: u32, next: usize },
+    ReturnError {
+        block: u32,
+        next: usize,
+    },
     Stop(usize),
     /// IF: the places of its branches.
-    Test { one: usize, other: usize },
-    /// An assignment, or ASSIGN.
-    Assign { no_error: bool, next: usize },
-    /// It is not built yet.
+    Test {
+        one: usize,
+        other: usize,
+    },
+    /// An assignment, or ASSIGN, of expressions to variables.
+    Assign {
+        no_error: bool,
+        next: usize,
+    },
+    /// A statement on records.
+    Record {
+        stmt: RecordStmt,
+        no_error: bool,
+        next: usize,
+    },
+    /// RUN, or a statement on streams: a layer above executes it.
     Other,
+}
+
+/// A statement on records, or an assignment to a field or from a sequence.
+#[derive(Clone, Copy, Debug)]
+pub enum RecordStmt {
+    Find,
+    FindCurrent,
+    Create(u32),
+    Delete(u32),
+    Release(u32),
+    Assign,
+}
+
+/// A statement that is neither a block nor an IF, and the place after it.
+#[derive(Clone, Copy)]
+struct SimpleStmt<'a> {
+    stmt: &'a Stmt,
+    next: usize,
 }
 
 impl Machine {
@@ -128,6 +172,11 @@ impl Machine {
             InstrClass::Assign { no_error, next } => {
                 self.assign(place, next, no_error, left, retry)
             }
+            InstrClass::Record {
+                stmt,
+                no_error,
+                next,
+            } => { self.begin_record_stmt(place, stmt, no_error, next, left, retry) }
             InstrClass::Other => Err(AllocError),
         }
     }
@@ -136,6 +185,9 @@ impl Machine {
     pub fn class_at(&self, place: usize) -> InstrClass
         ensures { IsOfClass result (instr_at self.now.code.instrs.items place) }
     {
+        if let Some(simple) = self.simple_at(place) {
+            return stmt_class(simple.stmt, simple.next);
+        }
         match self.code.instrs.get(place) {
             None | Some(Instr::End) => InstrClass::End,
             Some(Instr::Block { next, .. }) => InstrClass::Block(*next),
@@ -149,64 +201,17 @@ impl Machine {
                 one: *then_place,
                 other: *else_place,
             },
-            Some(
-                Instr::Simple {
-                    stmt: Stmt::Assign { no_error, .. },
-                    next,
-                },
-            ) => InstrClass::Assign {
-                no_error: *no_error,
-                next: *next,
-            },
-            Some(
-                Instr::Simple {
-                    stmt: Stmt::Undo { block, .. },
-                    next,
-                },
-            ) => InstrClass::Undo {
-                block: *block,
-                next: *next,
-            },
-            Some(
-                Instr::Simple {
-                    stmt: Stmt::Leave(block),
-                    next,
-                },
-            ) => InstrClass::Leave {
-                block: *block,
-                next: *next,
-            },
-            Some(
-                Instr::Simple {
-                    stmt: Stmt::Next(block),
-                    next,
-                },
-            ) => InstrClass::Next {
-                block: *block,
-                next: *next,
-            },
-            Some(
-                Instr::Simple {
-                    stmt: Stmt::Return(_),
-                    next,
-                },
-            ) => InstrClass::Return(*next),
-            Some(
-                Instr::Simple {
-                    stmt: Stmt::ReturnError { block, .. },
-                    next,
-                },
-            ) => InstrClass::ReturnError {
-                block: *block,
-                next: *next,
-            },
-            Some(
-                Instr::Simple {
-                    stmt: Stmt::Stop,
-                    next,
-                },
-            ) => InstrClass::Stop(*next),
             _ => InstrClass::Other,
+        }
+    }
+
+    /// The statement at the place, where that is neither a block nor an IF.
+    fn simple_at(&self, place: usize) -> Option<SimpleStmt<'_>>
+        ensures { IfSome result (λ simple. instr_at self.now.code.instrs.items place ≡ flat.Plain (stmt_of simple.stmt.now) simple.next) }
+    {
+        match self.code.instrs.get(place) {
+            Some(Instr::Simple { stmt, next }) => Some(SimpleStmt { stmt, next: *next }),
+            _ => None,
         }
     }
 
@@ -245,4 +250,88 @@ impl Machine {
         self.set_mode(Mode::Unwind(completion));
         Ok(())
     }
+}
+
+/// How a statement is executed, after which the code continues at `next`.
+fn stmt_class(stmt: &Stmt, next: usize) -> InstrClass
+    ensures { IsOfClass result (flat.Plain (stmt_of stmt.now) next) }
+{
+    match stmt {
+        Stmt::Assign { pairs, no_error } => assign_class(pairs.as_slice(), *no_error, next),
+        Stmt::Undo { block, .. } => InstrClass::Undo {
+            block: *block,
+            next,
+        },
+        Stmt::Leave(block) => InstrClass::Leave {
+            block: *block,
+            next,
+        },
+        Stmt::Next(block) => InstrClass::Next {
+            block: *block,
+            next,
+        },
+        Stmt::Return(_) => InstrClass::Return(next),
+        Stmt::ReturnError { block, .. } => InstrClass::ReturnError {
+            block: *block,
+            next,
+        },
+        Stmt::Stop => InstrClass::Stop(next),
+        _ => record_class(stmt, next),
+    }
+}
+
+/// The same for another statement.
+fn record_class(stmt: &Stmt, next: usize) -> InstrClass
+    ensures { IsOfClass result (flat.Plain (stmt_of stmt.now) next) }
+{
+    match stmt {
+        Stmt::Find { no_error, .. } => InstrClass::Record {
+            stmt: RecordStmt::Find,
+            no_error: *no_error,
+            next,
+        },
+        Stmt::FindCurrent { no_error, .. } => InstrClass::Record {
+            stmt: RecordStmt::FindCurrent,
+            no_error: *no_error,
+            next,
+        },
+        Stmt::Create { buffer, no_error } => InstrClass::Record {
+            stmt: RecordStmt::Create(*buffer),
+            no_error: *no_error,
+            next,
+        },
+        Stmt::Delete { buffer, no_error } => InstrClass::Record {
+            stmt: RecordStmt::Delete(*buffer),
+            no_error: *no_error,
+            next,
+        },
+        Stmt::Release { buffer, no_error } => InstrClass::Record {
+            stmt: RecordStmt::Release(*buffer),
+            no_error: *no_error,
+            next,
+        },
+        _ => InstrClass::Other,
+    }
+}
+
+/// How an assignment is executed: at once where it assigns expressions to variables.
+fn assign_class(pairs: &[Assignment], no_error: bool, next: usize) -> InstrClass
+    ensures { (xs : List AssignmentMeant) → IsOfClass result (flat.Plain (Assign xs no_error) next) }
+{
+    if is_at_once(pairs) {
+        InstrClass::Assign { no_error, next }
+    } else {
+        InstrClass::Record {
+            stmt: RecordStmt::Assign,
+            no_error,
+            next,
+        }
+    }
+}
+
+/// Whether all assignments are of expressions to variables.
+fn is_at_once(pairs: &[Assignment]) -> bool {
+    pairs.iter().all(|pair| {
+        matches!(pair.target, Target::Variable(_)) && matches!(pair.right, Right::Value(_))
+    })
 }

@@ -18,6 +18,7 @@ use Rattle.client_output.proofs.Unchanged.{written_same}
 use Rattle.client_machine.specs.declared.inputs.Stream.{Stream}
 use Rattle.client_machine.specs.declared.machine.Machine.{Machine}
 use Rattle.client_machine.specs.declared.mode.PassedLevels.{PassedLevels}
+use Rattle.client_machine.specs.declared.mode.ends.BufferList.TheVariants as buffer_list
 use Rattle.client_machine.specs.declared.mode.Mode.TheVariants as mode
 use Rattle.client_machine.specs.declared.mode.Completion.TheVariants as completion
 use Rattle.client_machine.specs.declared.mode.Task.TheVariants as task
@@ -125,7 +126,7 @@ read_kept n next from old m new moved is own keeps = read_then n next from old n
 -- ---- the end of the input
 
 abbrev pub none_passed : PassedLevels
-none_passed = record { first = None }
+none_passed = record { first = None; buffers = buffer_list.None }
 
 pub ended_kept : (quiet : Bool) (old new : Machine) (more : Vec StackEntry Global) (next left : ℕ) (retry : Bool) →
     (let x : Machine = record old { stack = more; mode = mode.Unwind (completion.EndKeys none_passed) } in new ≡ x) →

@@ -25,6 +25,7 @@ use block_code::Instr;
 use bound_tree::Stmt;
 use client_machine::machine::Machine;
 use client_machine::mode::LineFault;
+use complaint_lines::Complaint;
 use std::alloc::AllocError;
 
 /// The stream that an IMPORT reads, whether it has NO-ERROR, and the place after it.
@@ -114,7 +115,7 @@ fn refuse_line(
     read_up_to(machine, reader.stream, next);
     fail(
         machine,
-        LineFault::BadField(number),
+        LineFault::Complaint(Complaint::BadField(number)),
         reader.no_error,
         reader.next,
         left,

@@ -23,6 +23,7 @@ use abl_eval::EvalFault;
 use client_database::StopWhy;
 use client_machine::inputs::Stream;
 use client_machine::machine::Machine;
+use client_machine::mode::ends::BufferList;
 use client_machine::mode::{Completion, LineFault, Mode, PassedLevels, StackEntry, Task};
 use std::alloc::AllocError;
 
@@ -151,7 +152,10 @@ pub(crate) fn end_input(
     ensures err { OnErr result (IsUnchanged machine.old.output machine.new.output) }
 {
     push_statement(machine, quiet, next, left, retry)?;
-    machine.set_mode(Mode::Unwind(Completion::EndKeys(PassedLevels { first: None })));
+    machine.set_mode(Mode::Unwind(Completion::EndKeys(PassedLevels {
+        first: None,
+        buffers: BufferList::None,
+    })));
     Ok(())
 }
 

@@ -11,7 +11,7 @@ use Rattle.block_vm.proofs.client.Client.run_on.Goals as goal
 
 pub returns-in-Some-clause-follows : goal.returns-in-Some-clause-follows
 returns-in-Some-clause-follows c =
-    λ names m from run_from f. stands_going m names from c.loop.self c.in-Some.wants (c.loop.invariant.same ∙ run_from) c.in-Some.ensures.some (c.loop.invariant.going names m from run_from f)
+    λ names m from run_from f. stands_going m names from c.loop.self c.in-Some.wants (c.loop.invariant.same ∙ run_from) (c.in-Ok.ensures.some) (c.loop.invariant.going names m from run_from f)
 
 pub returns-in-Some-clause-fewer : goal.returns-in-Some-clause-fewer
 returns-in-Some-clause-fewer c = λ run_from.
@@ -20,7 +20,7 @@ returns-in-Some-clause-fewer c = λ run_from.
 pub returns-in-Some-clause-wants : goal.returns-in-Some-clause-wants
 returns-in-Some-clause-wants c = λ run_from. shows_running c.loop.self.phase c.loop.self.machine.mode c.loop.self.machine.stack.items c.in-Some.wants (c.loop.invariant.same ∙ run_from) c.in-Some.ensures.shows
 
--- ---- memory is wanting
+-- ---- out of memory
 
 pub returns-then-asks_too_much-clause-follows : goal.returns-then-asks_too_much-clause-follows
 returns-then-asks_too_much-clause-follows c =

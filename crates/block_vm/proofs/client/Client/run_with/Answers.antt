@@ -4,7 +4,7 @@ use Rattle.client_output.proofs.Unchanged.{unchanged}
 use Rattle.block_vm.specs.declared.client.Client.{Client}
 use Rattle.block_vm.specs.declared.client.Phase.TheVariants as phase
 use Rattle.block_vm.specs.Work.{most_operations}
-use Rattle.block_vm.proofs.Resumes.{heard_call, failed_call, end_call}
+use Rattle.block_vm.proofs.Resumes.{answered_call, failed_call, end_call}
 use Rattle.block_vm.proofs.Works.{at_end, awaiting_has, awaiting_not_ending, ended_fewer, gives_fewer, gives_shows, gives_ends}
 use Rattle.block_vm.proofs.client.Client.run_with.Goals as goal
 
@@ -25,7 +25,7 @@ returns-then-not-is_awaiting-clause-fewer c =
 
 pub returns-in-Ok-clause-refines : goal.returns-in-Ok-clause-refines
 returns-in-Ok-clause-refines c =
-    λ names m answers waiting d. heard_call names c.args.answer m answers c.args.self.now c.run_on.new.self c.answer.new.self c.run_on.result c.requires.running (c.is_awaiting.ensures.yes c.if-not-is_awaiting.false) (c.in-Ok.ensures.ok (c.is_awaiting.ensures.yes c.if-not-is_awaiting.false)) c.run_on.ensures.follows d
+    λ names m answers waiting d. answered_call names c.args.answer m answers c.args.self.now c.run_on.new.self c.answer.new.self c.run_on.result c.requires.running (c.is_awaiting.ensures.yes c.if-not-is_awaiting.false) (c.in-Ok.ensures.ok (c.is_awaiting.ensures.yes c.if-not-is_awaiting.false)) c.run_on.ensures.follows d
 
 pub returns-in-Ok-clause-fewer : goal.returns-in-Ok-clause-fewer
 returns-in-Ok-clause-fewer c =
@@ -39,7 +39,7 @@ returns-in-Ok-clause-ended c =
     let old = c.args.self.now in
     λ ending. absurd (awaiting_not_ending old.phase old.machine.mode old.machine.stack.items c.requires.running (c.is_awaiting.ensures.yes c.if-not-is_awaiting.false) ending)
 
--- ---- memory was wanting
+-- ---- out of memory
 
 pub returns-in-Err-clause-refines : goal.returns-in-Err-clause-refines
 returns-in-Err-clause-refines c =

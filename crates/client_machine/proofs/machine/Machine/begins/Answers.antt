@@ -26,4 +26,4 @@ returns-clause-ok c =
     (λ tree p rest f.
     ap (λ os. flat.config (flat.Execute (flat.RunsFrom c.body_at-body.result c.args.left c.args.retry)) (stack_of code cs os) (state_in rest old)) top
     ∙ ap (λ k. flat.config (flat.Execute (flat.RunsFrom k c.args.left c.args.retry)) (stack_of code cs (entry ∷ reverse old.stack.items)) (state_in rest old)) c.body_at-body.ensures
-    ∙ sym (ap (λ x. flat.begins_step x b (copy_in cs c.args.depth) (turn_of c.args.turn) c.args.retry (body_at code c.args.place) c.args.left (stack_in old) (state_in rest old)) (c.if-not-has_no_fetch.ensures refl))))
+    ∙ sym (ap (λ x. flat.begins_step x b (copy_in cs c.args.depth) (turn_of c.args.turn) c.args.retry (body_at code c.args.place) c.args.left (stack_in old) (state_in rest old)) (c.if-not-has_no_fetch.ensures.none refl))))

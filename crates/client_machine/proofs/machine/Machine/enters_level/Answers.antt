@@ -15,7 +15,7 @@ returns-then-enters-clause-ok c =
     let b = header_at old.code.instrs.items c.args.place in
     let body = body_at old.code.instrs.items c.args.place in
     let ks = stack_in old in
-    task_kept_ask (task.EntersLevel c.args.place c.args.turn c.args.retry c.args.left) (on_answer.WasEntered c.args.place c.args.turn c.args.retry c.args.left) old c.ask.new.self c.ask.ensures.moved c.ask.ensures.mode (λ o. o.1)
+    task_kept_ask (task.EntersLevel c.args.place c.args.turn c.args.retry c.args.left) op.Enter (on_answer.WasEntered c.args.place c.args.turn c.args.retry c.args.left) old c.ask.new.self c.ask.ensures.moved c.ask.ensures.mode refl (λ o. o.1)
     (λ tree p rest f.
     let s = state_in rest old in
     c.ask.ensures.asks rest

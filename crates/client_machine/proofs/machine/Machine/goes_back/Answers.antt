@@ -1,4 +1,9 @@
-use Rattle.std.proofs.Common.{None, Some, sym, subst, refl}
+use Rattle.std.proofs.Common.{◌-◌, [], None, Some, sym, ap, ◌∙◌, subst, refl, slice_index_or}
+use Rattle.client_database.specs.declared.operation.Op.TheVariants as op
+use Rattle.block_flat.specs.Flat as flat
+use Rattle.client_machine.specs.Config.{no_copy}
+use Rattle.client_machine.specs.Machine.{stack_in, state_in}
+use Rattle.client_machine.proofs.Nestings.{depth_is}
 use Rattle.client_machine.specs.declared.mode.Task.TheVariants as task
 use Rattle.client_machine.specs.declared.mode.OnAnswer.TheVariants as on_answer
 use Rattle.client_machine.specs.Step.{KeepsTask}
@@ -8,7 +13,8 @@ use Rattle.client_machine.proofs.machine.Machine.goes_back.Goals as goal
 pub returns-in-Some-clause-ok : goal.returns-in-Some-clause-ok
 returns-in-Some-clause-ok c =
     subst (λ d. KeepsTask (task.GoesBack d) c.args.self.now c.ask.new.self) (sym c.in-Some.is)
-    (task_kept_ask (task.GoesBack (Some c.in-Some.depth)) (on_answer.WasBack c.in-Some.depth) c.args.self.now c.ask.new.self c.ask.ensures.moved c.ask.ensures.mode (λ o. o) (λ tree p rest f. c.ask.ensures.asks rest))
+    (task_kept_ask (task.GoesBack (Some c.in-Some.depth)) (op.Back c.in-Some.depth) (on_answer.WasBack c.in-Some.depth) c.args.self.now c.ask.new.self c.ask.ensures.moved c.ask.ensures.mode refl (λ o. o)
+    (λ tree p rest f. c.ask.ensures.asks rest ∙ ap (λ d. flat.ask (op.Back d) (flat.WasBack (slice_index_or c.args.self.now.memory.copies (c.in-Some.depth - 1) no_copy) []) (stack_in c.args.self.now) (state_in rest c.args.self.now)) (sym (depth_is c.args.self.now.memory c.in-Some.depth f.whole f.order.0))))
 
 pub returns-in-None-clause-ok : goal.returns-in-None-clause-ok
 returns-in-None-clause-ok c =

@@ -13,6 +13,6 @@ pub returns-clause-ok : goal.returns-clause-ok
 returns-clause-ok c =
     let old = c.args.self.now in
     let ks = reverse old.stack.items in
-    answered_by on_answer.WasLeft c.args.answer.now old c.was_left.new.self (mode.Unwind completion.Normal) (left old.memory) c.was_left.ensures.moved (even_left old.procedures.items old.memory)
-    (λ p rest f. (depths_left 0 old.memory.copies f.whole, (tt, left_order old.memory ks f.order)))
-    (λ p rest f. c.was_left.ensures.answered (some_level old.memory ks f.order) (all_outside old.memory ks f.order) rest p c.args.answer.now ∙ sym (c.requires p _ _ _ _))
+    answered_by c.args.op on_answer.WasLeft c.args.answer old c.was_left.new.self (mode.Unwind completion.Normal) (left old.memory) c.was_left.ensures.moved (even_left old.procedures.items old.memory)
+    (λ p rest f. (depths_left 0 old.memory.copies f.whole, (tt, left_order old.memory ks f.order.1)))
+    (λ p rest f. c.was_left.ensures.answered (some_level old.memory ks f.order.1) (all_outside old.memory ks f.order.1) rest p c.args.answer ∙ sym (c.requires p _ _ _ _))

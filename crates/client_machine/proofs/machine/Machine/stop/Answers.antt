@@ -8,5 +8,5 @@ use Rattle.client_machine.proofs.machine.Machine.stop.Goals as goal
 pub returns-clause-ok : goal.returns-clause-ok
 returns-clause-ok c =
     let old = c.args.self.now in
-    subst (KeepsAnswer c.args.on_answer c.args.answer.now old) (sym c.set_mode.ensures)
-    (answered_by c.args.on_answer c.args.answer.now old _ (mode.Unwind (completion.Stops c.args.why)) old.memory refl (λ even. even) (λ p rest f. (f.whole, tt)) (λ p rest f. sym (c.requires p _ _ _ _)))
+    subst (KeepsAnswer c.args.op c.args.on_answer c.args.answer old) (sym c.set_mode.ensures)
+    (answered_by c.args.op c.args.on_answer c.args.answer old _ (mode.Unwind (completion.Stops c.args.why)) old.memory refl (λ even. even) (λ p rest f. (f.whole, tt)) (λ p rest f. sym (c.requires p _ _ _ _)))
