@@ -1,5 +1,5 @@
 -- ERROR and ENDKEY arrive at an iteration.
-use Rattle.std.proofs.Common.{◌≡◌, ℕ, List, [], ◌∷◌, length, Option, Some, None, Bool, true, false, refl, sym, ap, ◌∙◌, subst, arith}
+use Rattle.std.proofs.Common.{◌≡◌, ℕ, List, ◌∷◌, length, Option, Some, None, Bool, true, false, refl, sym, ap, ◌∙◌, subst, arith}
 use Rattle.std.specs.Prelude.{◌==◌, reverse}
 use Rattle.client_database.specs.declared.answer.Answer.{Answer}
 use Rattle.bound_tree.specs.Tree.{Body, Header, Action, ThenLeave, OnPhrase}

@@ -1,5 +1,5 @@
 -- What is kept, from one mode to another.
-use Rattle.std.proofs.Common.{◌≤◌, ◌<◌, length, ◌≡◌, ◌⊎◌, Bool, ℕ, ◌+◌, ◌-◌, List, [], ◌∷◌, ◌++◌, Some, refl, sym, ap, ◌∙◌, subst, arith}
+use Rattle.std.proofs.Common.{◌≤◌, ◌<◌, length, ◌≡◌, ◌⊎◌, Bool, ℕ, List, [], ◌∷◌, ◌++◌, Some, sym, ap, ◌∙◌, subst}
 use Rattle.std.specs.Prelude.{Result, Ok, Err, OnOk, IfOk, IfSome, Option, None, reverse, slice_get}
 use Rattle.client_database.specs.declared.answer.Answer.{Answer}
 use Rattle.client_database.specs.declared.operation.Op.{Op}

@@ -3,8 +3,8 @@ use Rattle.std.proofs.Common.{◌≡◌, ℕ, zero, suc, ◌-◌, List, [], ◌�
 use Rattle.std.specs.Prelude.{reverse, slice_get, slice_index_or}
 use Rattle.std.proofs.lemmas.List.{length-reverse, reverse-append}
 use Rattle.bound_tree.specs.Tree.{Procedure}
-use Rattle.block_meaning.specs.Program.{Program, no_procedure, procedure_at}
-use Rattle.block_meaning.specs.State.{State, Buffer}
+use Rattle.block_meaning.specs.Program.{no_procedure}
+use Rattle.block_meaning.specs.State.{Buffer}
 use Rattle.block_meaning.specs.Frames.{own_frame}
 use Rattle.block_code.specs.declared.code.Instr.{Instr}
 use Rattle.block_code.specs.declared.code.ProcedureCode.{ProcedureCode}

@@ -7,7 +7,6 @@ use Rattle.block_meaning.specs.State.{State, CallFrame, Copy, Passed}
 use Rattle.block_meaning.specs.Blocks as blocks
 use Rattle.block_meaning.specs.Reads.{Search}
 use Rattle.block_flat.specs.Flat as flat
-use Rattle.abl_base.specs.declared.value.Value.{Value}
 use Rattle.abl_base.specs.declared.value.Value.TheVariants.{Unknown}
 use Rattle.client_database.specs.declared.row_order.Cursor.{Cursor}
 use Rattle.client_memory.specs.Buffers.{denoted_content, denoted_held, denoted_place}

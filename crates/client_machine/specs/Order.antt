@@ -19,7 +19,6 @@ use Rattle.client_machine.specs.declared.mode.ends.EndTask.TheVariants as end_ta
 use Rattle.client_machine.specs.declared.mode.ends.EndEntry.TheVariants as end_entry
 use Rattle.client_machine.specs.declared.mode.ends.EndAnswer.{EndAnswer}
 use Rattle.client_machine.specs.declared.mode.ends.EndAnswer.TheVariants as end_answer
-use Rattle.client_machine.specs.declared.mode.reads.ReadEntry.{ReadEntry}
 use Rattle.client_machine.specs.declared.mode.reads.ReadEntry.TheVariants as read_entry
 
 -- ---- what is open
@@ -33,7 +32,7 @@ pub record Nesting : Type 0 where
 abbrev pub nesting_of : Remembered → Nesting
 nesting_of m = record { procedures = length m.undoable; levels = map (λ c. length c.frames) m.copies }
 
--- the outer levels, so many
+-- the outer levels, up to this number
 abbrev pub outside : ℕ → Nesting → Nesting
 outside d n = record n { levels = take d n.levels }
 

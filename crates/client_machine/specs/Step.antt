@@ -1,7 +1,6 @@
 -- What each step and each answer keeps.
 use Rattle.std.specs.Prelude.{◌≡◌, ◌<◌, ◌≤◌, length, ℕ, Bool, List, [], ◌∷◌, ◌++◌, Option, reverse, map}
 use Rattle.client_database.specs.declared.answer.Answer.{Answer}
-use Rattle.client_database.specs.declared.operation.Op.{Op}
 use Rattle.client_database.specs.declared.operation.Op.TheVariants as op
 use Rattle.bound_tree.specs.Tree.{Body}
 use Rattle.block_meaning.specs.declared.wants.Piece.{Piece}
@@ -24,8 +23,6 @@ use Rattle.client_machine.specs.declared.mode.Completion.{Completion}
 use Rattle.client_machine.specs.declared.mode.Completion.TheVariants as completion
 use Rattle.client_machine.specs.declared.mode.LineFault.{LineFault}
 use Rattle.client_machine.specs.declared.mode.StackEntry.{StackEntry}
-use Rattle.client_machine.specs.declared.mode.OnAnswer.{OnAnswer}
-use Rattle.client_machine.specs.declared.mode.OnAnswer.TheVariants as on_answer
 use Rattle.client_machine.specs.Config.{instr_at, body_at, task_of, completion_of, complaint_if, entry_of, AreEven}
 use Rattle.client_machine.specs.declared.inputs.Stream.{Stream}
 use Rattle.client_machine.specs.Inputs.{IsProgramOf, names_of, stream_of}

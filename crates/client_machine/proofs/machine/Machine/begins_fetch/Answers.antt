@@ -1,4 +1,4 @@
-use Rattle.std.proofs.Common.{◌≡◌, ◌∷◌, None, Some, sym, ap, ◌∙◌, refl, subst}
+use Rattle.std.proofs.Common.{◌≡◌, ◌∷◌, None, sym, ap, ◌∙◌, refl, subst}
 use Rattle.std.specs.Prelude.{reverse}
 use Rattle.block_flat.specs.Flat as flat
 use Rattle.client_machine.specs.Config.{header_at, body_at, fetch_at, copy_in, turn_of, stack_of, task_of}

@@ -1,4 +1,4 @@
-use Rattle.std.proofs.Common.{◌∷◌, refl, sym, ap, ◌∙◌, subst}
+use Rattle.std.proofs.Common.{◌∷◌, subst}
 use Rattle.std.specs.Prelude.{reverse}
 use Rattle.block_flat.specs.Flat as flat
 use Rattle.block_meaning.specs.Program.{Program}

@@ -1,10 +1,10 @@
-use Rattle.std.proofs.Common.{◌≡◌, [], ◌∷◌, sym, ap, ◌∙◌, refl, subst}
+use Rattle.std.proofs.Common.{◌≡◌, ◌∷◌, sym, ap, ◌∙◌, refl, subst}
 use Rattle.std.specs.Prelude.{reverse}
 use Rattle.std.proofs.lemmas.Bool.{eq-eqb}
 use Rattle.block_flat.specs.Flat as flat
 use Rattle.client_machine.specs.Config.{header_at, iteration_of, passed_of, after_undo_of, stack_of, task_of}
 use Rattle.client_machine.specs.Machine.{stack_in, state_in}
-use Rattle.client_machine.specs.Order.{nesting_of, Named, TaskInOrder}
+use Rattle.client_machine.specs.Order.{nesting_of, TaskInOrder}
 use Rattle.client_machine.specs.Step.{KeepsTask}
 use Rattle.client_machine.specs.declared.mode.Task.TheVariants as task
 use Rattle.client_machine.specs.declared.mode.StackEntry.TheVariants as stack
