@@ -1,6 +1,6 @@
 //! The client: a machine from one answer to the next.
 
-ghost use Rattle.std.specs.Prelude.{◌≡◌, ◌⊎◌, ◌∷◌, ◌++◌, ◌<◌, ◌+◌, ℕ, List, [], Some, false, IfOk, IfSome};
+ghost use Rattle.std.specs.Prelude.{◌≡◌, ◌⊎◌, ◌∷◌, ◌++◌, ◌<◌, ◌+◌, ℕ, List, [], Some, true, false, IfOk, IfSome};
 ghost use Rattle.client_database.specs.declared.answer.Answer.{Answer};
 ghost use Rattle.client_database.specs.declared.operation.Op.{Op};
 ghost use Rattle.client_database.specs.declared.ends.ClientEnd.{ClientEnd};

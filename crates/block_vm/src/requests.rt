@@ -16,7 +16,13 @@ pub fn may_ask(awaits: bool, wants: &NextStep) -> bool
     ensures end { result ≡ true → awaits ≡ true → wants.now ≡ NextStep.Ask Op.End → ⊥ }
 {
     match wants {
-        NextStep::Ask(op) => { if awaits { is_of_levels(op) } else { ends_or_levels(op) } }
+        NextStep::Ask(op) => {
+            if awaits {
+                is_of_levels(op)
+            } else {
+                ends_or_levels(op)
+            }
+        }
         NextStep::Ended(_) => true,
     }
 }
