@@ -8,6 +8,7 @@ ghost use Rattle.block_meaning.specs.Frames.{no_buffer};
 ghost use Rattle.client_memory.specs.Buffers.{denoted_buffer, denoted_content};
 ghost use Rattle.client_memory.specs.Frames.{state_with};
 ghost use Rattle.client_values.specs.Reads.{Reads};
+ghost use Rattle.client_buffers.specs.Fixed.{fixed_of};
 
 use crate::running::RunningBuffers;
 use client_memory::{Buffer, Content, Place};
@@ -26,6 +27,7 @@ impl RunningBuffers<'_> {
     /// one, without a copy of a row.
     pub fn replace(&mut self, number: u32, content: Content) -> Content
         ensures fits { (p : Program) (rest : State) → Reads p rest self.old.procedures.now self.old.memory.now self.old.error self.old.returned.now → Reads p rest self.new.procedures.now self.new.memory.now self.new.error self.new.returned.now }
+        ensures fixed { fixed_of self.new ≡ fixed_of self.old }
         ensures old { (p : Program) (rest : State) → Reads p rest self.old.procedures.now self.old.memory.now self.old.error self.old.returned.now → meant.content_of number (state_with rest self.old.procedures.now self.old.memory.now) ≡ denoted_content result }
         ensures state { (p : Program) (rest : State) → Reads p rest self.old.procedures.now self.old.memory.now self.old.error self.old.returned.now → state_with rest self.new.procedures.now self.new.memory.now ≡ meant.holding number (denoted_content content) (state_with rest self.old.procedures.now self.old.memory.now) }
     {

@@ -8,6 +8,7 @@ ghost use Rattle.client_memory.specs.Buffers.{denoted_held};
 ghost use Rattle.client_memory.specs.Frames.{state_with};
 ghost use Rattle.client_values.specs.Reads.{Reads};
 ghost use Rattle.client_values.specs.Scope.{env_in};
+ghost use Rattle.client_buffers.specs.Fixed.{fixed_of};
 
 use abl_base::{Row, RowId, Value};
 use abl_eval::EvalFault;
@@ -67,6 +68,8 @@ impl RecordBuffers for RunningBuffers<'_> {
     ghost fits = { λ p rest b. Reads p rest b.procedures.now b.memory.now b.error b.returned.now };
 
     ghost state = { λ rest b. state_with rest b.procedures.now b.memory.now };
+
+    ghost fixed = { fixed_of };
 
     fn table(&self, buffer: u32) -> u16 {
         match self.memory.buffer(own(buffer)) {

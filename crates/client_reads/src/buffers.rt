@@ -32,12 +32,17 @@ pub trait RecordBuffers {
     ghost use Rattle.block_meaning.specs.Reads.{cursor_of, held_as, shows, spot_at};
     ghost use Rattle.reading_values.specs.Reading.{Brackets, Tests};
     ghost use Rattle.client_reads.specs.Current.{IsCurrent};
+    ghost use Rattle.client_reads.specs.Fixed.{Fixed};
 
     /// They are those of the program, where the state has these other fields.
     ghost fits: { Program → State → Self → Type 0 };
 
     /// The state that has them, and the other fields of another state.
     ghost state: { State → Self → State };
+
+    /// The open procedures, the copies of the open levels, and the reference to the memory: no call
+    /// changes them.
+    ghost fixed: { Self → Fixed };
 
     /// The number of the buffer's table.
     fn table(&self, buffer: u32) -> u16
@@ -63,35 +68,42 @@ pub trait RecordBuffers {
     /// The buffer shows a row, without a lock so far.
     fn show(&mut self, buffer: u32, row: RowId, values: Row)
         ensures fits { (p : Program) (rest : State) → fits p rest self.old → fits p rest self.new }
+        ensures fixed { fixed self.new ≡ fixed self.old }
         ensures state { (p : Program) (rest : State) → fits p rest self.old → state rest self.new ≡ shows buffer row values (state rest self.old) };
 
     /// The buffer holds a row under this lock.
     fn hold(&mut self, buffer: u32, row: RowId, values: Row, lock: LockWanted, made: Option<u64>)
         ensures fits { (p : Program) (rest : State) → fits p rest self.old → fits p rest self.new }
+        ensures fixed { fixed self.new ≡ fixed self.old }
         ensures state { (p : Program) (rest : State) → fits p rest self.old → state rest self.new ≡ holding buffer (Record row values (held_as lock) made) (state rest self.old) };
 
     /// The row that the buffer shows is held under this lock. Its values stay.
     fn lock(&mut self, buffer: u32, lock: LockWanted)
         ensures fits { (p : Program) (rest : State) → fits p rest self.old → fits p rest self.new }
+        ensures fixed { fixed self.new ≡ fixed self.old }
         ensures state { (p : Program) (rest before : State) (row : RowId) (values : List Value) → fits p rest self.old → state rest self.old ≡ shows buffer row values before → state rest self.new ≡ holding buffer (Record row values (held_as lock) None) (state rest self.old) };
 
     /// The buffer becomes empty.
     fn empty(&mut self, buffer: u32)
         ensures fits { (p : Program) (rest : State) → fits p rest self.old → fits p rest self.new }
+        ensures fixed { fixed self.new ≡ fixed self.old }
         ensures state { (p : Program) (rest : State) → fits p rest self.old → state rest self.new ≡ emptied buffer (state rest self.old) };
 
     /// Sets LOCKED of the buffer.
     fn set_locked(&mut self, buffer: u32, locked: bool)
         ensures fits { (p : Program) (rest : State) → fits p rest self.old → fits p rest self.new }
+        ensures fixed { fixed self.new ≡ fixed self.old }
         ensures state { (p : Program) (rest : State) → fits p rest self.old → state rest self.new ≡ marked_locked buffer locked (state rest self.old) };
 
     /// The buffer's place is this cursor in the index of the reading.
     fn set_place(&mut self, reading: &Reading, cursor: Cursor)
         ensures fits { (p : Program) (rest : State) → fits p rest self.old → fits p rest self.new }
+        ensures fixed { fixed self.new ≡ fixed self.old }
         ensures state { (p : Program) (rest : State) → fits p rest self.old → state rest self.new ≡ with_spot (reading_of reading.now).buffer (spot_at (reading_of reading.now) cursor) (state rest self.old) };
 
     /// The buffer has no place in an index.
     fn clear_place(&mut self, buffer: u32)
         ensures fits { (p : Program) (rest : State) → fits p rest self.old → fits p rest self.new }
+        ensures fixed { fixed self.new ≡ fixed self.old }
         ensures state { (p : Program) (rest : State) → fits p rest self.old → state rest self.new ≡ with_spot buffer None (state rest self.old) };
 }

@@ -15,6 +15,7 @@ use bound_tree::Reading;
 /// (OpenEdge ABL Reference, FIND statement, CURRENT.)
 pub fn begin_current<B: RecordBuffers>(buffers: &mut B, reading: &Reading) -> Current
     ensures fits { (p : Program) (rest : State) → B.fits p rest buffers.old → B.fits p rest buffers.new }
+    ensures fixed { B.fixed buffers.new ≡ B.fixed buffers.old }
     ensures goes { (p : Program) (rest : State) → B.fits p rest buffers.old → CurrentGoes result (reading_of reading.now) (B.state rest buffers.old) (B.state rest buffers.new) }
 {
     let current = buffers.current(reading.buffer);
@@ -35,6 +36,7 @@ pub fn read_current<B: RecordBuffers>(
     values: Option<Row>,
 ) -> bool
     ensures fits { (p : Program) (rest : State) → B.fits p rest buffers.old → B.fits p rest buffers.new }
+    ensures fixed { B.fixed buffers.new ≡ B.fixed buffers.old }
     ensures goes { (p : Program) (rest : State) → B.fits p rest buffers.old → CurrentRead result values (reading_of reading.now) row made (B.state rest buffers.old) (B.state rest buffers.new) }
 {
     match values {

@@ -93,6 +93,7 @@ fn wants_exclusive(lock: LockWanted) -> bool
 /// becomes empty. (OpenEdge ABL Reference, NO-WAIT option and LOCKED function.)
 pub fn settle_grant<B: RecordBuffers>(buffers: &mut B, reading: &Reading, grant: Grant)
     ensures fits { (p : Program) (rest : State) → B.fits p rest buffers.old → B.fits p rest buffers.new }
+    ensures fixed { B.fixed buffers.new ≡ B.fixed buffers.old }
     ensures goes { (p : Program) (rest : State) → B.fits p rest buffers.old → GrantGoes grant (reading_of reading.now) (B.state rest buffers.old) (B.state rest buffers.new) }
 {
     match grant {
@@ -119,6 +120,7 @@ pub fn read_again<B: RecordBuffers>(
     values: Option<Row>,
 ) -> Result<bool, EvalFault>
     ensures fits { (p : Program) (rest : State) → B.fits p rest buffers.old → B.fits p rest buffers.new }
+    ensures fixed { B.fixed buffers.new ≡ B.fixed buffers.old }
     ensures goes { (p : Program) (rest : State) → B.fits p rest buffers.old → ReadGoes result p values (reading_of reading.now) retry row lock (B.state rest buffers.old) (B.state rest buffers.new) }
 {
     let Some(values) = values else {

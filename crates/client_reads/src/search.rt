@@ -55,6 +55,7 @@ pub fn show_next<B: RecordBuffers>(
     found: FoundRow,
 ) -> Result<NextTest, EvalFault>
     ensures fits { (p : Program) (rest : State) → B.fits p rest buffers.old → B.fits p rest buffers.new }
+    ensures fixed { B.fixed buffers.new ≡ B.fixed buffers.old }
     ensures goes { (p : Program) (rest : State) → B.fits p rest buffers.old → NextGoes result p (reading_of reading.now) retry (found_row_in found) (B.state rest buffers.old) (B.state rest buffers.new) }
 {
     let FoundRow { cursor, values } = found;
@@ -74,6 +75,7 @@ pub fn show_second<B: RecordBuffers>(
     found: FoundRow,
 ) -> Result<NextTest, EvalFault>
     ensures fits { (p : Program) (rest : State) → B.fits p rest buffers.old → B.fits p rest buffers.new }
+    ensures fixed { B.fixed buffers.new ≡ B.fixed buffers.old }
     ensures goes { (p : Program) (rest : State) → B.fits p rest buffers.old → SecondGoes result p (reading_of reading.now) retry (found_row_in found) (B.state rest buffers.old) (B.state rest buffers.new) }
 {
     let FoundRow { cursor, values } = found;

@@ -19,6 +19,7 @@ pub(crate) fn test<B: RecordBuffers>(
     retry: bool,
 ) -> Result<bool, EvalFault>
     ensures fits { (p : Program) (rest : State) → B.fits p rest buffers.old → B.fits p rest buffers.new }
+    ensures fixed { B.fixed buffers.new ≡ B.fixed buffers.old }
     ensures tested { (p : Program) (rest : State) → B.fits p rest buffers.old → Tested result p (reading_of reading.now) retry (B.state rest buffers.old) (B.state rest buffers.new) }
     ensures kept { (rest : State) → result ≡ Ok true → B.state rest buffers.new ≡ B.state rest buffers.old }
 {
