@@ -5,6 +5,7 @@ ghost use Rattle.block_meaning.specs.Program.{Program, table_at};
 ghost use Rattle.block_meaning.specs.State.{State, Pending};
 ghost use Rattle.block_meaning.specs.Changes.{initial_values};
 ghost use Rattle.block_meaning.specs.Frames.{holding, table_of};
+ghost use Rattle.client_buffers.specs.Fixed.{fixed_of};
 ghost use Rattle.client_changes.specs.Buffers.{Fits, HasTables, state_of};
 
 use abl_base::Items;
@@ -27,6 +28,7 @@ pub fn new_record(
     made: u64,
 ) -> Result<(), AllocError>
     ensures fits { (p : Program) (rest : State) → Fits p rest buffers.old → Fits p rest buffers.new }
+    ensures fixed { fixed_of buffers.new ≡ fixed_of buffers.old }
     ensures state { OnOk result ((p : Program) (rest : State) → HasTables p schema.now → Fits p rest buffers.old → state_of rest buffers.new ≡ holding buffer (Pending (initial_values (table_at p (table_of buffer (state_of rest buffers.old))).fields) [] made) (state_of rest buffers.old)) }
 {
     let table = buffers.table(buffer);

@@ -3,6 +3,7 @@
 ghost use Rattle.std.specs.Prelude.{◌≡◌};
 ghost use Rattle.block_meaning.specs.Program.{Program};
 ghost use Rattle.block_meaning.specs.State.{State};
+ghost use Rattle.client_buffers.specs.Fixed.{fixed_of};
 ghost use Rattle.client_changes.specs.Buffers.{Fits, state_of};
 ghost use Rattle.client_changes.specs.Steps.{DeleteGoes, FoundGoes};
 
@@ -25,6 +26,7 @@ pub enum DeleteStep {
 /// (OpenEdge ABL Reference, DELETE statement.)
 pub fn begin_delete(buffers: &mut RunningBuffers<'_>, buffer: u32) -> DeleteStep
     ensures fits { (p : Program) (rest : State) → Fits p rest buffers.old → Fits p rest buffers.new }
+    ensures fixed { fixed_of buffers.new ≡ fixed_of buffers.old }
     ensures goes { (p : Program) (rest : State) → Fits p rest buffers.old → DeleteGoes result buffer (state_of rest buffers.old) (state_of rest buffers.new) }
 {
     let step = found_step(buffers, buffer);

@@ -7,6 +7,7 @@ ghost use Rattle.block_meaning.specs.Changes.{stored_in};
 ghost use Rattle.block_meaning.specs.Frames.{content_of};
 ghost use Rattle.block_meaning.specs.Values.{is_available};
 ghost use Rattle.client_values.specs.Ends.{Assigns};
+ghost use Rattle.client_buffers.specs.Fixed.{fixed_of};
 ghost use Rattle.client_changes.specs.Buffers.{Fits, state_of};
 
 use abl_base::{Items, Kind, Row, Value};
@@ -29,6 +30,7 @@ pub fn set_field(
     value: Value,
 ) -> Result<(), EvalFault>
     ensures fits { (p : Program) (rest : State) → Fits p rest buffers.old → Fits p rest buffers.new }
+    ensures fixed { fixed_of buffers.new ≡ fixed_of buffers.old }
     ensures assigns { (p : Program) (rest : State) → Fits p rest buffers.old → Assigns result (stored_in (content_of buffer (state_of rest buffers.old)) buffer field kind value (state_of rest buffers.old)) (state_of rest buffers.new) }
 {
     if !has_record(buffers, buffer) {
