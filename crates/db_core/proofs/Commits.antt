@@ -52,7 +52,7 @@ settled_shared true None = refl
 settled_shared true (Some v) = refl
 settled_shared false o = refl
 
-get_kept : (rows : Stored) (keep : List RowId) (held : Held) (q : ℕ) → get (held_after_commit rows keep held) q ≡ settled (stays rows keep q) (get held q)
+pub get_kept : (rows : Stored) (keep : List RowId) (held : Held) (q : ℕ) → get (held_after_commit rows keep held) q ≡ settled (stays rows keep q) (get held q)
 get_kept rows keep held q =
     get_shared (retain_keys held (stays rows keep)) q
     ∙ (ap shared (get-retain_keys held (stays rows keep) q (λ x e. ap (stays rows keep) (sym (nat_cmp-IsAntisymmetric q x e)))) ∙ sym (settled_shared (stays rows keep q) (get held q)))

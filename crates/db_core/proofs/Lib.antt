@@ -21,4 +21,5 @@ pub mod SequenceRows
 pub mod StayingRows
 pub mod RefusalLaws
 pub mod WriteRows
+pub mod LevelLaws
 pub mod StayLaws

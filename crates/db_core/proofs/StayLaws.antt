@@ -1,5 +1,5 @@
 -- What the calls keep, and what stays after their errors.
-use Rattle.std.proofs.Common.{◌≡◌, ◌⊎◌, ℕ, ◌+◌, ◌≤◌, ◌==◌, Bool, true, false, cond, eq-eqb, Err, List, length, Option, None, Some, refl, sym, ap, ◌∙◌, subst, inl, inr, arith}
+use Rattle.std.proofs.Common.{◌≡◌, ◌⊎◌, ℕ, ◌+◌, ◌≤◌, ◌==◌, Bool, true, false, cond, eq-eqb, Err, List, length, Option, None, Some, is_some, refl, sym, ap, ◌∙◌, subst, inl, inr, arith}
 use Rattle.std.specs.FinMap.{get, insert, remove, same_map, nat_cmp-IsAntisymmetric}
 use Rattle.std.specs.Cmp.{nat_cmp_total}
 use Rattle.std.proofs.lemmas.Bool.{cases_eq}
@@ -16,12 +16,13 @@ use Rattle.record_locks.specs.Requests.{granted}
 use Rattle.record_locks.specs.Table.{client_of, lock_of, OnlyChanges}
 use Rattle.abl_rows.specs.declared.store.RowError.{RowError}
 use Rattle.abl_rows.specs.declared.store.RowError.TheVariants.{Disk, NoMemory}
-use Rattle.abl_rows.specs.Rows.{AfterError, Fails, IsFree, IsObservable, RowState, SameBase}
+use Rattle.abl_rows.specs.Rows.{AfterError, Fails, RowState, SameBase}
 use Rattle.db_core.specs.declared.control.Control.{Control}
 use Rattle.db_core.specs.Represents.{IsOpen, IsSound, Represents, marks_at, blocked_at}
 use Rattle.db_core.specs.Moves.{EndsWait, Grants, SameControl}
 use Rattle.db_core.specs.Keeps.{IsFailure, Keeps, NextCounts, RepresentsBut, SameCounts, Stays, without_request}
 use Rattle.db_core.proofs.Clients.{client_as}
+use Rattle.db_core.proofs.LevelLaws.{levels_control, levels_ended}
 use Rattle.db_core.proofs.Quiet.{quiet_represents, represents_as, stopped_represents, stopped_sound, unblocked_represents}
 use Rattle.db_core.proofs.Sound.{sound_more}
 
@@ -84,6 +85,7 @@ stays_control rows before after c same = record {
   observable = refl;
   schema = refl;
   counts = counts_same before after same;
+  levels = levels_control before after same;
   sound = control_sound rows before after same;
   represents = λ seen f s h. inl (control_represents f rows before after s same h);
 }
@@ -93,6 +95,7 @@ stays_failed old new before after c fails same = record {
   observable = fails.observable;
   schema = fails.schema;
   counts = counts_same before after same;
+  levels = levels_control before after same;
   sound = λ h. control_sound new before after same (stopped_sound old new before fails h);
   represents = λ seen f s h. inl (control_represents f new before after s same (stopped_represents f old new before s fails h));
 }
@@ -106,6 +109,10 @@ same_control control = record { locks = λ d. refl; marks = λ d. refl; blocked 
 
 pub stays_as : {T : Type 0} (old new : RowState) (control after : Control) (c : ℕ) (e : RowError) → AfterError {T = T} old new (Err e) → after ≡ control → Stays old new control after c
 stays_as old new control after c e h is = subst (λ (k : Control). Stays old new control k c) (sym is) (stays_same old new control control c e h (same_control control))
+
+pub no_lock : (o : Option Bool) → is_some o ≡ false → o ≡ None
+no_lock None e = refl
+no_lock (Some b) e = cc
 
 -- ---- a lock that was granted for a row, and given up
 
@@ -159,32 +166,24 @@ module _ (before middle after : Control) (c : ℕ) (row : ℕ) (grants : Grants 
       (record { begun = (sound.client c).begun; marks = (sound.client c).marks; fits = tt })))
       sound
 
-  module _ (old new : RowState) (free : IsFree old row) where
-    none_held : IsObservable old → (f : Setting) (s : State) → Represents f old before s → get (client_of before.locks c).held row ≡ None
-    none_held seen f s h = none_or_some _ (λ b held.
-        let touched = (h.client c).there seen row b (ap (λ (m : Held). get m row) (sym (h.client c).held) ∙ held) (free.empty seen) in
-        let untouched : (old.transaction c).touched row ≡ false = free.untouched c in
-        let clash : true ≡ false = sym touched ∙ untouched in
-        cc)
-      where
-        none_or_some : (o : Option Bool) → ((b : Bool) → o ≡ Some b → ⊥) → o ≡ None
-        none_or_some None h = refl
-        none_or_some (Some b) h = absurd (h b refl)
-
+  -- nobody had held the row
+  module _ (old new : RowState) (none : get (client_of before.locks c).held row ≡ None) where
     released_stays : (new ≡ old) ⊎ Fails old new → Stays old new before after c
     released_stays (inl same) = subst (λ (r : RowState). Stays old r before after c) (sym same) (record {
       observable = refl;
       schema = refl;
       counts = released_counts;
+      levels = levels_ended before after c (released_ends none);
       sound = released_sound old;
-      represents = λ seen f s h. inr (unblocked_represents old before after c (released_ends (none_held seen f s h)) f s h);
+      represents = λ seen f s h. inr (unblocked_represents old before after c (released_ends none) f s h);
     })
     released_stays (inr fails) = record {
       observable = fails.observable;
       schema = fails.schema;
       counts = released_counts;
+      levels = levels_ended before after c (released_ends none);
       sound = λ h. released_sound new (stopped_sound old new before fails h);
-      represents = λ seen f s h. inr (unblocked_represents new before after c (released_ends (none_held seen f s h)) f s (stopped_represents f old new before s fails h));
+      represents = λ seen f s h. inr (unblocked_represents new before after c (released_ends none) f s (stopped_represents f old new before s fails h));
     }
 
     pub insert_stays : {T : Type 0} (e : RowError) → AfterError {T = T} old new (Err e) → Stays old new before after c

@@ -6,6 +6,8 @@ use Rattle.database_meaning.specs.Setting.{Setting}
 use Rattle.database_meaning.specs.State.{State}
 use Rattle.abl_rows.specs.Rows.{IsObservable, RowState}
 use Rattle.db_core.specs.declared.control.Control.{Control}
+use Rattle.db_core.specs.Known.{known}
+use Rattle.db_core.specs.Levels.{SameLevels}
 use Rattle.db_core.specs.Represents.{IsSound, Represents}
 
 -- as many clients and sequences, and nothing was freed
@@ -35,11 +37,13 @@ without_request s c = record s { client = λ d. if d == c then record (s.client 
 abbrev pub RepresentsBut : Setting → RowState → Control → ℕ → State → Type 0
 RepresentsBut f rows control c s = Represents f rows control s ⊎ Represents f rows control (without_request s c)
 
--- after an error: what was represented before the call is so still, but for the caller's blocked request
+-- after an error: what was represented before the call is so still, but for the caller's blocked request. Levels and exclusive locks stay
+-- whatever the store says
 pub record Stays (old new : RowState) (before after : Control) (client : ℕ) : Type 0 where
   pub observable : new.observable ≡ old.observable
   pub schema : new.schema ≡ old.schema
   pub counts : SameCounts before after
+  pub levels : SameLevels (known after) (known before)
   pub sound : IsSound old before → IsSound new after
   pub represents : IsObservable old → (f : Setting) (s : State) → Represents f old before s → RepresentsBut f new after client s
 

@@ -7,6 +7,8 @@ ghost use Rattle.database_meaning.specs.State.{State};
 ghost use Rattle.database_meaning.specs.Steps.{after, is_outermost};
 ghost use Rattle.abl_rows.specs.Rows.{Abandons, AfterError, OnlyDisk, RowState};
 ghost use Rattle.db_core.specs.Keeps.{Keeps, SameCounts, Stays};
+ghost use Rattle.db_core.specs.Known.{known};
+ghost use Rattle.db_core.specs.Levels.{SameLevels};
 ghost use Rattle.db_core.specs.Moves.{AreStaying, SameControl};
 ghost use Rattle.db_core.specs.Represents.{IsSound, Represents, marks_at};
 
@@ -161,6 +163,8 @@ pub fn commit<R: RowStore>(
     ensures represents { OnOk result ((f : Setting) (s : State) (keep : List Kept) (moment : ℕ) → Represents f (R.RowStore.state rows.old) control.old s →
         is_outermost s client ≡ true → AreStaying s client keep staying.now →
         Represents f (R.RowStore.state rows.new) control.new (after f s client (Op.Leave keep) (Answer.Committed moment))) }
+    ensures levels { OnOk result ((f : Setting) (s : State) (keep : List Kept) (moment : ℕ) → SameLevels (known control.old) s → is_outermost s client ≡ true →
+        SameLevels (known control.new) (after f s client (Op.Leave keep) (Answer.Committed moment))) }
     ensures sound { OnOk result (IsSound (R.RowStore.state rows.new) control.new) }
     ensures control { OnErr result (control.new ≡ control.old) }
     ensures only { OnlyDisk result }

@@ -18,7 +18,8 @@ use client_database::{Answer, Op};
 use std::alloc::Global;
 
 /// Inserts a row at a free identity and locks it exclusively for the client. Memory for the lock is
-/// taken before the rows change.
+/// taken before the rows change. Nobody holds a lock on a free row; where a store that is not
+/// observable says otherwise, the error is NoMemory.
 pub fn insert<R: RowStore>(
     alloc: Global,
     rows: &mut R,
@@ -45,6 +46,9 @@ pub fn insert<R: RowStore>(
     ensures stays { OnErr result (Stays (R.RowStore.state rows.old) (R.RowStore.state rows.new) control.old control.new client) }
     ensures keeps { OnOk result (Keeps (R.RowStore.state rows.old) (R.RowStore.state rows.new) control.old control.new) }
 {
+    if control.locks.held(client, row).is_some() {
+        return Err(RowError::NoMemory);
+    }
     match grant(alloc, control, client, row, true) {
         Ok(()) => {}
         Err(_) => return Err(RowError::NoMemory),

@@ -1,4 +1,4 @@
-use Rattle.std.proofs.Common.{List, ℤ, sym, subst}
+use Rattle.std.proofs.Common.{List, ℤ, refl, sym, subst}
 use Rattle.abl_rows.specs.Rows.{Commits}
 use Rattle.db_core.specs.declared.control.Control.{Control}
 use Rattle.db_core.specs.Represents.{IsSound}
@@ -6,6 +6,12 @@ use Rattle.db_core.proofs.Commits.{commit_counted, commit_sound}
 use Rattle.db_core.proofs.Sound.{sound_counted}
 use Rattle.std.proofs.Common.{◌||◌}
 use Rattle.db_core.proofs.StayLaws.{counts_more}
+use Rattle.client_database.specs.declared.operation.Op.TheVariants.{Leave}
+use Rattle.client_database.specs.declared.answer.Answer.TheVariants.{Committed}
+use Rattle.database_meaning.specs.Steps.{after}
+use Rattle.db_core.specs.Known.{known}
+use Rattle.db_core.specs.Levels.{SameLevels}
+use Rattle.db_core.proofs.LevelLaws.{levels_counted, levels_settled, levels_then}
 use Rattle.db_core.proofs.levels.commit.Goals as goal
 
 pub returns-clause-represents : goal.returns-clause-represents
@@ -32,3 +38,9 @@ returns-clause-keeps g c =
       schema = commits.schema;
       counts = counts_more c.args.control.now c.settle-freed.new.control c.count_frees.new.control (c.has_reserved-reserved.result || c.settle-freed.result) settles.count settles.sequences c.settle-freed.ensures.frees c.count_frees.ensures;
     }
+
+pub returns-clause-levels : goal.returns-clause-levels
+returns-clause-levels g c = λ f s keep moment same outermost.
+    subst (λ (k : Control). SameLevels (known k) (after f s c.args.client (Leave keep) (Committed moment))) (sym c.count_frees.ensures)
+    (levels_then _ (known c.settle-freed.new.control) (after f s c.args.client (Leave keep) (Committed moment)) (levels_counted c.settle-freed.new.control _)
+    (levels_settled f c.args.control.now c.settle-freed.new.control s c.args.client keep c.args.staying.now (Committed moment) refl outermost c.settle-freed.ensures.settles same))

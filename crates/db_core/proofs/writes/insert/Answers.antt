@@ -1,7 +1,7 @@
-use Rattle.std.proofs.Common.{refl}
+use Rattle.std.proofs.Common.{refl, sym, ◌∙◌}
 use Rattle.db_core.proofs.Sound.{change_sound, marks_stay}
 use Rattle.db_core.proofs.Inserts.{insert_represents, is_fresh}
-use Rattle.db_core.proofs.StayLaws.{counts_of, insert_stays, keeps_based, next_of}
+use Rattle.db_core.proofs.StayLaws.{counts_of, insert_stays, keeps_based, next_of, no_lock}
 use Rattle.db_core.proofs.writes.insert.Goals as goal
 
 pub returns-in-Ok-insert-clause-represents : goal.returns-in-Ok-insert-clause-represents
@@ -28,4 +28,4 @@ returns-in-Ok-insert-clause-keeps g c =
 pub returns-in-Err-insert-clause-stays : goal.returns-in-Err-insert-clause-stays
 returns-in-Err-insert-clause-stays g c =
     insert_stays c.args.control.now c.grant.new.control (record c.grant.new.control { locks = c.release.new.self }) c.args.client c.args.row.0 c.in-Ok.ensures.ok c.release.ensures.left refl refl refl
-    (g.R.RowStore.state c.args.rows.now) (g.R.RowStore.state c.insert.new.self) c.requires.free c.in-Err-insert.error c.in-Err-insert.ensures.err
+    (g.R.RowStore.state c.args.rows.now) (g.R.RowStore.state c.insert.new.self) (sym c.held.ensures ∙ no_lock c.held.result (sym c.is_some.ensures ∙ c.if-is_some.false)) c.in-Err-insert.error c.in-Err-insert.ensures.err
