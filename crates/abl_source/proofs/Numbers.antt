@@ -20,12 +20,11 @@ use Rattle.bind_expressions.specs.Parts.{append, scene_after}
 use Rattle.bind_statements.specs.Definitions.{buffer_for, define}
 use Rattle.bind_statements.specs.Runs.{run_numbered}
 use Rattle.bind_statements.specs.Streams.{export_record, input, lone_buffer, named_alone, output, stream}
-use Rattle.bind_blocks.specs.Flow.{returned, returns}
 use Rattle.bind_blocks.specs.Headers.{block_kind_of, inside}
 use Rattle.bind_blocks.specs.Records.{find}
 use Rattle.abl_types.specs.Statements.{statement, statements}
 use Rattle.abl_types.specs.Sources.{beginning, inside_procedure, items, judged, outside_again, procedure_with, signatures}
-use Rattle.abl_source.specs.TextBlocks.{AreItsBlocks, TextBlock, NumberedBlock, BlockName, blocks_among, blocks_in, blocks_of_procedure, blocks_within, headers_in, headers_of, headers_within, in_procedure, name_of_block, name_of_header, numbered, procedure_blocks, text_blocks}
+use Rattle.abl_source.specs.TextBlocks.{AreItsBlocks, TextBlock, blocks_among, blocks_in, blocks_within, headers_in, headers_of, headers_within, in_procedure, name_of_block, name_of_header, numbered, procedure_blocks, text_blocks}
 use Rattle.abl_source.proofs.BlockLists.{AreIn, all_kept, in_both, in_join, left_out, none_kept, numbered_join, other_number}
 
 -- ---- statements
@@ -222,7 +221,7 @@ outer_items w names (s.Alone x ∷ rest) m a =
     let more = (items (scene_after w k) names rest).is.body in
     ap (map name_of_header) (headers_appended one more)
     ∙ own_then 0 w.known.blocks k.blocks (blocks_in 0 x) (blocks_among m rest) (headers_within one) (headers_within more)
-        (own_all 0 w.known.blocks (blocks_in 0 x) (headers_within one) (are_in 0 x) it.headers) it.count (outer_items (scene_after w k) names rest m a)
+    (own_all 0 w.known.blocks (blocks_in 0 x) (headers_within one) (are_in 0 x) it.headers) it.count (outer_items (scene_after w k) names rest m a)
 outer_items w names (s.Procedure keyword name body ∷ rest) m a =
     let v = inside_procedure (length names + 1) w in
     let k = (statements v body).is.after in

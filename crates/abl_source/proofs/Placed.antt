@@ -1,7 +1,7 @@
 -- Each block of a text has one header in its tree.
-use Rattle.std.proofs.Common.{◌≡◌, ◌≤◌, ◌+◌, ◌⊎◌, inl, inr, ℕ, zero, suc, Bool, true, List, [], ◌∷◌, ◌++◌, Option, Some, None, Ok, length, map, refl, sym, ap, ◌∙◌, subst, arith}
+use Rattle.std.proofs.Common.{◌≡◌, ◌+◌, ◌⊎◌, inl, inr, ℕ, zero, suc, Bool, true, List, [], ◌∷◌, ◌++◌, Option, Some, None, Ok, length, map, refl, sym, ap, ◌∙◌, subst, arith}
 use Rattle.std.specs.Prelude.{slice_get}
-use Rattle.std.proofs.lemmas.List.{append_assoc, append-nil, length-append, map-append}
+use Rattle.std.proofs.lemmas.List.{append_assoc, append-nil, map-append}
 use Rattle.abl_base.specs.declared.place.Place.{Place}
 use Rattle.abl_values.specs.Schema.{SchemaData}
 use Rattle.abl_syntax.specs.Syntax as s
@@ -18,14 +18,14 @@ use Rattle.abl_syntax.specs.declared.name.Word.{Word}
 use Rattle.bind_blocks.specs.Headers.{block_kind_of}
 use Rattle.abl_types.specs.Statements.{statement, statements}
 use Rattle.abl_types.specs.Sources.{beginning, bound, inside_procedure, items, judged, namings, or_first, outside_again, procedure_with, signatures, violations}
-use Rattle.buffer_scope.specs.Blocks.{Placed, blocks_of, may_scope, one_more, through, through_all, through_item, through_items}
-use Rattle.buffer_scope.specs.Scoped.{scoped, scoped_body, scoped_procedure, scoped_stmt, scoped_to, with_scopes}
-use Rattle.txn_infer.specs.Flags.{flagged, flagged_body, flagged_procedure, flagged_stmt, with_flags}
-use Rattle.abl_source.specs.TextBlocks.{AreItsBlocks, TextBlock, NumberedBlock, BlockName, blocks_among, blocks_in, blocks_of_procedure, blocks_within, headers_in, headers_of, headers_within, in_procedure, name_of_block, name_of_header, numbered, procedure_blocks, text_blocks}
+use Rattle.buffer_scope.specs.Blocks.{Placed, blocks_of, may_scope, one_more, through, through_all, through_items}
+use Rattle.buffer_scope.specs.Scoped.{scoped_body, scoped_procedure, scoped_stmt, scoped_to, with_scopes}
+use Rattle.txn_infer.specs.Flags.{flagged_body, flagged_procedure, flagged_stmt, with_flags}
+use Rattle.abl_source.specs.TextBlocks.{AreItsBlocks, TextBlock, NumberedBlock, BlockName, blocks_among, blocks_in, blocks_of_procedure, blocks_within, headers_in, headers_of, headers_within, name_of_block, name_of_header, procedure_blocks, text_blocks}
 use Rattle.abl_source.specs.Numbered.{HasOneHeader, IsHeaderAt}
 use Rattle.abl_source.specs.Sources.{HasSyntax, IsTreeOf}
 use Rattle.abl_source.proofs.Violations.{one_syntax}
-use Rattle.abl_source.proofs.BlockLists.{AreIn, IsAmong, IsNumbered, among, numbered_at, one_place}
+use Rattle.abl_source.proofs.BlockLists.{AreIn, IsAmong, among, numbered_at, one_place}
 use Rattle.abl_source.proofs.Numbers.{all_are_in, are_in, judged_blocks}
 
 -- ---- flags and scopes keep the names of blocks
@@ -286,9 +286,11 @@ module _ (schema : SchemaData) (program : Program) (plain : Source) (is : bound 
       let e = its.number in
       let place_of : its.place ≡ n = omega (arith, e, number) in
       let one : c.block ≡ b = (let f = sym its.at ∙ (ap (slice_get (text_blocks program)) place_of ∙ at) in some_is f) in
-      let procedures : p ≡ b.procedure = sym its.procedure ∙ ap (λ (x : TextBlock). x.procedure) one in
-      (procedures, one_place b.procedure 0 (text_blocks program) i place c (record { number = n; block = b })
-      (subst (λ q. slice_get (blocks_of_procedure program q) i ≡ Some c) procedures other.at) here number)
+      let procedures : p ≡ b.procedure = sym its.procedure ∙ ap (λ (x : TextBlock). x.procedure) one in (
+        procedures,
+        one_place b.procedure 0 (text_blocks program) i place c (record { number = n; block = b })
+            (subst (λ q. slice_get (blocks_of_procedure program q) i ≡ Some c) procedures other.at) here number,
+      )
     where
       some_is : {x y : TextBlock} → Some x ≡ Some y → x ≡ y
       some_is e = cc

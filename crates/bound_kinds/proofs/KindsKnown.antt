@@ -11,13 +11,12 @@ use Rattle.abl_syntax.specs.declared.name.Word.{Word}
 use Rattle.abl_syntax.specs.declared.definition.VariableOption.{VariableOption}
 use Rattle.abl_syntax.specs.declared.definition.VariableOption.TheVariants as opt
 use Rattle.bind_names.specs.declared.names.Defined.{Defined}
-use Rattle.bind_names.specs.declared.names.Known.{Known}
 use Rattle.bind_names.specs.declared.names.NamedVariable.{NamedVariable}
 use Rattle.bind_names.specs.Judged.{Judged}
 use Rattle.bind_names.specs.Names.{Scene}
 use Rattle.bind_expressions.specs.Parts.{scene_after}
 use Rattle.bind_statements.specs.declared.definitions.Options.{Options}
-use Rattle.bind_statements.specs.Definitions.{buffer_for, define, no_options, option, options, variable, with_variable}
+use Rattle.bind_statements.specs.Definitions.{buffer_for, no_options, option, options, variable}
 use Rattle.bind_statements.specs.Runs.{run_numbered}
 use Rattle.bind_blocks.specs.Headers.{inside}
 use Rattle.abl_types.specs.Sources.{inside_procedure, items, outside_again}

@@ -21,7 +21,7 @@ use Rattle.bind_names.specs.Names.{Context, Scene, buffers_in, field_among, from
 use Rattle.bind_expressions.specs.Parts.{scene_after}
 use Rattle.abl_types.specs.Sources.{bound, buffer_def, inside_procedure, items, judged, namings, or_first, outside_again, procedure_with, signatures, violations}
 use Rattle.abl_types.specs.Statements.{statement, statements}
-use Rattle.bound_kinds.specs.Kinds.{inner_kinds, kinds_of_source, kinds_within, outer_kinds}
+use Rattle.bound_kinds.specs.Kinds.{inner_kinds, kinds_of_source, kinds_within}
 use Rattle.bound_kinds.specs.WellKinded.{Surroundings, VariableKinds, are_procedures, is_body, is_kind, is_masked, is_procedure, is_variable, is_well_kinded, parameters_of}
 use Rattle.bound_kinds.proofs.Parts.{Each, Maybe, both, each_join, each_left, each_map, each_right, equal, nil_left, nil_right}
 use Rattle.bound_kinds.proofs.Suits.{IsGood, IsNumbered, IsOf, Match}
