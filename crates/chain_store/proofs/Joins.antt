@@ -70,7 +70,10 @@ module _ (a b c : SlotState) (r : Rests a b) (same : b.failed ≡ a.failed) (cli
   pub changes_after_rests : (row : ℕ) (to : Option StoredBytes) → ChangesRow b c client row slots to → ChangesRow a c client row slots to
   changes_after_rests row to ch = record {
     wrote = wrote_after_rests ch.wrote;
-    row_is = λ h. ch.row_is (then h);
+    inside = ch.inside;
+    first = ch.first;
+    held = λ h. ch.held (then h);
+    apart = λ h. ch.apart (then h);
     others = λ h other ne. ch.others (then h) other ne ∙ ap (λ (f : ℕ → List ℕ). row_at f other) (r.reads h);
   }
 

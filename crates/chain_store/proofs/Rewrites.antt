@@ -3,17 +3,19 @@ use Rattle.std.proofs.Common.{◌≡◌, ◌≢◌, ◌⊎◌, inl, inr, ⊎_eli
 use Rattle.std.specs.List.{Contains}
 use Rattle.std.proofs.lemmas.Bool.Decides.{nat_tests}
 use Rattle.abl_storage.specs.Slots.{SlotState, IsReadable}
-use Rattle.row_chain.specs.Fragments.{AreClear, AreDistinct, AreRowSlots, BeginsAs, Holds, ends, first_or_zero, row_at}
+use Rattle.row_chain.specs.Fragments.{AreClear, AreDistinct, AreRowSlots, BeginsAs, Holds, ends, first_or_zero, kind_in, row_at, table_in}
 use Rattle.row_chain.specs.Kinds.{HaveKinds}
 use Rattle.row_chain.specs.Calls.{CanTouch, Wrote}
+use Rattle.row_chain.specs.Tied.{IsValue}
 use Rattle.row_chain.proofs.Composes.{readable_on}
-use Rattle.row_chain.proofs.Within.{none_in, head_in, tail_in, right_in}
-use Rattle.row_chain.proofs.Chained.{holds_same, none_of_zeros}
+use Rattle.row_chain.proofs.Within.{none_in, head_in, left_in, tail_in, right_in}
+use Rattle.row_chain.proofs.Chained.{holds_same, none_of_zeros, row_written}
 use Rattle.row_chain.proofs.FurtherKinds.{kinds_same}
-use Rattle.row_chain.proofs.Parts.{all_wrote, put_row}
-use Rattle.row_chain.proofs.Ties.{other_stays}
+use Rattle.row_chain.proofs.Parts.{all_wrote, chain_can}
+use Rattle.row_chain.proofs.Ties.{other_stays, same_row}
 use Rattle.chain_store.specs.declared.places.Place.{Place}
 use Rattle.chain_store.specs.Places.{AreLaid, AreReady, Fits, IsKept, IsReady, owner_in, place_in, row_in}
+use Rattle.chain_store.specs.Rows.{AreApart, HoldsRow}
 use Rattle.chain_store.proofs.Kept.{chain_fits, tied_of, writing_keeps, zeros_fit}
 
 pub low_bound : (at : ℕ) → ends at ≡ false → 8192 ≤ at
@@ -90,6 +92,16 @@ first_left (x ∷ xs) ys some = refl
 some_in : (xs : List ℕ) (k : ℕ) → Contains xs k → 0 < length xs
 some_in xs k there = let low : there.0 < length xs = there.1 in omega arith
 
+begins_same : (old new : ℕ → List ℕ) (slots : List ℕ) (kind table : ℕ) → ((k : ℕ) → Contains slots k → new k ≡ old k) → BeginsAs old slots kind table → BeginsAs new slots kind table
+begins_same old new [] kind table same h = tt
+begins_same old new (at ∷ rest) kind table same h = let here = same at (head_in at rest) in (ap kind_in here ∙ h.0, ap table_in here ∙ h.1)
+
+-- no other row is read from slots that are laid as the row's
+pub laid_apart : (s : SlotState) (places : List Place) (chain : List ℕ) (row previous owner : ℕ) → IsKept s places → IsReadable s → AreLaid places chain row previous owner → AreApart s chain row
+laid_apart s places chain row previous owner kept readable laid a b mix_a mix_b same other ne =
+    same_row (IsValue s) (row_in places) (tied_of s places kept readable) a b other mix_a mix_b
+    (λ k is. same k (λ there. ne (sym is ∙ (laid_place places chain row previous owner laid k there).0)))
+
 -- the chain is written, and then zeros
 module _ (s t u : SlotState) (places : List Place) (client row table : ℕ) (chain kept freed bytes : List ℕ) (parts : chain ≡ kept ++ freed) (known : IsKept s places) (can : CanTouch s client chain)
     (laid : AreLaid places chain row 0 (client + 1)) (first : first_or_zero chain ≡ row) (some_row : 0 < row) (seen_t : t.observable ≡ s.observable) (seen_u : u.observable ≡ t.observable)
@@ -130,18 +142,20 @@ module _ (s t u : SlotState) (places : List Place) (client row table : ℕ) (cha
     others_stay readable = other_stays s u (row_in places) client row chain (tied_of s places known readable) (tied_of u places rewriting_keeps (readable_on s u (seen_u ∙ seen_t) rewrote.failed readable)) rewrote readable
         (λ k there. (laid_place places chain row 0 (client + 1) laid k there).0)
 
-  pub row_rewritten : 0 < length kept → length kept ≤ 125 → IsReadable s → (IsReadable s → Holds t.reads kept bytes) → (IsReadable s → BeginsAs t.reads kept 1 table) → row_at u.reads row ≡ Some (record { table = table; bytes = bytes })
-  row_rewritten some few readable held is_first =
-      subst (λ (n : ℕ). row_at u.reads n ≡ Some (record { table = table; bytes = bytes })) (sym (first_left kept freed some) ∙ (ap first_or_zero (sym parts) ∙ first))
-      (put_row client kept freed s can_parts t u seen_t w v bytes table some few readable held is_first)
+  pub row_rewritten : 0 < length kept → length kept ≤ 125 → IsReadable s → (IsReadable s → Holds t.reads kept bytes) → (IsReadable s → BeginsAs t.reads kept 1 table) → HoldsRow u.reads chain row (Some (record { table = table; bytes = bytes }))
+  row_rewritten some few readable held is_first any same =
+      let here : (k : ℕ) → Contains kept k → any k ≡ t.reads k = λ k there. same k (subst (λ (xs : List ℕ). Contains xs k) (sym parts) (left_in kept freed k there)) ∙ same_kept readable k there in
+      subst (λ (n : ℕ). row_at any n ≡ Some (record { table = table; bytes = bytes })) (sym (first_left kept freed some) ∙ (ap first_or_zero (sym parts) ∙ first))
+      (row_written any kept bytes table some few (chain_can client kept freed s can_parts).rows (holds_same t.reads any kept bytes here (held readable)) (begins_same t.reads any kept 1 table here (is_first readable)))
 
-  pub row_gone : 0 < length chain → length kept ≡ 0 → AreClear u.reads freed → row_at u.reads row ≡ None
-  row_gone some none clear = no_row freed (ap length parts ∙ length-append kept freed) (λ e. sym (ap first_or_zero (parts ∙ e)) ∙ first) clear
+  pub row_gone : 0 < length chain → length kept ≡ 0 → AreClear u.reads freed → HoldsRow u.reads chain row None
+  row_gone some none clear any same = gone freed (ap length parts ∙ length-append kept freed) (λ e. sym (ap first_or_zero (parts ∙ e)) ∙ first) clear
+      (λ k there. same k (subst (λ (xs : List ℕ). Contains xs k) (sym parts) (right_in kept freed k there)))
     where
       empty_left : (xs ys : List ℕ) → length xs ≡ 0 → xs ++ ys ≡ ys
       empty_left [] ys e = refl
       empty_left (x ∷ xs) ys e = absurd (omega (arith, e))
 
-      no_row : (ys : List ℕ) → length chain ≡ length kept + length ys → (kept ++ ys ≡ ys → first_or_zero ys ≡ row) → AreClear u.reads ys → row_at u.reads row ≡ None
-      no_row [] long is c = absurd (omega (arith, long, none, some))
-      no_row (y ∷ ys) long is c = subst (λ (n : ℕ). row_at u.reads n ≡ None) (is (empty_left kept (y ∷ ys) none)) (none_of_zeros u.reads y c.0)
+      gone : (ys : List ℕ) → length chain ≡ length kept + length ys → (kept ++ ys ≡ ys → first_or_zero ys ≡ row) → AreClear u.reads ys → ((k : ℕ) → Contains ys k → any k ≡ u.reads k) → row_at any row ≡ None
+      gone [] long is c there = absurd (omega (arith, long, none, some))
+      gone (y ∷ ys) long is c there = subst (λ (n : ℕ). row_at any n ≡ None) (is (empty_left kept (y ∷ ys) none)) (none_of_zeros any y (there y (head_in y ys) ∙ c.0))

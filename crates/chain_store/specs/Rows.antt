@@ -1,10 +1,12 @@
 -- What the calls on rows do.
-use Rattle.std.specs.Prelude.{◌≡◌, ◌≢◌, ℕ, ◌*◌, ◌-◌, ◌<◌, ◌≤◌, List, Option, Result, Ok, Err}
+use Rattle.std.specs.Prelude.{◌≡◌, ◌≢◌, ℕ, ◌*◌, ◌-◌, ◌<◌, ◌≤◌, false, List, Option, Result, Ok, Err}
+use Rattle.std.specs.List.{Contains}
 use Rattle.abl_storage.specs.Slots.{SlotState, IsReadable}
 use Rattle.abl_storage.specs.declared.slots.SlotFault.{SlotFault}
 use Rattle.abl_storage.specs.declared.slots.SlotFault.TheVariants.{NoMemory}
 use Rattle.row_chain.specs.Calls.{Wrote}
-use Rattle.row_chain.specs.Fragments.{StoredBytes, row_at}
+use Rattle.row_chain.specs.Fragments.{StoredBytes, ends, row_at}
+use Rattle.row_chain.specs.Tied.{IsMix, IsValue}
 use Rattle.chain_store.specs.declared.fault.ChainFault.{ChainFault}
 use Rattle.chain_store.specs.declared.fault.ChainFault.TheVariants.{Full, Slot}
 
@@ -20,8 +22,20 @@ pub record IsLeastFor (bytes count : ℕ) : Type 0 where
   pub holds : bytes ≤ 240 * count
   pub least : 1 < count → 240 * (count - 1) < bytes
 
--- the client wrote each of these slots once, the row is this now, and every other row is as it was
+-- whatever the other slots hold, the row that is read from these is this
+abbrev pub HoldsRow : (ℕ → List ℕ) → List ℕ → ℕ → Option StoredBytes → Type 0
+HoldsRow reads slots row to = (any : ℕ → List ℕ) → ((k : ℕ) → Contains slots k → any k ≡ reads k) → row_at any row ≡ to
+
+-- whatever values the slots have, now or when writes are undone, no other row is read from these
+abbrev pub AreApart : SlotState → List ℕ → ℕ → Type 0
+AreApart s slots row =
+    (a b : ℕ → List ℕ) → IsMix (IsValue s) a → IsMix (IsValue s) b → ((k : ℕ) → ¬ Contains slots k → b k ≡ a k) → (other : ℕ) → other ≢ row → row_at b other ≡ row_at a other
+
+-- the client wrote each of these slots once, the row is this now, and every other row is as it was. What other clients undo changes neither
 pub record ChangesRow (old new : SlotState) (client row : ℕ) (slots : List ℕ) (to : Option StoredBytes) : Type 0 where
   pub wrote : Wrote old new client slots
-  pub row_is : IsReadable old → row_at new.reads row ≡ to
+  pub inside : (k : ℕ) → Contains slots k → ends k ≡ false
+  pub first : Contains slots row
+  pub held : IsReadable old → HoldsRow new.reads slots row to
+  pub apart : IsReadable old → AreApart new slots row
   pub others : IsReadable old → (other : ℕ) → other ≢ row → row_at new.reads other ≡ row_at old.reads other

@@ -6,6 +6,7 @@ ghost use Rattle.abl_storage.specs.Slots.{Goes, Grows, HasCause, IsReadable, Nev
 ghost use Rattle.row_chain.specs.Calls.{Touched, Wrote};
 ghost use Rattle.row_chain.specs.Fragments.{AreDistinct, HasRoomFor, ends, first_or_zero, row_at};
 ghost use Rattle.chain_store.specs.Places.{AreLaid, AreReady, IsKept, place_in};
+ghost use Rattle.chain_store.specs.Rows.{HoldsRow};
 
 use crate::places::{Place, are_distinct, are_ready, highest, lay, reach};
 use abl_storage::{SlotFault, Slots};
@@ -81,9 +82,9 @@ pub fn rewrite<S: Slots>(
     ensures wrote { OnOk result (Wrote (S.Slots.state slots.old) (S.Slots.state slots.new) client chain.now) }
     ensures known { OnOk result (IsKept (S.Slots.state slots.new) places.new) }
     ensures row { OnOk result (IsReadable (S.Slots.state slots.old) → 0 < length kept.now →
-        row_at (S.Slots.state slots.new).reads row ≡ Some (record { table = table; bytes = bytes.now })) }
+        HoldsRow (S.Slots.state slots.new).reads chain.now row (Some (record { table = table; bytes = bytes.now }))) }
     ensures gone { OnOk result (IsReadable (S.Slots.state slots.old) → length kept.now ≡ 0 →
-        row_at (S.Slots.state slots.new).reads row ≡ None) }
+        HoldsRow (S.Slots.state slots.new).reads chain.now row None) }
     ensures others { OnOk result (IsReadable (S.Slots.state slots.old) → (other : ℕ) → other ≢ row →
         row_at (S.Slots.state slots.new).reads other ≡ row_at (S.Slots.state slots.old).reads other) }
     ensures rest { (k : ℕ) → ¬ Contains chain.now k → place_in places.new k ≡ place_in places.old k }
@@ -125,9 +126,9 @@ pub fn change<S: Slots>(
     ensures wrote { OnOk result (Wrote (S.Slots.state slots.old) (S.Slots.state slots.new) client chain.now) }
     ensures known { OnOk result (IsKept (S.Slots.state slots.new) places.new.items) }
     ensures row { OnOk result (IsReadable (S.Slots.state slots.old) → 0 < keep →
-        row_at (S.Slots.state slots.new).reads row ≡ Some (record { table = table; bytes = bytes.now })) }
+        HoldsRow (S.Slots.state slots.new).reads chain.now row (Some (record { table = table; bytes = bytes.now }))) }
     ensures gone { OnOk result (IsReadable (S.Slots.state slots.old) → keep ≡ 0 →
-        row_at (S.Slots.state slots.new).reads row ≡ None) }
+        HoldsRow (S.Slots.state slots.new).reads chain.now row None) }
     ensures others { OnOk result (IsReadable (S.Slots.state slots.old) → (other : ℕ) → other ≢ row →
         row_at (S.Slots.state slots.new).reads other ≡ row_at (S.Slots.state slots.old).reads other) }
     ensures rest { (k : ℕ) → ¬ Contains chain.now k → place_in places.new.items k ≡ place_in places.old.items k }

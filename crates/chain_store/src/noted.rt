@@ -10,6 +10,7 @@ ghost use Rattle.row_chain.specs.Fragments.{ends, first_or_zero, row_at};
 ghost use Rattle.chain_store.specs.Clients.{client_in};
 ghost use Rattle.chain_store.specs.Exact.{AreVacant};
 ghost use Rattle.chain_store.specs.Noted.{AreSameClients, IsNoted};
+ghost use Rattle.chain_store.specs.Rows.{AreApart, HoldsRow};
 
 use crate::client::Client;
 use crate::places::Place;
@@ -49,12 +50,14 @@ pub fn write_noted<S: Slots>(
     ensures drawn { OnOk result ((drawn : List ℕ) × (chain.new.items ≡ chain.old.items ++ drawn) × (length drawn ≡ more) × (IsReadable (S.Slots.state slots.old) → AreVacant (S.Slots.state slots.old) drawn)) }
     ensures lowest { OnOk result (length chain.old.items ≡ 0 → (k : ℕ) → k < first_or_zero chain.new.items → free_in (heap_items free.old.back) free.old.end k ≡ 0) }
     ensures first { OnOk result (0 < first_or_zero chain.new.items) }
+    ensures begins { OnOk result (Contains chain.new.items (first_or_zero chain.new.items)) }
     ensures inside { OnOk result ((k : ℕ) → Contains chain.new.items k → ends k ≡ false) }
     ensures wrote { OnOk result (Wrote (S.Slots.state slots.old) (S.Slots.state slots.new) client chain.new.items) }
     ensures row { OnOk result (IsReadable (S.Slots.state slots.old) → 0 < keep →
-        row_at (S.Slots.state slots.new).reads (first_or_zero chain.new.items) ≡ Some (record { table = table; bytes = bytes.now })) }
+        HoldsRow (S.Slots.state slots.new).reads chain.new.items (first_or_zero chain.new.items) (Some (record { table = table; bytes = bytes.now }))) }
     ensures gone { OnOk result (IsReadable (S.Slots.state slots.old) → keep ≡ 0 →
-        row_at (S.Slots.state slots.new).reads (first_or_zero chain.new.items) ≡ None) }
+        HoldsRow (S.Slots.state slots.new).reads chain.new.items (first_or_zero chain.new.items) None) }
+    ensures own { OnOk result (IsReadable (S.Slots.state slots.old) → AreApart (S.Slots.state slots.new) chain.new.items (first_or_zero chain.new.items)) }
     ensures others { OnOk result (IsReadable (S.Slots.state slots.old) → (other : ℕ) → other ≢ first_or_zero chain.new.items →
         row_at (S.Slots.state slots.new).reads other ≡ row_at (S.Slots.state slots.old).reads other) }
     ensures counts { OnOk result ((client_in clients.new client).drawn ≡ (client_in clients.old client).drawn + more) }

@@ -9,6 +9,7 @@ ghost use Rattle.row_chain.specs.Calls.{Touched, Wrote};
 ghost use Rattle.row_chain.specs.Fragments.{ends, first_or_zero, row_at};
 ghost use Rattle.chain_store.specs.Freed.{IsFreed};
 ghost use Rattle.chain_store.specs.Places.{AreLaid, IsKept, place_in, row_in};
+ghost use Rattle.chain_store.specs.Rows.{HoldsRow};
 
 use crate::change::change;
 use crate::places::{Place, place_of};
@@ -116,9 +117,9 @@ pub fn write_row<S: Slots>(
     ensures within { OnOk result ((k : ℕ) → Contains chain.new.items k → k < length places.new.items) }
     ensures long { length places.old.items ≤ length places.new.items }
     ensures row { OnOk result (IsReadable (S.Slots.state slots.old) → 0 < keep →
-        row_at (S.Slots.state slots.new).reads (first_or_zero chain.new.items) ≡ Some (record { table = table; bytes = bytes.now })) }
+        HoldsRow (S.Slots.state slots.new).reads chain.new.items (first_or_zero chain.new.items) (Some (record { table = table; bytes = bytes.now }))) }
     ensures gone { OnOk result (IsReadable (S.Slots.state slots.old) → keep ≡ 0 →
-        row_at (S.Slots.state slots.new).reads (first_or_zero chain.new.items) ≡ None) }
+        HoldsRow (S.Slots.state slots.new).reads chain.new.items (first_or_zero chain.new.items) None) }
     ensures others { OnOk result (IsReadable (S.Slots.state slots.old) → (other : ℕ) → other ≢ first_or_zero chain.new.items →
         row_at (S.Slots.state slots.new).reads other ≡ row_at (S.Slots.state slots.old).reads other) }
     ensures refused { IsErrOf result SlotFault.NoMemory → Rests (S.Slots.state slots.old) (S.Slots.state slots.new) }

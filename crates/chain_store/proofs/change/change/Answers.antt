@@ -44,3 +44,17 @@ returns-clause-within g c = on_ok c.rewrite.result c.rewrite.ensures.wrote (λ w
     let value = ap length c.deref_mut.ensures.value in
     let many = c.prepare.new.places.ok.0 in
     omega (arith, low, same, value, many, length-take {A = Place}, length-append {A = Place}, length-drop {A = Place}))
+
+pub returns-clause-row : goal.returns-clause-row
+returns-clause-row g c = on_ok c.rewrite.result c.rewrite.ensures.row (λ row readable some.
+    let s = g.S.Slots.state c.args.slots.now in
+    let t = g.S.Slots.state c.prepare.new.slots in
+    let keep = c.requires.keep in
+    row (readable_on s t c.in_ok-prepare.ensures.grows.keeps.observable (c.in_ok-prepare.ensures.cause.stays (λ e. cc e)) readable) (omega (arith, some, keep, length-take {A = ℕ}, length-drop {A = ℕ})))
+
+pub returns-clause-gone : goal.returns-clause-gone
+returns-clause-gone g c = on_ok c.rewrite.result c.rewrite.ensures.gone (λ gone readable none.
+    let s = g.S.Slots.state c.args.slots.now in
+    let t = g.S.Slots.state c.prepare.new.slots in
+    let keep = c.requires.keep in
+    gone (readable_on s t c.in_ok-prepare.ensures.grows.keeps.observable (c.in_ok-prepare.ensures.cause.stays (λ e. cc e)) readable) (omega (arith, none, keep, length-take {A = ℕ}, length-drop {A = ℕ})))

@@ -3,12 +3,14 @@ use Rattle.std.specs.List.{Contains}
 use Rattle.std.specs.BinaryHeap.{heap_items}
 use Rattle.free_slots.specs.Free.{free_in}
 use Rattle.row_chain.specs.Fragments.{first_or_zero}
+use Rattle.row_chain.proofs.Composes.{readable_on}
 use Rattle.row_chain.proofs.Within.{right_in}
 use Rattle.chain_store.specs.declared.client.Client.{Client}
 use Rattle.chain_store.specs.Clients.{ClientView}
 use Rattle.chain_store.proofs.ClientLists.{client_at, client_set_other, client_set_same, part_set, same_set}
-use Rattle.chain_store.proofs.Joins.{first_of_none}
+use Rattle.chain_store.proofs.Joins.{first_in, first_of_none}
 use Rattle.chain_store.proofs.NotedSteps.{noted_places, noted_rests, noted_turned, noted_written}
+use Rattle.chain_store.proofs.Rewrites.{laid_apart}
 use Rattle.chain_store.proofs.Sounds.{memory_left}
 use Rattle.chain_store.proofs.Vacancies.{free_vacant, takes_distinct, takes_free, takes_lowest}
 use Rattle.chain_store.proofs.noted.write_noted.Goals as goal
@@ -228,3 +230,14 @@ returns-in-Ok-write_row-clause-lowest g c = λ none k lt.
     let d = c.in-Ok-write_row.ensures.drawn in
     takes_lowest (free_in (heap_items c.args.free.now.back) c.args.free.now.end) d.0 (free_in (heap_items c.write_row.new.free.back) c.write_row.new.free.end) d.4 k
     (subst (λ (n : ℕ). k < n) (first_of_none c.args.chain.now.items d.0 c.write_row.new.chain.items d.1 none) lt)
+
+pub returns-in-Ok-write_row-clause-own : goal.returns-in-Ok-write_row-clause-own
+returns-in-Ok-write_row-clause-own g c = λ readable.
+    let e = c.in-Ok-write_row.ensures in
+    let s = g.S.Slots.state c.args.slots.now in
+    let t = g.S.Slots.state c.write_row.new.slots in
+    let chain = c.write_row.new.chain.items in
+    laid_apart t c.write_row.new.places.items chain (first_or_zero chain) 0 (c.args.client + 1) e.known (readable_on s t e.touched.keeps.observable e.wrote.failed readable) e.laid
+
+pub returns-in-Ok-write_row-clause-begins : goal.returns-in-Ok-write_row-clause-begins
+returns-in-Ok-write_row-clause-begins g c = first_in c.write_row.new.chain.items c.in-Ok-write_row.ensures.first

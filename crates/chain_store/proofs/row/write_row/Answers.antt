@@ -1,10 +1,11 @@
-use Rattle.std.proofs.Common.{ℕ, ◌+◌, List, sym, ap, ◌∙◌, subst}
+use Rattle.std.proofs.Common.{ℕ, ◌+◌, List, None, Some, sym, ap, ◌∙◌, subst}
 use Rattle.std.specs.List.{Contains}
 use Rattle.std.specs.BinaryHeap.{heap_items}
 use Rattle.free_slots.specs.Free.{free_in}
 use Rattle.row_chain.specs.Fragments.{first_or_zero}
 use Rattle.chain_store.specs.declared.places.Place.{Place}
 use Rattle.chain_store.specs.Places.{AreLaid, row_in}
+use Rattle.chain_store.specs.Rows.{HoldsRow}
 use Rattle.chain_store.proofs.Drawn.{first_some, freed_after}
 use Rattle.chain_store.proofs.row.write_row.Goals as goal
 
@@ -44,3 +45,17 @@ returns-in-Ok-clause-within g c = λ k there. c.in-Ok.ensures.within k (subst (�
 
 pub returns-in-Ok-clause-inside : goal.returns-in-Ok-clause-inside
 returns-in-Ok-clause-inside g c = λ k there. c.in-Ok.ensures.inside k (subst (λ (xs : List ℕ). Contains xs k) (sym c.deref-5.ensures.value) there)
+
+pub returns-in-Ok-clause-row : goal.returns-in-Ok-clause-row
+returns-in-Ok-clause-row g c = λ readable some.
+    let chain = c.draw_after.new.slots.items in
+    let t = g.S.Slots.state c.change.new.slots in
+    subst (λ (xs : List ℕ). HoldsRow t.reads xs (first_or_zero chain) (Some (record { table = c.args.table; bytes = c.args.bytes.now }))) c.deref-5.ensures.value
+    (subst (λ (n : ℕ). HoldsRow t.reads c.deref-5.result.now n (Some (record { table = c.args.table; bytes = c.args.bytes.now }))) (c.first-row.ensures ∙ ap first_or_zero c.deref-4.ensures.value) (c.in-Ok.ensures.row readable some))
+
+pub returns-in-Ok-clause-gone : goal.returns-in-Ok-clause-gone
+returns-in-Ok-clause-gone g c = λ readable none.
+    let chain = c.draw_after.new.slots.items in
+    let t = g.S.Slots.state c.change.new.slots in
+    subst (λ (xs : List ℕ). HoldsRow t.reads xs (first_or_zero chain) None) c.deref-5.ensures.value
+    (subst (λ (n : ℕ). HoldsRow t.reads c.deref-5.result.now n None) (c.first-row.ensures ∙ ap first_or_zero c.deref-4.ensures.value) (c.in-Ok.ensures.gone readable none))

@@ -36,7 +36,10 @@ returns-clause-ok g c = three_ok c.change.result c.change.ensures.put c.change.e
       record { some = n.some; holds = n.holds; least = n.least },
       record {
         wrote = changed.wrote;
-        row_is = λ readable. changed.row_is readable ∙ ap (λ (t : ℕ). Some (record { table = t; bytes = c.args.bytes.now })) (f.table readable);
+        inside = changed.inside;
+        first = changed.first;
+        held = λ readable any here. changed.held readable any here ∙ ap (λ (t : ℕ). Some (record { table = t; bytes = c.args.bytes.now })) (f.table readable);
+        apart = changed.apart;
         others = changed.others;
       },
       λ readable.
