@@ -1,0 +1,14 @@
+pub mod Histories
+pub mod Lists
+pub mod Marks
+pub mod Keeps
+pub mod Writes
+pub mod Assembles
+pub mod Added
+pub mod Changed
+pub mod Errors
+pub mod Returned
+pub mod Begun
+pub mod Methods
+pub mod Closed
+pub mod Committed

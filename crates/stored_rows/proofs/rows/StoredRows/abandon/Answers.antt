@@ -1,0 +1,22 @@
+use Rattle.std.specs.BinaryHeap.{heap_items}
+use Rattle.free_slots.specs.Free.{free_in}
+use Rattle.stored_rows.proofs.Methods.{abandon_keeps, abandon_says}
+use Rattle.stored_rows.proofs.rows.StoredRows.abandon.Goals as goal
+
+pub invariant_of-self-clause-stored : goal.invariant_of-self-clause-stored
+invariant_of-self-clause-stored g c =
+    let rows = c.args.self.now in
+    let old = rows.chains in
+    let new = c.abandon.new.chains in
+    abandon_keeps rows.schema (g.S.Slots.state old.slots) (g.S.Slots.state new.slots) rows.opens.items c.args.client c.index_mut-transaction.result.now c.abandon.new.transaction rows.sixteen c.requires.client c.index_mut-transaction.ensures.value
+    old.places.items (free_in (heap_items old.free.back) old.free.end) old.clients.items old.failed old.sound
+    new.places.items (free_in (heap_items new.free.back) new.free.end) new.clients.items new.failed new.sound rows.stored c.abandon.ensures.ended c.abandon.ensures.none
+
+pub returns-clause-abandoned : goal.returns-clause-abandoned
+returns-clause-abandoned g c =
+    let rows = c.args.self.now in
+    let old = rows.chains in
+    let new = c.abandon.new.chains in
+    abandon_says rows.schema (g.S.Slots.state old.slots) (g.S.Slots.state new.slots) rows.opens.items c.args.client c.index_mut-transaction.result.now c.abandon.new.transaction rows.sixteen c.requires.client c.index_mut-transaction.ensures.value
+    old.places.items (free_in (heap_items old.free.back) old.free.end) old.clients.items old.failed old.sound
+    new.places.items (free_in (heap_items new.free.back) new.free.end) new.clients.items new.failed new.sound rows.stored c.abandon.ensures.ended c.abandon.ensures.none

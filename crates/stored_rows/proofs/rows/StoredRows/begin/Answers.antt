@@ -1,0 +1,44 @@
+use Rattle.std.proofs.Common.{Err, slice_set, sym, subst}
+use Rattle.std.specs.BinaryHeap.{heap_items}
+use Rattle.free_slots.specs.Free.{free_in}
+use Rattle.abl_rows.specs.Rows.{AfterError}
+use Rattle.abl_rows.specs.declared.store.RowError.{RowError}
+use Rattle.stored_rows.specs.State.{state_of}
+use Rattle.stored_rows.proofs.Errors.{after_refusal}
+use Rattle.stored_rows.proofs.Methods.{begin_keeps, begin_says, begun_rests, same_all}
+use Rattle.stored_rows.proofs.rows.StoredRows.begin.Goals as goal
+
+pub invariant_of-self-clause-stored : goal.invariant_of-self-clause-stored
+invariant_of-self-clause-stored g c =
+    let rows = c.args.self.now in
+    let old = rows.chains in
+    let new = c.begin.new.chains in
+    let e = c.begin.ensures in
+    begin_keeps rows.schema (g.S.Slots.state old.slots) (g.S.Slots.state new.slots) rows.opens.items c.args.client c.index_mut-transaction.result.now c.begin.new.transaction rows.sixteen c.requires.client c.index_mut-transaction.ensures.value
+    old.places.items (free_in (heap_items old.free.back) old.free.end) old.clients.items old.failed old.sound
+    new.places.items (free_in (heap_items new.free.back) new.free.end) new.clients.items new.failed new.sound rows.stored c.requires.fine c.requires.idle
+    c.begin.result e.ok e.none e.err e.same e.cause
+
+pub returns-in-Ok-clause-ok : goal.returns-in-Ok-clause-ok
+returns-in-Ok-clause-ok g c =
+    let rows = c.args.self.now in
+    let old = rows.chains in
+    let new = c.begin.new.chains in
+    let e = c.in-Ok.ensures in
+    begin_says rows.schema (g.S.Slots.state old.slots) (g.S.Slots.state new.slots) rows.opens.items c.args.client c.index_mut-transaction.result.now c.begin.new.transaction rows.sixteen c.requires.client c.index_mut-transaction.ensures.value
+    old.places.items (free_in (heap_items old.free.back) old.free.end) old.clients.items old.failed old.sound
+    new.places.items (free_in (heap_items new.free.back) new.free.end) new.clients.items new.failed new.sound rows.stored c.requires.fine c.requires.idle
+    e.ok e.none (e.cause.stays (λ q. cc q))
+
+pub returns-in-Err-clause-err : goal.returns-in-Err-clause-err
+returns-in-Err-clause-err g c = λ reserved sequences.
+    let rows = c.args.self.now in
+    let old = rows.chains in
+    let new = c.begin.new.chains in
+    let s = g.S.Slots.state old.slots in
+    let t = g.S.Slots.state new.slots in
+    let e = c.in-Err.ensures in
+    let now = c.begin.new.transaction in
+    let same = same_all rows.opens.items c.args.client c.index_mut-transaction.result.now now rows.sixteen c.requires.client c.index_mut-transaction.ensures.value e.same in
+    subst (λ (x : RowError). AfterError {T = Unit {0}} (state_of rows.schema reserved sequences s rows.opens.items) (state_of rows.schema reserved sequences t (slice_set rows.opens.items c.args.client now)) (Err x)) (sym c.error_of.ensures)
+    (after_refusal rows.schema reserved sequences s t rows.opens.items (slice_set rows.opens.items c.args.client now) same c.in-Err.fault e.err.keeps (begun_rests s t e.err) (λ q. e.err) e.cause)

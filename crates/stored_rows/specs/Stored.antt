@@ -1,0 +1,56 @@
+-- What holds between two calls of rows in slots, and of the changes that can be undone.
+use Rattle.std.specs.Prelude.{◌≡◌, ◌≢◌, ℕ, zero, suc, ◌≤◌, ◌==◌, ◌||◌, Bool, true, false, List, [], ◌∷◌, length}
+use Rattle.std.specs.Coded.{×_prop, le_prop}
+use Rattle.abl_storage.specs.Slots.{SlotState, IsReadable, wrote}
+use Rattle.row_chain.specs.Fragments.{ends}
+use Rattle.abl_values.specs.Schema.{SchemaData}
+use Rattle.abl_rows.specs.declared.store.RowChange.{RowChange}
+use Rattle.abl_rows.specs.Changes.{has_change}
+use Rattle.stored_rows.specs.declared.log.Undone.{Undone}
+use Rattle.stored_rows.specs.Decoded.{AreRead, decoded}
+use Rattle.stored_rows.specs.Mixes.{IsMixed, rows_of, slots_of}
+
+-- the changes of rows that a log has
+abbrev pub changes_of : List Undone → List RowChange
+changes_of [] = []
+changes_of (u ∷ later) = record { row = u.row; old = u.old } ∷ changes_of later
+
+-- how many writes of slots came before the change with this number; all of them where there is no such change
+abbrev pub mark_or : List Undone → ℕ → ℕ → ℕ
+mark_or [] number all = all
+mark_or (u ∷ later) zero all = u.mark
+mark_or (u ∷ later) (suc n) all = mark_or later n all
+
+-- the marks never fall, and lie between these two
+abbrev pub AreMarks : ℕ → List Undone → ℕ → Type 0
+AreMarks low [] high = low ≤ high
+AreMarks low (u ∷ later) high = (low ≤ u.mark) × AreMarks u.mark later high
+
+pub AreMarks-prop : (low : ℕ) (log : List Undone) (high : ℕ) → IsProp (AreMarks low log high)
+AreMarks-prop low [] high = le_prop
+AreMarks-prop low (u ∷ later) high = ×_prop le_prop (AreMarks-prop u.mark later high)
+
+-- the mark of the client's change with that number
+abbrev pub mark_in : SlotState → (ℕ → List Undone) → (ℕ → ℕ) → ℕ → ℕ
+mark_in s log at c = mark_or (log c) (at c) (length (s.transaction c).undo)
+
+abbrev pub has : List ℕ → ℕ → Bool
+has [] k = false
+has (row ∷ later) k = (k == row) || has later k
+
+-- `log` has each client's changes that can be undone, `touched` the rows that it changed, undone changes included
+pub record IsStored (schema : SchemaData) (s : SlotState) (log : ℕ → List Undone) (touched : ℕ → List ℕ) : Type 0 where
+  pub marks : s.failed ≡ false → (c : ℕ) → AreMarks 0 (log c) (length (s.transaction c).undo)
+  pub first : s.failed ≡ false → (c : ℕ) → mark_or (log c) 0 (length (s.transaction c).undo) ≡ 0
+  -- slots outside those for rows are written by no change of a row
+  pub low : s.failed ≡ false → (c k : ℕ) → ends k ≡ true → wrote (s.transaction c).undo k ≡ false
+  -- a row that a client changed was written by it
+  pub written : s.failed ≡ false → (c k : ℕ) → has (touched c) k ≡ true → (s.transaction c).written k ≡ true
+  pub kept : (c k : ℕ) → has_change (changes_of (log c)) k ≡ true → has (touched c) k ≡ true
+  pub apart : (c d k : ℕ) → c ≢ d → has (touched c) k ≡ true → has (touched d) k ≡ false
+  pub idle : (c : ℕ) → (s.transaction c).begun ≡ false → (log c ≡ []) × (touched c ≡ [])
+  -- wherever clients go back to, the rows are those with their later changes undone
+  pub mixes : IsReadable s → (at : ℕ → ℕ) (slots : ℕ → List ℕ) → IsMixed (slots_of s) (mark_in s log at) slots
+      → IsMixed (rows_of (λ c. changes_of (log c)) (decoded schema s.reads)) at (decoded schema slots) × AreRead schema slots
+  -- with all writes undone the slots are those that are committed
+  pub base : IsReadable s → IsMixed (slots_of s) (λ c. 0) s.committed

@@ -1,0 +1,20 @@
+//! Why the slots refused a call, said of rows.
+
+ghost use Rattle.std.specs.Prelude.{◌≡◌};
+ghost use Rattle.stored_rows.specs.State.{row_error};
+
+use abl_rows::RowError;
+use abl_storage::SlotFault;
+use chain_store::ChainFault;
+
+/// The error of rows. Full and TxFull count as out of memory: the caller asks for room before.
+pub(crate) fn error_of(fault: ChainFault) -> RowError
+    ensures { result ≡ row_error fault }
+{
+    match fault {
+        ChainFault::Full => RowError::NoMemory,
+        ChainFault::Slot(SlotFault::Disk) => RowError::Disk,
+        ChainFault::Slot(SlotFault::TxFull) => RowError::NoMemory,
+        ChainFault::Slot(SlotFault::NoMemory) => RowError::NoMemory,
+    }
+}

@@ -1,0 +1,16 @@
+//! Rows of values in slots, with the changes of each client's transaction: `StoredRows`. It decodes
+//! the rows that `chain_store` keeps as bytes, and notes what undoes each change. It depends on
+//! `chain_store` and on the definitions of `abl_rows`; a store with indexes depends on its clauses.
+#![tactic(auto)]
+
+pub mod begins;
+pub mod commits;
+pub mod fault;
+pub mod inserts;
+pub mod log;
+pub mod noted;
+pub mod open;
+pub mod returns;
+pub mod rows;
+
+pub use rows::StoredRows;

@@ -1,0 +1,25 @@
+//! Rows of values in slots: `StoredRows`.
+
+ghost use Rattle.std.specs.Prelude.{◌≡◌, length};
+ghost use Rattle.stored_rows.specs.Opens.{log_in, touched_in};
+ghost use Rattle.stored_rows.specs.Stored.{AreMarks-prop, IsStored};
+ghost use Rattle.std.proofs.Props.{props};
+
+use crate::open::Open;
+use abl_storage::Slots;
+use abl_values::Schema;
+use chain_store::Chains;
+use std::alloc::Global;
+
+/// Rows of values in slots, with at most one transaction of each of the clients 0 to 15. A row has
+/// up to 30,000 bytes; its identity is its first slot.
+#[derive(Drop)]
+pub struct StoredRows<S: Slots + Drop> {
+    pub(crate) alloc: Global,
+    pub(crate) chains: Chains<S>,
+    pub(crate) schema: Schema,
+    /// The transactions of the clients.
+    pub(crate) opens: Vec<Open>,
+    ghost sixteen: { length opens.items ≡ 16 },
+    ghost stored: { IsStored schema (S.Slots.state chains.slots) (log_in opens.items) (touched_in opens.items) } by { Prim.hlevel (props, AreMarks-prop) },
+}
