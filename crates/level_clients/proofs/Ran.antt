@@ -1,6 +1,58 @@
--- What holds of the value at Ok.
-use Rattle.std.specs.Prelude.{Result, Ok, Err, IfOk}
+-- From what the runner says of each client to what its program means.
+use Rattle.std.proofs.Common.{◌≡◌, ◌<◌, ◌++◌, ℕ, List, [], sym, ap, ◌∙◌, subst, arith}
+use Rattle.std.specs.Prelude.{Result, Ok, Err, IfOk, All}
+use Rattle.client_database.specs.declared.event.Event.{Event}
+use Rattle.client_database.specs.declared.ends.ClientEnd.{ClientEnd}
+use Rattle.client_database.specs.declared.next_step.NextStep.{NextStep}
+use Rattle.database_meaning.specs.Setting.{Setting}
+use Rattle.block_meaning.specs.Program.{Program}
+use Rattle.block_meaning.specs.Meaning.{run}
+use Rattle.block_vm.specs.Refines.{Refines, HasNotBegun}
+use Rattle.client_runner.specs.Meant.{Meant}
+use Rattle.client_runner.specs.Served.{GoesOnBy}
+use Rattle.client_runner.specs.Tasks.{CameToItsEnd, RanToEnd, ByItself, OutOfMemory}
+use Rattle.client_session.specs.Along.{Goes, IsCareful}
+use Rattle.client_session.specs.declared.session.ClientSession.{ClientSession}
+use Rattle.level_machine.specs.LevelDatabase.{HasSetting}
+use Rattle.level_machine.specs.declared.level_database.LevelDatabase.{LevelDatabase}
+use Rattle.level_clients.specs.Outcome.{HasDone, own_events}
+use Rattle.level_clients.specs.Ran.{ClientTask, HasRunIn}
+use Rattle.level_clients.proofs.Ended.{OnlyGrows, done_at_its_end, done_without_room}
 
+-- what holds of the value at Ok
 pub if_ok : {A E : Type 0} (r : Result A E) (P Q : A → Type 0) → ((a : A) → P a → Q a) → IfOk r P → IfOk r Q
 if_ok (Ok a) P Q f h = f a h
 if_ok (Err e) P Q f h = h
+
+-- what a session of block code says to the runner
+abbrev pub begins : ClientSession → Meant → Type 0
+begins session m = HasNotBegun session.client × Refines session.client m.names m.run []
+
+abbrev pub along : ClientSession → Meant → List Event → NextStep → Type 0
+along session m own next = Goes session.client m own next
+
+abbrev pub suits : ClientSession → Setting → Type 0
+suits session setting = Unit {0}
+
+has_done : (session : ClientSession) (m : Meant) (own : List Event) (how : ClientEnd) → OnlyGrows m.run → RanToEnd along session m own how → HasDone session.client m.names m.run own how
+has_done session m own how grows (ByItself o h goes) = done_at_its_end session.client m own how goes.along
+has_done session m own how grows (OutOfMemory before op n a goes other) = done_without_room session.client m before op n a grows other goes.along
+
+pub has_run : (database : LevelDatabase) (trace : List Event) (k : ℕ) (old new : ClientTask)
+    → ((p : Program) (units : ℕ) → OnlyGrows (run p units))
+    → ((names : List (List ℕ)) (p : Program) (units : ℕ) → IsCareful (record { names = names; run = run p units }))
+    → CameToItsEnd begins along suits IsCareful (HasSetting database) (own_events k trace) old new → HasRunIn database trace k old new
+has_run database trace k old new grows careful came =
+    record {
+      how = came.end;
+      ended = came.ended;
+      done = λ names p units begun. has_done new.client (record { names = names; run = run p units }) (own_events k trace) came.end (grows p units) (came.came (record { names = names; run = run p units }) (begun.begins, begun.refines));
+      fits = came.fits;
+      unrefused = λ names p units setting begun is. came.unrefused (record { names = names; run = run p units }) setting (begun.begins, begun.refines) (careful names p units) is tt;
+    }
+
+-- events after none are of these clients
+pub of_these : (clients : ℕ) (old new : List Event) → old ≡ [] → GoesOnBy 0 clients old new → All (λ (e : Event). e.client < clients) new
+of_these clients old new empty goes =
+    let are : new ≡ goes.0 = goes.1 ∙ ap (λ (events : List Event). events ++ goes.0) empty in
+    subst (All (λ (e : Event). e.client < clients)) (sym are) (λ k t less. let among = goes.2 k t less in omega (arith, among.1))

@@ -1,6 +1,9 @@
-//! Runs clients of block code on threads, over the database of levels.
+//! Runs clients of block code on threads, over the database of levels. It joins `client_runner` with
+//! `client_session`, `level_machine` and the laws of the runs of clients. The layer above relies on
+//! `run_level_clients`: each client did what its program means under its own answers, of which none is
+//! Refused, and the trace is legal (`HasRunIn` in specs/Ran.antt).
 #![tactic(auto)]
 
 pub mod run;
 
-pub use run::run_level_clients;
+pub use run::{ClientTask, run_level_clients};

@@ -1,7 +1,8 @@
 //! The run.
 
-ghost use Rattle.std.specs.Prelude.{◌≡◌, ◌<◌, ◌≤◌, ℕ, [], length, slice_index_or, IfOk, IfErr};
+ghost use Rattle.std.specs.Prelude.{◌≡◌, ◌<◌, ◌≤◌, ℕ, [], All, length, slice_index_or, IfOk, IfErr};
 ghost use Rattle.client_database.specs.declared.operation.Op.{Op};
+ghost use Rattle.client_database.specs.declared.event.Event.{Event};
 ghost use Rattle.database_meaning.specs.declared.contents.Contents.{Contents};
 ghost use Rattle.database_meaning.specs.Setting.{Setting};
 ghost use Rattle.database_meaning.specs.Traces.{IsLegal};
@@ -10,12 +11,17 @@ ghost use Rattle.level_machine.specs.LevelDatabase.{IsOpened, IsActive, Serves};
 ghost use Rattle.level_clients.specs.Ran.{HasRunIn};
 
 use abl_outside::Gate;
+use block_meaning::laws::written_only_grows;
 use client_runner::{Task, run_clients};
 use client_session::ClientSession;
 use level_machine::LevelDatabase;
+use run_laws::laws::every_run_is_careful;
 use std::alloc::Global;
 use std::sync::Wait;
 use std::thread::Threads;
+
+/// A client of a run.
+pub type ClientTask = Task<ClientSession, LevelDatabase>;
 
 /// Runs each client on a thread of its own over the database, and gives the database back. The
 /// client at place k is client k of the database, whose trace is empty. It calls the gate before
@@ -25,7 +31,7 @@ pub fn run_level_clients<R: Threads + Wait + Sync, G: Gate + Sync>(
     rt: &R,
     alloc: Global,
     database: LevelDatabase,
-    tasks: &mut [Task<ClientSession, LevelDatabase>],
+    tasks: &mut [ClientTask],
     gate: &G,
 ) -> Result<LevelDatabase, LevelDatabase>
     requires some { 0 < length tasks.old }
@@ -33,9 +39,13 @@ pub fn run_level_clients<R: Threads + Wait + Sync, G: Gate + Sync>(
     requires empty { database.trace.items ≡ [] }
     requires active { (client : ℕ) → client < length tasks.old → IsActive database client }
     requires serves { (client : ℕ) (op : Op) → client < length tasks.old → IsLevelOp op → Serves database client op }
+    ensures opened { (setting : Setting) (contents : Contents) → IsOpened database setting contents → IfOk result (λ d. IsOpened d setting contents) }
     ensures legal { (setting : Setting) (contents : Contents) → IsOpened database setting contents → IfOk result (λ d. IsLegal setting contents d.trace.items) }
+    ensures clients { IfOk result (λ d. All (λ (e : Event). e.client < length tasks.old) d.trace.items) }
     ensures ran { IfOk result (λ d. (k : ℕ) (t : _) → k < length tasks.old → HasRunIn database d.trace.items k (slice_index_or tasks.old k t) (slice_index_or tasks.new k t)) }
     ensures back { IfErr result (λ d. d ≡ database) }
 {
+    written_only_grows();
+    every_run_is_careful();
     run_clients(rt, alloc, database, 0, tasks, gate)
 }

@@ -1,9 +1,8 @@
 -- The room for the event was made before the turn, and changed no event.
-use Rattle.std.proofs.Common.{◌++◌, ◌∷◌, [], ◌≤◌, sym, subst, length}
+use Rattle.std.proofs.Common.{◌≤◌, sym, subst}
 use Rattle.std.proofs.Math.Nat.{lt_of_lt_of_le}
 use Rattle.std.proofs.lemmas.List.Elements.{All-push}
 use Rattle.std.specs.Prelude.{All}
-use Rattle.database_meaning.specs.Traces.{IsLegal}
 use Rattle.database_interface.specs.Step.{event_of}
 use Rattle.std.specs.Prelude.{List}
 use Rattle.client_database.specs.declared.event.Event.{Event}
