@@ -16,7 +16,9 @@ import scope_rows
 
 TABLE = Path(__file__).parent.parent / "crates" / "command_tables"
 MOST_SHOWN, SHOWN_AT_ENDS, MOST_FILE = 400, 80, 1048576
-COMMAND = re.compile(r"run s\.df ([1-9]\d{0,8}) (quiet|trace) ([A-Za-z0-9]{1,16})=p(?:<([^<]+))?$")
+COMMAND = re.compile(r"run s\.df ([1-9]\d{0,8}) (quiet|trace)((?: [A-Za-z0-9]{1,16}=[^ <]+(?:<[^ <]+)?){1,16})$")
+CLIENT = re.compile(r" ([^=]+)=([^ <]+)(?:<([^ <]+))?")
+BY_CLIENT = "clients"
 CHECK = re.compile(r"check s\.df( [^ ]+){1,16}$")
 SCHEMA_LINE = re.compile(r'ADD (?:TABLE|FIELD "(\w+)" OF) "(\w+)"')
 KEPT = re.compile(r"(1|2|3|4|6|7|10) ")
@@ -60,23 +62,38 @@ def answered(row):
     if CHECK.match(arguments) and not faults:
         return listed(arguments.split()[2:], schema, files)
     command = COMMAND.match(arguments)
-    if not command or faults or schema:
+    if not command or faults not in ("", BY_CLIENT) or schema:
         return None
-    units, mode, name, given = command.groups()
     files = {key.encode(): text_of(text) for key, text in files.items()}
-    if given is not None and given.encode() not in files:
+    return ran(int(command[1]), command[2], CLIENT.findall(command[3]), files, faults == BY_CLIENT)
+
+
+def ran(units, mode, named, files, by_client):
+    """The answer to a run of these clients; None where one of them is refused. The lines of a trace of
+    several clients are judged by client, without their numbers, since their order is the schedule's."""
+    names = [name for name, _, _ in named]
+    if len(set(names)) < len(names) or (mode == "trace" and len(names) > 1 and not by_client):
         return None
-    source = text_of(source)
-    own = b"" if given is None else files[given.encode()]
-    if len(source) > MOST_FILE or len(own) > MOST_FILE:
-        return None
-    try:
-        client = abl_reference.Client(source, int(units), own, files)
-        if any(len(files.get(file, b"x" * (MOST_FILE + 1))) > MOST_FILE for file in client.parser.inputs):
+    clients = []
+    for name, program, given in named:
+        source, own = files.get(program.encode()), files.get(given.encode()) if given else b""
+        if source is None or own is None or len(source) > MOST_FILE or len(own) > MOST_FILE:
             return None
-        out, lines, status = abl_reference.report(name, client, mode, client.run())
-    except abl_reference.Refused:
+        try:
+            clients.append(abl_reference.Client(source, units, own, files))
+        except abl_reference.Refused:
+            return None
+    if any(len(files.get(file, b"x" * (MOST_FILE + 1))) > MOST_FILE for client in clients for file in client.parser.inputs):
         return None
+    out, lines, status, trace = b"", b"", 0, b""
+    for name, client in zip(names, clients):
+        text, line, its_status = abl_reference.report(name, client, mode, client.run())
+        text, heading, events = text.partition(b"== trace ==\n")
+        out, lines, status, trace = out + text, lines + line, max(status, its_status), trace + events
+    if mode == "trace":
+        if by_client:
+            trace = b"".join(line.partition(b" ")[2] for line in trace.splitlines(keepends=True))
+        out += b"== trace ==\n" + trace
     return f"{status} {shown(out)} {shown(lines)}"
 
 

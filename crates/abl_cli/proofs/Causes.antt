@@ -1,18 +1,14 @@
--- What prevents the run that arguments name is the cause of the command's refusal.
+-- Files that are read one after the other, where none fails, and what prevents reading one.
 use Rattle.std.proofs.Common.{◌≡◌, ◌<◌, ℕ, zero, suc, List, [], ◌∷◌, ◌++◌, Option, Some, None, Result, Err, refl, sym, ap, ◌∙◌, subst, length, take, get_or, arith}
 use Rattle.std.specs.Prelude.{IsTrue, IfErr}
+use Rattle.std.specs.List.{flat_map}
 use Rattle.fault_count.specs.Faults.{Rose}
 use Rattle.abl_outside.specs.Files.{IsLonger, FileState}
 use Rattle.abl_cli.specs.declared.load.TheConstants.{MAX_FILE_BYTES}
 use Rattle.abl_cli.specs.declared.refusal.Refusal.{Refusal}
-use Rattle.abl_arguments.specs.declared.run.RunArguments.{RunArguments}
-use Rattle.abl_arguments.specs.CommandLine.{Names, files_of, run_of}
-use Rattle.abl_cli.specs.Command.{HasText, HasInput, HaveTexts, IsNotRead, is_missing, is_too_long, reading_wants, IsInputNotRead, OneIsNotRead, this_one, later_one, AreSame, Prevents, Cause, prevented}
-
-pub cause_of_prevented :
-    (arguments : List (List ℕ)) (files : FileState) (faults : ℕ) (read : RunArguments) → Names arguments read →
-    (refusal : Refusal) → Prevents files faults (files_of read) refusal → Cause arguments files faults read.name.now refusal
-cause_of_prevented arguments files faults read names refusal prevents = prevented (run_of read names.steps) names.is_run names.arguments_are prevents
+use Rattle.abl_arguments.specs.CommandLine.{ClientFiles}
+use Rattle.abl_cli.specs.declared.load.ClientTexts.{ClientTexts}
+use Rattle.abl_cli.specs.Command.{HasText, HasInput, HaveTexts, HaveClients, IsNotRead, is_missing, is_too_long, reading_wants, OneIsNotRead, this_one, later_one, AreSame, client_files, input_file}
 
 -- what holds of an error holds of the result that has it
 pub of_error : {A : Type 0} {result : Result A Refusal} {refusal : Refusal} (P : Refusal → Type 0) → result ≡ Err refusal → P refusal → IfErr result P
@@ -48,10 +44,6 @@ module _ (files later : FileState) (same : AreSame files later) (sound_observabl
   still_has_input None text has = has
   still_has_input (Some name) text has = still_has has
 
-  pub still_no_input : (input : Option (List ℕ)) (faults : ℕ) (refusal : Refusal) → IsInputNotRead later faults input refusal → IsInputNotRead files faults input refusal
-  still_no_input None faults refusal h = h
-  still_no_input (Some name) faults refusal h = still_not_read h
-
   pub still_have : (names texts : List (List ℕ)) → HaveTexts later names texts → HaveTexts files names texts
   still_have [] [] have = tt
   still_have [] (text ∷ texts) have = have
@@ -61,6 +53,12 @@ module _ (files later : FileState) (same : AreSame files later) (sound_observabl
   pub still_one : {faults : ℕ} {names : List (List ℕ)} {refusal : Refusal} → OneIsNotRead later faults names refusal → OneIsNotRead files faults names refusal
   still_one (this_one h) = this_one (still_not_read h)
   still_one (later_one has h) = later_one (still_has has) (still_one h)
+
+  pub still_clients : (cs : List ClientFiles) (ts : List ClientTexts) → HaveClients later cs ts → HaveClients files cs ts
+  still_clients [] [] have = tt
+  still_clients [] (t ∷ ts) have = have
+  still_clients (c ∷ cs) [] have = have
+  still_clients (c ∷ cs) (t ∷ ts) have = ((still_has have.0.0, still_has_input c.input t.input have.0.1), still_clients cs ts have.1)
 
 -- ---- files one after the other
 
@@ -78,3 +76,21 @@ one_unread files faults [] texts i name refusal below have is h = absurd (omega 
 one_unread files faults (n ∷ names) texts zero name refusal below have is h = this_one (subst (λ x. IsNotRead files faults x refusal) is h)
 one_unread files faults (n ∷ names) [] (suc i) name refusal below have is h = absurd have
 one_unread files faults (n ∷ names) (t ∷ texts) (suc i) name refusal below have is h = later_one have.0 (one_unread files faults names texts i name refusal (omega (arith, below)) have.1 is h)
+
+-- ---- lists of files one after the other
+
+module _ (files : FileState) (faults : ℕ) where
+  pub unread_first : (xs ys : List (List ℕ)) {refusal : Refusal} → OneIsNotRead files faults xs refusal → OneIsNotRead files faults (xs ++ ys) refusal
+  unread_first [] ys h = elim h [ ]
+  unread_first (x ∷ xs) ys (this_one h) = this_one h
+  unread_first (x ∷ xs) ys (later_one has h) = later_one has (unread_first xs ys h)
+
+  pub unread_later : (xs ys texts : List (List ℕ)) {refusal : Refusal} → HaveTexts files xs texts → OneIsNotRead files faults ys refusal → OneIsNotRead files faults (xs ++ ys) refusal
+  unread_later [] ys texts have h = h
+  unread_later (x ∷ xs) ys [] have h = absurd have
+  unread_later (x ∷ xs) ys (t ∷ ts) have h = later_one have.0 (unread_later xs ys ts have.1 h)
+
+-- the texts of a client's input
+pub input_texts : (files : FileState) (input : Option (List ℕ)) (text : List ℕ) → HasInput files input text → (texts : List (List ℕ)) × HaveTexts files (input_file input) texts
+input_texts files None text has = ([], tt)
+input_texts files (Some name) text has = (text ∷ [], (has, tt))

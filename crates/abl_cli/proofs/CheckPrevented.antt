@@ -22,98 +22,8 @@ use Rattle.abl_cli.specs.declared.load.TheConstants.{MAX_FILE_BYTES}
 use Rattle.abl_cli.specs.Check.{IsListing, HaveListings, OneBreaks, this_breaks, later_breaks, program_breaks, program_wants, check_text}
 use Rattle.abl_cli.specs.Command.{schema_in, HasText, HaveTexts, IsNotRead, is_missing, is_too_long, reading_wants, OneIsNotRead, this_one, later_one, BreaksSchema, breaks_f, schema_wants, CheckTexts, PreventsCheck, no_schema_file, no_program, schema_is_broken, one_breaks, AreListed, HasChecked, WritesStatus, output_refusal, status_after, wrong_argument, prevented, check_prevented, CommandResult, Refused, Ran, Checked, IsRefusal, IsThere, AreThere}
 use Rattle.abl_cli.specs.CheckFiles.{AreThereWith, NamesSources, check_files}
+use Rattle.abl_cli.proofs.FileCauses.{wants, same_text, same_texts, have_none, have_long, unread, none_unread, one_missing, one_long, same_violation, no_violation}
 use Rattle.abl_cli.proofs.Judged.{wrong_or_formed, rose_in_check}
-
-wants : {refusal want : Refusal} → refusal ≡ NoMemory → IsRefusal (Some refusal) want
-wants e = inr (ap (λ r. Some r) e)
-
--- ---- files
-
-module _ (files : FileState) (observable : IsTrue files.observable) (sound : IsTrue files.sound) where
-  same_text : {name text other : List ℕ} → HasText files name text → files.file name ≡ Some other → text ≡ other
-  same_text has there = let read = sym there ∙ has.content observable in cc read
-
-  no_text : {name text : List ℕ} → HasText files name text → files.file name ≡ None → ⊥
-  no_text has none = let read = sym none ∙ has.content observable in cc read
-
-  not_long : {name text other : List ℕ} → HasText files name text → files.file name ≡ Some other → MAX_FILE_BYTES < length other → ⊥
-  not_long has there long =
-      let same = ap length (same_text has there) in
-      let short = has.short in
-      omega (arith, same, short, long)
-
-  -- those that were read have the texts that are there
-  same_texts : (names texts others : List (List ℕ)) → HaveTexts files names texts → AreThereWith files names others → texts ≡ others
-  same_texts [] [] [] have are = refl
-  same_texts [] [] (o ∷ os) have are = absurd are
-  same_texts [] (t ∷ ts) others have are = absurd have
-  same_texts (n ∷ ns) [] others have are = absurd have
-  same_texts (n ∷ ns) (t ∷ ts) [] have are = absurd are
-  same_texts (n ∷ ns) (t ∷ ts) (o ∷ os) have are = ap (λ x. x ∷ ts) (same_text have.0 are.0.there) ∙ ap (λ xs. o ∷ xs) (same_texts ns ts os have.1 are.1)
-
-  have_none : (before after texts : List (List ℕ)) {name : List ℕ} → files.file name ≡ None → HaveTexts files (before ++ name ∷ after) texts → ⊥
-  have_none [] after [] none have = have
-  have_none [] after (text ∷ texts) none have = no_text have.0 none
-  have_none (other ∷ before) after [] none have = have
-  have_none (other ∷ before) after (text ∷ texts) none have = have_none before after texts none have.1
-
-  have_long : (before after texts : List (List ℕ)) {name text : List ℕ} → files.file name ≡ Some text → MAX_FILE_BYTES < length text → HaveTexts files (before ++ name ∷ after) texts → ⊥
-  have_long [] after [] there long have = have
-  have_long [] after (text ∷ texts) there long have = not_long have.0 there long
-  have_long (other ∷ before) after [] there long have = have
-  have_long (other ∷ before) after (text ∷ texts) there long have = have_long before after texts there long have.1
-
-  module _ (faults : ℕ) where
-    unread : {name text : List ℕ} {refusal : Refusal} → IsThere files name text → IsNotRead files faults name refusal → refusal ≡ NoMemory
-    unread is (is_missing rose missing) = let none = sym is.there ∙ missing sound in absurd (cc none)
-    unread is (is_too_long longer) =
-        let above = subst (λ file. IsLonger file MAX_FILE_BYTES) is.there (longer observable) in
-        let short = is.short in
-        absurd (omega (arith, above, short))
-    unread is reading_wants = refl
-
-    missing_is : {name : List ℕ} {refusal : Refusal} → files.file name ≡ None → IsNotRead files faults name refusal → IsRefusal (Some refusal) (File name)
-    missing_is none (is_missing rose missing) = inl refl
-    missing_is none (is_too_long longer) = absurd (subst (λ file. IsLonger file MAX_FILE_BYTES) none (longer observable))
-    missing_is none reading_wants = inr refl
-
-    long_is : {name text : List ℕ} {refusal : Refusal} → files.file name ≡ Some text → IsNotRead files faults name refusal → IsRefusal (Some refusal) (TooLong name MAX_FILE_BYTES)
-    long_is there (is_missing rose missing) = let none = sym there ∙ missing sound in absurd (cc none)
-    long_is there (is_too_long longer) = inl refl
-    long_is there reading_wants = inr refl
-
-    -- of these files, which are there, none is refused
-    none_unread : (names texts : List (List ℕ)) {refusal : Refusal} → AreThereWith files names texts → OneIsNotRead files faults names refusal → refusal ≡ NoMemory
-    none_unread [] [] are h = elim h [ ]
-    none_unread [] (text ∷ texts) are h = absurd are
-    none_unread (name ∷ names) [] are h = absurd are
-    none_unread (name ∷ names) (text ∷ texts) are (this_one h) = unread are.0 h
-    none_unread (name ∷ names) (text ∷ texts) are (later_one has h) = none_unread names texts are.1 h
-
-    one_missing : (before after : List (List ℕ)) {name : List ℕ} {refusal : Refusal} → AreThere files before → files.file name ≡ None → OneIsNotRead files faults (before ++ name ∷ after) refusal → IsRefusal (Some refusal) (File name)
-    one_missing [] after are none (this_one h) = missing_is none h
-    one_missing [] after are none (later_one has h) = absurd (no_text has none)
-    one_missing (other ∷ before) after are none (this_one h) = wants (unread are.0.1 h)
-    one_missing (other ∷ before) after are none (later_one has h) = one_missing before after are.1 none h
-
-    one_long : (before after : List (List ℕ)) {name text : List ℕ} {refusal : Refusal} → AreThere files before → files.file name ≡ Some text → MAX_FILE_BYTES < length text → OneIsNotRead files faults (before ++ name ∷ after) refusal → IsRefusal (Some refusal) (TooLong name MAX_FILE_BYTES)
-    one_long [] after are there long (this_one h) = long_is there h
-    one_long [] after are there long (later_one has h) = absurd (not_long has there long)
-    one_long (other ∷ before) after are there long (this_one h) = wants (unread are.0.1 h)
-    one_long (other ∷ before) after are there long (later_one has h) = one_long before after are.1 there long h
-
--- ---- the rules of the schema
-
-same_violation : (read df : List ℕ) {rule : Rule} {line : ℕ} {refusal : Refusal} → violation_of df ≡ Some (record { rule = rule; line = line }) → violation_of read ≡ violation_of df → BreaksSchema read refusal → IsRefusal (Some refusal) (Schema rule line)
-same_violation read df {rule = rule} {line = line} broken same (breaks_f {rule = rule'} {line = line'} found) =
-    let both : Some (record { rule = rule'; line = line' }) ≡ Some (record { rule = rule; line = line }) = sym found ∙ same ∙ broken in
-    let one : record { rule = rule'; line = line' } ≡ record { rule = rule; line = line } = cc both in
-    inl (ap (λ (v : Violation). Some (Schema v.rule v.line)) one)
-same_violation read df broken same schema_wants = inr refl
-
-no_violation : {read : List ℕ} {refusal : Refusal} → violation_of read ≡ None → BreaksSchema read refusal → refusal ≡ NoMemory
-no_violation clean (breaks_f found) = let both = sym clean ∙ found in absurd (cc both)
-no_violation clean schema_wants = refl
 
 -- ---- the rules of the sources
 
@@ -182,10 +92,10 @@ module _ (arguments : List (List ℕ)) (files : FileState) (faults : ℕ) (old n
 
   outcome : CommandResult arguments files faults old new report → Outcome
   outcome (Refused name refusal (wrong_argument wrong) is) = absurd (wrong_or_formed arguments _ wrong (inr (check, (names.is_check, names.arguments_are))))
-  outcome (Refused name refusal (prevented run is_run are prevents) is) = absurd (other_command (sym are ∙ names.arguments_are))
+  outcome (Refused name refusal (prevented run is_run are prevents named) is) = absurd (other_command (sym are ∙ names.arguments_are))
   outcome (Refused name refusal (check_prevented other is_other are prevents) is) =
       was_prevented refusal is.refusal is.status (subst (λ (c : Check). PreventsCheck files faults c refusal) (one_check other check (sym are ∙ names.arguments_are)) prevents)
-  outcome (Ran named is_named are texts clean tree form inputs have ran) = absurd (other_command (sym are ∙ names.arguments_are))
+  outcome (Ran named is_named are texts clean works are_works ran) = absurd (other_command (sym are ∙ names.arguments_are))
   outcome (Checked other is_other are listings listed told) =
       let same = one_check other check (sym are ∙ names.arguments_are) in
       had_listed listings (subst (λ (c : Check). AreListed files c listings) same listed) (subst (λ (c : Check). HasChecked c.programs listings old new report) same told)

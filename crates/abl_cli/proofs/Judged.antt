@@ -1,22 +1,22 @@
 -- What follows from what a command did.
 use Rattle.std.proofs.Common.{◌≡◌, inl, inr, ◌≤◌, ◌+◌, ℕ, Bool, true, false, List, [], Option, Some, None, refl, sym, ap, ◌∙◌, subst, arith, take, drop}
-use Rattle.std.specs.Prelude.{IsTrue}
+use Rattle.std.specs.Prelude.{IsTrue, if◌then◌else◌}
+use Rattle.abl_cli.specs.declared.load.ClientTexts.{ClientTexts}
 use Rattle.std.proofs.lemmas.List.{take-append-drop}
 use Rattle.fault_count.specs.Faults.{Rose}
 use Rattle.client_database.specs.declared.ends.ClientEnd.{ClientEnd}
-use Rattle.client_database.specs.declared.ends.ClientEnd.TheVariants as end
 use Rattle.client_output.specs.declared.section.Section.{Section}
 use Rattle.abl_cli.specs.declared.refusal.Refusal.{Refusal}
 use Rattle.abl_cli.specs.declared.refusal.Refusal.TheVariants.{Usage, File, TooLong, Schema, Source, Client, Output, NoMemory}
 use Rattle.abl_cli.specs.declared.command.Report.{Report}
-use Rattle.abl_arguments.specs.CommandLine.{RunFiles, Check, HaveForm, BeginForm, IsWrong, at_argument, missing}
+use Rattle.abl_arguments.specs.CommandLine.{ClientFiles, Check, HaveForm, BeginForm, IsWrong, at_argument, missing}
 use Rattle.abl_values.specs.Schema.{SchemaData}
 use Rattle.abl_arguments.specs.declared.parts.Mode.{Mode}
 use Rattle.abl_cli.specs.Report.{status_of}
 use Rattle.abl_outside.specs.Out.{OutState}
 use Rattle.abl_outside.specs.Files.{FileState}
 use Rattle.abl_cli.specs.Check.{OneBreaks, this_breaks, later_breaks}
-use Rattle.abl_cli.specs.Command.{IsNotRead, Prevents, no_schema, no_source, no_input, schema_breaks, source_breaks, no_named_input, IsInputNotRead, OneIsNotRead, this_one, later_one, PreventsCheck, no_schema_file, no_program, schema_is_broken, one_breaks, Cause, wrong_argument, prevented, check_prevented, IsReported, HasChecked, CommandResult, Refused, Ran, Checked, output_refusal, WritesStatus, refusal_after, status_after, IsUsage, HasWholeText, of_run, of_check}
+use Rattle.abl_cli.specs.Command.{IsNotRead, Prevents, no_file, schema_breaks, source_breaks, no_named_input, OneSourceBreaks, this_source, later_source, OneIsNotRead, this_one, later_one, PreventsCheck, no_schema_file, no_program, schema_is_broken, one_breaks, Cause, wrong_argument, prevented, check_prevented, IsReported, HasChecked, CommandResult, Refused, Ran, Checked, output_refusal, WritesStatus, refusal_after, failure_refusal, first_failure, one_lacks_memory, client_names, status_after, IsUsage, HasWholeText, of_run, of_check}
 
 -- ---- arguments
 
@@ -30,14 +30,14 @@ wrong_or_formed arguments n (missing ws begins formless) form = formless form
 
 -- ---- the refusal of a run
 
-no_usage : (whole : Bool) (how : ClientEnd) (arg : ℕ) → refusal_after how whole ≡ Some (Usage arg) → ⊥
-no_usage true end.Normal arg e = cc e
-no_usage false end.Normal arg e = cc e
-no_usage true end.Returned arg e = cc e
-no_usage false end.Returned arg e = cc e
-no_usage whole (end.Error t) arg e = cc e
-no_usage whole (end.Stop why) arg e = cc e
-no_usage whole end.NoMemory arg e = cc e
+no_usage_by : (lacks : Bool) (first : Option ℕ) (whole : Bool) (arg : ℕ) → (if lacks then Some NoMemory else failure_refusal first whole) ≡ Some (Usage arg) → ⊥
+no_usage_by true first whole arg e = cc e
+no_usage_by false None true arg e = cc e
+no_usage_by false None false arg e = cc e
+no_usage_by false (Some n) whole arg e = cc e
+
+no_usage : (whole : Bool) (ends : List ClientEnd) (arg : ℕ) → refusal_after ends whole ≡ Some (Usage arg) → ⊥
+no_usage whole ends arg e = no_usage_by (one_lacks_memory ends) (first_failure 0 ends) whole arg e
 
 is_usage : (refusal : Option Refusal) → IsUsage refusal → (arg : ℕ) × (refusal ≡ Some (Usage arg))
 is_usage None h = absurd h
@@ -57,40 +57,36 @@ module _ (arguments : List (List ℕ)) (files : FileState) (faults : ℕ) (old n
   no_unread_usage : {file : List ℕ} {arg : ℕ} → IsNotRead files faults file (Usage arg) → ⊥
   no_unread_usage h = elim h [ ]
 
-  no_input_usage : (input : Option (List ℕ)) (arg : ℕ) → IsInputNotRead files faults input (Usage arg) → ⊥
-  no_input_usage None arg h = h
-  no_input_usage (Some file) arg h = no_unread_usage h
-
   no_named_usage : {inputs : List (List ℕ)} {arg : ℕ} → OneIsNotRead files faults inputs (Usage arg) → ⊥
   no_named_usage (this_one h) = no_unread_usage h
   no_named_usage (later_one has h) = no_named_usage h
 
-  no_prevents_usage : (named : RunFiles) {arg : ℕ} → Prevents files faults named (Usage arg) → ⊥
-  no_prevents_usage named (no_schema h) = no_unread_usage h
-  no_prevents_usage named (no_source has h) = no_unread_usage h
-  no_prevents_usage named {arg} (no_input has too h) = no_input_usage named.input arg h
-  no_prevents_usage named (schema_breaks texts h) = elim h [ ]
-  no_prevents_usage named (source_breaks texts clean h) = elim h [ ]
-  no_prevents_usage named (no_named_input texts clean tree form h) = no_named_usage h
+  no_source_usage : {schema : SchemaData} {number arg : ℕ} {texts : List ClientTexts} → OneSourceBreaks schema number texts (Usage arg) → ⊥
+  no_source_usage (this_source h) = elim h [ ]
+  no_source_usage (later_source tree is h) = no_source_usage h
+
+  no_prevents_usage : (schema : List ℕ) (clients : List ClientFiles) {arg : ℕ} → Prevents files faults schema clients (Usage arg) → ⊥
+  no_prevents_usage schema clients (no_file h) = no_named_usage h
+  no_prevents_usage schema clients (schema_breaks texts h) = elim h [ ]
+  no_prevents_usage schema clients (source_breaks texts clean h) = no_source_usage h
+  no_prevents_usage schema clients (no_named_input texts clean trees are h) = no_named_usage h
 
   no_unread_output : {file : List ℕ} → IsNotRead files faults file Output → ⊥
   no_unread_output h = elim h [ ]
-
-  no_input_output : (input : Option (List ℕ)) → IsInputNotRead files faults input Output → ⊥
-  no_input_output None h = h
-  no_input_output (Some file) h = no_unread_output h
 
   no_named_output : {inputs : List (List ℕ)} → OneIsNotRead files faults inputs Output → ⊥
   no_named_output (this_one h) = no_unread_output h
   no_named_output (later_one has h) = no_named_output h
 
-  no_prevents_output : (named : RunFiles) → Prevents files faults named Output → ⊥
-  no_prevents_output named (no_schema h) = elim h [ ]
-  no_prevents_output named (no_source has h) = elim h [ ]
-  no_prevents_output named (no_input has too h) = no_input_output named.input h
-  no_prevents_output named (schema_breaks texts h) = elim h [ ]
-  no_prevents_output named (source_breaks texts clean h) = elim h [ ]
-  no_prevents_output named (no_named_input texts clean tree form h) = no_named_output h
+  no_source_output : {schema : SchemaData} {number : ℕ} {texts : List ClientTexts} → OneSourceBreaks schema number texts Output → ⊥
+  no_source_output (this_source h) = elim h [ ]
+  no_source_output (later_source tree is h) = no_source_output h
+
+  no_prevents_output : (schema : List ℕ) (clients : List ClientFiles) → Prevents files faults schema clients Output → ⊥
+  no_prevents_output schema clients (no_file h) = no_named_output h
+  no_prevents_output schema clients (schema_breaks texts h) = elim h [ ]
+  no_prevents_output schema clients (source_breaks texts clean h) = no_source_output h
+  no_prevents_output schema clients (no_named_input texts clean trees are h) = no_named_output h
 
   -- nor what prevents a check
   no_break_usage : {schema : SchemaData} {number arg : ℕ} {texts : List (List ℕ)} → OneBreaks schema number texts (Usage arg) → ⊥
@@ -113,13 +109,13 @@ module _ (arguments : List (List ℕ)) (files : FileState) (faults : ℕ) (old n
   no_check_output check (schema_is_broken texts h) = elim h [ ]
   no_check_output check (one_breaks texts clean h) = no_break_output h
 
-  usage_is_wrong : (name : List ℕ) (arg : ℕ) → Cause arguments files faults name (Usage arg) → IsWrong arguments arg
+  usage_is_wrong : (names : List (List ℕ)) (arg : ℕ) → Cause arguments files faults names (Usage arg) → IsWrong arguments arg
   usage_is_wrong name arg (wrong_argument wrong) = wrong
-  usage_is_wrong name arg (prevented run is_run are prevents) = absurd (no_prevents_usage run.files prevents)
+  usage_is_wrong name arg (prevented run is_run are prevents) = absurd (no_prevents_usage run.schema run.clients prevents)
   usage_is_wrong name arg (check_prevented check is_check are prevents) = absurd (no_check_usage check prevents)
 
-  no_output_cause : (name : List ℕ) → Cause arguments files faults name Output → ⊥
-  no_output_cause name (prevented run is_run are prevents) = no_prevents_output run.files prevents
+  no_output_cause : (names : List (List ℕ)) → Cause arguments files faults names Output → ⊥
+  no_output_cause name (prevented run is_run are prevents) = no_prevents_output run.schema run.clients prevents
   no_output_cause name (check_prevented check is_check are prevents) = no_check_output check prevents
 
   no_usage_checked : (whole : Bool) (arg : ℕ) → output_refusal whole ≡ Some (Usage arg) → ⊥
@@ -129,18 +125,18 @@ module _ (arguments : List (List ℕ)) (files : FileState) (faults : ℕ) (old n
   pub wrong_is_reported : (arg : ℕ) → CommandResult arguments files faults old new report → report.refusal ≡ Some (Usage arg) → IsWrong arguments arg
   wrong_is_reported arg (Refused name refusal cause is) given =
       let same : refusal ≡ Usage arg = cc (is.refusal, given) in usage_is_wrong name arg (subst (λ r. Cause arguments files faults name r) same cause)
-  wrong_is_reported arg (Ran named is_run are texts clean tree form inputs have ran) given =
-      absurd (no_usage ran.reported.whole ran.end arg (sym ran.reported.refusal ∙ given))
+  wrong_is_reported arg (Ran named is_run are texts clean works are_works ran) given =
+      absurd (no_usage ran.reported.whole ran.ends arg (sym ran.reported.refusal ∙ given))
   wrong_is_reported arg (Checked check is_check are listings listed told) given = absurd (no_usage_checked told.whole arg (sym told.refusal ∙ given))
 
-  formless_is_usage : (name : List ℕ) (refusal : Refusal) → Cause arguments files faults name refusal → (HaveForm arguments → ⊥) → IsUsage (Some refusal)
+  formless_is_usage : (name : List (List ℕ)) (refusal : Refusal) → Cause arguments files faults name refusal → (HaveForm arguments → ⊥) → IsUsage (Some refusal)
   formless_is_usage name refusal (wrong_argument wrong) formless = tt
   formless_is_usage name refusal (prevented run is_run are prevents) formless = absurd (formless (inl (run, (is_run, are))))
   formless_is_usage name refusal (check_prevented check is_check are prevents) formless = absurd (formless (inr (check, (is_check, are))))
 
   pub formless_is_reported : CommandResult arguments files faults old new report → (HaveForm arguments → ⊥) → IsUsage report.refusal
   formless_is_reported (Refused name refusal cause is) formless = subst IsUsage (sym is.refusal) (formless_is_usage name refusal cause formless)
-  formless_is_reported (Ran named is_run are texts clean tree form inputs have ran) formless = absurd (formless (inl (named, (is_run, are))))
+  formless_is_reported (Ran named is_run are texts clean works are_works ran) formless = absurd (formless (inl (named, (is_run, are))))
   formless_is_reported (Checked check is_check are listings listed told) formless = absurd (formless (inr (check, (is_check, are))))
 
   pub formed_is_no_usage : CommandResult arguments files faults old new report → HaveForm arguments → IsUsage report.refusal → ⊥
@@ -149,7 +145,7 @@ module _ (arguments : List (List ℕ)) (files : FileState) (faults : ℕ) (old n
   -- ---- faults of the output
 
   -- what was written later has no lower count
-  faults_later : (name : List ℕ) (ends : List ClientEnd) (refusal : Option Refusal) (before after : OutState) → WritesStatus name ends refusal before after → before.faults ≤ after.faults
+  faults_later : (name : List (List ℕ)) (ends : List ClientEnd) (refusal : Option Refusal) (before after : OutState) → WritesStatus name ends refusal before after → before.faults ≤ after.faults
   faults_later name ends None before after is = let e = ap (λ (w : OutState). w.faults) is in omega (arith, e)
   faults_later name ends (Some refusal) before after is = is.1.later
 
@@ -165,24 +161,24 @@ module _ (arguments : List (List ℕ)) (files : FileState) (faults : ℕ) (old n
   pub rose_in_check : (names listings : List (List ℕ)) (told : HasChecked names listings old new report) → told.whole ≡ false → Rose old.faults new.faults
   rose_in_check names listings told broken = rose_to told.between.faults (faults_later [] [] report.refusal told.between new told.lines) (told.text.cause broken)
 
-  pub rose_in_report : (mode : Mode) (name : List ℕ) (how : ClientEnd) (sections : List Section) (r : IsReported mode name how sections old new report) → r.whole ≡ false → Rose old.faults new.faults
-  rose_in_report mode name how sections r broken =
-      rose_to r.between.faults (faults_later name report.ends report.refusal r.between new r.lines) ((r.text empty_schema).cause broken)
+  pub rose_in_report : (mode : Mode) (names : List (List ℕ)) (ends : List ClientEnd) (parts : List (List Section)) (r : IsReported mode names ends parts old new report) → r.whole ≡ false → Rose old.faults new.faults
+  rose_in_report mode names ends parts r broken =
+      rose_to r.between.faults (faults_later names report.ends report.refusal r.between new r.lines) ((r.text empty_schema).cause broken)
 
-  output_breaks : (whole : Bool) (how : ClientEnd) → refusal_after how whole ≡ Some Output → whole ≡ false
-  output_breaks true end.Normal e = absurd (cc e)
-  output_breaks false end.Normal e = refl
-  output_breaks true end.Returned e = absurd (cc e)
-  output_breaks false end.Returned e = refl
-  output_breaks whole (end.Error t) e = absurd (cc e)
-  output_breaks whole (end.Stop why) e = absurd (cc e)
-  output_breaks whole end.NoMemory e = absurd (cc e)
+  output_by : (lacks : Bool) (first : Option ℕ) (whole : Bool) → (if lacks then Some NoMemory else failure_refusal first whole) ≡ Some Output → whole ≡ false
+  output_by true first whole e = absurd (cc e)
+  output_by false None true e = absurd (cc e)
+  output_by false None false e = refl
+  output_by false (Some n) whole e = absurd (cc e)
+
+  output_breaks : (whole : Bool) (ends : List ClientEnd) → refusal_after ends whole ≡ Some Output → whole ≡ false
+  output_breaks whole ends e = output_by (one_lacks_memory ends) (first_failure 0 ends) whole e
 
   pub output_rose : CommandResult arguments files faults old new report → report.refusal ≡ Some Output → Rose old.faults new.faults
   output_rose (Refused name refusal cause is) given =
       let same : refusal ≡ Output = cc (is.refusal, given) in absurd (no_output_cause name (subst (λ r. Cause arguments files faults name r) same cause))
-  output_rose (Ran named is_run are texts clean tree form inputs have ran) given =
-      rose_in_report named.mode named.name ran.end ran.sections ran.reported (output_breaks ran.reported.whole ran.end (sym ran.reported.refusal ∙ given))
+  output_rose (Ran named is_run are texts clean works are_works ran) given =
+      rose_in_report named.mode (client_names named) ran.ends ran.parts ran.reported (output_breaks ran.reported.whole ran.ends (sym ran.reported.refusal ∙ given))
   output_rose (Checked check is_check are listings listed told) given = rose_in_check check.programs listings told (breaks_checked told.whole (sym told.refusal ∙ given))
     where
       breaks_checked : (whole : Bool) → output_refusal whole ≡ Some Output → whole ≡ false
@@ -191,14 +187,14 @@ module _ (arguments : List (List ℕ)) (files : FileState) (faults : ℕ) (old n
 
   -- ---- status 0
 
-  status_of_run : (whole : Bool) (how : ClientEnd) → status_after (refusal_after how whole) ≡ 0 → (whole ≡ true) × (refusal_after how whole ≡ None)
-  status_of_run true end.Normal e = (refl, refl)
-  status_of_run false end.Normal e = absurd (cc e)
-  status_of_run true end.Returned e = (refl, refl)
-  status_of_run false end.Returned e = absurd (cc e)
-  status_of_run whole (end.Error t) e = absurd (cc e)
-  status_of_run whole (end.Stop why) e = absurd (cc e)
-  status_of_run whole end.NoMemory e = absurd (cc e)
+  status_by : (lacks : Bool) (first : Option ℕ) (whole : Bool) → status_after (if lacks then Some NoMemory else failure_refusal first whole) ≡ 0 → (whole ≡ true) × ((if lacks then Some NoMemory else failure_refusal first whole) ≡ None)
+  status_by true first whole e = absurd (cc e)
+  status_by false None true e = (refl, refl)
+  status_by false None false e = absurd (cc e)
+  status_by false (Some n) whole e = absurd (cc e)
+
+  status_of_run : (whole : Bool) (ends : List ClientEnd) → status_after (refusal_after ends whole) ≡ 0 → (whole ≡ true) × (refusal_after ends whole ≡ None)
+  status_of_run whole ends e = status_by (one_lacks_memory ends) (first_failure 0 ends) whole e
 
   no_status_0 : (refusal : Refusal) → status_of refusal ≡ 0 → ⊥
   no_status_0 (Usage arg) e = cc e
@@ -217,11 +213,11 @@ module _ (arguments : List (List ℕ)) (files : FileState) (faults : ℕ) (old n
   -- the whole text of a run or of a check was appended
   pub whole_at_0 : CommandResult arguments files faults old new report → report.status ≡ 0 → IsTrue old.observable → HasWholeText arguments files report old new
   whole_at_0 (Refused name refusal cause is) zero given = absurd (no_status_0 refusal (sym is.status ∙ zero))
-  whole_at_0 (Ran named is_run are texts clean tree form inputs have ran) zero given =
+  whole_at_0 (Ran named is_run are texts clean works are_works ran) zero given =
       let r = ran.reported in
-      let ok = status_of_run r.whole ran.end (ap status_after (sym r.refusal) ∙ sym r.status ∙ zero) in
-      let same : new ≡ r.between = subst (λ refusal. WritesStatus named.name report.ends refusal r.between new) (r.refusal ∙ ok.1) r.lines in
-      of_run named.mode named.name ran.sections (λ schema. ap (λ (w : OutState). w.texts) same ∙ (r.text schema).all ok.0 given)
+      let ok = status_of_run r.whole ran.ends (ap status_after (sym r.refusal) ∙ sym r.status ∙ zero) in
+      let same : new ≡ r.between = subst (λ refusal. WritesStatus (client_names named) report.ends refusal r.between new) (r.refusal ∙ ok.1) r.lines in
+      of_run named.mode (client_names named) ran.parts (λ schema. ap (λ (w : OutState). w.texts) same ∙ (r.text schema).all ok.0 given)
   whole_at_0 (Checked check is_check are listings listed told) zero given =
       let ok = status_of_check told.whole (ap status_after (sym told.refusal) ∙ sym told.status ∙ zero) in
       let same : new ≡ told.between = subst (λ refusal. WritesStatus [] [] refusal told.between new) (told.refusal ∙ ok.1) told.lines in

@@ -1,59 +1,172 @@
 -- What a run has loaded, and what prevents it once its texts are read.
-use Rattle.std.proofs.Common.{◌≡◌, ◌⊎◌, inl, inr, ℕ, List, None, sym, ◌∙◌, subst}
-use Rattle.std.specs.Prelude.{IsTrue}
+use Rattle.std.proofs.Common.{◌≡◌, ◌⊎◌, inl, inr, ◌+◌, ◌≤◌, ◌<◌, ℕ, suc, List, [], ◌∷◌, ◌++◌, Option, Some, None, refl, sym, ap, ◌∙◌, subst, arith, length}
+use Rattle.std.specs.List.{flat_map}
+use Rattle.std.specs.Prelude.{IsTrue, All, map}
+use Rattle.std.proofs.lemmas.List.Elements.{All-cons, All-nil}
 use Rattle.abl_schema.specs.Rules.{violation_of}
+use Rattle.abl_values.specs.Schema.{SchemaData}
 use Rattle.abl_outside.specs.Files.{FileState}
 use Rattle.bound_tree.specs.Bound.{source_of}
+use Rattle.bound_tree.specs.Tree.{Source as Tree}
 use Rattle.block_code.specs.declared.code.Code.{Code}
-use Rattle.abl_cli.specs.declared.load.Loaded.{Loaded}
+use Rattle.level_clients.specs.Ran.{ClientTask}
+use Rattle.abl_arguments.specs.CommandLine.{ClientFiles}
+use Rattle.abl_cli.specs.declared.load.ClientTexts.{ClientTexts}
+use Rattle.abl_cli.specs.declared.load.TheConstants.{MAX_FILE_BYTES}
 use Rattle.abl_cli.specs.declared.refusal.Refusal.{Refusal}
-use Rattle.abl_arguments.specs.CommandLine.{RunFiles}
-use Rattle.abl_cli.specs.Command.{schema_in, HasText, HasInput, HaveTexts, BreaksSchema, BreaksSource, OneIsNotRead, AreSame, Texts, IsCodeOf, IsReady, Prevents, schema_breaks, source_breaks, no_named_input}
-use Rattle.abl_cli.proofs.Causes.{still_have, still_one}
+use Rattle.abl_cli.specs.declared.refusal.Refusal.TheVariants.{NoMemory}
+use Rattle.abl_cli.specs.Command.{schema_in, HasText, HasInput, HaveTexts, HaveClients, BreaksSchema, OneIsNotRead, later_one, OneSourceBreaks, AreSame, Texts, AreTrees, AreWorks, Work, Prevents, no_file, schema_breaks, source_breaks, no_named_input, run_wants, named_inputs, client_files, input_file}
+use Rattle.abl_cli.specs.Inside.{AreBegun, IsBegun, AreToDo, HaveCodes, IsReady, inputs_of}
+use Rattle.abl_cli.proofs.BuiltForms.{has_no_buffers}
+use Rattle.abl_cli.proofs.Causes.{still_have, still_one, unread_first, unread_later, input_texts}
 
--- the texts of a run are those that were read
-pub record AreRead (files : FileState) (named : RunFiles) (df source input : List ℕ) : Type 0 where
-  pub schema : HasText files named.schema df
-  pub program : HasText files named.program source
-  pub given : HasInput files named.input input
+-- ---- numbers of clients
 
-abbrev texts_of : {files : FileState} {named : RunFiles} {df source input : List ℕ} → AreRead files named df source input → Texts files named
-texts_of {df = df} {source = source} {input = input} read = record { df = df; source = source; input = input; has_schema = read.schema; has_source = read.program; has_input = read.given }
+pub as_many_texts : (files : FileState) (cs : List ClientFiles) (ts : List ClientTexts) → HaveClients files cs ts → length ts ≡ length cs
+as_many_texts files [] [] have = refl
+as_many_texts files [] (t ∷ ts) have = absurd have
+as_many_texts files (c ∷ cs) [] have = absurd have
+as_many_texts files (c ∷ cs) (t ∷ ts) have = ap (λ k. suc k) (as_many_texts files cs ts have.1)
 
-module _ (files : FileState) (named : RunFiles) (df source input : List ℕ) (read : AreRead files named df source input) (d s : List ℕ) (is_df : d ≡ df) (is_source : s ≡ source) where
-  -- a rule is broken
-  pub rules_prevent : (faults : ℕ) (refusal : Refusal) → BreaksSchema d refusal ⊎ ((violation_of d ≡ None) × BreaksSource (schema_in d) s refusal) → Prevents files faults named refusal
-  rules_prevent faults refusal (inl breaks) = schema_breaks (texts_of read) (subst (λ t. BreaksSchema t refusal) is_df breaks)
-  rules_prevent faults refusal (inr breaks) =
-      source_breaks (texts_of read) (subst (λ t. violation_of t ≡ None) is_df breaks.0)
-      (subst (λ t. BreaksSource (schema_in df) t refusal) is_source (subst (λ t. BreaksSource (schema_in t) s refusal) is_df breaks.1))
+pub as_many_codes : (schema : SchemaData) (ts : List ClientTexts) (codes : List Code) → HaveCodes schema ts codes → length codes ≡ length ts
+as_many_codes schema [] [] have = refl
+as_many_codes schema [] (code ∷ codes) have = absurd have
+as_many_codes schema (t ∷ ts) [] have = absurd have
+as_many_codes schema (t ∷ ts) (code ∷ codes) have = ap (λ k. suc k) (as_many_codes schema ts codes have.1)
 
-  module _ (clean : violation_of d ≡ None) (code : Code) (is_code : IsCodeOf (schema_in d) s code) (names : List (List ℕ)) (are : names ≡ code.inputs.items) where
-    is_clean : violation_of df ≡ None
-    is_clean = subst (λ t. violation_of t ≡ None) is_df clean
+as_many_works : (files : FileState) (schema : SchemaData) (ts : List ClientTexts) (works : List Work) → AreWorks files schema ts works → length works ≡ length ts
+as_many_works files schema [] [] are = refl
+as_many_works files schema [] (w ∷ ws) are = absurd are
+as_many_works files schema (t ∷ ts) [] are = absurd are
+as_many_works files schema (t ∷ ts) (w ∷ ws) are = ap (λ k. suc k) (as_many_works files schema ts ws are.1)
 
-    is_its_code : IsCodeOf (schema_in df) source code
-    is_its_code = subst (λ t. IsCodeOf (schema_in df) t code) is_source (subst (λ t. IsCodeOf (schema_in t) s code) is_df is_code)
+pub as_many_tasks : (units : ℕ) (works : List Work) (tasks : List ClientTask) → AreToDo units works tasks → length tasks ≡ length works
+as_many_tasks units [] [] are = refl
+as_many_tasks units [] (t ∷ ts) are = absurd are
+as_many_tasks units (w ∷ ws) [] are = absurd are
+as_many_tasks units (w ∷ ws) (t ∷ ts) are = ap (λ k. suc k) (as_many_tasks units ws ts are.1)
 
-    are_its_names : names ≡ (source_of is_its_code.bound).inputs
-    are_its_names = are ∙ is_its_code.compiled.inputs
+-- there is a task for each client
+pub tasks_of : (files : FileState) (schema : List ℕ) (cs : List ClientFiles) (units : ℕ) (tasks : List ClientTask) → IsReady files schema cs units tasks → length tasks ≡ length cs
+tasks_of files schema cs units tasks ready =
+    as_many_tasks units ready.works tasks ready.to_do ∙ as_many_works files (schema_in ready.texts.df) ready.texts.texts ready.works ready.are ∙ as_many_texts files cs ready.texts.texts ready.texts.have
 
-    module _ (later : FileState) (same : AreSame files later) (sound_observable : IsTrue files.sound → IsTrue files.observable) where
+-- the sources that were read are short
+pub short_sources : (files : FileState) (cs : List ClientFiles) (ts : List ClientTexts) → HaveClients files cs ts → All (λ (t : ClientTexts). length t.source ≤ MAX_FILE_BYTES) ts
+short_sources files [] [] have = All-nil (λ (t : ClientTexts). length t.source ≤ MAX_FILE_BYTES)
+short_sources files [] (t ∷ ts) have = absurd have
+short_sources files (c ∷ cs) [] have = absurd have
+short_sources files (c ∷ cs) (t ∷ ts) have = All-cons (λ (t : ClientTexts). length t.source ≤ MAX_FILE_BYTES) t ts have.0.0.short (short_sources files cs ts have.1)
+
+-- ---- the files of the clients
+
+module _ (files : FileState) (faults : ℕ) (c : ClientFiles) (cs : List ClientFiles) {refusal : Refusal} where
+  -- the files of the first client are not read
+  pub unread_client : OneIsNotRead files faults (client_files c) refusal → OneIsNotRead files faults (flat_map client_files (c ∷ cs)) refusal
+  unread_client h = unread_first files faults (client_files c) (flat_map client_files cs) h
+
+  -- those of a later one are not
+  pub unread_clients : (t : ClientTexts) → HasText files c.program t.source → HasInput files c.input t.input → OneIsNotRead files faults (flat_map client_files cs) refusal → OneIsNotRead files faults (flat_map client_files (c ∷ cs)) refusal
+  unread_clients t has input h =
+      let more = input_texts files c.input t.input input in
+      unread_later files faults (client_files c) (flat_map client_files cs) (t.source ∷ more.0) (has, more.1) h
+
+-- ---- what the codes denote
+
+-- the trees of the codes
+pub record Denoted (schema : SchemaData) (ts : List ClientTexts) (codes : List Code) : Type 0 where
+  pub trees : List Tree
+  pub are : AreTrees schema ts trees
+  pub inputs : inputs_of codes ≡ named_inputs trees
+
+pub denoted : (schema : SchemaData) (ts : List ClientTexts) (codes : List Code) → HaveCodes schema ts codes → Denoted schema ts codes
+denoted schema [] [] have = record { trees = []; are = tt; inputs = refl }
+denoted schema [] (code ∷ codes) have = absurd have
+denoted schema (t ∷ ts) [] have = absurd have
+denoted schema (t ∷ ts) (code ∷ codes) have =
+    let rest = denoted schema ts codes have.1 in
+    let one = have.0 in
+    record {
+      trees = source_of one.bound ∷ rest.trees;
+      are = (one.form, rest.are);
+      inputs = ap (λ xs. xs ++ inputs_of codes) one.compiled.inputs ∙ ap (λ ys. (source_of one.bound).inputs ++ ys) rest.inputs;
+    }
+
+-- the works of the clients that were begun
+pub record Begun (files : FileState) (schema : SchemaData) (units : ℕ) (ts : List ClientTexts) (tasks : List ClientTask) : Type 0 where
+  pub works : List Work
+  pub are : AreWorks files schema ts works
+  pub to_do : AreToDo units works tasks
+
+pub begun_works : (files : FileState) (schema : SchemaData) (units : ℕ) (ts : List ClientTexts) (codes : List Code) (tasks : List ClientTask) → HaveCodes schema ts codes → AreBegun files units codes ts tasks → Begun files schema units ts tasks
+begun_works files schema units [] [] [] have begun = record { works = []; are = tt; to_do = tt }
+begun_works files schema units [] [] (task ∷ tasks) have begun = absurd begun
+begun_works files schema units [] (code ∷ codes) tasks have begun = absurd have
+begun_works files schema units (t ∷ ts) [] tasks have begun = absurd have
+begun_works files schema units (t ∷ ts) (code ∷ codes) [] have begun = absurd begun
+begun_works files schema units (t ∷ ts) (code ∷ codes) (task ∷ tasks) have begun =
+    let rest = begun_works files schema units ts codes tasks have.1 begun.1 in
+    let one = have.0 in
+    let client = begun.0 in
+    record {
+      works = record { tree = source_of one.bound; input = t.input; inputs = client.inputs } ∷ rest.works;
+      are = ((one.form, (refl, subst (λ ns. HaveTexts files ns client.inputs) one.compiled.inputs client.have)), rest.are);
+      to_do = ((λ p is. client.to_run one.bound p one.compiled (has_no_buffers one.bound one.form.built) is.source is.input_is is.inputs_are is.forms is.lines), rest.to_do);
+    }
+
+module _ (files later : FileState) (same : AreSame files later) (sound_observable : IsTrue files.sound → IsTrue files.observable) where
+  pub still_begun : (units : ℕ) (codes : List Code) (ts : List ClientTexts) (tasks : List ClientTask) → AreBegun later units codes ts tasks → AreBegun files units codes ts tasks
+  still_begun units [] [] [] begun = tt
+  still_begun units [] [] (task ∷ tasks) begun = absurd begun
+  still_begun units [] (t ∷ ts) tasks begun = absurd begun
+  still_begun units (code ∷ codes) [] tasks begun = absurd begun
+  still_begun units (code ∷ codes) (t ∷ ts) [] begun = absurd begun
+  still_begun units (code ∷ codes) (t ∷ ts) (task ∷ tasks) begun =
+      let one = begun.0 in (
+        record { inputs = one.inputs; have = still_have files later same sound_observable code.inputs.items one.inputs one.have; to_run = one.to_run },
+        still_begun units codes ts tasks begun.1,
+      )
+
+-- ---- a run that is loaded, or prevented
+
+pub lacks_memory : {files : FileState} {faults : ℕ} {schema : List ℕ} {clients : List ClientFiles} {refusal : Refusal} → refusal ≡ NoMemory → Prevents files faults schema clients refusal
+lacks_memory {files} {faults} {schema} {clients} e = subst (Prevents files faults schema clients) (sym e) run_wants
+
+module _ (files : FileState) (schema : List ℕ) (clients : List ClientFiles) (df : List ℕ) (has : HasText files schema df) where
+  -- a file of a client is not read
+  pub files_prevent : (faults : ℕ) (refusal : Refusal) → (refusal ≡ NoMemory) ⊎ OneIsNotRead files faults (flat_map client_files clients) refusal → Prevents files faults schema clients refusal
+  files_prevent faults refusal (inl e) = lacks_memory e
+  files_prevent faults refusal (inr h) = no_file (later_one has h)
+
+  module _ (ts : List ClientTexts) (have : HaveClients files clients ts) (d : List ℕ) (is_df : d ≡ df) where
+    texts_of : Texts files schema clients
+    texts_of = record { df = df; texts = ts; has_schema = has; have = have }
+
+    -- a rule is broken
+    pub rules_prevent : (faults : ℕ) (refusal : Refusal) → (refusal ≡ NoMemory) ⊎ (BreaksSchema d refusal ⊎ ((violation_of d ≡ None) × OneSourceBreaks (schema_in d) 0 ts refusal)) → Prevents files faults schema clients refusal
+    unfolding texts_of
+    rules_prevent faults refusal (inl e) = lacks_memory e
+    rules_prevent faults refusal (inr (inl h)) = schema_breaks texts_of (subst (λ t. BreaksSchema t refusal) is_df h)
+    rules_prevent faults refusal (inr (inr h)) = source_breaks texts_of (subst (λ t. violation_of t ≡ None) is_df h.0) (subst (λ t. OneSourceBreaks (schema_in t) 0 ts refusal) is_df h.1)
+
+    module _ (clean : violation_of d ≡ None) (codes : List Code) (are : HaveCodes (schema_in d) ts codes) (later : FileState) (same : AreSame files later) (sound_observable : IsTrue files.sound → IsTrue files.observable) where
+      is_clean : violation_of df ≡ None
+      is_clean = subst (λ t. violation_of t ≡ None) is_df clean
+
+      are_codes : HaveCodes (schema_in df) ts codes
+      are_codes = subst (λ t. HaveCodes (schema_in t) ts codes) is_df are
+
       -- a file after INPUT FROM is not read
-      pub named_prevents : (faults : ℕ) (refusal : Refusal) → OneIsNotRead later faults names refusal → Prevents files faults named refusal
-      named_prevents faults refusal h =
-          no_named_input (texts_of read) is_clean (source_of is_its_code.bound) is_its_code.form
-          (subst (λ ns. OneIsNotRead files faults ns refusal) are_its_names (still_one files later same sound_observable h))
+      pub named_prevents : (faults : ℕ) (refusal : Refusal) → (refusal ≡ NoMemory) ⊎ OneIsNotRead later faults (inputs_of codes) refusal → Prevents files faults schema clients refusal
+      unfolding texts_of
+      named_prevents faults refusal (inl e) = lacks_memory e
+      named_prevents faults refusal (inr h) =
+          let d = denoted (schema_in df) ts codes are_codes in
+          no_named_input texts_of is_clean d.trees d.are (subst (λ ns. OneIsNotRead files faults ns refusal) d.inputs (still_one files later same sound_observable h))
 
-      -- all are read
-      pub is_ready : (loaded : Loaded) → loaded.code ≡ code → loaded.inputs.own ≡ input → HaveTexts later names loaded.inputs.named.items → IsReady files named loaded
-      is_ready loaded is own have = moved loaded.code is
-        where
-          moved : (c : Code) → c ≡ code → IsReady files named (record loaded { code = c })
-          moved c e = subst (λ k. IsReady files named (record loaded { code = k })) (sym e) (record {
-            texts = texts_of read;
-            clean = is_clean;
-            is_code = is_its_code;
-            own = own;
-            inputs = subst (λ ns. HaveTexts files ns loaded.inputs.named.items) are_its_names (still_have files later same sound_observable names loaded.inputs.named.items have);
-          })
+      -- the clients are begun
+      pub is_ready : (units : ℕ) (tasks : List ClientTask) → AreBegun later units codes ts tasks → IsReady files schema clients units tasks
+      unfolding texts_of
+      is_ready units tasks begun =
+          let done = begun_works files (schema_in df) units ts codes tasks are_codes (still_begun files later same sound_observable units codes ts tasks begun) in
+          record { texts = texts_of; clean = is_clean; works = done.works; are = done.are; to_do = done.to_do }

@@ -1,5 +1,5 @@
 -- The command `check`: which texts are listed, which one is refused, and the text that is written.
-use Rattle.std.specs.Prelude.{◌≡◌, ◌+◌, ℕ, List, [], ◌∷◌, ◌++◌, Option, Some, None, slice_get}
+use Rattle.std.specs.Prelude.{◌≡◌, ◌+◌, ℕ, List, [], ◌∷◌, ◌++◌}
 use Rattle.abl_base.specs.declared.rule.Rule.{Rule}
 use Rattle.abl_base.specs.declared.place.Place.{Place}
 use Rattle.abl_values.specs.Schema.{SchemaData}
@@ -38,12 +38,3 @@ abbrev pub check_text : List (List ℕ) → List (List ℕ) → List ℕ
 check_text [] listings = []
 check_text (name ∷ names) [] = []
 check_text (name ∷ names) (lines ∷ listings) = part_of name lines ++ check_text names listings
-
--- the name in the line of a refusal: that of the source that is refused
-abbrev pub name_or_none : Option (List ℕ) → List ℕ
-name_or_none None = []
-name_or_none (Some name) = name
-
-abbrev pub refused_name : List (List ℕ) → Refusal → List ℕ
-refused_name names (Source number rule place) = name_or_none (slice_get names number)
-refused_name names refusal = []

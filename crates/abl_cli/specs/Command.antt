@@ -1,5 +1,6 @@
 -- The result of a command: it was refused by the first cause that prevented it, or it ran.
-use Rattle.std.specs.Prelude.{◌≡◌, ◌⊎◌, ◌<◌, ◌≤◌, ℕ, length, Bool, true, false, IsTrue, List, [], ◌∷◌, Option, Some, None}
+use Rattle.std.specs.Prelude.{◌≡◌, ◌⊎◌, ◌+◌, ◌<◌, ◌≤◌, ℕ, All, length, map, Bool, true, false, if◌then◌else◌, IsTrue, List, [], ◌∷◌, Option, Some, None}
+use Rattle.std.specs.List.{flat_map}
 use Rattle.fault_count.specs.Faults.{Rose}
 use Rattle.abl_base.specs.declared.rule.Rule.{Rule}
 use Rattle.abl_base.specs.declared.place.Place.{Place}
@@ -23,18 +24,19 @@ use Rattle.abl_eval.specs.Forms.{AreForms}
 use Rattle.abl_format.specs.Imports.{line_at}
 use Rattle.block_meaning.specs.Program.{Program}
 use Rattle.block_meaning.specs.Meaning.{run}
+use Rattle.client_database.specs.declared.event.Event.{Event}
 use Rattle.client_output.specs.declared.section.Section.{Section}
 use Rattle.abl_cli.specs.declared.refusal.Refusal.{Refusal}
 use Rattle.abl_cli.specs.declared.refusal.Refusal.TheVariants.{Usage, File, TooLong, Schema, Source, Client, Output, NoMemory}
 use Rattle.abl_cli.specs.declared.command.Report.{Report}
 use Rattle.abl_cli.specs.declared.load.TheConstants.{MAX_FILE_BYTES}
-use Rattle.abl_cli.specs.declared.load.Loaded.{Loaded}
-use Rattle.abl_arguments.specs.CommandLine.{Run, RunFiles, IsRun, arguments_of, Check, IsCheck, check_arguments, IsWrong, number_of}
-use Rattle.abl_cli.specs.Check.{HaveListings, OneBreaks, check_text, refused_name}
+use Rattle.abl_cli.specs.declared.load.ClientTexts.{ClientTexts}
+use Rattle.abl_arguments.specs.CommandLine.{Run, ClientFiles, IsRun, arguments_of, Check, IsCheck, check_arguments, IsWrong, number_of}
+use Rattle.abl_cli.specs.Check.{HaveListings, OneBreaks, check_text}
 use Rattle.abl_arguments.specs.declared.parts.Mode.{Mode}
 use Rattle.abl_values.specs.Schema.{SchemaData}
 use Rattle.abl_cli.specs.Report.{run_text, status_lines, status_of}
-use Rattle.abl_cli.specs.ClientRun.{ClientOutcome}
+use Rattle.abl_cli.specs.ClientRun.{ClientOutcome, own_events}
 use Rattle.abl_outside.specs.Out.{OutState, Writes, appended}
 
 -- the files have this text under the name, where they are observable, and it is not too long
@@ -60,11 +62,6 @@ pub data IsNotRead (files : FileState) (faults : ℕ) (name : List ℕ) : Refusa
   is_too_long : (IsTrue files.observable → IsLonger (files.file name) MAX_FILE_BYTES) → IsNotRead files faults name (TooLong name MAX_FILE_BYTES)
   reading_wants : IsNotRead files faults name NoMemory
 
--- why the client's input was not read
-abbrev pub IsInputNotRead : FileState → ℕ → Option (List ℕ) → Refusal → Type 0
-IsInputNotRead files faults None refusal = ⊥
-IsInputNotRead files faults (Some name) refusal = IsNotRead files faults name refusal
-
 -- why the first of these files that was not read was not
 pub data OneIsNotRead (files : FileState) (faults : ℕ) : List (List ℕ) → Refusal → Type 0 where
   this_one : {name : List ℕ} {names : List (List ℕ)} {refusal : Refusal} → IsNotRead files faults name refusal → OneIsNotRead files faults (name ∷ names) refusal
@@ -79,31 +76,64 @@ pub data BreaksSchema (text : List ℕ) : Refusal → Type 0 where
 abbrev pub schema_in : List ℕ → SchemaData
 schema_in text = schema_of (items_of text)
 
--- why the text of the first client's source is refused over the schema, likewise
-pub data BreaksSource (schema : SchemaData) (text : List ℕ) : Refusal → Type 0 where
-  breaks_rule : {rule : Rule} {place : Place} → BreaksFirst schema text rule place → BreaksSource schema text (Source 0 rule place)
-  source_wants : BreaksSource schema text NoMemory
+-- the file that is a client's input, if it has one
+abbrev pub input_file : Option (List ℕ) → List (List ℕ)
+input_file None = []
+input_file (Some name) = name ∷ []
+
+-- the files of a client: its source, and its input
+abbrev pub client_files : ClientFiles → List (List ℕ)
+client_files c = c.program ∷ input_file c.input
+
+-- the files that a run reads before the rules are looked at, in order
+abbrev pub run_files : List ℕ → List ClientFiles → List (List ℕ)
+run_files schema clients = schema ∷ flat_map client_files clients
+
+-- the files of these clients have these texts
+abbrev pub HaveClients : FileState → List ClientFiles → List ClientTexts → Type 0
+HaveClients files [] [] = Unit {0}
+HaveClients files [] (t ∷ ts) = ⊥
+HaveClients files (c ∷ cs) [] = ⊥
+HaveClients files (c ∷ cs) (t ∷ ts) = (HasText files c.program t.source × HasInput files c.input t.input) × HaveClients files cs ts
 
 -- the texts that were read for a run, before the rules were looked at
-pub record Texts (files : FileState) (named : RunFiles) : Type 0 where
+pub record Texts (files : FileState) (schema : List ℕ) (clients : List ClientFiles) : Type 0 where
   pub df : List ℕ
-  pub source : List ℕ
-  pub input : List ℕ
-  pub has_schema : HasText files named.schema df
-  pub has_source : HasText files named.program source
-  pub has_input : HasInput files named.input input
+  pub texts : List ClientTexts
+  pub has_schema : HasText files schema df
+  pub have : HaveClients files clients texts
 
--- The first thing that prevents the run of these files, in the order in which they are looked for: the schema file, the source, the
--- client's input, the rules of the schema, those of the source, the files after INPUT FROM in text order. Out of memory may come at any time
-pub data Prevents (files : FileState) (faults : ℕ) (named : RunFiles) : Refusal → Type 0 where
-  no_schema : {refusal : Refusal} → IsNotRead files faults named.schema refusal → Prevents files faults named refusal
-  no_source : {refusal : Refusal} {df : List ℕ} → HasText files named.schema df → IsNotRead files faults named.program refusal → Prevents files faults named refusal
-  no_input : {refusal : Refusal} {df source : List ℕ} → HasText files named.schema df → HasText files named.program source → IsInputNotRead files faults named.input refusal → Prevents files faults named refusal
-  schema_breaks : {refusal : Refusal} (texts : Texts files named) → BreaksSchema texts.df refusal → Prevents files faults named refusal
-  source_breaks : {refusal : Refusal} (texts : Texts files named) → violation_of texts.df ≡ None → BreaksSource (schema_in texts.df) texts.source refusal → Prevents files faults named refusal
-  no_named_input : {refusal : Refusal} (texts : Texts files named) → violation_of texts.df ≡ None → (tree : Tree) → IsSourceOf (schema_in texts.df) texts.source tree →
-      OneIsNotRead files faults tree.inputs refusal → Prevents files faults named refusal
-  run_wants : Prevents files faults named NoMemory
+-- why the text of the source of this number is refused over the schema, likewise
+pub data BreaksSource (schema : SchemaData) (number : ℕ) (text : List ℕ) : Refusal → Type 0 where
+  breaks_rule : {rule : Rule} {place : Place} → BreaksFirst schema text rule place → BreaksSource schema number text (Source number rule place)
+  source_wants : BreaksSource schema number text NoMemory
+
+-- why the first of these sources that is refused is; they have the numbers from this one on
+pub data OneSourceBreaks (schema : SchemaData) : ℕ → List ClientTexts → Refusal → Type 0 where
+  this_source : {number : ℕ} {t : ClientTexts} {ts : List ClientTexts} {refusal : Refusal} → BreaksSource schema number t.source refusal → OneSourceBreaks schema number (t ∷ ts) refusal
+  later_source : {number : ℕ} {t : ClientTexts} {ts : List ClientTexts} {refusal : Refusal} (tree : Tree) → IsSourceOf schema t.source tree → OneSourceBreaks schema (number + 1) ts refusal → OneSourceBreaks schema number (t ∷ ts) refusal
+
+-- the sources denote these trees
+abbrev pub AreTrees : SchemaData → List ClientTexts → List Tree → Type 0
+AreTrees schema [] [] = Unit {0}
+AreTrees schema [] (tree ∷ trees) = ⊥
+AreTrees schema (t ∷ ts) [] = ⊥
+AreTrees schema (t ∷ ts) (tree ∷ trees) = IsSourceOf schema t.source tree × AreTrees schema ts trees
+
+-- the files after INPUT FROM, in client order and text order
+abbrev pub named_inputs : List Tree → List (List ℕ)
+named_inputs trees = flat_map (λ (tree : Tree). tree.inputs) trees
+
+-- The first thing that prevents the run of these clients over this schema file, in the order in which they are looked for: the schema
+-- file, the source and the input of each client in order, the rules of the schema, those of the sources in order, the files after INPUT
+-- FROM. Out of memory may come at any time
+pub data Prevents (files : FileState) (faults : ℕ) (schema : List ℕ) (clients : List ClientFiles) : Refusal → Type 0 where
+  no_file : {refusal : Refusal} → OneIsNotRead files faults (run_files schema clients) refusal → Prevents files faults schema clients refusal
+  schema_breaks : {refusal : Refusal} (texts : Texts files schema clients) → BreaksSchema texts.df refusal → Prevents files faults schema clients refusal
+  source_breaks : {refusal : Refusal} (texts : Texts files schema clients) → violation_of texts.df ≡ None → OneSourceBreaks (schema_in texts.df) 0 texts.texts refusal → Prevents files faults schema clients refusal
+  no_named_input : {refusal : Refusal} (texts : Texts files schema clients) → violation_of texts.df ≡ None → (trees : List Tree) → AreTrees (schema_in texts.df) texts.texts trees →
+      OneIsNotRead files faults (named_inputs trees) refusal → Prevents files faults schema clients refusal
+  run_wants : Prevents files faults schema clients NoMemory
 
 -- the texts that were read for a check, before the rules were looked at
 pub record CheckTexts (files : FileState) (check : Check) : Type 0 where
@@ -132,25 +162,34 @@ pub record IsCodeOf (schema : SchemaData) (text : List ℕ) (code : Code) : Type
   pub form : IsSourceOf schema text (source_of bound)
   pub compiled : IsCompiled code bound
 
--- the files are read, the schema breaks no rule, the code is that of the source, and the inputs are those that it names
-pub record IsReady (files : FileState) (named : RunFiles) (loaded : Loaded) : Type 0 where
-  pub texts : Texts files named
-  pub clean : violation_of texts.df ≡ None
-  pub is_code : IsCodeOf (schema_in texts.df) texts.source loaded.code
-  pub own : loaded.inputs.own ≡ texts.input
-  pub inputs : HaveTexts files (source_of is_code.bound).inputs loaded.inputs.named.items
+-- what a client runs: its source, its own input and the named ones
+pub record Work : Type 0 where
+  pub tree : Tree
+  pub input : List ℕ
+  pub inputs : List (List ℕ)
+
+-- the works of clients whose sources and inputs have these texts
+abbrev pub AreWorks : FileState → SchemaData → List ClientTexts → List Work → Type 0
+AreWorks files schema [] [] = Unit {0}
+AreWorks files schema [] (w ∷ ws) = ⊥
+AreWorks files schema (t ∷ ts) [] = ⊥
+AreWorks files schema (t ∷ ts) (w ∷ ws) = (IsSourceOf schema t.source w.tree × ((w.input ≡ t.input) × HaveTexts files w.tree.inputs w.inputs)) × AreWorks files schema ts ws
+
+-- the names of the clients of a run
+abbrev pub client_names : Run → List (List ℕ)
+client_names run = map (λ (c : ClientFiles). c.name) run.clients
 
 -- why a command was refused before a run began: the arguments have no form, or they name a run or a check that is prevented
-pub data Cause (arguments : List (List ℕ)) (files : FileState) (faults : ℕ) : List ℕ → Refusal → Type 0 where
-  wrong_argument : {name : List ℕ} {arg : ℕ} → IsWrong arguments arg → Cause arguments files faults name (Usage arg)
-  prevented : {refusal : Refusal} (run : Run) → IsRun run → arguments ≡ arguments_of run → Prevents files faults run.files refusal → Cause arguments files faults run.name refusal
-  check_prevented : {refusal : Refusal} (check : Check) → IsCheck check → arguments ≡ check_arguments check → PreventsCheck files faults check refusal → Cause arguments files faults (refused_name check.programs refusal) refusal
+pub data Cause (arguments : List (List ℕ)) (files : FileState) (faults : ℕ) : List (List ℕ) → Refusal → Type 0 where
+  wrong_argument : {names : List (List ℕ)} {arg : ℕ} → IsWrong arguments arg → Cause arguments files faults names (Usage arg)
+  prevented : {refusal : Refusal} (run : Run) → IsRun run → arguments ≡ arguments_of run → Prevents files faults run.schema run.clients refusal → Cause arguments files faults (client_names run) refusal
+  check_prevented : {refusal : Refusal} (check : Check) → IsCheck check → arguments ≡ check_arguments check → PreventsCheck files faults check refusal → Cause arguments files faults check.programs refusal
 
 -- the lines of the status of a refusal were appended to standard error, or a prefix of them where a write failed;
 -- standard output is as it was
-abbrev pub WritesStatus : List ℕ → List ClientEnd → Option Refusal → OutState → OutState → Type 0
-WritesStatus name ends None old new = new ≡ old
-WritesStatus name ends (Some refusal) old new = (whole : Bool) × Writes whole Diagnostics (status_lines name ends refusal) old new
+abbrev pub WritesStatus : List (List ℕ) → List ClientEnd → Option Refusal → OutState → OutState → Type 0
+WritesStatus names ends None old new = new ≡ old
+WritesStatus names ends (Some refusal) old new = (whole : Bool) × Writes whole Diagnostics (status_lines names ends refusal) old new
 
 -- the status of a refusal, and 0 without one
 abbrev pub status_after : Option Refusal → ℕ
@@ -158,55 +197,86 @@ status_after None = 0
 status_after (Some refusal) = status_of refusal
 
 -- the report of a command that was refused before a run began
-pub record IsRefused (name : List ℕ) (cause : Refusal) (old new : OutState) (report : Report) : Type 0 where
+pub record IsRefused (names : List (List ℕ)) (cause : Refusal) (old new : OutState) (report : Report) : Type 0 where
   pub refusal : report.refusal ≡ Some cause
   pub status : report.status ≡ status_of cause
   pub trace : report.trace ≡ []
   pub ends : report.ends ≡ []
-  pub lines : WritesStatus name [] (Some cause) old new
+  pub lines : WritesStatus names [] (Some cause) old new
 
 -- Output, where the report was not written whole
 abbrev pub output_refusal : Bool → Option Refusal
 output_refusal true = None
 output_refusal false = Some Output
 
--- the refusal of a run whose client ended so: out of memory, an end in Error or Stop, and then a fault of the output
-abbrev pub refusal_after : ClientEnd → Bool → Option Refusal
-refusal_after end.Normal whole = output_refusal whole
-refusal_after end.Returned whole = output_refusal whole
-refusal_after (end.Error text) whole = Some (Client 0)
-refusal_after (end.Stop why) whole = Some (Client 0)
-refusal_after end.NoMemory whole = Some NoMemory
+-- whether a client was out of memory
+abbrev pub is_no_memory : ClientEnd → Bool
+is_no_memory end.NoMemory = true
+is_no_memory how = false
 
--- the report of a run whose client ended so and wrote these sections: its text is on standard output, or a prefix where a
+-- whether a client ended in Error or Stop
+abbrev pub is_failure : ClientEnd → Bool
+is_failure (end.Error text) = true
+is_failure (end.Stop why) = true
+is_failure how = false
+
+-- whether one of the clients was out of memory
+abbrev pub one_lacks_memory : List ClientEnd → Bool
+one_lacks_memory [] = false
+one_lacks_memory (how ∷ ends) = if is_no_memory how then true else one_lacks_memory ends
+
+-- the number of the first client that ended in Error or Stop; they have the numbers from this one on
+abbrev pub first_failure : ℕ → List ClientEnd → Option ℕ
+first_failure number [] = None
+first_failure number (how ∷ ends) = if is_failure how then Some number else first_failure (number + 1) ends
+
+abbrev pub failure_refusal : Option ℕ → Bool → Option Refusal
+failure_refusal None whole = output_refusal whole
+failure_refusal (Some first) whole = Some (Client first)
+
+-- the refusal of a run whose clients ended so: out of memory, an end in Error or Stop, and then a fault of the output
+abbrev pub refusal_after : List ClientEnd → Bool → Option Refusal
+refusal_after ends whole = if one_lacks_memory ends then Some NoMemory else failure_refusal (first_failure 0 ends) whole
+
+-- the report of a run whose clients ended so and wrote these sections: its text is on standard output, or a prefix where a
 -- write failed, and then the lines on standard error. No operation of levels names a part of the schema, so the text is the same
 -- whatever the schema
-pub record IsReported (mode : Mode) (name : List ℕ) (end : ClientEnd) (sections : List Section) (old new : OutState) (report : Report) : Type 0 where
-  pub ends : report.ends ≡ end ∷ []
+pub record IsReported (mode : Mode) (names : List (List ℕ)) (ends : List ClientEnd) (parts : List (List Section)) (old new : OutState) (report : Report) : Type 0 where
+  pub ends_are : report.ends ≡ ends
   pub whole : Bool
   pub between : OutState
-  pub text : (schema : SchemaData) → Writes whole Standard (run_text mode schema name sections report.trace) old between
-  pub refusal : report.refusal ≡ refusal_after end whole
+  pub text : (schema : SchemaData) → Writes whole Standard (run_text mode schema names parts report.trace) old between
+  pub refusal : report.refusal ≡ refusal_after ends whole
   pub status : report.status ≡ status_after report.refusal
-  pub lines : WritesStatus name report.ends report.refusal between new
+  pub lines : WritesStatus names report.ends report.refusal between new
 
--- what a client runs: this source with these inputs, its own and the named ones, and the forms of values in texts that `docs/formats.md` has.
+-- a program that is this work, with the forms of values in texts that `docs/formats.md` has.
 -- Its tables may be any, since no source that is built so far names one
-pub record IsProgram (tree : Tree) (input : List ℕ) (inputs : List (List ℕ)) (p : Program) : Type 0 where
-  pub source : p.source ≡ tree
-  pub input_is : p.input ≡ input
-  pub inputs_are : p.inputs ≡ inputs
+pub record IsProgram (work : Work) (p : Program) : Type 0 where
+  pub source : p.source ≡ work.tree
+  pub input_is : p.input ≡ work.input
+  pub inputs_are : p.inputs ≡ work.inputs
   pub forms : AreForms p.forms
   pub lines : p.forms.line_at ≡ line_at
 
--- a run of the client of this name, source and inputs in this mode, with this number of units, and its report. It does as its source means. The
--- trace is legal whatever the schema and the contents of the database, which no operation of levels looks at
-pub record HasRun (mode : Mode) (name : List ℕ) (units : ℕ) (tree : Tree) (input : List ℕ) (inputs : List (List ℕ)) (old new : OutState) (report : Report) : Type 0 where
-  pub end : ClientEnd
-  pub sections : List Section
-  pub does : (p : Program) → IsProgram tree input inputs p → ClientOutcome tree.outputs (run p units) report.trace end sections
-  pub legal : (f : Setting) (contents : Contents) → 0 < f.clients → IsSoundContents f contents → IsLegal f contents report.trace
-  pub reported : IsReported mode name end sections old new report
+-- what each client did, with this number of units: as its source means under the answers to its own events. The clients have the numbers
+-- from this one on, and came to these ends and wrote these sections
+abbrev pub DidAsMeant : ℕ → List Event → ℕ → List Work → List ClientEnd → List (List Section) → Type 0
+DidAsMeant units trace number [] [] [] = Unit {0}
+DidAsMeant units trace number (w ∷ ws) (how ∷ ends) (sections ∷ parts) =
+    ((p : Program) → IsProgram w p → ClientOutcome w.tree.outputs (run p units) (own_events number trace) how sections) × DidAsMeant units trace (number + 1) ws ends parts
+DidAsMeant units trace number works ends parts = ⊥
+
+-- A RUN of the clients of these names and works in this mode, and its report. Each client did as its source means under its own answers,
+-- whatever the schedule. The trace is of these clients alone, and legal whatever the schema and the contents of the database, which no
+-- operation of levels looks at
+pub record HasRun (mode : Mode) (names : List (List ℕ)) (units : ℕ) (works : List Work) (old new : OutState) (report : Report) : Type 0 where
+  pub ends : List ClientEnd
+  pub parts : List (List Section)
+  pub did : DidAsMeant units report.trace 0 works ends parts
+  pub clients : All (λ (e : Event). e.client < length works) report.trace
+  pub legal : (f : Setting) (contents : Contents) → length works ≤ f.clients → IsSoundContents f contents → IsLegal f contents report.trace
+  pub reported : IsReported mode names ends parts old new report
 
 -- the report of a check of the sources of these names with these listings: its text is on standard output, or a prefix where a write
 -- failed, and then the line on standard error
@@ -224,13 +294,12 @@ pub record HasChecked (names listings : List (List ℕ)) (old new : OutState) (r
 -- and its report
 pub data CommandResult (arguments : List (List ℕ)) (files : FileState) (faults : ℕ) (old new : OutState) (report : Report) : Type 0 where
   -- it was refused before a run began
-  Refused : (name : List ℕ) (refusal : Refusal) → Cause arguments files faults name refusal → IsRefused name refusal old new report →
+  Refused : (names : List (List ℕ)) (refusal : Refusal) → Cause arguments files faults names refusal → IsRefused names refusal old new report →
       CommandResult arguments files faults old new report
-  -- it ran the source that the arguments name with its inputs, over a schema that breaks no rule
+  -- it ran the clients that the arguments name, over a schema that breaks no rule
   Ran : (named : Run) → IsRun named → arguments ≡ arguments_of named →
-      (texts : Texts files named.files) → violation_of texts.df ≡ None → (tree : Tree) → IsSourceOf (schema_in texts.df) texts.source tree →
-      (inputs : List (List ℕ)) → HaveTexts files tree.inputs inputs →
-      HasRun named.mode named.name (number_of named.steps) tree texts.input inputs old new report → CommandResult arguments files faults old new report
+      (texts : Texts files named.schema named.clients) → violation_of texts.df ≡ None → (works : List Work) → AreWorks files (schema_in texts.df) texts.texts works →
+      HasRun named.mode (client_names named) (number_of named.steps) works old new report → CommandResult arguments files faults old new report
   -- it listed the sources that the arguments name, over a schema that breaks no rule
   Checked : (check : Check) → IsCheck check → arguments ≡ check_arguments check → (listings : List (List ℕ)) → AreListed files check listings → HasChecked check.programs listings old new report →
       CommandResult arguments files faults old new report
@@ -249,7 +318,7 @@ IsUsage refusal = ⊥
 -- the whole text of a command was appended to standard output, and nothing to standard error: that of a run, or that of the check that
 -- the arguments name
 pub data HasWholeText (arguments : List (List ℕ)) (files : FileState) (report : Report) (old new : OutState) : Type 0 where
-  of_run : (mode : Mode) (name : List ℕ) (sections : List Section) → ((schema : SchemaData) → new.texts ≡ appended Standard (run_text mode schema name sections report.trace) old.texts) → HasWholeText arguments files report old new
+  of_run : (mode : Mode) (names : List (List ℕ)) (parts : List (List Section)) → ((schema : SchemaData) → new.texts ≡ appended Standard (run_text mode schema names parts report.trace) old.texts) → HasWholeText arguments files report old new
   of_check : (check : Check) → arguments ≡ check_arguments check → (listings : List (List ℕ)) → AreListed files check listings → new.texts ≡ appended Standard (check_text check.programs listings) old.texts →
       HasWholeText arguments files report old new
 
@@ -275,11 +344,24 @@ abbrev pub AreThere : FileState → List (List ℕ) → Type 0
 AreThere files [] = Unit {0}
 AreThere files (name ∷ names) = ((text : List ℕ) × IsThere files name text) × AreThere files names
 
--- the schema file, the source and the client's input are there, with these texts of the first two
-pub record AllThere (files : FileState) (named : RunFiles) (df source : List ℕ) : Type 0 where
-  pub schema : IsThere files named.schema df
-  pub program : IsThere files named.program source
-  pub input : IsInputThere files named.input
+-- the source of each client is there with this text, and its input is there
+abbrev pub ClientsThere : FileState → List ClientFiles → List (List ℕ) → Type 0
+ClientsThere files [] [] = Unit {0}
+ClientsThere files [] (text ∷ sources) = ⊥
+ClientsThere files (c ∷ cs) [] = ⊥
+ClientsThere files (c ∷ cs) (text ∷ sources) = (IsThere files c.program text × IsInputThere files c.input) × ClientsThere files cs sources
+
+-- the schema file and the files of the clients are there, with these texts of the schema file and of the sources
+pub record AllThere (files : FileState) (run : Run) (df : List ℕ) (sources : List (List ℕ)) : Type 0 where
+  pub schema : IsThere files run.schema df
+  pub clients : ClientsThere files run.clients sources
+
+-- the texts are sources that denote these trees
+abbrev pub AreSources : SchemaData → List (List ℕ) → List Tree → Type 0
+AreSources schema [] [] = Unit {0}
+AreSources schema [] (tree ∷ trees) = ⊥
+AreSources schema (text ∷ texts) [] = ⊥
+AreSources schema (text ∷ texts) (tree ∷ trees) = IsSourceOf schema text tree × AreSources schema texts trees
 
 -- what holds inside of a call: no read has failed, and what is known of the files is as it was
 pub record AreSame (old new : FileState) : Type 0 where

@@ -34,7 +34,7 @@ unfolding digits
 a_wait = refl
 
 -- the line about a schema file that breaks a rule
-a_broken_schema : status_lines (codes "a") [] (Schema F1 1) ≡ codes "abl: schema F1 at line 1\n"
+a_broken_schema : status_lines (codes "a" ∷ []) [] (Schema F1 1) ≡ codes "abl: schema F1 at line 1\n"
 unfolding digits
 a_broken_schema = refl
 

@@ -5,4 +5,5 @@ pub mod ClientRun
 pub mod Check
 pub mod Command
 pub mod CheckFiles
+pub mod Inside
 pub mod Examples

@@ -1,5 +1,5 @@
 -- The text that a run writes to standard output, and the lines on how a command ended.
-use Rattle.std.specs.Prelude.{ℕ, ◌==◌, if◌then◌else◌, List, [], ◌∷◌, ◌++◌, codes, decimal}
+use Rattle.std.specs.Prelude.{ℕ, ◌==◌, if◌then◌else◌, List, [], ◌∷◌, ◌++◌, Option, Some, None, codes, decimal, slice_get}
 use Rattle.std.specs.List.{flat_map}
 use Rattle.abl_base.specs.Rules.{rule_name}
 use Rattle.client_database.specs.Ends.{stop_name}
@@ -34,10 +34,16 @@ report_of name [] = part_of name []
 report_of name (section ∷ named) =
     part_of name section.bytes ++ flat_map (λ s. part_of (name ++ 58 ∷ s.name) s.bytes) named
 
--- the text of a run: the client's part, and its trace in mode trace
-abbrev pub run_text : Mode → SchemaData → List ℕ → List Section → List Event → List ℕ
-run_text Quiet schema name sections trace = report_of name sections
-run_text Trace schema name sections trace = report_of name sections ++ trace_part schema (name ∷ []) trace
+-- the parts of clients of these names that wrote these sections
+abbrev pub reports : List (List ℕ) → List (List Section) → List ℕ
+reports [] parts = []
+reports (name ∷ names) [] = []
+reports (name ∷ names) (sections ∷ parts) = report_of name sections ++ reports names parts
+
+-- the text of a run: the part of each client, and in mode trace the trace
+abbrev pub run_text : Mode → SchemaData → List (List ℕ) → List (List Section) → List Event → List ℕ
+run_text Quiet schema names parts trace = reports names parts
+run_text Trace schema names parts trace = reports names parts ++ trace_part schema names trace
 
 -- the line about a client that ended in Error or Stop
 abbrev pub end_line : List ℕ → ClientEnd → List ℕ
@@ -47,19 +53,30 @@ end_line name (end.Error text) = codes "abl: client " ++ name ++ codes ": error 
 end_line name (end.Stop why) = codes "abl: client " ++ name ++ codes ": stop " ++ stop_name why ++ 10 ∷ []
 end_line name end.NoMemory = []
 
--- the lines of a status: of the only client's name and of its end, where a run began
-abbrev pub status_lines : List ℕ → List ClientEnd → Refusal → List ℕ
-status_lines name ends (Usage arg) = codes "abl: usage at word " ++ decimal arg ++ 10 ∷ []
-status_lines name ends (File file) = codes "abl: cannot read " ++ file ++ 10 ∷ []
-status_lines name ends (TooLong file most) =
+-- a line for each client that ended in Error or Stop
+abbrev pub end_lines : List (List ℕ) → List ClientEnd → List ℕ
+end_lines [] ends = []
+end_lines (name ∷ names) [] = []
+end_lines (name ∷ names) (how ∷ ends) = end_line name how ++ end_lines names ends
+
+-- the name of this number
+abbrev pub name_or_none : Option (List ℕ) → List ℕ
+name_or_none None = []
+name_or_none (Some name) = name
+
+-- the lines of a status: of the clients or sources of these names, and of the clients' ends where a run began
+abbrev pub status_lines : List (List ℕ) → List ClientEnd → Refusal → List ℕ
+status_lines names ends (Usage arg) = codes "abl: usage at word " ++ decimal arg ++ 10 ∷ []
+status_lines names ends (File file) = codes "abl: cannot read " ++ file ++ 10 ∷ []
+status_lines names ends (TooLong file most) =
     codes "abl: " ++ file ++ codes " is longer than " ++ decimal most ++ codes " bytes" ++ 10 ∷ []
-status_lines name ends (Schema rule line) =
+status_lines names ends (Schema rule line) =
     codes "abl: schema " ++ rule_name rule ++ codes " at line " ++ decimal line ++ 10 ∷ []
-status_lines name ends (Source client rule place) =
-    codes "abl: " ++ name ++ codes ": " ++ rule_name rule ++ codes " at " ++ decimal place.line ++ 58 ∷ decimal place.column ++ 10 ∷ []
-status_lines name ends (Client first) = flat_map (end_line name) ends
-status_lines name ends Output = codes "abl: output" ++ 10 ∷ []
-status_lines name ends NoMemory = codes "abl: no memory" ++ 10 ∷ []
+status_lines names ends (Source client rule place) =
+    codes "abl: " ++ name_or_none (slice_get names client) ++ codes ": " ++ rule_name rule ++ codes " at " ++ decimal place.line ++ 58 ∷ decimal place.column ++ 10 ∷ []
+status_lines names ends (Client first) = end_lines names ends
+status_lines names ends Output = codes "abl: output" ++ 10 ∷ []
+status_lines names ends NoMemory = codes "abl: no memory" ++ 10 ∷ []
 
 -- the status that a refusal ends with
 abbrev pub status_of : Refusal → ℕ

@@ -114,8 +114,7 @@ trace_part schema names trace = codes "== trace ==" ++ 10 ∷ trace_lines schema
 
 -- ---- what is built
 
--- an event of levels of the first client: its line looks at no schema, and its answer is a name alone
+-- an event of levels: its line looks at no schema, and its answer is a name alone
 pub record IsLevelEvent (event : Event) : Type 0 where
-  pub client : event.client ≡ 0
   pub op : IsLevelOp event.op
   pub answer : (names : List (List ℕ)) → added names event.answer ≡ []

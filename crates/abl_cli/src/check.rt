@@ -4,7 +4,7 @@ ghost use Rattle.std.specs.Prelude.{◌≡◌, ◌≤◌, ◌⊎◌, All, IfErr,
 ghost use Rattle.abl_outside.specs.declared.out.Stream.{Stream};
 ghost use Rattle.abl_outside.specs.Out.{Writes};
 ghost use Rattle.abl_schema.specs.Rules.{violation_of};
-ghost use Rattle.abl_cli.specs.Check.{BreaksProgram, HaveListings, IsListing, OneBreaks, check_text, refused_name};
+ghost use Rattle.abl_cli.specs.Check.{BreaksProgram, HaveListings, IsListing, OneBreaks, check_text};
 ghost use Rattle.abl_arguments.specs.CommandLine.{NamesCheck, check_of};
 ghost use Rattle.abl_cli.specs.Command.{AreListed, BreaksSchema, CommandResult, HasChecked, PreventsCheck, schema_in};
 
@@ -34,24 +34,8 @@ pub fn check_sources<F: Files, O: Out>(
     ensures { CommandResult arguments.now (F.state files.old) (F.state files.new).faults (O.state out.old) (O.state out.new) result }
 {
     match listings_of(alloc, files, check) {
-        Err(refusal) => {
-            let name = refused_name(check.programs, &refusal);
-            refused(alloc, out, name, refusal)
-        }
+        Err(refusal) => refused(alloc, out, check.programs, refusal),
         Ok(listings) => report(alloc, out, check.programs, &listings),
-    }
-}
-
-/// The name of the source that is refused, and nothing where no source is.
-fn refused_name<'a>(names: &'a [Arg], refusal: &Refusal) -> &'a [u8]
-    ensures { result.now ≡ refused_name names.now refusal.now }
-{
-    let Refusal::Source { client, .. } = refusal else {
-        return b"";
-    };
-    match names.get(usize::from(*client)) {
-        Some(name) => name.as_slice(),
-        None => b"",
     }
 }
 
@@ -131,7 +115,7 @@ fn report<O: Out>(alloc: Global, out: &mut O, names: &[Arg], listings: &[Bytes])
 {
     let whole = write_listings(out, names, listings).is_ok();
     let refusal = output_refusal(whole);
-    write_refusal(out, b"", &[], &refusal);
+    write_refusal(out, &[], &[], &refusal);
     Report {
         status: status_of(&refusal),
         trace: Trace::empty(alloc),

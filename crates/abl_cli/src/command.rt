@@ -5,15 +5,18 @@ ghost use Rattle.abl_arguments.specs.CommandLine.{Names};
 ghost use Rattle.abl_cli.specs.Command.{CommandResult, IsRefused};
 
 use crate::check::check_sources;
+use crate::clients::{clients_of, names_of};
 use crate::execute::execute;
 use crate::load::load;
 use crate::refusal::Refusal;
 use crate::report::write_status;
 use abl_arguments::{Arg, Command, RunArguments, read_command};
-use abl_base::Items;
-use abl_outside::{Files, Out};
+use abl_base::{Bytes, Items};
+use abl_outside::{Files, Gate, Out};
 use client_database::{ClientEnd, Trace};
 use std::alloc::Global;
+use std::sync::Wait;
+use std::thread::Threads;
 
 /// How clients ended, in client order.
 pub type Ends = Items<ClientEnd>;
@@ -23,54 +26,65 @@ pub type Ends = Items<ClientEnd>;
 pub struct Report {
     /// The status that the program ends with: 0, or that of the refusal.
     pub status: u8,
-    /// What the client asked and was answered; empty where no run began.
+    /// What the clients requested and were answered; empty where no run began.
     pub trace: Trace,
     /// One end a client; empty where no run began.
     pub ends: Ends,
     pub refusal: Option<Refusal>,
 }
 
-/// Does what the arguments say. `run` reads the schema file, the source and its inputs, compiles the
-/// source, and runs the client. `check` reads the schema file and the sources, and lists the blocks of
-/// each source, also of one that is not built yet. It writes the report to standard output and the
-/// lines of the status to standard error.
-pub fn run_abl<F: Files, O: Out>(
+/// Does what the arguments say. `run` reads the schema file, the sources and the inputs, compiles the
+/// sources, and runs each client on a thread of its own over one database. `check` reads the schema
+/// file and the sources, and lists the blocks of each source, also of one that is not built yet. It
+/// writes the report to standard output and the lines of the status to standard error. A client comes
+/// to the gate before each of its steps.
+pub fn run_abl<R: Threads + Wait + Sync, F: Files, O: Out, G: Gate + Sync>(
+    rt: &R,
     alloc: Global,
     arguments: &[Arg],
     files: &mut F,
     out: &mut O,
+    gate: &G,
 ) -> Report
     ensures { CommandResult arguments.now (F.state files.old) (F.state files.new).faults (O.state out.old) (O.state out.new) result }
 {
     match read_command(arguments) {
-        Err(argument) => refused(alloc, out, b"", Refusal::Usage { argument }),
-        Ok(Command::Run(run)) => run_source(alloc, arguments, files, out, &run),
+        Err(argument) => refused(alloc, out, &[], Refusal::Usage { argument }),
+        Ok(Command::Run(run)) => run_sources(rt, alloc, arguments, files, out, gate, &run),
         Ok(Command::Check(check)) => check_sources(alloc, arguments, files, out, &check),
     }
 }
 
-/// Runs the source that the arguments name.
-fn run_source<F: Files, O: Out>(
+/// Runs the clients that the arguments name.
+fn run_sources<R: Threads + Wait + Sync, F: Files, O: Out, G: Gate + Sync>(
+    rt: &R,
     alloc: Global,
     arguments: &[Arg],
     files: &mut F,
     out: &mut O,
+    gate: &G,
     run: &RunArguments<'_>,
 ) -> Report
     requires { Names arguments.now run.now }
     ensures { CommandResult arguments.now (F.state files.old) (F.state files.new).faults (O.state out.old) (O.state out.new) result }
 {
-    match load(alloc, files, run) {
-        Err(refusal) => refused(alloc, out, run.name, refusal),
-        Ok(loaded) => execute(alloc, out, run, loaded),
+    let Ok(clients) = clients_of(alloc, run.clients) else {
+        return refused(alloc, out, &[], Refusal::NoMemory);
+    };
+    let Ok(names) = names_of(alloc, &clients) else {
+        return refused(alloc, out, &[], Refusal::NoMemory);
+    };
+    match load(alloc, files, run.schema, &clients, run.steps) {
+        Err(refusal) => refused(alloc, out, &names, refusal),
+        Ok(tasks) => execute(rt, alloc, out, gate, run.mode, &names, tasks),
     }
 }
 
 /// The report of a command that was refused before a run began.
-pub fn refused<O: Out>(alloc: Global, out: &mut O, name: &[u8], refusal: Refusal) -> Report
-    ensures { IsRefused name.now refusal (O.state out.old) (O.state out.new) result }
+pub fn refused<O: Out>(alloc: Global, out: &mut O, names: &[Bytes], refusal: Refusal) -> Report
+    ensures { IsRefused names.now refusal (O.state out.old) (O.state out.new) result }
 {
-    let _ = write_status(out, name, &[], &refusal);
+    let _ = write_status(out, names, &[], &refusal);
     Report {
         status: refusal.status(),
         trace: Trace::empty(alloc),

@@ -1,71 +1,71 @@
-//! A run: the client and its answers, the report, and the lines of the status.
+//! A run: the clients on threads over one database, the report, and the lines of the status.
 
-ghost use Rattle.std.specs.Prelude.{◌≡◌, ◌<◌, ◌⊎◌, ℕ, List, [], All, vec_capacity};
-ghost use Rattle.abl_values.specs.Schema.{SchemaData};
-ghost use Rattle.bound_tree.specs.Bound.{source_of};
+ghost use Rattle.std.specs.Prelude.{◌≡◌, ◌++◌, ◌+◌, ◌<◌, ◌≤◌, ◌⊎◌, ℕ, List, [], All, length, map, vec_capacity, vec_len};
+ghost use Rattle.client_output.specs.declared.section.Section.{Section};
+ghost use Rattle.level_clients.specs.Ran.{ClientTask as TheTask};
 ghost use Rattle.abl_cli.specs.Trace.{IsLevelEvent};
-ghost use Rattle.abl_cli.specs.Command.{IsCodeOf, HasRun, IsReported, IsRefused, WritesStatus, refusal_after, output_refusal, status_after};
+ghost use Rattle.abl_cli.specs.Inside.{AreToDo, HaveSections, end_or_none};
+ghost use Rattle.abl_cli.specs.Command.{HasRun, IsReported, IsRefused, Work, WritesStatus, failure_refusal, first_failure, is_failure, is_no_memory, one_lacks_memory, refusal_after, output_refusal, status_after};
 
 use crate::command::{Ends, Report, refused};
-use crate::load::Loaded;
+use crate::database::{RunTask, run_tasks};
 use crate::refusal::Refusal;
 use crate::report::{write_run, write_status};
-use crate::run_client::run_client;
-use abl_arguments::RunArguments;
-use abl_outside::Out;
-use block_meaning::laws::written_only_grows;
-use block_vm::Client;
+use abl_arguments::Mode;
+use abl_base::Bytes;
+use abl_outside::{Gate, Out};
 use client_database::{ClientEnd, Trace};
-use client_output::Section;
-use level_machine::LevelDatabase;
+use client_runner::Task;
 use std::alloc::Global;
+use std::sync::Wait;
+use std::thread::Threads;
 
-/// Runs the client, and writes its report and the lines of the status.
-pub fn execute<O: Out>(alloc: Global, out: &mut O, run: &RunArguments<'_>, loaded: Loaded) -> Report
-    ensures { (schema : SchemaData) (text : List ℕ) (is_code : IsCodeOf schema text loaded.code) → HasRun run.now.mode run.now.name.now run.now.steps (source_of is_code.bound) loaded.inputs.own loaded.inputs.named.items (O.state out.old) (O.state out.new) result ⊎ IsRefused run.now.name.now Refusal.NoMemory (O.state out.old) (O.state out.new) result }
+/// Runs each client on a thread of its own, and writes the report and the lines of the status. All
+/// memory that a run needs before a client begins is taken first.
+pub fn execute<R: Threads + Wait + Sync, O: Out, G: Gate + Sync>(
+    rt: &R,
+    alloc: Global,
+    out: &mut O,
+    gate: &G,
+    mode: Mode,
+    names: &[Bytes],
+    tasks: Vec<RunTask>,
+) -> Report
+    requires some { 0 < length tasks.items }
+    requires few { length tasks.items ≤ 16 }
+    ensures { (units : ℕ) (works : List Work) → AreToDo units works tasks.items → HasRun mode names.now units works (O.state out.old) (O.state out.new) result ⊎ IsRefused names.now Refusal.NoMemory (O.state out.old) (O.state out.new) result }
 {
-    let (Ok(mut database), Ok(ends)) = (LevelDatabase::new(alloc, 1), Vec::with_capacity(alloc, 1))
-    else {
-        return refused(alloc, out, run.name, Refusal::NoMemory);
+    let mut tasks = tasks;
+    let Ok(ends) = Vec::with_capacity(alloc, tasks.len()) else {
+        return refused(alloc, out, names, Refusal::NoMemory);
     };
-    written_only_grows();
-    let Loaded { code, inputs } = loaded;
-    match Client::new(alloc, code, inputs, run.steps) {
-        Ok(mut client) => {
-            let end = run_client(&mut client, &mut database);
-            report(out, run, client.output(), database.into_trace(), ends, end)
-        }
-        Err(_) => report(
-            out,
-            run,
-            &[],
-            database.into_trace(),
-            ends,
-            ClientEnd::NoMemory,
-        ),
+    match run_tasks(rt, alloc, tasks.as_mut_slice(), gate) {
+        Ok(trace) => report(out, mode, names, tasks, trace, ends),
+        Err(_) => refused(alloc, out, names, Refusal::NoMemory),
     }
 }
 
-/// Writes the report of a run whose client ended so, and the lines of the status. Room for the end
+/// Writes the report of a run whose clients ended so, and the lines of the status. Room for the ends
 /// is in `ends`.
 fn report<O: Out>(
     out: &mut O,
-    run: &RunArguments<'_>,
-    sections: &[Section],
+    mode: Mode,
+    names: &[Bytes],
+    tasks: Vec<RunTask>,
     trace: Trace,
-    mut ends: Vec<ClientEnd>,
-    end: ClientEnd,
+    ends: Vec<ClientEnd>,
 ) -> Report
     requires none { ends.items ≡ [] }
-    requires room { 0 < vec_capacity ends }
+    requires room { length tasks.items ≤ vec_capacity ends }
+    requires few { length tasks.items ≤ 16 }
     requires levels { All IsLevelEvent trace }
-    ensures reported { IsReported run.now.mode run.now.name.now end sections.now (O.state out.old) (O.state out.new) result }
+    ensures reported { (parts : List (List Section)) × HaveSections tasks.items parts × IsReported mode names.now (map (λ (t : TheTask). end_or_none t.end) tasks.items) parts (O.state out.old) (O.state out.new) result }
     ensures trace { result.trace ≡ trace }
 {
-    let whole = write_run(out, run.mode, run.name, sections, trace.as_slice()).is_ok();
-    let refusal = refusal_after(&end, whole);
-    ends.push_reserved(end);
-    write_refusal(out, run.name, &ends, &refusal);
+    let whole = write_run(out, mode, names, &tasks, trace.as_slice()).is_ok();
+    let ends = ends_of(tasks, ends);
+    let refusal = refusal_after(&ends, whole);
+    write_refusal(out, names, &ends, &refusal);
     Report {
         status: status_of(&refusal),
         trace,
@@ -74,17 +74,50 @@ fn report<O: Out>(
     }
 }
 
+/// Adds how each client has ended, in order. Room for the ends is in `ends`.
+fn ends_of(tasks: Vec<RunTask>, ends: Vec<ClientEnd>) -> Vec<ClientEnd>
+    requires room { vec_len ends + length tasks.items ≤ vec_capacity ends }
+    ensures { result.items ≡ ends.items ++ map (λ (t : TheTask). end_or_none t.end) tasks.items }
+{
+    let mut tasks = tasks;
+    let mut ends = ends;
+    if tasks.is_empty() {
+        return ends;
+    }
+    let task = tasks.remove(0);
+    ends.push_reserved(end_of(task));
+    ends_of(tasks, ends)
+}
+
+/// How the client has ended.
+fn end_of(task: RunTask) -> ClientEnd
+    ensures { result ≡ end_or_none task.end }
+{
+    let Task {
+        client,
+        number: _,
+        pass,
+        end,
+    } = task;
+    drop(client);
+    drop(pass);
+    match end {
+        Some(end) => end,
+        None => ClientEnd::NoMemory,
+    }
+}
+
 /// Writes the lines of the status of a refusal, if there is one.
 pub(crate) fn write_refusal<O: Out>(
     out: &mut O,
-    name: &[u8],
+    names: &[Bytes],
     ends: &[ClientEnd],
     refusal: &Option<Refusal>,
 )
-    ensures { WritesStatus name.now ends.now refusal.now (O.state out.old) (O.state out.new) }
+    ensures { WritesStatus names.now ends.now refusal.now (O.state out.old) (O.state out.new) }
 {
     if let Some(refusal) = refusal {
-        let _ = write_status(out, name, ends, refusal);
+        let _ = write_status(out, names, ends, refusal);
     }
 }
 
@@ -98,15 +131,41 @@ pub(crate) fn status_of(refusal: &Option<Refusal>) -> u8
     }
 }
 
-/// The refusal of a run whose client ended so, and whose report was written whole or not: out of
+/// The refusal of a run whose clients ended so, and whose report was written whole or not: out of
 /// memory, an end in Error or Stop, or a fault of the output, the first that applies.
-fn refusal_after(end: &ClientEnd, whole: bool) -> Option<Refusal>
-    ensures { result ≡ refusal_after end.now whole }
+fn refusal_after(ends: &[ClientEnd], whole: bool) -> Option<Refusal>
+    requires { length ends.now ≤ 65535 }
+    ensures { result ≡ refusal_after ends.now whole }
 {
+    if one_lacks_memory(ends) {
+        return Some(Refusal::NoMemory);
+    }
+    match first_failure(ends, 0) {
+        Some(first) => Some(Refusal::Client { first }),
+        None => output_refusal(whole),
+    }
+}
+
+/// Whether one of the clients was out of memory.
+fn one_lacks_memory(ends: &[ClientEnd]) -> bool
+    ensures { result ≡ one_lacks_memory ends.now }
+{
+    let Some((end, rest)) = ends.split_first() else {
+        return false;
+    };
+    matches!(end, ClientEnd::NoMemory) || one_lacks_memory(rest)
+}
+
+/// The number of the first client that ended in Error or Stop; they have the numbers from this one
+/// on.
+fn first_failure(ends: &[ClientEnd], number: u16) -> Option<u16>
+    requires { number + length ends.now ≤ 65535 }
+    ensures { result ≡ first_failure number ends.now }
+{
+    let (end, rest) = ends.split_first()?;
     match end {
-        ClientEnd::NoMemory => Some(Refusal::NoMemory),
-        ClientEnd::Error(_) | ClientEnd::Stop(_) => Some(Refusal::Client { first: 0 }),
-        ClientEnd::Normal | ClientEnd::Returned => output_refusal(whole),
+        ClientEnd::Error(_) | ClientEnd::Stop(_) => Some(number),
+        _ => first_failure(rest, number + 1),
     }
 }
 

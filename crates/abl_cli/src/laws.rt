@@ -18,7 +18,7 @@ ghost use Rattle.abl_arguments.specs.CommandLine.{Check, Run, HaveForm, IsWrong}
 ghost use Rattle.abl_cli.specs.Check.{HaveListings, check_text};
 ghost use Rattle.abl_outside.specs.Out.{OutState};
 ghost use Rattle.abl_outside.specs.Files.{FileState};
-ghost use Rattle.abl_cli.specs.Command.{AllThere, AreThere, CommandResult, HasWholeText, IsRefusal, IsThere, IsUsage, NamesRun, schema_in};
+ghost use Rattle.abl_cli.specs.Command.{AllThere, AreSources, AreThere, CommandResult, HasWholeText, IsRefusal, IsThere, IsUsage, NamesRun, named_inputs, run_files, schema_in};
 ghost use Rattle.abl_cli.specs.CheckFiles.{AreThereWith, NamesSources, check_files};
 
 /// The refusal is Usage, with the number of the wrong argument, exactly where the arguments have no
@@ -29,62 +29,50 @@ pub fn usage_names_the_wrong_argument()
     ensures formed { (arguments : List (List ℕ)) (files : FileState) (faults : ℕ) (old new : OutState) (report : Told) → CommandResult arguments files faults old new report → HaveForm arguments → IsUsage report.refusal → ⊥ }
 {}
 
-/// Over files that are observable and sound, and arguments that name a run, the refusal is the first cause
-/// that prevents the run, exactly: the schema file is missing or too long, then the source, then the client's
-/// input, then a rule that the schema breaks first, then one that the source breaks first, then a file
-/// after INPUT FROM that is missing or too long. In each case it may be out of memory instead.
+/// Over files that are observable and sound, and arguments that name a run, the refusal is the first
+/// cause that prevents it, exactly: the first of the schema file and each client's source and input
+/// that is missing or too long, then a rule that the schema breaks first, then the rule that the first
+/// source that breaks one breaks first, with the number of its client, then the first file after INPUT
+/// FROM that is missing or too long. In each case it may be out of memory instead.
 pub fn the_first_cause_is_the_refusal()
-    ensures no_schema { (arguments : List (List ℕ)) (files : FileState) (faults : ℕ) (old new : OutState) (report : Told) (run : Run) →
+    ensures no_file { (arguments : List (List ℕ)) (files : FileState) (faults : ℕ) (old new : OutState) (report : Told) (run : Run) →
         CommandResult arguments files faults old new report → NamesRun arguments files run →
-        files.file run.files.schema ≡ None → IsRefusal report.refusal (File run.files.schema) }
-    ensures long_schema { (arguments : List (List ℕ)) (files : FileState) (faults : ℕ) (old new : OutState) (report : Told) (run : Run) →
+        (before after : List (List ℕ)) (name : List ℕ) → run_files run.schema run.clients ≡ before ++ name ∷ after → AreThere files before →
+        files.file name ≡ None → IsRefusal report.refusal (File name) }
+    ensures long_file { (arguments : List (List ℕ)) (files : FileState) (faults : ℕ) (old new : OutState) (report : Told) (run : Run) →
         CommandResult arguments files faults old new report → NamesRun arguments files run →
-        (df : List ℕ) → files.file run.files.schema ≡ Some df → MOST < length df → IsRefusal report.refusal (TooLong run.files.schema MOST) }
-    ensures no_source { (arguments : List (List ℕ)) (files : FileState) (faults : ℕ) (old new : OutState) (report : Told) (run : Run) →
-        CommandResult arguments files faults old new report → NamesRun arguments files run →
-        (df : List ℕ) → IsThere files run.files.schema df →
-        files.file run.files.program ≡ None → IsRefusal report.refusal (File run.files.program) }
-    ensures long_source { (arguments : List (List ℕ)) (files : FileState) (faults : ℕ) (old new : OutState) (report : Told) (run : Run) →
-        CommandResult arguments files faults old new report → NamesRun arguments files run →
-        (df text : List ℕ) → IsThere files run.files.schema df → files.file run.files.program ≡ Some text →
-        MOST < length text → IsRefusal report.refusal (TooLong run.files.program MOST) }
-    ensures no_input { (arguments : List (List ℕ)) (files : FileState) (faults : ℕ) (old new : OutState) (report : Told) (run : Run) →
-        CommandResult arguments files faults old new report → NamesRun arguments files run →
-        (df text name : List ℕ) → IsThere files run.files.schema df → IsThere files run.files.program text →
-        run.files.input ≡ Some name → files.file name ≡ None → IsRefusal report.refusal (File name) }
-    ensures long_input { (arguments : List (List ℕ)) (files : FileState) (faults : ℕ) (old new : OutState) (report : Told) (run : Run) →
-        CommandResult arguments files faults old new report → NamesRun arguments files run →
-        (df text name input : List ℕ) → IsThere files run.files.schema df → IsThere files run.files.program text →
-        run.files.input ≡ Some name → files.file name ≡ Some input → MOST < length input → IsRefusal report.refusal (TooLong name MOST) }
+        (before after : List (List ℕ)) (name text : List ℕ) → run_files run.schema run.clients ≡ before ++ name ∷ after → AreThere files before →
+        files.file name ≡ Some text → MOST < length text → IsRefusal report.refusal (TooLong name MOST) }
     ensures broken_schema { (arguments : List (List ℕ)) (files : FileState) (faults : ℕ) (old new : OutState) (report : Told) (run : Run) →
         CommandResult arguments files faults old new report → NamesRun arguments files run →
-        (df text : List ℕ) → AllThere files run.files df text →
+        (df : List ℕ) (sources : List (List ℕ)) → AllThere files run df sources →
         (rule : TheRule) (line : ℕ) → violation_of df ≡ Some (record { rule = rule; line = line }) → IsRefusal report.refusal (Schema rule line) }
     ensures broken_source { (arguments : List (List ℕ)) (files : FileState) (faults : ℕ) (old new : OutState) (report : Told) (run : Run) →
         CommandResult arguments files faults old new report → NamesRun arguments files run →
-        (df text : List ℕ) → AllThere files run.files df text → violation_of df ≡ None →
-        (rule : TheRule) (place : ThePlace) → BreaksFirst (schema_in df) text rule place → IsRefusal report.refusal (Source 0 rule place) }
+        (df : List ℕ) (sources : List (List ℕ)) → AllThere files run df sources → violation_of df ≡ None →
+        (before after : List (List ℕ)) (trees : List Tree) (text : List ℕ) → sources ≡ before ++ text ∷ after → AreSources (schema_in df) before trees →
+        (rule : TheRule) (place : ThePlace) → BreaksFirst (schema_in df) text rule place → IsRefusal report.refusal (Source (length before) rule place) }
     ensures no_named_input { (arguments : List (List ℕ)) (files : FileState) (faults : ℕ) (old new : OutState) (report : Told) (run : Run) →
         CommandResult arguments files faults old new report → NamesRun arguments files run →
-        (df text : List ℕ) → AllThere files run.files df text → violation_of df ≡ None → (tree : Tree) → IsSourceOf (schema_in df) text tree →
-        (before after : List (List ℕ)) (name : List ℕ) → tree.inputs ≡ before ++ name ∷ after → AreThere files before →
+        (df : List ℕ) (sources : List (List ℕ)) → AllThere files run df sources → violation_of df ≡ None → (trees : List Tree) → AreSources (schema_in df) sources trees →
+        (before after : List (List ℕ)) (name : List ℕ) → named_inputs trees ≡ before ++ name ∷ after → AreThere files before →
         files.file name ≡ None → IsRefusal report.refusal (File name) }
     ensures long_named_input { (arguments : List (List ℕ)) (files : FileState) (faults : ℕ) (old new : OutState) (report : Told) (run : Run) →
         CommandResult arguments files faults old new report → NamesRun arguments files run →
-        (df text : List ℕ) → AllThere files run.files df text → violation_of df ≡ None → (tree : Tree) → IsSourceOf (schema_in df) text tree →
-        (before after : List (List ℕ)) (name input : List ℕ) → tree.inputs ≡ before ++ name ∷ after → AreThere files before →
+        (df : List ℕ) (sources : List (List ℕ)) → AllThere files run df sources → violation_of df ≡ None → (trees : List Tree) → AreSources (schema_in df) sources trees →
+        (before after : List (List ℕ)) (name input : List ℕ) → named_inputs trees ≡ before ++ name ∷ after → AreThere files before →
         files.file name ≡ Some input → MOST < length input → IsRefusal report.refusal (TooLong name MOST) }
 {}
 
-/// Where the arguments name a run, the files are observable and sound, the schema file, the source, the
-/// client's input and the files after INPUT FROM are there and short enough, the schema and the source
-/// break no rule, and no write fails, the client runs: the status is 0 or 8 by its end, or 7, for out
+/// Where the arguments name a run, the files are observable and sound, the schema file, the sources, the
+/// clients' inputs and the files after INPUT FROM are there and short enough, the schema and the sources
+/// break no rule, and no write fails, the clients run: the status is 0 or 8 by their ends, or 7, for out
 /// of memory.
 pub fn a_run_without_faults_is_done()
     ensures { (arguments : List (List ℕ)) (files : FileState) (faults : ℕ) (old new : OutState) (report : Told) (run : Run) →
         CommandResult arguments files faults old new report → NamesRun arguments files run →
-        (df text : List ℕ) → AllThere files run.files df text →
-        violation_of df ≡ None → (tree : Tree) → IsSourceOf (schema_in df) text tree → AreThere files tree.inputs →
+        (df : List ℕ) (sources : List (List ℕ)) → AllThere files run df sources →
+        violation_of df ≡ None → (trees : List Tree) → AreSources (schema_in df) sources trees → AreThere files (named_inputs trees) →
         (Rose old.faults new.faults → ⊥) →
         (report.status ≡ 0) ⊎ ((report.status ≡ 8) ⊎ (report.status ≡ 7)) }
 {}

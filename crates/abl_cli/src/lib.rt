@@ -3,13 +3,14 @@
 #![tactic(auto)]
 
 mod check;
+mod clients;
 pub mod command;
+mod database;
 mod execute;
 pub mod laws;
 mod load;
 pub mod refusal;
 mod report;
-mod run_client;
 mod source;
 mod trace;
 

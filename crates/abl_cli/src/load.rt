@@ -1,78 +1,100 @@
-//! From the arguments of a run to what its client runs.
+//! From the arguments of a run to its clients, ready to run.
 
-ghost use Rattle.std.specs.Prelude.{◌≡◌, ◌≤◌, ◌⊎◌, None, Some, IfErr, IfOk, OnOk, length, option_copied};
+ghost use Rattle.std.specs.Prelude.{◌≡◌, ◌≤◌, ◌⊎◌, ◌++◌, ◌+◌, All, List, None, Some, IfErr, IfOk, OnOk, length, map, option_copied};
+ghost use Rattle.std.specs.List.{flat_map};
 ghost use Rattle.abl_schema.specs.Rules.{violation_of};
-ghost use Rattle.abl_arguments.specs.CommandLine.{files_of};
-ghost use Rattle.abl_cli.specs.Command.{AreSame, BreaksSchema, BreaksSource, HasInput, HasText, HaveTexts, IsCodeOf, IsInputNotRead, IsNotRead, IsReady, OneIsNotRead, Prevents, schema_in};
+ghost use Rattle.abl_arguments.specs.CommandLine.{client_in};
+ghost use Rattle.abl_cli.specs.declared.refusal.Refusal.TheVariants.{NoMemory};
+ghost use Rattle.abl_cli.specs.Command.{AreSame, BreaksSchema, BreaksSource, HasInput, HasText, HaveClients, HaveTexts, IsCodeOf, IsNotRead, OneIsNotRead, OneSourceBreaks, Prevents, Work, client_files, input_file, schema_in};
+ghost use Rattle.block_code.specs.declared.code.Code.{Code as TheCode};
+ghost use Rattle.level_clients.specs.Ran.{ClientTask as TheTask};
+ghost use Rattle.abl_cli.specs.Inside.{AreBegun, HaveCodes, IsBegun, IsReady, inputs_of};
 
+use crate::database::RunTask;
 use crate::refusal::Refusal;
 use crate::source::compile_source;
-use abl_arguments::RunArguments;
+use abl_arguments::ClientArgument;
 use abl_base::Bytes;
 use abl_outside::{FileFault, Files};
 use abl_schema::{SchemaRefusal, read_df};
 use abl_source::SourceFault;
 use abl_values::Schema;
 use block_code::Code;
-use block_vm::Inputs;
+use block_vm::{Client, Inputs};
+use client_runner::Task;
+use client_session::ClientSession;
 use std::alloc::Global;
 
 /// The most bytes that a schema file, a source or an input may have.
 pub const MAX_FILE_BYTES: u64 = 1_048_576;
 
-/// What a client runs.
+/// The texts of a client that are read before the rules are looked at.
 #[derive(Drop)]
-pub struct Loaded {
-    pub code: Code,
-    /// The client's own input, and the files after INPUT FROM in text order.
-    pub inputs: Inputs,
+pub struct ClientTexts {
+    pub source: Bytes,
+    pub input: Bytes,
 }
 
-/// The texts that are read before the rules are looked at.
-#[derive(Drop)]
-struct RunTexts {
-    df: Bytes,
-    source: Bytes,
-    input: Bytes,
-}
-
-/// Reads the schema file, the client's source and its input, compiles the source where the schema
-/// breaks no rule, and reads the files after INPUT FROM.
+/// Reads the schema file, and the source and the input of each client, compiles the sources where the
+/// schema breaks no rule, and reads the files after INPUT FROM. The clients may spend so many units
+/// each.
 pub fn load<F: Files>(
     alloc: Global,
     files: &mut F,
-    run: &RunArguments<'_>,
-) -> Result<Loaded, Refusal>
-    ensures ready { IfOk result (IsReady (F.state files.old) (files_of run.now)) }
-    ensures prevented { IfErr result (Prevents (F.state files.old) (F.state files.new).faults (files_of run.now)) }
+    schema: &[u8],
+    clients: &[ClientArgument<'_>],
+    units: u64,
+) -> Result<Vec<RunTask>, Refusal>
+    requires { length clients.now ≤ 16 }
+    ensures ready { IfOk result (λ tasks. IsReady (F.state files.old) schema.now (map client_in clients.now) units tasks.items) }
+    ensures prevented { IfErr result (Prevents (F.state files.old) (F.state files.new).faults schema.now (map client_in clients.now)) }
 {
-    let RunTexts { df, source, input } = read_texts(alloc, files, run)?;
-    let code = code_in(alloc, df.as_slice(), source.as_slice())?;
-    match read_named(alloc, files, code.inputs.as_slice()) {
-        Ok(named) => Ok(Loaded {
-            code,
-            inputs: Inputs { own: input, named },
-        }),
+    let df = read(alloc, files, schema)?;
+    let mut texts = Vec::new(alloc);
+    read_clients(alloc, files, clients, &mut texts)?;
+    let codes = codes_in(alloc, df.as_slice(), &texts)?;
+    let mut tasks = Vec::new(alloc);
+    match begin_clients(alloc, files, units, codes, texts, &mut tasks) {
+        Ok(()) => Ok(tasks),
         Err(refusal) => Err(refusal),
     }
 }
 
-/// The texts of the schema file, the source and the client's input.
-fn read_texts<F: Files>(
+/// Reads the source and the input of each client, and adds their texts.
+fn read_clients<F: Files>(
     alloc: Global,
     files: &mut F,
-    run: &RunArguments<'_>,
-) -> Result<RunTexts, Refusal>
-    ensures schema { IfOk result (λ texts. HasText (F.state files.old) run.now.schema.now texts.df) }
-    ensures source { IfOk result (λ texts. HasText (F.state files.old) run.now.program.now texts.source) }
-    ensures input { IfOk result (λ texts. HasInput (F.state files.old) (option_copied run.now.input) texts.input) }
+    clients: &[ClientArgument<'_>],
+    texts: &mut Vec<ClientTexts>,
+) -> Result<(), Refusal>
+    ensures read { OnOk result ((more : List ClientTexts) × (texts.new.items ≡ texts.old.items ++ more) × HaveClients (F.state files.old) (map client_in clients.now) more) }
     ensures same { OnOk result (AreSame (F.state files.old) (F.state files.new)) }
-    ensures prevented { IfErr result (Prevents (F.state files.old) (F.state files.new).faults (files_of run.now)) }
+    ensures refused { IfErr result (λ refusal. (refusal ≡ NoMemory) ⊎ OneIsNotRead (F.state files.old) (F.state files.new).faults (flat_map client_files (map client_in clients.now)) refusal) }
 {
-    let df = read(alloc, files, run.schema)?;
-    let source = read(alloc, files, run.program)?;
-    match read_input(alloc, files, run.input) {
-        Ok(input) => Ok(RunTexts { df, source, input }),
+    let Some((client, rest)) = clients.split_first() else {
+        return Ok(());
+    };
+    let read = read_client(alloc, files, client)?;
+    let Ok(()) = texts.push(read) else {
+        return Err(Refusal::NoMemory);
+    };
+    read_clients(alloc, files, rest, texts)
+}
+
+/// The texts of the client's source and input.
+fn read_client<F: Files>(
+    alloc: Global,
+    files: &mut F,
+    client: &ClientArgument<'_>,
+) -> Result<ClientTexts, Refusal>
+    ensures source { IfOk result (λ texts. HasText (F.state files.old) client.now.program.now texts.source) }
+    ensures input { IfOk result (λ texts. HasInput (F.state files.old) (option_copied client.now.input) texts.input) }
+    ensures same { OnOk result (AreSame (F.state files.old) (F.state files.new)) }
+    ensures refused { IfErr result (OneIsNotRead (F.state files.old) (F.state files.new).faults (client_files (client_in client.now))) }
+{
+    let source = read(alloc, files, client.program)?;
+    match read_input(alloc, files, client.input) {
+        Ok(input) => Ok(ClientTexts { source, input }),
         Err(refusal) => Err(refusal),
     }
 }
@@ -84,7 +106,7 @@ fn read_input<F: Files>(
     input: Option<&[u8]>,
 ) -> Result<Bytes, Refusal>
     ensures text { IfOk result (HasInput (F.state files.old) (option_copied input.entry)) }
-    ensures refused { IfErr result (IsInputNotRead (F.state files.old) (F.state files.new).faults (option_copied input.entry)) }
+    ensures refused { IfErr result (OneIsNotRead (F.state files.old) (F.state files.new).faults (input_file (option_copied input.entry))) }
     ensures same { OnOk result (AreSame (F.state files.old) (F.state files.new)) }
 {
     match input {
@@ -101,6 +123,7 @@ pub(crate) fn read_named<F: Files>(
 ) -> Result<Vec<Bytes>, Refusal>
     ensures texts { IfOk result (λ texts. HaveTexts (F.state files.old) names.now texts.items) }
     ensures refused { IfErr result (OneIsNotRead (F.state files.old) (F.state files.new).faults names.now) }
+    ensures same { OnOk result (AreSame (F.state files.old) (F.state files.new)) }
 {
     let mut texts = Vec::new(alloc);
     for name in names {
@@ -135,15 +158,43 @@ pub(crate) fn read<F: Files>(alloc: Global, files: &mut F, name: &[u8]) -> Resul
     }
 }
 
-/// The code of the source over the schema of these texts.
-fn code_in(alloc: Global, df: &[u8], source: &[u8]) -> Result<Code, Refusal>
-    requires { length source.now ≤ MAX_FILE_BYTES }
+/// The codes of the sources over the schema of this text.
+fn codes_in(alloc: Global, df: &[u8], texts: &[ClientTexts]) -> Result<Vec<Code>, Refusal>
+    requires short { All (λ (t : ClientTexts). length t.source ≤ MAX_FILE_BYTES) texts.now }
+    requires few { length texts.now ≤ 16 }
     ensures clean { OnOk result (violation_of df.now ≡ None) }
-    ensures code { IfOk result (IsCodeOf (schema_in df.now) source.now) }
-    ensures refused { IfErr result (λ refusal. BreaksSchema df.now refusal ⊎ ((violation_of df.now ≡ None) × BreaksSource (schema_in df.now) source.now refusal)) }
+    ensures codes { IfOk result (λ codes. HaveCodes (schema_in df.now) texts.now codes.items) }
+    ensures refused { IfErr result (λ refusal. (refusal ≡ NoMemory) ⊎ (BreaksSchema df.now refusal ⊎ ((violation_of df.now ≡ None) × OneSourceBreaks (schema_in df.now) 0 texts.now refusal))) }
 {
     let schema = schema_of(alloc, df)?;
-    code_of(alloc, &schema, source)
+    let mut codes = Vec::new(alloc);
+    match add_codes(alloc, &schema, texts, 0, &mut codes) {
+        Ok(()) => Ok(codes),
+        Err(refusal) => Err(refusal),
+    }
+}
+
+/// Adds the codes of the sources over the schema; they have the numbers from this one on.
+fn add_codes(
+    alloc: Global,
+    schema: &Schema,
+    texts: &[ClientTexts],
+    number: u16,
+    codes: &mut Vec<Code>,
+) -> Result<(), Refusal>
+    requires short { All (λ (t : ClientTexts). length t.source ≤ MAX_FILE_BYTES) texts.now }
+    requires few { number + length texts.now ≤ 16 }
+    ensures codes { OnOk result ((more : List TheCode) × (codes.new.items ≡ codes.old.items ++ more) × HaveCodes schema.now texts.now more) }
+    ensures refused { IfErr result (λ refusal. (refusal ≡ NoMemory) ⊎ OneSourceBreaks schema.now number texts.now refusal) }
+{
+    let Some((text, rest)) = texts.split_first() else {
+        return Ok(());
+    };
+    let code = code_of(alloc, schema, number, text.source.as_slice())?;
+    let Ok(()) = codes.push(code) else {
+        return Err(Refusal::NoMemory);
+    };
+    add_codes(alloc, schema, rest, number + 1, codes)
 }
 
 /// The schema that the text of a schema file denotes, or the first rule that it breaks.
@@ -159,19 +210,66 @@ pub(crate) fn schema_of(alloc: Global, text: &[u8]) -> Result<Schema, Refusal>
     }
 }
 
-/// The code of the first client's source over the schema.
-fn code_of(alloc: Global, schema: &Schema, text: &[u8]) -> Result<Code, Refusal>
+/// The code of the source of this number over the schema.
+fn code_of(alloc: Global, schema: &Schema, number: u16, text: &[u8]) -> Result<Code, Refusal>
     requires { length text.now ≤ MAX_FILE_BYTES }
     ensures code { IfOk result (IsCodeOf schema.now text.now) }
-    ensures refused { IfErr result (BreaksSource schema.now text.now) }
+    ensures refused { IfErr result (BreaksSource schema.now number text.now) }
 {
     match compile_source(alloc, schema, text) {
         Ok(code) => Ok(code),
         Err(SourceFault::Broken { rule, place }) => Err(Refusal::Source {
-            client: 0,
+            client: number,
             rule,
             place,
         }),
         Err(SourceFault::NoMemory) => Err(Refusal::NoMemory),
+    }
+}
+
+/// Reads the files after INPUT FROM, and adds a client for each code, with its input.
+fn begin_clients<F: Files>(
+    alloc: Global,
+    files: &mut F,
+    units: u64,
+    codes: Vec<Code>,
+    texts: Vec<ClientTexts>,
+    tasks: &mut Vec<RunTask>,
+) -> Result<(), Refusal>
+    requires { length codes.items ≡ length texts.items }
+    ensures begun { OnOk result ((more : List TheTask) × (tasks.new.items ≡ tasks.old.items ++ more) × AreBegun (F.state files.old) units codes.items texts.items more) }
+    ensures refused { IfErr result (λ refusal. (refusal ≡ NoMemory) ⊎ OneIsNotRead (F.state files.old) (F.state files.new).faults (inputs_of codes.items) refusal) }
+{
+    let mut codes = codes;
+    let mut texts = texts;
+    if codes.is_empty() || texts.is_empty() {
+        return Ok(());
+    }
+    let code = codes.remove(0);
+    let ClientTexts { source, input } = texts.remove(0);
+    drop(source);
+    let task = begin_client(alloc, files, units, code, input)?;
+    let Ok(()) = tasks.push(task) else {
+        return Err(Refusal::NoMemory);
+    };
+    begin_clients(alloc, files, units, codes, texts, tasks)
+}
+
+/// The client of this code with this input, and the files after INPUT FROM that the code names.
+fn begin_client<F: Files>(
+    alloc: Global,
+    files: &mut F,
+    units: u64,
+    code: Code,
+    input: Bytes,
+) -> Result<RunTask, Refusal>
+    ensures begun { IfOk result (IsBegun (F.state files.old) units code input) }
+    ensures same { OnOk result (AreSame (F.state files.old) (F.state files.new)) }
+    ensures refused { IfErr result (λ refusal. (refusal ≡ NoMemory) ⊎ OneIsNotRead (F.state files.old) (F.state files.new).faults code.inputs.items refusal) }
+{
+    let named = read_named(alloc, files, code.inputs.as_slice())?;
+    match Client::new(alloc, code, Inputs { own: input, named }, units) {
+        Ok(client) => Ok(Task::new(ClientSession { client })),
+        Err(_) => Err(Refusal::NoMemory),
     }
 }

@@ -1,17 +1,20 @@
 //! The text that a run writes to standard output, and the lines on how a command ended.
 
-ghost use Rattle.std.specs.Prelude.{◌≡◌, ◌++◌, ◌∷◌, [], All, codes, decimal, is_ok};
+ghost use Rattle.std.specs.Prelude.{◌≡◌, ◌++◌, ◌∷◌, [], All, List, codes, decimal, is_ok, slice_get};
+ghost use Rattle.client_output.specs.declared.section.Section.{Section as Written};
 ghost use Rattle.std.specs.List.{flat_map};
 ghost use Rattle.abl_outside.specs.declared.out.Stream.{Stream};
 ghost use Rattle.abl_outside.specs.Out.{Writes};
 ghost use Rattle.abl_values.specs.Schema.{SchemaData};
 ghost use Rattle.abl_cli.specs.Trace.{IsLevelEvent};
-ghost use Rattle.abl_cli.specs.Report.{line_end_of, line_end_after, part_of, report_of, run_text, end_line, status_lines};
+ghost use Rattle.abl_cli.specs.Report.{line_end_of, line_end_after, part_of, report_of, reports, run_text, end_line, end_lines, name_or_none, status_lines};
+ghost use Rattle.abl_cli.specs.Inside.{HaveSections};
 
+use crate::database::RunTask;
 use crate::refusal::Refusal;
 use crate::trace::write_trace;
 use abl_arguments::Mode;
-use abl_base::Place;
+use abl_base::{Bytes, Place};
 use abl_outside::{Out, OutFailed, Stream};
 use client_database::{ClientEnd, Event};
 use client_output::Section;
@@ -100,24 +103,38 @@ pub fn write_report<O: Out>(out: &mut O, name: &[u8], sections: &[Section]) -> R
     write_all_named(out, name, named)
 }
 
-/// Writes the text of a run: the client's part, and in mode trace the trace.
+/// Writes the text of a run: the part of each client, and in mode trace the trace.
 pub fn write_run<O: Out>(
     out: &mut O,
     mode: Mode,
-    name: &[u8],
-    sections: &[Section],
+    names: &[Bytes],
+    tasks: &[RunTask],
     trace: &[Event],
 ) -> Result<(), OutFailed>
     requires { All IsLevelEvent trace.now }
-    ensures { (schema : SchemaData) → Writes (is_ok result) Stream.Output (run_text mode schema name.now sections.now trace.now) (O.state out.old) (O.state out.new) }
+    ensures { (parts : List (List Written)) × HaveSections tasks.now parts × ((schema : SchemaData) → Writes (is_ok result) Stream.Output (run_text mode schema names.now parts trace.now) (O.state out.old) (O.state out.new)) }
 {
     match mode {
-        Mode::Quiet => write_report(out, name, sections),
+        Mode::Quiet => write_reports(out, names, tasks),
         Mode::Trace => {
-            write_report(out, name, sections)?;
-            write_trace(out, name, trace)
+            write_reports(out, names, tasks)?;
+            write_trace(out, names, trace)
         }
     }
+}
+
+/// Writes the part of each client, in order.
+fn write_reports<O: Out>(out: &mut O, names: &[Bytes], tasks: &[RunTask]) -> Result<(), OutFailed>
+    ensures { (parts : List (List Written)) × HaveSections tasks.now parts × Writes (is_ok result) Stream.Output (reports names.now parts) (O.state out.old) (O.state out.new) }
+{
+    let Some((name, names)) = names.split_first() else {
+        return Ok(());
+    };
+    let Some((task, tasks)) = tasks.split_first() else {
+        return Ok(());
+    };
+    write_report(out, name.as_slice(), task.client.client.output())?;
+    write_reports(out, names, tasks)
 }
 
 /// Writes the parts of the named outputs.
@@ -131,14 +148,15 @@ fn write_all_named<O: Out>(out: &mut O, name: &[u8], named: &[Section]) -> Resul
     Ok(())
 }
 
-/// Writes the lines of a status to standard error. A fault there changes nothing else.
+/// Writes the lines of a status to standard error: of the clients or sources of these names, and of
+/// the clients' ends where a run began. A fault there changes nothing else.
 pub fn write_status<O: Out>(
     out: &mut O,
-    name: &[u8],
+    names: &[Bytes],
     ends: &[ClientEnd],
     refusal: &Refusal,
 ) -> Result<(), OutFailed>
-    ensures { Writes (is_ok result) Stream.Diagnostics (status_lines name.now ends.now refusal.now) (O.state out.old) (O.state out.new) }
+    ensures { Writes (is_ok result) Stream.Diagnostics (status_lines names.now ends.now refusal.now) (O.state out.old) (O.state out.new) }
 {
     let mut buffer = Buffer::new();
     match refusal {
@@ -157,10 +175,24 @@ pub fn write_status<O: Out>(
             let line = buffer.format(*line).as_bytes();
             write_schema(out, rule.name(), line)
         }
-        Refusal::Source { rule, place, .. } => write_source(out, name, rule.name(), *place),
-        Refusal::Client { .. } => write_ends(out, name, ends),
+        Refusal::Source {
+            client,
+            rule,
+            place,
+        } => write_source(out, name_at(names, *client), rule.name(), *place),
+        Refusal::Client { .. } => write_ends(out, names, ends),
         Refusal::Output => write_line(out, b"abl: output", b"", b""),
         Refusal::NoMemory => write_line(out, b"abl: no memory", b"", b""),
+    }
+}
+
+/// The name of this number, and nothing where there is none.
+pub(crate) fn name_at(names: &[Bytes], number: u16) -> &[u8]
+    ensures { result.now ≡ name_or_none (slice_get names.now number) }
+{
+    match names.get(usize::from(number)) {
+        Some(name) => name.as_slice(),
+        None => b"",
     }
 }
 
@@ -226,13 +258,17 @@ fn write_rule<'a, O: Out>(
 }
 
 /// Writes a line for each client that ended in Error or Stop.
-fn write_ends<O: Out>(out: &mut O, name: &[u8], ends: &[ClientEnd]) -> Result<(), OutFailed>
-    ensures { Writes (is_ok result) Stream.Diagnostics (flat_map (end_line name.now) ends.now) (O.state out.old) (O.state out.new) }
+fn write_ends<O: Out>(out: &mut O, names: &[Bytes], ends: &[ClientEnd]) -> Result<(), OutFailed>
+    ensures { Writes (is_ok result) Stream.Diagnostics (end_lines names.now ends.now) (O.state out.old) (O.state out.new) }
 {
-    for end in ends {
-        write_end(out, name, end)?;
-    }
-    Ok(())
+    let Some((name, names)) = names.split_first() else {
+        return Ok(());
+    };
+    let Some((end, ends)) = ends.split_first() else {
+        return Ok(());
+    };
+    write_end(out, name.as_slice(), end)?;
+    write_ends(out, names, ends)
 }
 
 /// Writes the line about a client that ended in Error or Stop.

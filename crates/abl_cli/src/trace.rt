@@ -1,6 +1,6 @@
 //! The lines of a trace (this project's choice).
 
-ghost use Rattle.std.specs.Prelude.{◌≡◌, ◌+◌, ◌++◌, ◌∷◌, [], All, codes, decimal, is_ok, IfNone, IfSome};
+ghost use Rattle.std.specs.Prelude.{◌≡◌, ◌+◌, ◌++◌, ◌∷◌, [], All, codes, decimal, is_ok, slice_index_or, IfNone, IfSome};
 ghost use Rattle.abl_values.specs.Schema.{SchemaData};
 ghost use Rattle.abl_outside.specs.declared.out.Stream.{Stream};
 ghost use Rattle.level_machine.specs.Turns.{IsLevelOp};
@@ -8,19 +8,20 @@ ghost use Rattle.abl_cli.specs.Trace.{IsLevelEvent, answer_name, op_name, operan
 ghost use Rattle.abl_outside.specs.Out.{Writes};
 
 use crate::report::write_all;
+use abl_base::Bytes;
 use abl_outside::{Out, OutFailed, Stream};
 use client_database::{Answer, Event, Op};
 use itoa::Buffer;
 
 /// Writes the part of the report that has the trace: `== trace ==`, and for each event its number
 /// from 1, the client's name, the operation and the answer. It takes no memory.
-pub fn write_trace<O: Out>(out: &mut O, name: &[u8], trace: &[Event]) -> Result<(), OutFailed>
+pub fn write_trace<O: Out>(out: &mut O, names: &[Bytes], trace: &[Event]) -> Result<(), OutFailed>
     requires { All IsLevelEvent trace.now }
-    ensures { (schema : SchemaData) → Writes (is_ok result) Stream.Output (trace_part schema (name.now ∷ []) trace.now) (O.state out.old) (O.state out.new) }
+    ensures { (schema : SchemaData) → Writes (is_ok result) Stream.Output (trace_part schema names.now trace.now) (O.state out.old) (O.state out.new) }
 {
     write_heading(out)?;
     for (at, event) in trace.iter().enumerate() {
-        write_event(out, at as u64 + 1, name, event)?;
+        write_event(out, at as u64 + 1, names, event)?;
     }
     Ok(())
 }
@@ -36,12 +37,13 @@ fn write_heading<O: Out>(out: &mut O) -> Result<(), OutFailed>
 fn write_event<O: Out>(
     out: &mut O,
     number: u64,
-    name: &[u8],
+    names: &[Bytes],
     event: &Event,
 ) -> Result<(), OutFailed>
     requires { IsLevelEvent event.now }
-    ensures { (schema : SchemaData) → Writes (is_ok result) Stream.Output (trace_line schema (name.now ∷ []) number event.now) (O.state out.old) (O.state out.new) }
+    ensures { (schema : SchemaData) → Writes (is_ok result) Stream.Output (trace_line schema names.now number event.now) (O.state out.old) (O.state out.new) }
 {
+    let name = client_name(names, event.client);
     let mut digits = Buffer::new();
     let number = digits.format(number).as_bytes();
     let op = op_name(&event.op);
@@ -53,6 +55,16 @@ fn write_event<O: Out>(
             let operand = digits.format(operand).as_bytes();
             write_line(out, number, name, op, b" ", operand, answer)
         }
+    }
+}
+
+/// The name of the client of this number, and nothing where there is none.
+fn client_name(names: &[Bytes], client: u16) -> &[u8]
+    ensures { result.now ≡ slice_index_or names.now client [] }
+{
+    match names.get(usize::from(client)) {
+        Some(name) => name.as_slice(),
+        None => b"",
     }
 }
 

@@ -1,17 +1,19 @@
 //! The text of `abl --help`. Written by tools/explanations from tools/help.txt.
 
 /// The text of `abl --help`.
-pub const HELP: &str = "abl DATABASE run SCHEMA STEPS MODE NAME=PROG
-abl DATABASE run SCHEMA STEPS MODE NAME=PROG<INPUT
+pub const HELP: &str = "abl DATABASE run SCHEMA STEPS MODE CLIENT...
 abl DATABASE check SCHEMA PROG...
 
-run reads the schema file SCHEMA, compiles the ABL source PROG and runs it as
-client NAME, which may spend STEPS units (1 to 999999999). IMPORT reads the file
-INPUT; without it the input is empty. Each file may have 1 MiB (1048576 bytes).
-Put an argument with < in quotation marks, so that a shell does not take it.
+run reads the schema file SCHEMA, compiles the ABL source of each CLIENT, and runs
+1 to 16 clients at the same time over one database. CLIENT is NAME=PROG or
+NAME=PROG<INPUT, and no two have one NAME. Each client may spend STEPS units (1 to
+999999999). IMPORT reads the file INPUT; without it the input is empty. Each file
+may have 1 MiB (1048576 bytes). Put an argument with < in quotation marks, so that
+a shell does not take it.
 
-The client's output goes to standard output, and in MODE trace the lines of what
-it requested of the database and was answered too; in MODE quiet nothing else.
+The output of each client goes to standard output, in the order of the arguments,
+and in MODE trace the lines of what they requested of the database and were
+answered too; in MODE quiet nothing else.
 
 check lists the blocks of 1 to 16 sources and runs nothing. Each block has a
 line: its line number, what it is, `transaction` if it starts one, else `sub` if
@@ -21,7 +23,7 @@ How a command ended goes to standard error, with the status:
 
   0  all was done              6  standard output was not taken
   1  wrong arguments           7  out of memory
-  2  a file cannot be read     8  the client ended in an error or a stop
+  2  a file cannot be read     8  a client ended in an error or a stop
   3  the schema breaks a rule  10 a file is too long
   4  a source breaks a rule
 

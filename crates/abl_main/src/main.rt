@@ -9,6 +9,7 @@ mod real_out;
 
 use abl_cli::run_abl;
 use abl_help::HELP;
+use abl_outside::OpenGate;
 use arguments::arguments;
 use explain::{explain, list_pages, print};
 use real_files::RealFiles;
@@ -44,6 +45,13 @@ fn main(rt: HostRuntime) -> io::Result<ExitCode> {
     let mut files = RealFiles::new(&rt, rt.alloc());
     let mut out = RealOut::new(rt.stdout(), rt.stderr());
     let after_database = arguments.get(1..).unwrap_or(&[]);
-    let report = run_abl(rt.alloc(), after_database, &mut files, &mut out);
+    let report = run_abl(
+        &rt,
+        rt.alloc(),
+        after_database,
+        &mut files,
+        &mut out,
+        &OpenGate,
+    );
     Ok(ExitCode::from(report.status))
 }

@@ -1,10 +1,13 @@
 //! The answers of rows.
 
+use crate::by_client::by_client;
 use crate::texts::{shown, text_of};
 use abl_base::{Bytes, Items};
 use abl_cli::{Arg, run_abl};
-use abl_outside::{MemFiles, MemOut, NamedFile, Stream};
+use abl_outside::{MemFiles, MemOut, NamedFile, OpenGate, Stream};
 use std::alloc::{AllocError, Global};
+use std::sync::Wait;
+use std::thread::Threads;
 
 /// The most bytes that the streams take together, where the row does not say otherwise.
 const MOST_WRITTEN: u64 = 20_000_000;
@@ -20,7 +23,11 @@ struct Row<'a> {
 }
 
 /// The status of a row's command, and what is then on the two streams.
-pub fn answer(alloc: Global, row: &str) -> Result<String, AllocError> {
+pub fn answer<R: Threads + Wait + Sync>(
+    rt: &R,
+    alloc: Global,
+    row: &str,
+) -> Result<String, AllocError> {
     let row = fields_of(row);
     let arguments = arguments_of(alloc, row.arguments)?;
     let reads = numbers_after(alloc, row.faults, "read")?;
@@ -32,8 +39,13 @@ pub fn answer(alloc: Global, row: &str) -> Result<String, AllocError> {
     };
     let mut files = files_of(alloc, &row, &reads)?;
     let mut out = MemOut::new(alloc, most, &writes)?;
-    let report = run_abl(alloc, &arguments, &mut files, &mut out);
-    let output = shown(alloc, out.text(Stream::Output))?;
+    let report = run_abl(rt, alloc, &arguments, &mut files, &mut out, &OpenGate);
+    let output = if row.faults.contains("clients") {
+        let grouped = by_client(alloc, out.text(Stream::Output), &arguments)?;
+        shown(alloc, &grouped)?
+    } else {
+        shown(alloc, out.text(Stream::Output))?
+    };
     let diagnostics = shown(alloc, out.text(Stream::Diagnostics))?;
     format!(in alloc; "{} {output} {diagnostics}", report.status)
 }

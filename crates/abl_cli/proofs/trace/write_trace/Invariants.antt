@@ -8,6 +8,6 @@ use Rattle.abl_cli.proofs.trace.write_trace.Given as goal
 -- what comes before was written whole
 abbrev pub invariant-loop-at : goal.invariant-loop-at
 invariant-loop-at g l =
-    (schema : SchemaData) → Writes true Output (trace_part schema (l.name ∷ []) (take l.at l.trace))
+    (schema : SchemaData) → Writes true Output (trace_part schema l.names (take l.at l.trace))
     (g.O.Out.state l.fn.out)
     (g.O.Out.state l.out)

@@ -1,0 +1,9 @@
+DEFINE VARIABLE name AS CHARACTER.
+DEFINE VARIABLE amount AS DECIMAL.
+DEFINE VARIABLE total AS DECIMAL NO-UNDO.
+REPEAT TRANSACTION:
+  IMPORT name amount.
+  IF amount < 0 THEN UNDO, NEXT.
+  total = total + amount.
+END.
+MESSAGE "total" total.
