@@ -4,6 +4,7 @@ use Rattle.std.specs.List.{flat_map}
 use Rattle.std.specs.Prelude.{IsTrue, All, map}
 use Rattle.std.proofs.lemmas.List.Elements.{All-cons, All-nil}
 use Rattle.abl_schema.specs.Rules.{violation_of}
+use Rattle.abl_values.specs.declared.schema.TableDef.{TableDef}
 use Rattle.abl_values.specs.Schema.{SchemaData}
 use Rattle.abl_outside.specs.Files.{FileState}
 use Rattle.bound_tree.specs.Bound.{source_of}
@@ -98,7 +99,7 @@ pub record Begun (files : FileState) (schema : SchemaData) (units : ℕ) (ts : L
   pub are : AreWorks files schema ts works
   pub to_do : AreToDo units works tasks
 
-pub begun_works : (files : FileState) (schema : SchemaData) (units : ℕ) (ts : List ClientTexts) (codes : List Code) (tasks : List ClientTask) → HaveCodes schema ts codes → AreBegun files units codes ts tasks → Begun files schema units ts tasks
+pub begun_works : (files : FileState) (schema : SchemaData) (units : ℕ) (ts : List ClientTexts) (codes : List Code) (tasks : List ClientTask) → HaveCodes schema ts codes → AreBegun files units schema.tables codes ts tasks → Begun files schema units ts tasks
 begun_works files schema units [] [] [] have begun = record { works = []; are = tt; to_do = tt }
 begun_works files schema units [] [] (task ∷ tasks) have begun = absurd begun
 begun_works files schema units [] (code ∷ codes) tasks have begun = absurd have
@@ -109,22 +110,22 @@ begun_works files schema units (t ∷ ts) (code ∷ codes) (task ∷ tasks) have
     let one = have.0 in
     let client = begun.0 in
     record {
-      works = record { tree = source_of one.bound; input = t.input; inputs = client.inputs } ∷ rest.works;
-      are = ((one.form, (refl, subst (λ ns. HaveTexts files ns client.inputs) one.compiled.inputs client.have)), rest.are);
-      to_do = ((λ p is. client.to_run one.bound p one.compiled (has_no_buffers one.bound one.form.built) is.source is.input_is is.inputs_are is.forms is.lines), rest.to_do);
+      works = record { tables = schema.tables; tree = source_of one.bound; input = t.input; inputs = client.inputs } ∷ rest.works;
+      are = ((one.form, (refl, (refl, subst (λ ns. HaveTexts files ns client.inputs) one.compiled.inputs client.have))), rest.are);
+      to_do = ((λ p is. client.to_run one.bound p one.compiled (has_no_buffers one.bound one.form.built) is.source is.tables is.input_is is.inputs_are is.forms is.lines), rest.to_do);
     }
 
 module _ (files later : FileState) (same : AreSame files later) (sound_observable : IsTrue files.sound → IsTrue files.observable) where
-  pub still_begun : (units : ℕ) (codes : List Code) (ts : List ClientTexts) (tasks : List ClientTask) → AreBegun later units codes ts tasks → AreBegun files units codes ts tasks
-  still_begun units [] [] [] begun = tt
-  still_begun units [] [] (task ∷ tasks) begun = absurd begun
-  still_begun units [] (t ∷ ts) tasks begun = absurd begun
-  still_begun units (code ∷ codes) [] tasks begun = absurd begun
-  still_begun units (code ∷ codes) (t ∷ ts) [] begun = absurd begun
-  still_begun units (code ∷ codes) (t ∷ ts) (task ∷ tasks) begun =
+  pub still_begun : (units : ℕ) (tables : List TableDef) (codes : List Code) (ts : List ClientTexts) (tasks : List ClientTask) → AreBegun later units tables codes ts tasks → AreBegun files units tables codes ts tasks
+  still_begun units tables [] [] [] begun = tt
+  still_begun units tables [] [] (task ∷ tasks) begun = absurd begun
+  still_begun units tables [] (t ∷ ts) tasks begun = absurd begun
+  still_begun units tables (code ∷ codes) [] tasks begun = absurd begun
+  still_begun units tables (code ∷ codes) (t ∷ ts) [] begun = absurd begun
+  still_begun units tables (code ∷ codes) (t ∷ ts) (task ∷ tasks) begun =
       let one = begun.0 in (
         record { inputs = one.inputs; have = still_have files later same sound_observable code.inputs.items one.inputs one.have; to_run = one.to_run },
-        still_begun units codes ts tasks begun.1,
+        still_begun units tables codes ts tasks begun.1,
       )
 
 -- ---- a run that is loaded, or prevented
@@ -165,8 +166,8 @@ module _ (files : FileState) (schema : List ℕ) (clients : List ClientFiles) (d
           no_named_input texts_of is_clean d.trees d.are (subst (λ ns. OneIsNotRead files faults ns refusal) d.inputs (still_one files later same sound_observable h))
 
       -- the clients are begun
-      pub is_ready : (units : ℕ) (tasks : List ClientTask) → AreBegun later units codes ts tasks → IsReady files schema clients units tasks
+      pub is_ready : (units : ℕ) (tasks : List ClientTask) → AreBegun later units (schema_in d).tables codes ts tasks → IsReady files schema clients units tasks
       unfolding texts_of
       is_ready units tasks begun =
-          let done = begun_works files (schema_in df) units ts codes tasks are_codes (still_begun files later same sound_observable units codes ts tasks begun) in
+          let done = begun_works files (schema_in df) units ts codes tasks are_codes (still_begun files later same sound_observable units (schema_in df).tables codes ts tasks (subst (λ t. AreBegun later units (schema_in t).tables codes ts tasks) is_df begun)) in
           record { texts = texts_of; clean = is_clean; works = done.works; are = done.are; to_do = done.to_do }

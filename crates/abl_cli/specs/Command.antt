@@ -34,6 +34,7 @@ use Rattle.abl_cli.specs.declared.load.ClientTexts.{ClientTexts}
 use Rattle.abl_arguments.specs.CommandLine.{Run, ClientFiles, IsRun, arguments_of, Check, IsCheck, check_arguments, IsWrong, number_of}
 use Rattle.abl_cli.specs.Check.{HaveListings, OneBreaks, check_text}
 use Rattle.abl_arguments.specs.declared.parts.Mode.{Mode}
+use Rattle.abl_values.specs.declared.schema.TableDef.{TableDef}
 use Rattle.abl_values.specs.Schema.{SchemaData}
 use Rattle.abl_cli.specs.Report.{run_text, status_lines, status_of}
 use Rattle.abl_cli.specs.ClientRun.{ClientOutcome, own_events}
@@ -162,8 +163,9 @@ pub record IsCodeOf (schema : SchemaData) (text : List ℕ) (code : Code) : Type
   pub form : IsSourceOf schema text (source_of bound)
   pub compiled : IsCompiled code bound
 
--- what a client runs: its source, its own input and the named ones
+-- what a client runs: the tables of the schema, its source, its own input and the named ones
 pub record Work : Type 0 where
+  pub tables : List TableDef
   pub tree : Tree
   pub input : List ℕ
   pub inputs : List (List ℕ)
@@ -173,7 +175,7 @@ abbrev pub AreWorks : FileState → SchemaData → List ClientTexts → List Wor
 AreWorks files schema [] [] = Unit {0}
 AreWorks files schema [] (w ∷ ws) = ⊥
 AreWorks files schema (t ∷ ts) [] = ⊥
-AreWorks files schema (t ∷ ts) (w ∷ ws) = (IsSourceOf schema t.source w.tree × ((w.input ≡ t.input) × HaveTexts files w.tree.inputs w.inputs)) × AreWorks files schema ts ws
+AreWorks files schema (t ∷ ts) (w ∷ ws) = (IsSourceOf schema t.source w.tree × ((w.tables ≡ schema.tables) × ((w.input ≡ t.input) × HaveTexts files w.tree.inputs w.inputs))) × AreWorks files schema ts ws
 
 -- the names of the clients of a run
 abbrev pub client_names : Run → List (List ℕ)
@@ -250,9 +252,9 @@ pub record IsReported (mode : Mode) (names : List (List ℕ)) (ends : List Clien
   pub status : report.status ≡ status_after report.refusal
   pub lines : WritesStatus names report.ends report.refusal between new
 
--- a program that is this work, with the forms of values in texts that `docs/formats.md` has.
--- Its tables may be any, since no source that is built so far names one
+-- a program that is this work, with the forms of values in texts that `docs/formats.md` has
 pub record IsProgram (work : Work) (p : Program) : Type 0 where
+  pub tables : p.tables ≡ work.tables
   pub source : p.source ≡ work.tree
   pub input_is : p.input ≡ work.input
   pub inputs_are : p.inputs ≡ work.inputs

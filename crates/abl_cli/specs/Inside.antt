@@ -2,6 +2,7 @@
 use Rattle.std.specs.Prelude.{◌≡◌, ℕ, List, [], ◌∷◌, Option, Some, None}
 use Rattle.std.specs.List.{flat_map}
 use Rattle.abl_schema.specs.Rules.{violation_of}
+use Rattle.abl_values.specs.declared.schema.TableDef.{TableDef}
 use Rattle.abl_values.specs.Schema.{SchemaData}
 use Rattle.abl_outside.specs.Files.{FileState}
 use Rattle.client_database.specs.declared.ends.ClientEnd.{ClientEnd}
@@ -40,18 +41,18 @@ HaveCodes schema (t ∷ ts) (code ∷ codes) = IsCodeOf schema t.source code × 
 abbrev pub inputs_of : List Code → List (List ℕ)
 inputs_of codes = flat_map (λ (code : Code). code.inputs.items) codes
 
--- the client is to run what the code denotes, with this input and the files that the code names
-pub record IsBegun (files : FileState) (units : ℕ) (code : Code) (input : List ℕ) (task : ClientTask) : Type 0 where
+-- the client is to run what the code denotes over these tables, with this input and the files that the code names
+pub record IsBegun (files : FileState) (units : ℕ) (tables : List TableDef) (code : Code) (input : List ℕ) (task : ClientTask) : Type 0 where
   pub inputs : List (List ℕ)
   pub have : HaveTexts files code.inputs.items inputs
-  pub to_run : (bound : Bound) (p : Program) → IsCompiled code bound → HasNoBuffers bound → p.source ≡ source_of bound → p.input ≡ input → p.inputs ≡ inputs → AreForms p.forms → p.forms.line_at ≡ line_at →
+  pub to_run : (bound : Bound) (p : Program) → IsCompiled code bound → HasNoBuffers bound → p.source ≡ source_of bound → p.tables ≡ tables → p.input ≡ input → p.inputs ≡ inputs → AreForms p.forms → p.forms.line_at ≡ line_at →
       IsToRun task bound.outputs.items p units
 
 -- and so is each of these clients
-abbrev pub AreBegun : FileState → ℕ → List Code → List ClientTexts → List ClientTask → Type 0
-AreBegun files units [] [] [] = Unit {0}
-AreBegun files units (code ∷ codes) (t ∷ ts) (task ∷ tasks) = IsBegun files units code t.input task × AreBegun files units codes ts tasks
-AreBegun files units codes ts tasks = ⊥
+abbrev pub AreBegun : FileState → ℕ → List TableDef → List Code → List ClientTexts → List ClientTask → Type 0
+AreBegun files units tables [] [] [] = Unit {0}
+AreBegun files units tables (code ∷ codes) (t ∷ ts) (task ∷ tasks) = IsBegun files units tables code t.input task × AreBegun files units tables codes ts tasks
+AreBegun files units tables codes ts tasks = ⊥
 
 -- the client is to do its work with this number of units
 abbrev pub IsToDo : ℕ → Work → ClientTask → Type 0

@@ -54,7 +54,15 @@ pub fn load<F: Files>(
     read_clients(alloc, files, clients, &mut texts)?;
     let codes = codes_in(alloc, df.as_slice(), &texts)?;
     let mut tasks = Vec::new(alloc);
-    match begin_clients(alloc, files, units, codes, texts, &mut tasks) {
+    match begin_clients(
+        alloc,
+        files,
+        df.as_slice(),
+        units,
+        codes,
+        texts,
+        &mut tasks,
+    ) {
         Ok(()) => Ok(tasks),
         Err(refusal) => Err(refusal),
     }
@@ -227,17 +235,19 @@ fn code_of(alloc: Global, schema: &Schema, number: u16, text: &[u8]) -> Result<C
     }
 }
 
-/// Reads the files after INPUT FROM, and adds a client for each code, with its input.
+/// Reads the files after INPUT FROM, and adds a client for each code, with its input and a schema of
+/// its own, which is that of the text.
 fn begin_clients<F: Files>(
     alloc: Global,
     files: &mut F,
+    df: &[u8],
     units: u64,
     codes: Vec<Code>,
     texts: Vec<ClientTexts>,
     tasks: &mut Vec<RunTask>,
 ) -> Result<(), Refusal>
     requires { length codes.items ≡ length texts.items }
-    ensures begun { OnOk result ((more : List TheTask) × (tasks.new.items ≡ tasks.old.items ++ more) × AreBegun (F.state files.old) units codes.items texts.items more) }
+    ensures begun { OnOk result ((more : List TheTask) × (tasks.new.items ≡ tasks.old.items ++ more) × AreBegun (F.state files.old) units (schema_in df.now).tables codes.items texts.items more) }
     ensures refused { IfErr result (λ refusal. (refusal ≡ NoMemory) ⊎ OneIsNotRead (F.state files.old) (F.state files.new).faults (inputs_of codes.items) refusal) }
 {
     let mut codes = codes;
@@ -248,27 +258,37 @@ fn begin_clients<F: Files>(
     let code = codes.remove(0);
     let ClientTexts { source, input } = texts.remove(0);
     drop(source);
-    let task = begin_client(alloc, files, units, code, input)?;
+    let task = begin_client(alloc, files, df, units, code, input)?;
     let Ok(()) = tasks.push(task) else {
         return Err(Refusal::NoMemory);
     };
-    begin_clients(alloc, files, units, codes, texts, tasks)
+    begin_clients(alloc, files, df, units, codes, texts, tasks)
 }
 
-/// The client of this code with this input, and the files after INPUT FROM that the code names.
+/// The client of this code with this input, and the files after INPUT FROM that the code names. The
+/// text is that of a schema file which breaks no rule, so that an error in it means out of memory.
 fn begin_client<F: Files>(
     alloc: Global,
     files: &mut F,
+    df: &[u8],
     units: u64,
     code: Code,
     input: Bytes,
 ) -> Result<RunTask, Refusal>
-    ensures begun { IfOk result (IsBegun (F.state files.old) units code input) }
+    ensures begun { IfOk result (IsBegun (F.state files.old) units (schema_in df.now).tables code input) }
     ensures same { OnOk result (AreSame (F.state files.old) (F.state files.new)) }
     ensures refused { IfErr result (λ refusal. (refusal ≡ NoMemory) ⊎ OneIsNotRead (F.state files.old) (F.state files.new).faults code.inputs.items refusal) }
 {
     let named = read_named(alloc, files, code.inputs.as_slice())?;
-    match Client::new(alloc, code, Inputs { own: input, named }, units) {
+    let Ok(schema) = schema_of(alloc, df) else {
+        return Err(Refusal::NoMemory);
+    };
+    let inputs = Inputs {
+        schema,
+        own: input,
+        named,
+    };
+    match Client::new(alloc, code, inputs, units) {
         Ok(client) => Ok(Task::new(ClientSession { client })),
         Err(_) => Err(Refusal::NoMemory),
     }
