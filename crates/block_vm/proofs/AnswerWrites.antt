@@ -1,5 +1,5 @@
 -- An answer writes nothing.
-use Rattle.std.proofs.Common.{◌≡◌, ℕ, zero, suc, List, [], ◌∷◌, Option, Some, None, Bool, true, false, refl, ◌∙◌, ap}
+use Rattle.std.proofs.Common.{◌≡◌, ℕ, zero, suc, List, Option, Some, None, Bool, true, false, refl}
 use Rattle.std.specs.Prelude.{◌==◌, ℤ}
 use Rattle.abl_base.specs.declared.row.RowId.{RowId}
 use Rattle.abl_base.specs.declared.value.Kind.{Kind}
@@ -21,9 +21,8 @@ use Rattle.block_meaning.specs.Views.{FoundRow, found_in, values_in, row_in, num
 use Rattle.block_meaning.specs.Buffers.{Place, left_if}
 use Rattle.block_meaning.specs.Reads.{Search, held_as}
 use Rattle.block_meaning.specs.Changes.{stored, stored_in, stored_value}
-use Rattle.block_flat.specs.Flat as flat
 use Rattle.block_flat.specs.Config.{Config, StackEntry, OnAnswer, WasInserted, WasDropped, WasLeft, WasBack, WasGot, WasSecond, WasNext, WasGranted, WasRead, CurrentGranted, WasCurrent, WasCounted, WasUpgraded, WasPut, WasDeleted, WasEntered}
-use Rattle.block_flat.specs.Steps.{asked_from, ask, config_if, config, fault, judge_step, test_step}
+use Rattle.block_flat.specs.Steps.{asked_from, config_if, judge_step, test_step}
 use Rattle.block_flat.specs.Machine.{answer_step, insert_answered, refused_answered, read_answered, grant_answered, second_answered, next_answered, current_answered, current_grant_answered, count_answered}
 
 -- the configuration has written what the state has

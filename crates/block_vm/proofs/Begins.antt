@@ -1,15 +1,13 @@
 -- The beginning.
-use Rattle.std.proofs.Common.{◌≡◌, ℕ, List, [], ◌∷◌, None, refl, sym, ap, ◌∙◌, subst, length, false}
+use Rattle.std.proofs.Common.{◌≡◌, ℕ, List, [], ◌∷◌, refl, sym, ap, ◌∙◌, subst, false}
 use Rattle.std.specs.Prelude.{map, reverse, replicate, slice_index_or, zero, suc, ◌+◌}
 use Rattle.abl_base.specs.declared.value.Value.{Value}
-use Rattle.client_database.specs.declared.answer.Answer.{Answer}
 use Rattle.bound_tree.specs.Tree.{Body, Header, Procedure}
 use Rattle.bound_tree.specs.Bound.{source_of, procedure_of}
 use Rattle.bound_tree.specs.declared.procedure.Bound.{Bound}
 use Rattle.bound_tree.specs.declared.procedure.Procedure.{Procedure as SourceProcedure}
 use Rattle.abl_eval.specs.Forms.{AreForms}
 use Rattle.abl_format.specs.Imports.{line_at}
-use Rattle.block_meaning.specs.State as state
 use Rattle.block_meaning.specs.State.{Buffer}
 use Rattle.block_meaning.specs.Streams as meaning
 use Rattle.block_meaning.specs.Program.{Program, procedure_at, no_procedure}
@@ -30,12 +28,10 @@ use Rattle.client_machine.specs.declared.mode.Mode.TheVariants as mode
 use Rattle.client_machine.specs.declared.mode.Task.TheVariants as task
 use Rattle.client_machine.specs.declared.mode.StackEntry.{StackEntry}
 use Rattle.client_machine.specs.declared.inputs.Inputs.{Inputs}
-use Rattle.client_machine.specs.declared.inputs.Stream.{Stream}
 use Rattle.client_machine.specs.Order.{nesting_of, HaveDepths, ModeInOrder}
 use Rattle.client_machine.specs.Config.{instr_at, header_at, body_at, mode_of, stack_of, state_of, AreEven}
 use Rattle.client_machine.specs.Inputs.{AreProceduresOf, IsProgramOf, stream_of}
-use Rattle.client_machine.specs.Machine.{config_of}
-use Rattle.client_machine.specs.Step.{code_in, RestFits}
+use Rattle.client_machine.specs.Step.{code_in}
 use Rattle.block_vm.specs.Refines.{Follows}
 use Rattle.block_vm.specs.Begins.{HasFirst, IsFirst, Begins, no_stream}
 

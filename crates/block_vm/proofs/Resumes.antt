@@ -1,12 +1,11 @@
 -- A call of a client, from an answer to what it wants next.
-use Rattle.std.proofs.Common.{◌≡◌, ℕ, ◌⊎◌, inl, inr, List, [], ◌∷◌, ◌++◌, Some, None, refl, sym, ap, ◌∙◌, subst, append_assoc, append-nil}
+use Rattle.std.proofs.Common.{◌≡◌, ℕ, ◌⊎◌, inl, inr, List, [], ◌∷◌, ◌++◌, refl, sym, ap, ◌∙◌, subst, append_assoc, append-nil}
 use Rattle.client_database.specs.declared.operation.Op.{Op}
 use Rattle.client_database.specs.declared.operation.Op.TheVariants.{End}
 use Rattle.client_database.specs.declared.answer.Answer.{Answer}
 use Rattle.client_database.specs.declared.answer.Answer.TheVariants as answer
 use Rattle.bound_tree.specs.Tree.{Body}
 use Rattle.client_database.specs.declared.ends.ClientEnd.{ClientEnd}
-use Rattle.client_database.specs.declared.ends.ClientEnd.TheVariants as client
 use Rattle.block_meaning.specs.declared.wants.Piece.{Piece}
 use Rattle.client_database.specs.declared.next_step.NextStep.{NextStep}
 use Rattle.client_database.specs.declared.next_step.NextStep.TheVariants.{Ask, Ended}
@@ -17,7 +16,6 @@ use Rattle.block_meaning.specs.GivesUp.{Begins, IsAsked, before_last, written_at
 use Rattle.block_meaning.proofs.Continues.{begins_itself, begins_further, begins_same}
 use Rattle.block_flat.specs.Flat as flat
 use Rattle.block_flat.specs.Flat.{IsCodeOf, Config, means, config, answered, answer_step}
-use Rattle.block_flat.specs.Works.{IsRunning}
 use Rattle.block_flat.proofs.Machine.{asks_means, answered_means}
 use Rattle.block_flat.proofs.Continues.{written_continues, something_is_asked}
 use Rattle.client_output.specs.Written.{HasWritten as Wrote, IsUnchanged}
@@ -30,12 +28,12 @@ use Rattle.client_machine.specs.declared.mode.Mode.{Mode}
 use Rattle.client_machine.specs.declared.mode.Mode.TheVariants as mode
 use Rattle.client_machine.specs.Config.{instr_at, body_at, on_answer_of, mode_of}
 use Rattle.client_machine.specs.Machine.{config_of, stack_in, state_in}
-use Rattle.client_machine.specs.Step.{code_in, Fits, RunKept, KeepsRun as StepKeeps, Wants, IsAwaiting}
+use Rattle.client_machine.specs.Step.{code_in, Fits, KeepsRun as StepKeeps, Wants, IsAwaiting}
 use Rattle.block_vm.proofs.AnswerWrites.{answer_step_writes}
 use Rattle.block_vm.specs.declared.client.Client.{Client}
 use Rattle.block_vm.specs.declared.client.Phase.{Phase}
 use Rattle.block_vm.specs.declared.client.Phase.TheVariants as phase
-use Rattle.block_vm.specs.Refines.{after, Follows, HasEnded, FollowsIn, Refines, HasGivenUp, AfterResume, HasNotBegun, RunsFrom, IsAt, GaveIn, RunsOn}
+use Rattle.block_vm.specs.Refines.{after, Follows, HasEnded, FollowsIn, Refines, AfterResume, HasNotBegun, RunsFrom, IsAt, GaveIn, RunsOn}
 
 -- ---- any configuration
 

@@ -1,6 +1,5 @@
 -- What a client waits for, and how much it has still to do.
-use Rattle.std.proofs.Common.{◌≡◌, ℕ, ◌+◌, ◌<◌, List, [], ◌∷◌, refl, sym, ap, subst, arith}
-use Rattle.client_database.specs.declared.operation.Op.{Op}
+use Rattle.std.proofs.Common.{◌≡◌, ℕ, ◌+◌, ◌<◌, List, [], ◌∷◌, refl, sym, subst, arith}
 use Rattle.client_database.specs.declared.operation.Op.TheVariants as op
 use Rattle.client_database.specs.declared.next_step.NextStep.{NextStep}
 use Rattle.client_database.specs.declared.next_step.NextStep.TheVariants.{Ask, Ended}
@@ -11,7 +10,7 @@ use Rattle.client_machine.specs.Step.{IsAwaiting, IsOver}
 use Rattle.client_machine.specs.Shows.{Shows}
 use Rattle.block_vm.specs.declared.client.Phase.{Phase}
 use Rattle.block_vm.specs.declared.client.Phase.TheVariants as phase
-use Rattle.block_vm.specs.NextStep.{IsAsking, IsEnded, IsLevelOp}
+use Rattle.block_vm.specs.NextStep.{IsAsking, IsLevelOp}
 use Rattle.block_vm.specs.Standing.{Standing}
 use Rattle.block_vm.specs.Work.{operations_in, WaitsIn, EndsIn, ShowsIn, IsWaiting, IsEnding, IsRequest, ShowsWants}
 

@@ -1,6 +1,6 @@
 -- The procedure of a RUN in the code.
 use Rattle.std.proofs.Common.{◌≡◌, ℕ, zero, suc, List, [], ◌∷◌, Some, refl, sym, ap, subst, length}
-use Rattle.std.specs.Prelude.{reverse, slice_get, slice_index_or}
+use Rattle.std.specs.Prelude.{slice_get, slice_index_or}
 use Rattle.bound_tree.specs.Tree.{Procedure, Argument}
 use Rattle.bound_tree.specs.declared.expression.Variable.{Variable}
 use Rattle.block_meaning.specs.Program.{Program, no_procedure, procedure_at}

@@ -1,4 +1,4 @@
-use Rattle.std.proofs.Common.{◌≡◌, sym, ap, ◌∙◌}
+use Rattle.std.proofs.Common.{sym, ap, ◌∙◌}
 use Rattle.client_machine.specs.declared.machine.Machine.{Machine}
 use Rattle.client_machine.specs.declared.mode.Mode.{Mode}
 use Rattle.client_machine.proofs.RunKept.{on_ok, execute_keeps, unwind_keeps}

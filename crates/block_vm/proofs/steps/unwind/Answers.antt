@@ -1,4 +1,4 @@
-use Rattle.std.proofs.Common.{◌≡◌, [], ◌∷◌, sym, ap, ◌∙◌, reverse, append-nil}
+use Rattle.std.proofs.Common.{[], ◌∷◌, sym, ap, ◌∙◌, reverse, append-nil}
 use Rattle.std.proofs.lemmas.List.{reverse-append}
 use Rattle.client_machine.specs.declared.machine.Machine.{Machine}
 use Rattle.client_machine.proofs.RunKept.{on_ok}

@@ -1,4 +1,3 @@
-use Rattle.std.proofs.Common.{◌≡◌}
 use Rattle.block_vm.proofs.Resumes.{first_call}
 use Rattle.block_vm.proofs.client.Client.begin.Goals as goal
 

@@ -1,4 +1,4 @@
-use Rattle.std.proofs.Common.{◌≡◌, []}
+use Rattle.std.proofs.Common.{[]}
 use Rattle.block_vm.proofs.Begins.{begin_follows}
 use Rattle.block_vm.proofs.client.Client.new.Goals as goal
 

@@ -1,11 +1,11 @@
-use Rattle.std.proofs.Common.{◌≡◌, ◌∙◌, Some, Option, List, ℕ, ◌<◌, sym, ap, subst}
+use Rattle.std.proofs.Common.{◌≡◌, ◌∙◌, Some, Option, ◌<◌, sym, subst}
 use Rattle.std.specs.Prelude.{IfSome}
 use Rattle.client_database.specs.declared.ends.ClientEnd.TheVariants.{NoMemory}
 use Rattle.client_database.specs.declared.next_step.NextStep.TheVariants.{Ended}
 use Rattle.client_database.specs.declared.answer.Answer.{Answer}
 use Rattle.block_vm.specs.NextStep.{IsPlain, IsEnded}
 use Rattle.block_vm.specs.Standing.{HasWritten}
-use Rattle.block_vm.specs.Work.{most_operations, IsWaiting, IsEnding}
+use Rattle.block_vm.specs.Work.{most_operations, IsWaiting}
 use Rattle.block_vm.specs.Refines.{Refines, AfterResume, IsExpected, answers_with}
 use Rattle.block_vm.proofs.Works.{shows_waits, shows_level}
 use Rattle.block_vm.proofs.client.Client.resume.Goals as goal

@@ -2,7 +2,6 @@ use Rattle.std.proofs.Common.{◌≡◌, ℕ, List}
 use Rattle.client_database.specs.declared.answer.Answer.{Answer}
 use Rattle.block_meaning.specs.declared.wants.Piece.{Piece}
 use Rattle.block_meaning.specs.State.{Progress}
-use Rattle.block_vm.specs.declared.client.Phase.{Phase}
 use Rattle.block_vm.specs.declared.client.Phase.TheVariants as phase
 use Rattle.block_vm.specs.Refines.{Follows, RunsFrom}
 use Rattle.block_vm.proofs.client.Client.run_on.Given as goal

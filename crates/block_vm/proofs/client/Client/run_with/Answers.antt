@@ -1,4 +1,4 @@
-use Rattle.std.proofs.Common.{◌≡◌, inl, ◌<◌, ◌+◌, ap, ◌∙◌, refl, sym, subst}
+use Rattle.std.proofs.Common.{inl, ◌<◌, ◌+◌, ap, refl, sym, subst}
 use Rattle.client_output.specs.Written.{IsUnchanged}
 use Rattle.client_output.proofs.Unchanged.{unchanged}
 use Rattle.block_vm.specs.declared.client.Client.{Client}
