@@ -92,7 +92,7 @@ module _ (arguments : List (List ℕ)) (files : FileState) (faults : ℕ) (old n
 
   outcome : CommandResult arguments files faults old new report → Outcome
   outcome (Refused name refusal (wrong_argument wrong) is) = absurd (wrong_or_formed arguments _ wrong (inr (check, (names.is_check, names.arguments_are))))
-  outcome (Refused name refusal (prevented run is_run are prevents named) is) = absurd (other_command (sym are ∙ names.arguments_are))
+  outcome (Refused name refusal (prevented run is_run are prevents) is) = absurd (other_command (sym are ∙ names.arguments_are))
   outcome (Refused name refusal (check_prevented other is_other are prevents) is) =
       was_prevented refusal is.refusal is.status (subst (λ (c : Check). PreventsCheck files faults c refusal) (one_check other check (sym are ∙ names.arguments_are)) prevents)
   outcome (Ran named is_named are texts clean works are_works ran) = absurd (other_command (sym are ∙ names.arguments_are))

@@ -2,6 +2,7 @@ pub mod BuiltForms
 pub mod Causes
 pub mod CheckPrevented
 pub mod Checks
+pub mod Commands
 pub mod Databases
 pub mod Endings
 pub mod FileCauses

@@ -1,7 +1,7 @@
 -- What a run has loaded, and what prevents it once its texts are read.
 use Rattle.std.proofs.Common.{◌≡◌, ◌⊎◌, inl, inr, ◌+◌, ◌≤◌, ◌<◌, ℕ, suc, List, [], ◌∷◌, ◌++◌, Option, Some, None, refl, sym, ap, ◌∙◌, subst, arith, length}
 use Rattle.std.specs.List.{flat_map}
-use Rattle.std.specs.Prelude.{IsTrue, All, map}
+use Rattle.std.specs.Prelude.{IsTrue, All, map, remove, slice_index_or}
 use Rattle.std.proofs.lemmas.List.Elements.{All-cons, All-nil}
 use Rattle.abl_schema.specs.Rules.{violation_of}
 use Rattle.abl_values.specs.declared.schema.TableDef.{TableDef}
@@ -171,3 +171,10 @@ module _ (files : FileState) (schema : List ℕ) (clients : List ClientFiles) (d
       is_ready units tasks begun =
           let done = begun_works files (schema_in df) units ts codes tasks are_codes (still_begun files later same sound_observable units (schema_in df).tables codes ts tasks (subst (λ t. AreBegun later units (schema_in t).tables codes ts tasks) is_df begun)) in
           record { texts = texts_of; clean = is_clean; works = done.works; are = done.are; to_do = done.to_do }
+
+-- ---- vectors that are used up
+
+-- the first element, and the others
+pub first_removed : {A : Type 0} (xs ys : List A) (x : A) → 0 < length xs → x ≡ slice_index_or xs 0 x → ys ≡ remove xs 0 → xs ≡ x ∷ ys
+first_removed [] ys x some value items = absurd (omega (arith, some))
+first_removed (y ∷ xs) ys x some value items = ap (λ z. z ∷ xs) (sym value) ∙ ap (λ zs. x ∷ zs) (sym items)

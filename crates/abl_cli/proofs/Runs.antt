@@ -1,5 +1,6 @@
 -- What the clients of a run have done, one after the other.
-use Rattle.std.proofs.Common.{◌≡◌, ◌<◌, ◌+◌, ℕ, suc, List, [], ◌∷◌, sym, ap, subst, arith, length}
+use Rattle.std.proofs.Common.{◌≡◌, ◌<◌, ◌≤◌, ◌+◌, ◌++◌, ◌∙◌, ℕ, suc, List, [], ◌∷◌, refl, sym, ap, subst, arith, length, take}
+use Rattle.std.proofs.lemmas.List.{take-append-le, take_all}
 use Rattle.std.specs.Prelude.{map, slice_index_or}
 use Rattle.block_meaning.specs.Meaning.{run}
 use Rattle.block_vm.specs.Standing.{Standing}
@@ -8,6 +9,7 @@ use Rattle.client_output.specs.declared.section.Section.{Section}
 use Rattle.level_clients.specs.Ran.{ClientTask}
 use Rattle.abl_cli.specs.ClientRun.{ClientOutcome, own_events}
 use Rattle.abl_cli.specs.Command.{DidAsMeant, Work}
+use Rattle.abl_cli.specs.Report.{reports}
 use Rattle.abl_cli.specs.Inside.{AreToDo, HasEnded, HasSections, HaveSections, end_or_none}
 
 pub did_as_meant : (trace : List Event) (units number : ℕ) (works : List Work) (olds news : List ClientTask) (parts : List (List Section)) → length news ≡ length olds → AreToDo units works olds →
@@ -44,3 +46,17 @@ have_sections (task ∷ tasks) =
     let one = has_sections task.client.client in
     let rest = have_sections tasks in
     (one.0 ∷ rest.0, (one.1, rest.1))
+
+-- no client has written anything
+pub no_reports : (names : List (List ℕ)) → reports names [] ≡ []
+no_reports [] = refl
+no_reports (name ∷ names) = refl
+
+-- a list before others, up to its length
+pub whole_of : {A : Type 0} (n : ℕ) (xs ys : List A) → length xs ≡ n → take n (xs ++ ys) ≡ xs
+whole_of n xs ys e = take-append-le n xs ys (omega (arith, e)) ∙ take_all n xs (omega (arith, e))
+
+-- a list without elements
+pub none_of : {A : Type 0} (xs : List A) → 0 ≡ length xs → xs ≡ []
+none_of [] e = refl
+none_of (x ∷ xs) e = absurd (omega (arith, e))

@@ -34,10 +34,10 @@ pub record IsRun (m : List Answer → Progress) : Type 0 where
   pub ends : (before : List Answer) (a : Answer) (more : List Answer) → EndsAfter (m before).wants a → (o : Op) → (m (before ++ a ∷ more)).wants ≡ Ask o → o ≡ op.End
   pub stays : (before more : List Answer) (e : ClientEnd) → (m before).wants ≡ Ended e → m (before ++ more) ≡ m before
 
-run_is : (p : Program) (units : ℕ) → IsRun (run p units)
+pub run_is : (p : Program) (units : ℕ) → IsRun (run p units)
 run_is p units = record { ends = requests_end p units; stays = run_stays p units }
 
-run_after : (m : List Answer → Progress) (a : Answer) → IsRun m → IsRun (λ more. m (a ∷ more))
+pub run_after : (m : List Answer → Progress) (a : Answer) → IsRun m → IsRun (λ more. m (a ∷ more))
 run_after m a r = record { ends = λ before. r.ends (a ∷ before); stays = λ before. r.stays (a ∷ before) }
 
 -- ---- one event
@@ -110,7 +110,7 @@ open_if k o can = tt
 open_at_end : (k : ℕ) (o : Op) → o ≡ op.End → IsOpen k o
 open_at_end k o is = subst (IsOpen k) (sym is) tt
 
-head_same : (o o' : Op) (os os' : List Op) → o ∷ os ≡ o' ∷ os' → (o ≡ o') × (os ≡ os')
+pub head_same : (o o' : Op) (os os' : List Op) → o ∷ os ≡ o' ∷ os' → (o ≡ o') × (os ≡ os')
 head_same o o' os os' e = (cc, cc)
 
 -- after this answer, blocked or not

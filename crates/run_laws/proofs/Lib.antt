@@ -4,3 +4,4 @@ pub mod Halting_changes
 pub mod Halting_whole
 pub mod Ends
 pub mod Careful
+pub mod Unrefused

@@ -1,0 +1,17 @@
+use Rattle.std.proofs.Common.{◌≡◌, ◌⊎◌, inr, Err, List, ℕ, sym, subst}
+use Rattle.std.proofs.lemmas.Result.{err_from_is_err_and}
+use Rattle.abl_cli.specs.declared.load.ClientTexts.{ClientTexts}
+use Rattle.abl_cli.specs.declared.refusal.Refusal.{Refusal}
+use Rattle.abl_cli.specs.declared.refusal.Refusal.TheVariants.{NoMemory}
+use Rattle.abl_cli.specs.Command.{BreaksSource, OneSourceBreaks, this_source}
+use Rattle.abl_cli.proofs.Causes.{of_error}
+use Rattle.abl_cli.proofs.load.+add_codes.Goals as goal
+
+pub returns-in_err-code-clause-refused : goal.returns-in_err-code-clause-refused
+returns-in_err-code-clause-refused t c =
+    let p = err_from_is_err_and c.from_residual.result c.from_residual.ensures.1 in
+    let refusal = c.in_err-code.field-0.0 in
+    let is : c.from_residual.result ≡ Err refusal = cc (p.1, p.2) in
+    let broken = subst (λ (source : List ℕ). BreaksSource c.args.schema.now c.args.number source refusal) c.as_slice.ensures c.in_err-code.ensures.refused in
+    of_error (λ (refusal : Refusal). (refusal ≡ NoMemory) ⊎ OneSourceBreaks c.args.schema.now c.args.number c.args.texts.now refusal) is
+    (inr (subst (λ (texts : List ClientTexts). OneSourceBreaks c.args.schema.now c.args.number texts refusal) (sym c.in-Some.ensures.cases.0) (this_source broken)))

@@ -1,0 +1,125 @@
+-- What is read, compiled and begun is what the run needs, or prevents it.
+use Rattle.std.proofs.Common.{◌≡◌, ◌⊎◌, inl, inr, ◌≤◌, ◌++◌, Err, None, List, sym, ap, ◌∙◌, subst, arith, length}
+use Rattle.std.specs.Prelude.{All, map}
+use Rattle.std.proofs.lemmas.List.{length-map}
+use Rattle.std.proofs.lemmas.Result.{err_from_is_err_and}
+use Rattle.abl_schema.specs.Rules.{violation_of}
+use Rattle.abl_outside.specs.Files.{FileState}
+use Rattle.abl_arguments.specs.CommandLine.{ClientFiles, client_in}
+use Rattle.level_clients.specs.Ran.{ClientTask}
+use Rattle.abl_cli.specs.declared.load.ClientTexts.{ClientTexts}
+use Rattle.abl_cli.specs.declared.load.TheConstants.{MAX_FILE_BYTES}
+use Rattle.abl_cli.specs.declared.refusal.Refusal.{Refusal}
+use Rattle.abl_cli.specs.declared.refusal.Refusal.TheVariants.{NoMemory}
+use Rattle.abl_cli.specs.Command.{BreaksSchema, HaveClients, OneSourceBreaks, Prevents, no_file, this_one, schema_in}
+use Rattle.abl_cli.specs.Inside.{AreBegun, HaveCodes}
+use Rattle.abl_cli.proofs.Causes.{of_error, same_further, still_one, still_clients}
+use Rattle.abl_cli.proofs.Loads.{as_many_texts, as_many_codes, short_sources, files_prevent, rules_prevent, named_prevents, is_ready}
+use Rattle.abl_cli.proofs.load.load.Goals as goal
+
+pub returns-in_err-df-clause-prevented : goal.returns-in_err-df-clause-prevented
+returns-in_err-df-clause-prevented g c =
+    let p = err_from_is_err_and c.from_residual.result c.from_residual.ensures.1 in
+    let is : c.from_residual.result ≡ Err c.in_err-df.field-0.0 = cc (p.1, p.2) in
+    of_error _ is (no_file (this_one c.in_err-df.ensures.refused))
+
+pub returns-in_err-read_clients-clause-prevented : goal.returns-in_err-read_clients-clause-prevented
+returns-in_err-read_clients-clause-prevented g c =
+    let files : FileState = g.F.Files.state c.args.files.now in
+    let later : FileState = g.F.Files.state c.read.new.files in
+    let sound = g.met.F.Files.sound_observable c.args.files.now in
+    let p = err_from_is_err_and c.from_residual-in_err-read_clients.result c.from_residual-in_err-read_clients.ensures.1 in
+    let refusal = c.in_err-read_clients.field-0.0 in
+    let is : c.from_residual-in_err-read_clients.result ≡ Err refusal = cc (p.1, p.2) in
+    of_error _ is (files_prevent files c.args.schema.now (map client_in c.args.clients.now) c.in_ok-df.df c.in_ok-df.ensures.text (g.F.Files.state c.read_clients.new.files).faults refusal
+    (elim c.in_err-read_clients.ensures.refused [
+      | inl e ↦ inl e
+      | inr one ↦ inr (still_one files later c.in_ok-df.ensures.same sound one)
+    ]))
+
+pub codes_in-requires-clause-short : goal.codes_in-requires-clause-short
+codes_in-requires-clause-short g c =
+    let files : FileState = g.F.Files.state c.args.files.now in
+    let later : FileState = g.F.Files.state c.read.new.files in
+    let sound = g.met.F.Files.sound_observable c.args.files.now in
+    let clients : List ClientFiles = map client_in c.args.clients.now in
+    let texts : List ClientTexts = c.read_clients.new.texts.items in
+    let read = c.in_ok-read_clients.ensures.read in
+    let texts_are = read.1 ∙ ap (λ (ts : List ClientTexts). ts ++ read.0) c.new-texts.ensures.items in
+    let have = subst (λ (ts : List ClientTexts). HaveClients files clients ts) (sym texts_are) (still_clients files later c.in_ok-df.ensures.same sound clients read.0 read.2) in
+    subst (λ (ts : List ClientTexts). All (λ (t : ClientTexts). length t.source ≤ MAX_FILE_BYTES) ts) (sym c.deref.ensures.value) (short_sources files clients texts have)
+
+pub codes_in-requires-clause-few : goal.codes_in-requires-clause-few
+codes_in-requires-clause-few g c =
+    let files : FileState = g.F.Files.state c.args.files.now in
+    let later : FileState = g.F.Files.state c.read.new.files in
+    let sound = g.met.F.Files.sound_observable c.args.files.now in
+    let clients : List ClientFiles = map client_in c.args.clients.now in
+    let texts : List ClientTexts = c.read_clients.new.texts.items in
+    let read = c.in_ok-read_clients.ensures.read in
+    let texts_are = read.1 ∙ ap (λ (ts : List ClientTexts). ts ++ read.0) c.new-texts.ensures.items in
+    let have = subst (λ (ts : List ClientTexts). HaveClients files clients ts) (sym texts_are) (still_clients files later c.in_ok-df.ensures.same sound clients read.0 read.2) in
+    let many = as_many_texts files clients texts have in
+    let mapped = length-map c.args.clients.now client_in in
+    subst (λ (ts : List ClientTexts). length ts ≤ 16) (sym c.deref.ensures.value) (omega (arith, many, mapped, c.requires))
+
+pub returns-in_err-codes-clause-prevented : goal.returns-in_err-codes-clause-prevented
+returns-in_err-codes-clause-prevented g c =
+    let files : FileState = g.F.Files.state c.args.files.now in
+    let later : FileState = g.F.Files.state c.read.new.files in
+    let sound = g.met.F.Files.sound_observable c.args.files.now in
+    let clients : List ClientFiles = map client_in c.args.clients.now in
+    let texts : List ClientTexts = c.read_clients.new.texts.items in
+    let read = c.in_ok-read_clients.ensures.read in
+    let texts_are = read.1 ∙ ap (λ (ts : List ClientTexts). ts ++ read.0) c.new-texts.ensures.items in
+    let have = subst (λ (ts : List ClientTexts). HaveClients files clients ts) (sym texts_are) (still_clients files later c.in_ok-df.ensures.same sound clients read.0 read.2) in
+    let d = c.as_slice.result.now in
+    let p = err_from_is_err_and c.from_residual-in_err-codes.result c.from_residual-in_err-codes.ensures.1 in
+    let refusal = c.in_err-codes.field-0.0 in
+    let is : c.from_residual-in_err-codes.result ≡ Err refusal = cc (p.1, p.2) in
+    of_error _ is (rules_prevent files c.args.schema.now clients c.in_ok-df.df c.in_ok-df.ensures.text texts have d c.as_slice.ensures (g.F.Files.state c.read_clients.new.files).faults refusal
+    (subst (λ (ts : List ClientTexts). (refusal ≡ NoMemory) ⊎ (BreaksSchema d refusal ⊎ ((violation_of d ≡ None) × OneSourceBreaks (schema_in d) 0 ts refusal))) c.deref.ensures.value c.in_err-codes.ensures.refused))
+
+pub begin_clients-requires : goal.begin_clients-requires
+begin_clients-requires g c =
+    let d = c.as_slice.result.now in
+    let codes = c.in_ok-codes.codes.items in
+    as_many_codes (schema_in d) c.read_clients.new.texts.items codes (subst (λ (ts : List ClientTexts). HaveCodes (schema_in d) ts codes) c.deref.ensures.value c.in_ok-codes.ensures.codes)
+
+pub returns-in-Ok-clause-ready : goal.returns-in-Ok-clause-ready
+returns-in-Ok-clause-ready g c =
+    let files : FileState = g.F.Files.state c.args.files.now in
+    let later : FileState = g.F.Files.state c.read.new.files in
+    let sound = g.met.F.Files.sound_observable c.args.files.now in
+    let clients : List ClientFiles = map client_in c.args.clients.now in
+    let texts : List ClientTexts = c.read_clients.new.texts.items in
+    let read = c.in_ok-read_clients.ensures.read in
+    let texts_are = read.1 ∙ ap (λ (ts : List ClientTexts). ts ++ read.0) c.new-texts.ensures.items in
+    let have = subst (λ (ts : List ClientTexts). HaveClients files clients ts) (sym texts_are) (still_clients files later c.in_ok-df.ensures.same sound clients read.0 read.2) in
+    let named : FileState = g.F.Files.state c.read_clients.new.files in
+    let d = c.as_slice.result.now in
+    let codes = c.in_ok-codes.codes.items in
+    let are = subst (λ (ts : List ClientTexts). HaveCodes (schema_in d) ts codes) c.deref.ensures.value c.in_ok-codes.ensures.codes in
+    let same = same_further c.in_ok-df.ensures.same c.in_ok-read_clients.ensures.same in
+    let begun = c.in-Ok.ensures.begun in
+    let tasks_are = begun.1 ∙ ap (λ (ts : List ClientTask). ts ++ begun.0) c.new-tasks.ensures.items in
+    is_ready files c.args.schema.now clients c.in_ok-df.df c.in_ok-df.ensures.text texts have d c.as_slice.ensures c.in_ok-codes.ensures.clean codes are named same sound c.args.units c.begin_clients.new.tasks.items
+    (subst (λ (ts : List ClientTask). AreBegun named c.args.units codes texts ts) (sym tasks_are) begun.2)
+
+pub returns-clause-prevented : goal.returns-clause-prevented
+returns-clause-prevented g c =
+    let files : FileState = g.F.Files.state c.args.files.now in
+    let later : FileState = g.F.Files.state c.read.new.files in
+    let sound = g.met.F.Files.sound_observable c.args.files.now in
+    let clients : List ClientFiles = map client_in c.args.clients.now in
+    let texts : List ClientTexts = c.read_clients.new.texts.items in
+    let read = c.in_ok-read_clients.ensures.read in
+    let texts_are = read.1 ∙ ap (λ (ts : List ClientTexts). ts ++ read.0) c.new-texts.ensures.items in
+    let have = subst (λ (ts : List ClientTexts). HaveClients files clients ts) (sym texts_are) (still_clients files later c.in_ok-df.ensures.same sound clients read.0 read.2) in
+    let named : FileState = g.F.Files.state c.read_clients.new.files in
+    let d = c.as_slice.result.now in
+    let codes = c.in_ok-codes.codes.items in
+    let are = subst (λ (ts : List ClientTexts). HaveCodes (schema_in d) ts codes) c.deref.ensures.value c.in_ok-codes.ensures.codes in
+    let same = same_further c.in_ok-df.ensures.same c.in_ok-read_clients.ensures.same in
+    named_prevents files c.args.schema.now clients c.in_ok-df.df c.in_ok-df.ensures.text texts have d c.as_slice.ensures c.in_ok-codes.ensures.clean codes are named same sound
+    (g.F.Files.state c.begin_clients.new.files).faults c.in-Err.refusal c.in-Err.ensures.refused
