@@ -57,6 +57,6 @@ pub whole_of : {A : Type 0} (n : ℕ) (xs ys : List A) → length xs ≡ n → t
 whole_of n xs ys e = take-append-le n xs ys (omega (arith, e)) ∙ take_all n xs (omega (arith, e))
 
 -- a list without elements
-pub none_of : {A : Type 0} (xs : List A) → 0 ≡ length xs → xs ≡ []
+pub none_of : {A : Type 0} (xs : List A) → length xs ≡ 0 → xs ≡ []
 none_of [] e = refl
 none_of (x ∷ xs) e = absurd (omega (arith, e))

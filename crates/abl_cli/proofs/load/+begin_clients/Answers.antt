@@ -7,7 +7,7 @@ use Rattle.level_clients.specs.Ran.{ClientTask}
 use Rattle.abl_cli.specs.declared.load.ClientTexts.{ClientTexts}
 use Rattle.abl_cli.specs.declared.refusal.Refusal.{Refusal}
 use Rattle.abl_cli.specs.declared.refusal.Refusal.TheVariants.{NoMemory}
-use Rattle.abl_cli.specs.Command.{OneIsNotRead}
+use Rattle.abl_cli.specs.Command.{OneIsNotRead, schema_in}
 use Rattle.abl_cli.specs.Inside.{AreBegun, inputs_of}
 use Rattle.abl_cli.proofs.Causes.{of_error, still_one, unread_first, unread_later}
 use Rattle.abl_cli.proofs.Loads.{first_removed, still_begun}
@@ -42,17 +42,18 @@ returns-clause-begun g t c =
     let codes_are = first_removed c.args.codes.items codes c.remove-code.result some c.remove-code.ensures.value c.remove-code.ensures.items in
     let texts_are = first_removed c.args.texts.items texts c.remove-source.result some_texts c.remove-source.ensures.value c.remove-source.ensures.items in
     let first = c.in_ok-task.task in
+    let tables = (schema_in c.args.df.now).tables in
     let old = c.args.tasks.now.items in
     let new = c.begin_clients.new.tasks.items in
     on_ok c.begin_clients.result
-    ((more : List ClientTask) × (new ≡ c.push.new.self.items ++ more) × AreBegun later c.args.units codes texts more)
-    ((more : List ClientTask) × (new ≡ old ++ more) × AreBegun files c.args.units c.args.codes.items c.args.texts.items more)
+    ((more : List ClientTask) × (new ≡ c.push.new.self.items ++ more) × AreBegun later c.args.units tables codes texts more)
+    ((more : List ClientTask) × (new ≡ old ++ more) × AreBegun files c.args.units tables c.args.codes.items c.args.texts.items more)
     (λ rest. (
       first ∷ rest.0,
       rest.1 ∙ ap (λ (tasks : List ClientTask). tasks ++ rest.0) c.in-Ok.ensures.items ∙ append_assoc old (first ∷ []) rest.0,
-      subst (λ (cs : List Code). AreBegun files c.args.units cs c.args.texts.items (first ∷ rest.0)) (sym codes_are)
-      (subst (λ (ts : List ClientTexts). AreBegun files c.args.units (c.remove-code.result ∷ codes) ts (first ∷ rest.0)) (sym texts_are)
-      (c.in_ok-task.ensures.begun, still_begun files later c.in_ok-task.ensures.same sound c.args.units codes texts rest.0 rest.2)),
+      subst (λ (cs : List Code). AreBegun files c.args.units tables cs c.args.texts.items (first ∷ rest.0)) (sym codes_are)
+      (subst (λ (ts : List ClientTexts). AreBegun files c.args.units tables (c.remove-code.result ∷ codes) ts (first ∷ rest.0)) (sym texts_are)
+      (c.in_ok-task.ensures.begun, still_begun files later c.in_ok-task.ensures.same sound c.args.units tables codes texts rest.0 rest.2)),
     ))
     c.begin_clients.ensures.begun
 

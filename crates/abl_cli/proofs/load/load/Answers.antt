@@ -1,5 +1,5 @@
 -- What is read, compiled and begun is what the run needs, or prevents it.
-use Rattle.std.proofs.Common.{◌≡◌, ◌⊎◌, inl, inr, ◌≤◌, ◌++◌, Err, None, List, sym, ap, ◌∙◌, subst, arith, length}
+use Rattle.std.proofs.Common.{◌≡◌, ◌⊎◌, inl, inr, ◌≤◌, ◌++◌, Err, None, List, ℕ, sym, ap, ◌∙◌, subst, arith, length}
 use Rattle.std.specs.Prelude.{All, map}
 use Rattle.std.proofs.lemmas.List.{length-map}
 use Rattle.std.proofs.lemmas.Result.{err_from_is_err_and}
@@ -104,7 +104,8 @@ returns-in-Ok-clause-ready g c =
     let begun = c.in-Ok.ensures.begun in
     let tasks_are = begun.1 ∙ ap (λ (ts : List ClientTask). ts ++ begun.0) c.new-tasks.ensures.items in
     is_ready files c.args.schema.now clients c.in_ok-df.df c.in_ok-df.ensures.text texts have d c.as_slice.ensures c.in_ok-codes.ensures.clean codes are named same sound c.args.units c.begin_clients.new.tasks.items
-    (subst (λ (ts : List ClientTask). AreBegun named c.args.units codes texts ts) (sym tasks_are) begun.2)
+    (subst (λ (text : List ℕ). AreBegun named c.args.units (schema_in text).tables codes texts c.begin_clients.new.tasks.items) (c.as_slice-2.ensures ∙ sym c.as_slice.ensures)
+    (subst (λ (ts : List ClientTask). AreBegun named c.args.units (schema_in c.as_slice-2.result.now).tables codes texts ts) (sym tasks_are) begun.2))
 
 pub returns-clause-prevented : goal.returns-clause-prevented
 returns-clause-prevented g c =
