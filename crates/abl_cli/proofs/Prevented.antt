@@ -181,7 +181,7 @@ worked files schema (t ∷ ts) (w ∷ ws) are =
       trees = w.tree ∷ rest.trees;
       are = (are.0.0, rest.are);
       texts = w.inputs ++ rest.texts;
-      have = have_both files w.tree.inputs (named_inputs rest.trees) w.inputs rest.texts are.0.1.1 rest.have;
+      have = have_both files w.tree.inputs (named_inputs rest.trees) w.inputs rest.texts are.0.1.1.1 rest.have;
     }
 
 module _ (arguments : List (List ℕ)) (files : FileState) (faults : ℕ) (old new : OutState) (report : Report) (run : Run) (names : NamesRun arguments files run) where
