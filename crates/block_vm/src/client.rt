@@ -22,6 +22,7 @@ ghost use Rattle.block_vm.specs.Standing.{HasWritten};
 ghost use Rattle.block_vm.specs.Work.{most_operations, IsWaiting, IsEnding, IsRequest, ShowsWants};
 ghost use Rattle.block_vm.specs.Refines.{HasNoBuffers, Refines, HasGivenUp, AfterResume, HasNotBegun, IsExpected, answers_with, Follows, RunsOn};
 
+use crate::answers::take_answer;
 use crate::begin::first_machine;
 use crate::requests::may_ask;
 use crate::steps::step;
@@ -126,7 +127,7 @@ impl Client {
             return self.give_up();
         }
         let limit = limit_after(&answer, self.machine.units);
-        match self.machine.answer(answer) {
+        match take_answer(&mut self.machine, answer) {
             Ok(()) => self.run_on(limit),
             Err(_) => self.give_up(),
         }

@@ -4,8 +4,10 @@
 //! fitting answers the client does what its source means.
 #![tactic(auto)]
 
+pub mod answers;
 pub mod begin;
 pub mod client;
+pub mod families;
 pub mod requests;
 pub mod steps;
 

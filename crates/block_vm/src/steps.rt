@@ -7,6 +7,9 @@ ghost use Rattle.client_machine.specs.declared.mode.StackEntry.{StackEntry};
 ghost use Rattle.client_machine.specs.declared.mode.Task.{Task};
 ghost use Rattle.client_machine.specs.Step.{KeepsRun, KeepsTask, KeepsCompletion, KeepsEntry};
 
+use crate::families::{
+    execute_change, execute_end, execute_read, unwind_to_change, unwind_to_end, unwind_to_read,
+};
 use block_code::{Code, Instr};
 use bound_tree::Stmt;
 use client_calls::steps::{call, called, run_statement};
@@ -60,6 +63,39 @@ fn execute(machine: &mut Machine, task: Task) -> Result<(), AllocError>
             left,
             values,
         } => call(machine, place, left, values),
+        _ => execute_other(machine, task),
+    }
+}
+
+/// Executes a task of the families on records, or one of the machine.
+fn execute_other(machine: &mut Machine, task: Task) -> Result<(), AllocError>
+    ensures ok { OnOk result (KeepsTask task machine.old machine.new) }
+    ensures err { OnErr result (IsUnchanged machine.old.output machine.new.output) }
+{
+    match task {
+        Task::End(task) => execute_end(machine, task),
+        _ => execute_on_records(machine, task),
+    }
+}
+
+/// The same where it is no end of an iteration.
+fn execute_on_records(machine: &mut Machine, task: Task) -> Result<(), AllocError>
+    ensures ok { OnOk result (KeepsTask task machine.old machine.new) }
+    ensures err { OnErr result (IsUnchanged machine.old.output machine.new.output) }
+{
+    match task {
+        Task::Read(task) => execute_read(machine, task),
+        _ => execute_changing(machine, task),
+    }
+}
+
+/// The same where it is no reading.
+fn execute_changing(machine: &mut Machine, task: Task) -> Result<(), AllocError>
+    ensures ok { OnOk result (KeepsTask task machine.old machine.new) }
+    ensures err { OnErr result (IsUnchanged machine.old.output machine.new.output) }
+{
+    match task {
+        Task::Change(task) => execute_change(machine, task),
         _ => machine.execute(task),
     }
 }
@@ -132,6 +168,51 @@ fn unwind_to(
 {
     match entry {
         StackEntry::Called(place) => called(machine, place, &completion),
+        _ => unwind_to_records(machine, entry, completion),
+    }
+}
+
+/// The same for an entry of the families on records.
+fn unwind_to_records(
+    machine: &mut Machine,
+    entry: StackEntry,
+    completion: Completion,
+) -> Result<(), AllocError>
+    ensures ok { OnOk result (KeepsEntry entry completion machine.old machine.new) }
+    ensures err { OnErr result (IsUnchanged machine.old.output machine.new.output) }
+{
+    match entry {
+        StackEntry::End(entry) => unwind_to_end(machine, entry, completion),
+        _ => unwind_to_reading(machine, entry, completion),
+    }
+}
+
+/// The same where it is of no end of an iteration.
+fn unwind_to_reading(
+    machine: &mut Machine,
+    entry: StackEntry,
+    completion: Completion,
+) -> Result<(), AllocError>
+    ensures ok { OnOk result (KeepsEntry entry completion machine.old machine.new) }
+    ensures err { OnErr result (IsUnchanged machine.old.output machine.new.output) }
+{
+    match entry {
+        StackEntry::Read(entry) => unwind_to_read(machine, entry, completion),
+        _ => unwind_to_changing(machine, entry, completion),
+    }
+}
+
+/// The same where it is of no reading.
+fn unwind_to_changing(
+    machine: &mut Machine,
+    entry: StackEntry,
+    completion: Completion,
+) -> Result<(), AllocError>
+    ensures ok { OnOk result (KeepsEntry entry completion machine.old machine.new) }
+    ensures err { OnErr result (IsUnchanged machine.old.output machine.new.output) }
+{
+    match entry {
+        StackEntry::Change(entry) => unwind_to_change(machine, entry, completion),
         _ => machine.unwind_to(entry, completion),
     }
 }

@@ -25,7 +25,7 @@ returns-then-not-is_awaiting-clause-fewer c =
 
 pub returns-in-Ok-clause-refines : goal.returns-in-Ok-clause-refines
 returns-in-Ok-clause-refines c =
-    λ names m answers waiting d. answered_call names c.args.answer m answers c.args.self.now c.run_on.new.self c.answer.new.self c.run_on.result c.requires.running (c.is_awaiting.ensures.yes c.if-not-is_awaiting.false) (c.in-Ok.ensures.ok (c.is_awaiting.ensures.yes c.if-not-is_awaiting.false)) c.run_on.ensures.follows d
+    λ names m answers waiting d. answered_call names c.args.answer m answers c.args.self.now c.run_on.new.self c.take_answer.new.machine c.run_on.result c.requires.running (c.is_awaiting.ensures.yes c.if-not-is_awaiting.false) (c.in-Ok.ensures.ok (c.is_awaiting.ensures.yes c.if-not-is_awaiting.false)) c.run_on.ensures.follows d
 
 pub returns-in-Ok-clause-fewer : goal.returns-in-Ok-clause-fewer
 returns-in-Ok-clause-fewer c =
