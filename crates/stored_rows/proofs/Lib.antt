@@ -12,3 +12,4 @@ pub mod Begun
 pub mod Methods
 pub mod Closed
 pub mod Committed
+pub mod Opening

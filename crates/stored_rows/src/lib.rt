@@ -10,6 +10,7 @@ pub mod inserts;
 pub mod log;
 pub mod noted;
 pub mod open;
+pub mod opened;
 pub mod returns;
 pub mod rows;
 

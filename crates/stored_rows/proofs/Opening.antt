@@ -1,0 +1,53 @@
+-- A store that is opened.
+use Rattle.std.proofs.Common.{◌≡◌, ℕ, ◌≤◌, ◌<◌, ◌&&◌, not, eqb, Bool, true, false, List, [], length, Option, None, is_some, refl, sym, ap, ◌∙◌, subst, arith}
+use Rattle.std.proofs.Math.Path.{fun_ext}
+use Rattle.abl_storage.specs.Slots.{SlotState, IsReadable, wrote}
+use Rattle.abl_storage.specs.declared.slots.Undo.{Undo}
+use Rattle.abl_values.specs.Schema.{SchemaData}
+use Rattle.row_chain.specs.Fragments.{StoredBytes, ends, kind_in, row_at}
+use Rattle.row_chain.proofs.Chained.{no_row_at}
+use Rattle.chain_store.proofs.Rewrites.{high_bound, low_bound}
+use Rattle.stored_rows.specs.declared.open.Open.{Open}
+use Rattle.stored_rows.specs.Opens.{OpenView, log_in, no_open, open_in, touched_in}
+use Rattle.stored_rows.specs.Decoded.{AreRead, decoded, row_of}
+use Rattle.stored_rows.specs.Stored.{IsStored}
+use Rattle.stored_rows.proofs.Histories.{clash}
+
+-- no transaction is begun, and the slots are those that are committed
+pub opened_stored : (schema : SchemaData) (s : SlotState) → ((c : ℕ) → (s.transaction c).undo ≡ []) → (IsReadable s → (k : ℕ) → s.committed k ≡ s.reads k) → (IsReadable s → AreRead schema s.reads)
+    → IsStored schema s (λ c. []) (λ c. [])
+opened_stored schema s clean settled read = record {
+  marks = λ fine c. omega arith;
+  first = λ fine c. ap length (clean c);
+  low = λ fine c k e. none c k;
+  written = λ fine c k e. absurd (cc e);
+  kept = λ c k e. absurd (cc e);
+  apart = λ c d k ne e. absurd (cc e);
+  idle = λ c e. (refl, refl);
+  mixes = λ readable at mixed m.
+      let same : mixed ≡ s.reads = fun_ext (λ k. m.rest k (λ c. none c k)) in (
+        record { of = λ c k e. absurd (cc e); rest = λ k e. ap (λ (f : ℕ → List ℕ). decoded schema f k) same },
+        subst (AreRead schema) (sym same) (read readable),
+      );
+  base = λ readable. record { of = λ c k e. clash (wrote (s.transaction c).undo k) e (none c k); rest = λ k e. settled readable k };
+}
+  where
+    none : (c k : ℕ) → wrote (s.transaction c).undo k ≡ false
+    none c k = ap (λ (us : List Undo). wrote us k) (clean c)
+
+pub stored_nowhere : (schema : SchemaData) (s : SlotState) (os : List Open) → ((c : ℕ) → open_in os c ≡ no_open) → IsStored schema s (λ c. []) (λ c. []) → IsStored schema s (log_in os) (touched_in os)
+stored_nowhere schema s os none stored = subst (λ (f : ℕ → OpenView). IsStored schema s (λ c. (f c).log) (λ c. (f c).touched)) (sym (fun_ext none)) stored
+
+not_begins : (a b : Bool) → a ≡ true → (not a && b) ≡ false
+not_begins true b e = refl
+not_begins false b e = absurd (cc e)
+
+-- rows begin in slots for rows alone
+pub all_read : (schema : SchemaData) (slots : ℕ → List ℕ) → ((k : ℕ) → 8192 ≤ k → k < 1048576 → is_some (decoded schema slots k) ≡ is_some (row_at slots k)) → AreRead schema slots
+all_read schema slots within k = by_end (ends k) refl
+  where
+    by_end : (b : Bool) → ends k ≡ b → is_some (decoded schema slots k) ≡ is_some (row_at slots k)
+    by_end true e =
+        let none : row_at slots k ≡ None = no_row_at slots k (not_begins (ends k) (eqb (kind_in (slots k)) 1) e) in
+        ap (λ (r : Option StoredBytes). is_some (row_of schema r)) none ∙ sym (ap (λ (r : Option StoredBytes). is_some r) none)
+    by_end false e = within k (low_bound k e) (high_bound k e)

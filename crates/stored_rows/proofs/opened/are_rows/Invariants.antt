@@ -1,0 +1,13 @@
+use Rattle.std.proofs.Common.{◌≡◌, ℕ, ◌<◌, ◌≤◌, is_some}
+use Rattle.abl_storage.specs.Slots.{IsReadable}
+use Rattle.row_chain.specs.Fragments.{row_at}
+use Rattle.chain_store.specs.Still.{Still}
+use Rattle.stored_rows.specs.Decoded.{decoded}
+use Rattle.stored_rows.proofs.opened.are_rows.Given as goal
+
+abbrev pub invariant-loop-at : goal.invariant-loop-at
+invariant-loop-at g l = record {
+  still : Still (g.S.Slots.state l.fn.chains.slots) (g.S.Slots.state l.chains.slots) (g.S.Slots.stop l.fn.chains.slots) (g.S.Slots.stop l.chains.slots);
+  read : IsReadable (g.S.Slots.state l.fn.chains.slots) → (k : ℕ) → 8192 ≤ k → k < l.at →
+      is_some (decoded l.schema (g.S.Slots.state l.fn.chains.slots).reads k) ≡ is_some (row_at (g.S.Slots.state l.fn.chains.slots).reads k);
+}
