@@ -13,3 +13,4 @@ pub mod Methods
 pub mod Closed
 pub mod Committed
 pub mod Opening
+pub mod Looked

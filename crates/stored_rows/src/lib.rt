@@ -11,6 +11,7 @@ pub mod log;
 pub mod noted;
 pub mod open;
 pub mod opened;
+pub mod reads;
 pub mod returns;
 pub mod rows;
 

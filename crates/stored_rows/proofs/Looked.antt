@@ -1,0 +1,23 @@
+-- A call that reads changes nothing.
+use Rattle.std.proofs.Common.{◌≡◌, ℕ, List, Option, Some, None, MatchOption, Result, Ok, Err, refl, sym, ap, ◌∙◌}
+use Rattle.abl_storage.specs.Slots.{SlotState, IsReadable}
+use Rattle.abl_values.specs.Schema.{SchemaData}
+use Rattle.database_meaning.specs.declared.state.StoredRow.{StoredRow}
+use Rattle.row_chain.specs.Calls.{Looked}
+use Rattle.chain_store.specs.declared.fault.ChainFault.{ChainFault}
+use Rattle.chain_store.specs.Rows.{of_slots}
+use Rattle.abl_rows.specs.Changes.{RowsById}
+use Rattle.stored_rows.specs.declared.open.Open.{Open}
+use Rattle.stored_rows.specs.Opens.{log_in, touched_in}
+use Rattle.stored_rows.specs.Stored.{IsStored}
+use Rattle.stored_rows.proofs.Assembles.{stored_rests}
+use Rattle.stored_rows.proofs.Methods.{begun_rests, refused_stored}
+
+pub looked_stored : {T : Type 0} (schema : SchemaData) (s t : SlotState) (at_s at_t : ℕ → (ℕ → List ℕ) → Type 0) (os : List Open) → IsStored schema s (log_in os) (touched_in os)
+    → (r : Result T ChainFault) → Looked s t at_s at_t (of_slots r) → IsStored schema t (log_in os) (touched_in os)
+looked_stored schema s t at_s at_t os stored (Ok v) l = stored_rests schema s t (log_in os) (touched_in os) l.rests (l.cause.stays (λ e. cc e)) stored
+looked_stored schema s t at_s at_t os stored (Err fault) l = refused_stored schema s t os os (λ c. refl) stored fault (λ e. l.rests) l.cause (begun_rests s t l.rests)
+
+pub found_is : (found row : Option StoredRow) → MatchOption found (row ≡ None) (λ one. row ≡ Some one) → found ≡ row
+found_is None row h = sym h
+found_is (Some one) row h = sym h
