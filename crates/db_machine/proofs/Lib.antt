@@ -1,4 +1,6 @@
 pub mod Rooms
+pub mod OwnAnswers
 pub mod Replying
 pub mod Stepping
+pub mod Refusing
 pub mod Sessions

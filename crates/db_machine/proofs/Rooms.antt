@@ -1,18 +1,16 @@
 -- From the decided answer to the answer that there is room for.
-use Rattle.std.proofs.Common.{◌≡◌, ◌≢◌, ◌⊎◌, ℕ, ◌+◌, ◌<◌, ◌≤◌, min, Bool, true, false, List, Option, None, Some, refl, sym, ap, ◌∙◌, subst, inl, inr, arith}
-use Rattle.std.specs.Prelude.{IsTrue}
+use Rattle.std.proofs.Common.{◌≡◌, ◌≢◌, ℕ, ◌+◌, ◌≤◌, min, true, false, List, None, refl, sym, ◌∙◌, subst, inl, inr, arith}
 use Rattle.abl_base.specs.declared.limits.TheConstants.{MAX_TRACE_BYTES}
 use Rattle.abl_base.specs.declared.row.RowId.{RowId}
 use Rattle.client_database.specs.declared.operation.Op.{Op}
 use Rattle.client_database.specs.declared.operation.Op.TheVariants.{Back, Drop as DropLock, End, Enter, Leave, NextValue}
 use Rattle.client_database.specs.declared.answer.Answer.{Answer}
-use Rattle.client_database.specs.declared.answer.Answer.TheVariants.{AtEnd, Blocked, Busy, Closed, Committed, Deadlock, Done, Duplicate, Full, Gone, KeyTooLong, NoMemory, Refused, SequenceEnd, TraceFull, TxFull}
-use Rattle.database_meaning.specs.declared.state.BlockedRequest.{BlockedRequest}
+use Rattle.client_database.specs.declared.answer.Answer.TheVariants.{AtEnd, Busy, Closed, Committed, Deadlock, Done, Duplicate, Full, Gone, KeyTooLong, NoMemory, Refused, SequenceEnd, TraceFull, TxFull}
 use Rattle.database_meaning.specs.Setting.{Setting}
-use Rattle.database_meaning.specs.State.{State, depth_of}
-use Rattle.database_meaning.specs.Answers.{Answers, ByTable, FromGone, IsRefused, Succeeds}
+use Rattle.database_meaning.specs.State.{State}
+use Rattle.database_meaning.specs.Answers.{Answers, FromGone, IsRefused, Succeeds}
 use Rattle.database_meaning.specs.Counts.{HasRoom, event_size}
-use Rattle.database_meaning.specs.Steps.{after, blocked_after, is_success}
+use Rattle.database_meaning.specs.Steps.{blocked_after, is_success}
 use Rattle.db_core.proofs.GetRows.{no_key}
 use Rattle.db_machine.specs.Replies.{ByRoom, HasPlace, IsFitted, IsRefusal, IsSize}
 

@@ -1,2 +1,5 @@
+pub mod OwnAnswers
 pub mod Replies
+pub mod Running
 pub mod Machine
+pub mod Database

@@ -14,7 +14,8 @@ use Rattle.database_meaning.specs.Steps.{after}
 use Rattle.abl_rows.specs.Rows.{IsObservable, RowState}
 use Rattle.db_core.specs.declared.control.Control.{Control}
 use Rattle.db_core.specs.Keeps.{Keeps, NextCounts}
-use Rattle.db_core.specs.Known.{setting_at}
+use Rattle.db_core.specs.Known.{known, setting_at}
+use Rattle.db_core.specs.Levels.{SameLevels}
 use Rattle.db_core.specs.Represents.{IsSound, Represents}
 
 -- ---- the size of the trace
@@ -55,14 +56,17 @@ IsRefusal _ = ⊥
 abbrev pub ByRoom : Setting → State → ℕ → Op → Answer → Type 0
 ByRoom f s c op a = (HasRoom s op a × FromGone f s c op a) ⊎ ((a ≡ TraceFull) × (b : Answer) × FromGone f s c op b × ¬ HasRoom s op b)
 
--- an operation that is not refused, of an open database, was answered by the table, and the state after the answer is represented
+-- an operation that is not refused, of an open database, was answered by the table, and the state after the answer is represented. Levels
+-- and exclusive locks are as in the state after the answer, whatever the store says
 pub record IsReply (old new : RowState) (before now : Control) (size client : ℕ) (op : Op) (a : Answer) : Type 0 where
   pub keeps : Keeps old new before now
   pub sound : IsSound new now
   pub answers : IsObservable old → (f : Setting) (s : State) → Represents f old before s → IsSize size s.size → ByRoom f s client op a
   pub represents : IsObservable old → (f : Setting) (s : State) → Represents f old before s → Represents f new now (after f s client op a)
+  pub levels : (f : Setting) (s : State) → SameLevels (known before) s → SameLevels (known now) (after f s client op a)
 
--- any operation was answered as the definition allows, and the state after the answer is represented
+-- any operation was answered as the definition allows, and the state after the answer is represented. Levels and exclusive locks are as in
+-- the state after the answer, whatever the store says
 pub record IsStep (old new : RowState) (before now : Control) (size : ℕ) (closed : Bool) (client : ℕ) (op : Op) (a : Answer) : Type 0 where
   pub observable : new.observable ≡ old.observable
   pub schema : new.schema ≡ old.schema
@@ -70,6 +74,7 @@ pub record IsStep (old new : RowState) (before now : Control) (size : ℕ) (clos
   pub sound : IsSound new now
   pub answers : IsTrue old.observable → (f : Setting) (s : State) → Represents f old before s → IsSize size s.size → closed ≡ s.closed → Answers f s client op a
   pub represents : IsTrue old.observable → (f : Setting) (s : State) → Represents f old before s → Represents f new now (after f s client op a)
+  pub levels : (f : Setting) (s : State) → SameLevels (known before) s → SameLevels (known now) (after f s client op a)
 
 -- a question about what there is: its table, index or sequence exists
 abbrev pub AsksWhatIs : SchemaData → Control → Op → Type 0

@@ -1,31 +1,39 @@
 //! The database.
 
-ghost use Rattle.std.specs.Prelude.{◌≡◌, ◌<◌, ◌≤◌, ◌+◌, ◌++◌, ◌∷◌, ◌↔◌, ◌||◌, [], ℕ, None, IfOk, IfSome, IsTrue, false, length, slice_get, vec_capacity, vec_len};
+ghost use Rattle.std.specs.Prelude.{◌≡◌, ◌≢◌, ◌⊎◌, ◌<◌, ◌≤◌, ◌+◌, ◌||◌, ◌++◌, ◌∷◌, [], ℕ, None, IfOk, IfSome, IsTrue, false, length, slice_get, vec_capacity, vec_len};
+ghost use Rattle.client_database.specs.declared.answer.Answer.TheVariants.{Closed};
+ghost use Rattle.database_interface.specs.Step.{IsRefusedRightly, event_of};
 ghost use Rattle.database_meaning.specs.declared.contents.Contents.{Contents};
-ghost use Rattle.database_meaning.specs.Laws.{HasApartKeys, IsExclusive};
+ghost use Rattle.database_meaning.specs.Fits.{Fits};
+ghost use Rattle.database_meaning.specs.Laws.{HasApartKeys, HasApartOverlays, IsExclusive, ReadsAsCommitted};
 ghost use Rattle.database_meaning.specs.Setting.{Setting};
 ghost use Rattle.database_meaning.specs.Steps.{is_closed};
 ghost use Rattle.database_meaning.specs.Waiting.{HasNoCycle, WaitsFor};
 ghost use Rattle.database_meaning.specs.Traces.{IsLegal, IsSoundContents, left_by};
-ghost use Rattle.db_core.specs.Known.{IsWaiting};
-ghost use Rattle.db_core.specs.Opening.{IsNew, IsOpened};
+ghost use Rattle.db_core.specs.Opening.{IsNew, IsOpened as IsStoreOpened};
 ghost use Rattle.db_core.specs.Represents.{blocked_in, marks_in};
-ghost use Rattle.db_machine.specs.Machine.{IsSafe, WasOpened};
+ghost use Rattle.db_machine.specs.Database.{HasSetting, IsActive, IsBlocked, IsOpened};
 
+use crate::running::Running;
 use crate::steps::answer;
 use crate::trace_size::{counted, is_end};
 use abl_base::Items;
 use abl_rows::RowStore;
 use abl_values::Schema;
 use client_database::{Answer, Event, Op, Trace};
-use database_meaning::laws::{keys_are_apart, locks_are_apart, no_cycle_ever};
-use db_core::laws::{a_new_database_is_represented, refusals_are_known};
+use database_interface::Database;
+use database_meaning::laws::{
+    keys_are_apart, locked_reads_are_serial, locks_are_apart, no_cycle_ever,
+};
+use db_core::laws::a_new_database_is_represented;
 use db_core::refusals::is_waiting;
 use db_core::{Control, Session};
 use record_locks::Locks;
 use std::alloc::{AllocError, Global};
+use std::marker::Model;
 
-/// A database of rows that a store keeps, with its trace.
+/// A database of rows that a store keeps, with its trace. It has memory for the End of each client
+/// that has not ended.
 #[derive(Drop)]
 pub struct Db<R: RowStore + Drop> {
     alloc: Global,
@@ -34,12 +42,26 @@ pub struct Db<R: RowStore + Drop> {
     schema: Schema,
     size: u64,
     closed: bool,
+    running: Running,
     trace: Vec<Event>,
+}
+
+impl<R: RowStore + Drop> Model for Db<R> {
+    ghost use Rattle.std.specs.Prelude.{vec_capacity};
+    ghost use Rattle.db_machine.specs.Machine.{IsReserved, IsSafe, Machine, machine_code};
+
+    ghost Value = { Machine R };
+
+    ghost coded = { machine_code R.code };
+
+    ghost view = { λ d. record { rows = d.rows; control = d.control; schema = d.schema; size = d.size; closed = d.closed; running = d.running; trace = d.trace.items } };
+
+    ghost invariant = { λ d. IsSafe (R.RowStore.state d.rows) d.control d.schema d.size d.closed d.trace.items × IsReserved d.control d.running d.trace.items (vec_capacity d.trace) };
 }
 
 impl<R: RowStore + Drop> Db<R> {
     /// The database over a store in which no transaction is begun, with these sequence values and this
-    /// number of clients. An error means out of memory.
+    /// number of clients, none of which has ended. An error means out of memory.
     pub fn new(
         alloc: Global,
         rows: R,
@@ -51,17 +73,20 @@ impl<R: RowStore + Drop> Db<R> {
         requires fine { (R.RowStore.state rows).failed ≡ false }
         requires schema { (R.RowStore.state rows).schema ≡ schema }
         requires sequences { length sequences.items ≡ length schema.sequences }
-        requires opened { (contents : Contents) × IsOpened (R.RowStore.state rows) contents × (sequences.items ≡ contents.sequences) }
-        ensures safe { IfOk result (λ db. IsSafe (R.RowStore.state db.rows) db.control db.schema db.size db.closed db.trace.items) }
+        requires opened { (contents : Contents) × IsStoreOpened (R.RowStore.state rows) contents × (sequences.items ≡ contents.sequences) }
         ensures rows { IfOk result (λ db. db.rows ≡ rows) }
-        ensures trace { IfOk result (λ db. db.trace.items ≡ []) }
+        ensures trace { IfOk result (λ db. db.trace ≡ []) }
+        ensures setting { IfOk result (λ db. HasSetting db (record { schema = schema; clients = clients })) }
         ensures opened { IfOk result (λ db. (contents : Contents) →
-            IsOpened (R.RowStore.state rows) contents → sequences.items ≡ contents.sequences → IsTrue (R.RowStore.state rows).observable →
+            IsStoreOpened (R.RowStore.state rows) contents → sequences.items ≡ contents.sequences → IsTrue (R.RowStore.state rows).observable →
             IsSoundContents (record { schema = schema; clients = clients }) contents →
-            WasOpened (R.RowStore.state db.rows) db.control db.size db.closed db.trace.items (record { schema = schema; clients = clients }) contents) }
+            IsOpened (R.RowStore.state db.rows) db (record { schema = schema; clients = clients }) contents) }
+        ensures active { IfOk result (λ db. (client : ℕ) → client < clients → IsActive db client) }
     {
         a_new_database_is_represented();
         let control = new_control(alloc, sequences, clients)?;
+        let running = Running::new(alloc, clients)?;
+        let trace = Vec::with_capacity(alloc, clients as usize)?;
         Ok(Db {
             alloc,
             rows,
@@ -69,42 +94,28 @@ impl<R: RowStore + Drop> Db<R> {
             schema,
             size: 0,
             closed: false,
-            trace: Vec::new(alloc),
+            running,
+            trace,
         })
     }
 
-    /// Whether the client was answered Blocked, and nothing was freed since: the same request would be
-    /// refused. It takes no memory.
-    pub fn waits(&self, client: u16) -> bool
-        requires safe { IsSafe (R.RowStore.state self.now.rows) self.now.control self.now.schema self.now.size self.now.closed self.now.trace.items }
-        ensures { (f : Setting) (contents : Contents) → WasOpened (R.RowStore.state self.now.rows) self.now.control self.now.size self.now.closed self.now.trace.items f contents →
-            IsTrue result ↔ IsWaiting (left_by f contents self.now.trace.items) client }
+    /// Answers the operation of a client that has not ended, which is one event more. None means that
+    /// there is no memory for the event; then nothing happened. Closed is the answer only after an
+    /// earlier Closed, or where the disk has failed in this step.
+    pub fn execute(&mut self, client: u16, op: Op) -> Option<Answer>
+        requires { IsActive self.old client }
+        ensures event { IfSome result (λ answer. self.new.trace ≡ self.old.trace ++ event_of client op answer ∷ []) }
+        ensures none { result ≡ None → self.new.trace ≡ self.old.trace }
+        ensures end { result ≡ None → op ≢ Op.End }
+        ensures refused { (f : Setting) → HasSetting self.old f → IfSome result (λ answer. IsRefusedRightly f self.old.trace (IsBlocked self.old client) client op answer) }
+        ensures fits { (f : Setting) → HasSetting self.old f → IfSome result (λ answer. Fits f.schema op answer) }
+        ensures closed { IfSome result (λ answer. answer ≡ Closed → IsTrue self.old.closed ⊎ IsTrue (R.RowStore.state self.new.rows).failed) }
+        ensures active { op ≢ Op.End → IsActive self.new client }
+        ensures others { (other : ℕ) → other ≢ client → IsActive self.old other → IsActive self.new other }
+        ensures setting { (f : Setting) → HasSetting self.old f → HasSetting self.new f }
+        ensures opened { (f : Setting) (contents : Contents) → IsOpened (R.RowStore.state self.old.rows) self.old f contents → IsOpened (R.RowStore.state self.new.rows) self.new f contents }
     {
-        refusals_are_known();
-        is_waiting(&self.control, client)
-    }
-
-    /// How many steps freed a lock or a reserved key.
-    pub fn frees(&self) -> u64
-        ensures { (f : Setting) (contents : Contents) → WasOpened (R.RowStore.state self.now.rows) self.now.control self.now.size self.now.closed self.now.trace.items f contents →
-            result ≡ (left_by f contents self.now.trace.items).frees }
-    {
-        self.control.frees
-    }
-
-    /// Answers an operation of a client, which is one event more. None means that there is no memory
-    /// for the event; then nothing happened. There must be room for one event more where the
-    /// operation is End.
-    pub fn step(&mut self, client: u16, op: Op) -> Option<Answer>
-        requires safe { IsSafe (R.RowStore.state self.old.rows) self.old.control self.old.schema self.old.size self.old.closed self.old.trace.items }
-        requires room { op ≡ Op.End → vec_len self.old.trace < vec_capacity self.old.trace }
-        ensures safe { IsSafe (R.RowStore.state self.new.rows) self.new.control self.new.schema self.new.size self.new.closed self.new.trace.items }
-        ensures event { IfSome result (λ answer. self.new.trace.items ≡ self.old.trace.items ++ record { client = client; op = op; answer = answer } ∷ []) }
-        ensures none { result ≡ None → self.new.trace.items ≡ self.old.trace.items }
-        ensures opened { (f : Setting) (contents : Contents) → WasOpened (R.RowStore.state self.old.rows) self.old.control self.old.size self.old.closed self.old.trace.items f contents →
-            WasOpened (R.RowStore.state self.new.rows) self.new.control self.new.size self.new.closed self.new.trace.items f contents }
-    {
-        if !has_room(&op, &mut self.trace) {
+        if !has_room(&op, self.running.count(), &mut self.trace) {
             return None;
         }
         let reply = answer(
@@ -117,6 +128,7 @@ impl<R: RowStore + Drop> Db<R> {
             client,
             &op,
         );
+        self.running.note(client, &op);
         self.size = counted(self.size, &op, &reply.answer);
         self.closed = is_closed(self.closed, &reply.answer);
         self.trace.push_reserved(Event {
@@ -130,18 +142,62 @@ impl<R: RowStore + Drop> Db<R> {
     /// The store, and the trace.
     pub fn close(self) -> (R, Trace)
         ensures rows { result.0 ≡ self.rows }
-        ensures trace { result.1 ≡ self.trace.items }
-        ensures legal { (f : Setting) (contents : Contents) → WasOpened (R.RowStore.state self.rows) self.control self.size self.closed self.trace.items f contents → IsLegal f contents result.1 }
-        ensures no_cycle { (f : Setting) (contents : Contents) → WasOpened (R.RowStore.state self.rows) self.control self.size self.closed self.trace.items f contents → HasNoCycle (WaitsFor f (left_by f contents result.1)) }
-        ensures locks { (f : Setting) (contents : Contents) → WasOpened (R.RowStore.state self.rows) self.control self.size self.closed self.trace.items f contents → IsExclusive (left_by f contents result.1) }
-        ensures keys { (f : Setting) (contents : Contents) → WasOpened (R.RowStore.state self.rows) self.control self.size self.closed self.trace.items f contents → HasApartKeys (left_by f contents result.1) }
+        ensures trace { result.1 ≡ self.trace }
+        ensures legal { (f : Setting) (contents : Contents) → IsOpened (R.RowStore.state self.rows) self f contents → IsLegal f contents result.1 }
+        ensures no_cycle { (f : Setting) (contents : Contents) → IsOpened (R.RowStore.state self.rows) self f contents → HasNoCycle (WaitsFor f (left_by f contents result.1)) }
+        ensures locks { (f : Setting) (contents : Contents) → IsOpened (R.RowStore.state self.rows) self f contents → IsExclusive (left_by f contents result.1) }
+        ensures overlays { (f : Setting) (contents : Contents) → IsOpened (R.RowStore.state self.rows) self f contents → HasApartOverlays (left_by f contents result.1) }
+        ensures keys { (f : Setting) (contents : Contents) → IsOpened (R.RowStore.state self.rows) self f contents → HasApartKeys (left_by f contents result.1) }
+        ensures serial { (f : Setting) (contents : Contents) → ReadsAsCommitted f contents }
     {
         no_cycle_ever();
         locks_are_apart();
         keys_are_apart();
+        locked_reads_are_serial();
         let Db { rows, trace, .. } = self;
         (rows, Items::from_vec(trace))
     }
+}
+
+impl<R: RowStore + Drop> Database for Db<R> {
+    ghost use Rattle.std.specs.Prelude.{⊤};
+    ghost use Rattle.db_machine.specs.Database.{HasSetting, IsActive, IsBlocked, IsOpened, blocked_as, legal, one_of};
+
+    ghost has_setting = { λ db f. HasSetting db f };
+
+    ghost opened = { λ db f contents. IsOpened (R.RowStore.state db.rows) db f contents };
+
+    ghost trace = { λ db. db.trace };
+
+    ghost serves = { λ db client op. ⊤ };
+
+    ghost active = { λ db client. IsActive db client };
+
+    ghost blocked = { λ db client. IsBlocked db client };
+
+    fn events(&self) -> u64 {
+        self.trace.len() as u64
+    }
+
+    fn frees(&self) -> u64 {
+        self.control.frees
+    }
+
+    fn waits(&self, client: u16) -> bool {
+        is_waiting(&self.control, client)
+    }
+
+    fn step(&mut self, client: u16, op: Op) -> Option<Answer> {
+        self.execute(client, op)
+    }
+
+    ghost legal = { λ db f contents opened. legal (R.RowStore.state db.rows) db f contents opened };
+
+    ghost opened_of = { λ db f contents opened. opened.setting };
+
+    ghost known = { λ db f client has active. one_of db f client has active };
+
+    ghost blocked_as = { λ db f contents client opened. blocked_as (R.RowStore.state db.rows) db f contents client opened };
 }
 
 /// Sessions of so many clients that have asked nothing yet.
@@ -177,15 +233,17 @@ fn new_control(alloc: Global, sequences: Vec<i64>, clients: u16) -> Result<Contr
     })
 }
 
-/// Whether there is room for the event of the operation. For an End it is there already.
-fn has_room(op: &Op, trace: &mut Vec<Event>) -> bool
-    requires { op.now ≡ Op.End → vec_len trace.old < vec_capacity trace.old }
+/// Whether there is room for the event of the operation and, after another operation than End, for
+/// the Ends of the clients that have not ended.
+fn has_room(op: &Op, running: usize, trace: &mut Vec<Event>) -> bool
+    requires { vec_len trace.old + running ≤ vec_capacity trace.old }
     ensures items { trace.new.items ≡ trace.old.items }
     ensures len { vec_len trace.new ≡ vec_len trace.old }
-    ensures room { IsTrue result → vec_len trace.new < vec_capacity trace.new }
+    ensures capacity { vec_capacity trace.old ≤ vec_capacity trace.new }
     ensures end { op.now ≡ Op.End → IsTrue result }
+    ensures room { IsTrue result → op.now ≢ Op.End → vec_len trace.new + running < vec_capacity trace.new }
 {
-    is_end(op) || trace.reserve(1).is_ok()
+    is_end(op) || trace.reserve(running + 1).is_ok() || trace.capacity() - trace.len() > running
 }
 
 /// Whether the database is closed after the answer.

@@ -1,13 +1,16 @@
 //! The answers to Enter, Leave and Back.
 
-ghost use Rattle.std.specs.Prelude.{◌≡◌, ◌<◌, ◌≤◌, ◌+◌, ◌^◌, IfOk, IsErrOf, OnErr, length, false};
+ghost use Rattle.std.specs.Prelude.{◌≡◌, ◌<◌, ◌≤◌, ◌+◌, ◌^◌, IfOk, IsErrOf, OnErr, length, false, IsTrue};
 ghost use Rattle.abl_base.specs.declared.limits.TheConstants.{MAX_TRACE_BYTES as MOST};
 ghost use Rattle.db_core.specs.Keeps.{Stays};
 ghost use Rattle.db_core.specs.Represents.{IsSound, marks_at};
+ghost use Rattle.db_machine.specs.Machine.{IsSome};
+ghost use Rattle.db_machine.specs.OwnAnswers.{IsOpenAnswer};
 ghost use Rattle.db_machine.specs.Replies.{IsReply};
 
 use crate::replies::{Reply, is_refusal, prepare};
 use abl_rows::{RowError, RowStore};
+use abl_values::Schema;
 use client_database::{Answer, Op, RowIds};
 use db_core::Control;
 use db_core::answers::end_request;
@@ -19,6 +22,7 @@ use std::alloc::Global;
 pub(crate) fn answer_enter<R: RowStore>(
     rows: &mut R,
     control: &mut Control,
+    schema: &Schema,
     size: u64,
     client: u16,
     op: &Op,
@@ -28,14 +32,17 @@ pub(crate) fn answer_enter<R: RowStore>(
     requires few { length control.old.sessions.items ≤ 16 }
     requires sound { IsSound (R.RowStore.state rows.old) control.old }
     requires fine { (R.RowStore.state rows.old).failed ≡ false }
+    requires some { IsSome (R.RowStore.state rows.old) control.old }
     requires size { size ≤ MOST + 1 }
     requires op { op.now ≡ Op.Enter }
     ensures reply { IfOk result (λ reply. IsReply (R.RowStore.state rows.old) (R.RowStore.state rows.new) control.old control.new size client op.now reply.answer) }
     ensures copy { IfOk result (λ reply. reply.copy ≡ reply.answer) }
+    ensures own { IfOk result (λ reply. IsOpenAnswer schema.now op.now reply.answer) }
     ensures stays { OnErr result (Stays (R.RowStore.state rows.old) (R.RowStore.state rows.new) control.old control.new client) }
     ensures memory { IsErrOf result RowError.NoMemory → (R.RowStore.state rows.new).failed ≡ (R.RowStore.state rows.old).failed }
+    ensures disk { IsErrOf result RowError.Disk → IsTrue (R.RowStore.state rows.new).failed }
 {
-    let reply = prepare(size, op, Answer::Done)?;
+    let reply = prepare(schema, size, op, Answer::Done)?;
     if is_refusal(&reply.answer) {
         end_request(control, client);
         return Ok(reply);
@@ -48,6 +55,7 @@ pub(crate) fn answer_enter<R: RowStore>(
 pub(crate) fn answer_back<R: RowStore>(
     rows: &mut R,
     control: &mut Control,
+    schema: &Schema,
     size: u64,
     client: u16,
     op: &Op,
@@ -58,16 +66,19 @@ pub(crate) fn answer_back<R: RowStore>(
     requires few { length control.old.sessions.items ≤ 16 }
     requires sound { IsSound (R.RowStore.state rows.old) control.old }
     requires fine { (R.RowStore.state rows.old).failed ≡ false }
+    requires some { IsSome (R.RowStore.state rows.old) control.old }
     requires size { size ≤ MOST + 1 }
     requires level { 0 < depth }
     requires open { depth ≤ length (marks_at control.old client) }
     requires op { op.now ≡ Op.Back depth }
     ensures reply { IfOk result (λ reply. IsReply (R.RowStore.state rows.old) (R.RowStore.state rows.new) control.old control.new size client op.now reply.answer) }
     ensures copy { IfOk result (λ reply. reply.copy ≡ reply.answer) }
+    ensures own { IfOk result (λ reply. IsOpenAnswer schema.now op.now reply.answer) }
     ensures stays { OnErr result (Stays (R.RowStore.state rows.old) (R.RowStore.state rows.new) control.old control.new client) }
     ensures memory { IsErrOf result RowError.NoMemory → (R.RowStore.state rows.new).failed ≡ (R.RowStore.state rows.old).failed }
+    ensures disk { IsErrOf result RowError.Disk → IsTrue (R.RowStore.state rows.new).failed }
 {
-    let reply = prepare(size, op, Answer::Done)?;
+    let reply = prepare(schema, size, op, Answer::Done)?;
     if is_refusal(&reply.answer) {
         end_request(control, client);
         return Ok(reply);
@@ -80,6 +91,7 @@ pub(crate) fn answer_back<R: RowStore>(
 pub(crate) fn answer_inner_leave<R: RowStore>(
     rows: &mut R,
     control: &mut Control,
+    schema: &Schema,
     size: u64,
     client: u16,
     op: &Op,
@@ -90,15 +102,18 @@ pub(crate) fn answer_inner_leave<R: RowStore>(
     requires few { length control.old.sessions.items ≤ 16 }
     requires sound { IsSound (R.RowStore.state rows.old) control.old }
     requires fine { (R.RowStore.state rows.old).failed ≡ false }
+    requires some { IsSome (R.RowStore.state rows.old) control.old }
     requires size { size ≤ MOST + 1 }
     requires inner { 1 < length (marks_at control.old client) }
     requires op { op.now ≡ Op.Leave keep.now }
     ensures reply { IfOk result (λ reply. IsReply (R.RowStore.state rows.old) (R.RowStore.state rows.new) control.old control.new size client op.now reply.answer) }
     ensures copy { IfOk result (λ reply. reply.copy ≡ reply.answer) }
+    ensures own { IfOk result (λ reply. IsOpenAnswer schema.now op.now reply.answer) }
     ensures stays { OnErr result (Stays (R.RowStore.state rows.old) (R.RowStore.state rows.new) control.old control.new client) }
     ensures memory { IsErrOf result RowError.NoMemory → (R.RowStore.state rows.new).failed ≡ (R.RowStore.state rows.old).failed }
+    ensures disk { IsErrOf result RowError.Disk → IsTrue (R.RowStore.state rows.new).failed }
 {
-    let reply = prepare(size, op, Answer::Done)?;
+    let reply = prepare(schema, size, op, Answer::Done)?;
     if is_refusal(&reply.answer) {
         end_request(control, client);
         return Ok(reply);
@@ -112,6 +127,7 @@ pub(crate) fn answer_commit<R: RowStore>(
     alloc: Global,
     rows: &mut R,
     control: &mut Control,
+    schema: &Schema,
     size: u64,
     client: u16,
     op: &Op,
@@ -122,16 +138,19 @@ pub(crate) fn answer_commit<R: RowStore>(
     requires few { length control.old.sessions.items ≤ 16 }
     requires sound { IsSound (R.RowStore.state rows.old) control.old }
     requires fine { (R.RowStore.state rows.old).failed ≡ false }
+    requires some { IsSome (R.RowStore.state rows.old) control.old }
     requires size { size ≤ MOST + 1 }
     requires outermost { length (marks_at control.old client) ≡ 1 }
     requires frees { control.old.frees + 1 < 2 ^ 64 }
     requires op { op.now ≡ Op.Leave keep.now }
     ensures reply { IfOk result (λ reply. IsReply (R.RowStore.state rows.old) (R.RowStore.state rows.new) control.old control.new size client op.now reply.answer) }
     ensures copy { IfOk result (λ reply. reply.copy ≡ reply.answer) }
+    ensures own { IfOk result (λ reply. IsOpenAnswer schema.now op.now reply.answer) }
     ensures stays { OnErr result (Stays (R.RowStore.state rows.old) (R.RowStore.state rows.new) control.old control.new client) }
     ensures memory { IsErrOf result RowError.NoMemory → (R.RowStore.state rows.new).failed ≡ (R.RowStore.state rows.old).failed }
+    ensures disk { IsErrOf result RowError.Disk → IsTrue (R.RowStore.state rows.new).failed }
 {
-    let reply = prepare(size, op, Answer::Committed { moment: 0 })?;
+    let reply = prepare(schema, size, op, Answer::Committed { moment: 0 })?;
     if is_refusal(&reply.answer) {
         end_request(control, client);
         return Ok(reply);

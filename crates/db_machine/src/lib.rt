@@ -6,8 +6,10 @@
 
 pub mod db;
 mod levels;
+mod own_answers;
 mod queries;
 mod replies;
+mod running;
 mod steps;
 mod trace_size;
 mod writes;

@@ -1,7 +1,7 @@
 //! The answers to operations that change no row and no level: Next, Get, CurrentValue, Lock, Drop and
 //! NextValue.
 
-ghost use Rattle.std.specs.Prelude.{◌≡◌, ◌<◌, ◌≤◌, ◌+◌, ◌^◌, ℕ, IfOk, IsErrOf, None, OnErr, OnOk, length, false};
+ghost use Rattle.std.specs.Prelude.{◌≡◌, ◌<◌, ◌≤◌, ◌+◌, ◌^◌, ℕ, IfOk, IsErrOf, None, OnErr, OnOk, length, false, IsTrue};
 ghost use Rattle.abl_base.specs.declared.limits.TheConstants.{MAX_TRACE_BYTES as MOST};
 ghost use Rattle.client_database.specs.declared.operation.Op.{Op as Asked};
 ghost use Rattle.database_meaning.specs.Answers.{FromGone};
@@ -11,11 +11,14 @@ ghost use Rattle.database_meaning.specs.State.{State};
 ghost use Rattle.abl_rows.specs.Rows.{AfterError, IsObservable};
 ghost use Rattle.db_core.specs.Keeps.{Stays};
 ghost use Rattle.db_core.specs.Represents.{IsSound, Represents};
+ghost use Rattle.db_machine.specs.Machine.{IsSome};
+ghost use Rattle.db_machine.specs.OwnAnswers.{IsOpenAnswer};
 ghost use Rattle.db_machine.specs.Replies.{AsksWhatIs, IsReply};
 
 use crate::replies::{Reply, is_refusal, prepare};
 use abl_base::RowId;
 use abl_rows::{RowError, RowStore};
+use abl_values::Schema;
 use client_database::{Answer, Op};
 use db_core::Control;
 use db_core::answers::{end_request, move_sequence};
@@ -65,6 +68,7 @@ fn decide_question<R: RowStore>(
 pub(crate) fn answer_question<R: RowStore>(
     rows: &mut R,
     control: &mut Control,
+    schema: &Schema,
     size: u64,
     client: u16,
     op: &Op,
@@ -74,15 +78,18 @@ pub(crate) fn answer_question<R: RowStore>(
     requires few { length control.old.sessions.items ≤ 16 }
     requires sound { IsSound (R.RowStore.state rows.old) control.old }
     requires fine { (R.RowStore.state rows.old).failed ≡ false }
+    requires some { IsSome (R.RowStore.state rows.old) control.old }
     requires size { size ≤ MOST + 1 }
     requires asks { AsksWhatIs (R.RowStore.state rows.old).schema control.old op.now }
     ensures reply { IfOk result (λ reply. IsReply (R.RowStore.state rows.old) (R.RowStore.state rows.new) control.old control.new size client op.now reply.answer) }
     ensures copy { IfOk result (λ reply. reply.copy ≡ reply.answer) }
+    ensures own { IfOk result (λ reply. IsOpenAnswer schema.now op.now reply.answer) }
     ensures stays { OnErr result (Stays (R.RowStore.state rows.old) (R.RowStore.state rows.new) control.old control.new client) }
     ensures memory { IsErrOf result RowError.NoMemory → (R.RowStore.state rows.new).failed ≡ (R.RowStore.state rows.old).failed }
+    ensures disk { IsErrOf result RowError.Disk → IsTrue (R.RowStore.state rows.new).failed }
 {
     let decided = decide_question(rows, control, op)?;
-    let reply = prepare(size, op, decided)?;
+    let reply = prepare(schema, size, op, decided)?;
     end_request(control, client);
     Ok(reply)
 }
@@ -92,6 +99,7 @@ pub(crate) fn answer_lock<R: RowStore>(
     alloc: Global,
     rows: &mut R,
     control: &mut Control,
+    schema: &Schema,
     size: u64,
     client: u16,
     op: &Op,
@@ -105,15 +113,18 @@ pub(crate) fn answer_lock<R: RowStore>(
     requires few { length control.old.sessions.items ≤ 16 }
     requires sound { IsSound (R.RowStore.state rows.old) control.old }
     requires fine { (R.RowStore.state rows.old).failed ≡ false }
+    requires some { IsSome (R.RowStore.state rows.old) control.old }
     requires size { size ≤ MOST + 1 }
     requires op { op.now ≡ Op.Lock table row exclusive wait }
     ensures reply { IfOk result (λ reply. IsReply (R.RowStore.state rows.old) (R.RowStore.state rows.new) control.old control.new size client op.now reply.answer) }
     ensures copy { IfOk result (λ reply. reply.copy ≡ reply.answer) }
+    ensures own { IfOk result (λ reply. IsOpenAnswer schema.now op.now reply.answer) }
     ensures stays { OnErr result (Stays (R.RowStore.state rows.old) (R.RowStore.state rows.new) control.old control.new client) }
     ensures memory { IsErrOf result RowError.NoMemory → (R.RowStore.state rows.new).failed ≡ (R.RowStore.state rows.old).failed }
+    ensures disk { IsErrOf result RowError.Disk → IsTrue (R.RowStore.state rows.new).failed }
 {
     let decided = decide_lock(alloc, rows, control, client, table, row, exclusive, wait)?;
-    let reply = prepare(size, op, decided)?;
+    let reply = prepare(schema, size, op, decided)?;
     if is_refusal(&reply.answer) {
         end_request(control, client);
         return Ok(reply);
@@ -137,6 +148,7 @@ pub(crate) fn answer_lock<R: RowStore>(
 pub(crate) fn answer_drop<R: RowStore>(
     rows: &mut R,
     control: &mut Control,
+    schema: &Schema,
     size: u64,
     client: u16,
     op: &Op,
@@ -147,15 +159,18 @@ pub(crate) fn answer_drop<R: RowStore>(
     requires few { length control.old.sessions.items ≤ 16 }
     requires sound { IsSound (R.RowStore.state rows.old) control.old }
     requires fine { (R.RowStore.state rows.old).failed ≡ false }
+    requires some { IsSome (R.RowStore.state rows.old) control.old }
     requires size { size ≤ MOST + 1 }
     requires frees { control.old.frees + 1 < 2 ^ 64 }
     requires op { op.now ≡ Op.Drop row }
     ensures reply { IfOk result (λ reply. IsReply (R.RowStore.state rows.old) (R.RowStore.state rows.new) control.old control.new size client op.now reply.answer) }
     ensures copy { IfOk result (λ reply. reply.copy ≡ reply.answer) }
+    ensures own { IfOk result (λ reply. IsOpenAnswer schema.now op.now reply.answer) }
     ensures stays { OnErr result (Stays (R.RowStore.state rows.old) (R.RowStore.state rows.new) control.old control.new client) }
     ensures memory { IsErrOf result RowError.NoMemory → (R.RowStore.state rows.new).failed ≡ (R.RowStore.state rows.old).failed }
+    ensures disk { IsErrOf result RowError.Disk → IsTrue (R.RowStore.state rows.new).failed }
 {
-    let reply = prepare(size, op, Answer::Done)?;
+    let reply = prepare(schema, size, op, Answer::Done)?;
     if is_refusal(&reply.answer) {
         end_request(control, client);
         return Ok(reply);
@@ -168,6 +183,7 @@ pub(crate) fn answer_drop<R: RowStore>(
 pub(crate) fn answer_next_value<R: RowStore>(
     rows: &mut R,
     control: &mut Control,
+    schema: &Schema,
     size: u64,
     client: u16,
     op: &Op,
@@ -179,17 +195,20 @@ pub(crate) fn answer_next_value<R: RowStore>(
     requires few { length control.old.sessions.items ≤ 16 }
     requires sound { IsSound (R.RowStore.state rows.old) control.old }
     requires fine { (R.RowStore.state rows.old).failed ≡ false }
+    requires some { IsSome (R.RowStore.state rows.old) control.old }
     requires size { size ≤ MOST + 1 }
     requires sequence { sequence < length control.old.sequences.items }
     requires increment { increment ≡ increment_of (R.RowStore.state rows.old).schema sequence }
     requires op { op.now ≡ Op.NextValue sequence }
     ensures reply { IfOk result (λ reply. IsReply (R.RowStore.state rows.old) (R.RowStore.state rows.new) control.old control.new size client op.now reply.answer) }
     ensures copy { IfOk result (λ reply. reply.copy ≡ reply.answer) }
+    ensures own { IfOk result (λ reply. IsOpenAnswer schema.now op.now reply.answer) }
     ensures stays { OnErr result (Stays (R.RowStore.state rows.old) (R.RowStore.state rows.new) control.old control.new client) }
     ensures memory { IsErrOf result RowError.NoMemory → (R.RowStore.state rows.new).failed ≡ (R.RowStore.state rows.old).failed }
+    ensures disk { IsErrOf result RowError.Disk → IsTrue (R.RowStore.state rows.new).failed }
 {
     let decided = decide_next_value(control, sequence, increment);
-    let reply = prepare(size, op, decided)?;
+    let reply = prepare(schema, size, op, decided)?;
     if is_refusal(&reply.answer) {
         end_request(control, client);
         return Ok(reply);

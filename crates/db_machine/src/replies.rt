@@ -2,10 +2,13 @@
 
 ghost use Rattle.std.specs.Prelude.{◌≡◌, ◌≤◌, ◌↔◌, ◌+◌, IfErr, IfOk, IsTrue};
 ghost use Rattle.abl_base.specs.declared.limits.TheConstants.{MAX_TRACE_BYTES as MOST};
+ghost use Rattle.db_machine.specs.OwnAnswers.{IsOpenAnswer};
 ghost use Rattle.db_machine.specs.Replies.{IsFitted, IsRefusal};
 
+use crate::own_answers::can_have;
 use crate::trace_size::has_place;
 use abl_rows::RowError;
+use abl_values::Schema;
 use client_database::{Answer, Op};
 
 /// An answer, and a copy of it for the trace.
@@ -28,13 +31,23 @@ fn fit(size: u64, op: &Op, decided: Answer) -> Answer
 }
 
 /// The decided answer, where the trace has room for it, or TraceFull. Both copies are made before
-/// anything changes. The only error is out of memory.
-pub(crate) fn prepare(size: u64, op: &Op, decided: Answer) -> Result<Reply, RowError>
+/// anything changes. The error NoMemory means out of memory, or that the operation cannot have the
+/// decided answer: a store that is not observable may find bytes that are no row of the table.
+pub(crate) fn prepare(
+    schema: &Schema,
+    size: u64,
+    op: &Op,
+    decided: Answer,
+) -> Result<Reply, RowError>
     requires { size ≤ MOST + 1 }
     ensures fitted { IfOk result (λ reply. IsFitted size op.now decided reply.answer) }
     ensures copy { IfOk result (λ reply. reply.copy ≡ reply.answer) }
+    ensures own { IfOk result (λ reply. IsOpenAnswer schema.now op.now reply.answer) }
     ensures memory { IfErr result (λ error. error ≡ RowError.NoMemory) }
 {
+    if !can_have(schema, op, &decided) {
+        return Err(RowError::NoMemory);
+    }
     let answer = fit(size, op, decided);
     match answer.copy() {
         Ok(copy) => Ok(Reply { answer, copy }),

@@ -1,14 +1,17 @@
 //! One operation of one client: whether it is refused, and else its answer.
 
-ghost use Rattle.std.specs.Prelude.{◌≡◌, ◌≢◌, ◌<◌, ◌≤◌, ◌+◌, ◌^◌, ◌||◌, IfOk, IsErrOf, OnErr, length, false};
+ghost use Rattle.std.specs.Prelude.{◌≡◌, ◌≢◌, ◌<◌, ◌≤◌, ◌+◌, ◌^◌, ◌||◌, IfOk, IsErrOf, OnErr, length, false, IsTrue, ◌⊎◌};
 ghost use Rattle.abl_base.specs.declared.limits.TheConstants.{MAX_TRACE_BYTES as MOST};
+ghost use Rattle.client_database.specs.declared.answer.Answer.TheVariants.{Closed, Refused};
 ghost use Rattle.client_database.specs.declared.operation.Op.TheVariants.{End};
+ghost use Rattle.database_meaning.specs.Fits.{Fits};
 ghost use Rattle.database_meaning.specs.Setting.{increment_of};
 ghost use Rattle.database_meaning.specs.Steps.{is_closed};
 ghost use Rattle.db_core.specs.Keeps.{Stays};
 ghost use Rattle.db_core.specs.Known.{IsAllowed, known, setting_at};
 ghost use Rattle.db_core.specs.Represents.{IsSound};
 ghost use Rattle.db_machine.specs.Machine.{IsSome};
+ghost use Rattle.db_machine.specs.OwnAnswers.{IsOpenAnswer};
 ghost use Rattle.db_machine.specs.Replies.{IsReply, IsStep};
 
 use crate::levels::{answer_back, answer_commit, answer_enter, answer_inner_leave};
@@ -57,21 +60,23 @@ fn answer_allowed<R: RowStore>(
     requires other { op.now ≢ End }
     ensures reply { IfOk result (λ reply. IsReply (R.RowStore.state rows.old) (R.RowStore.state rows.new) control.old control.new size client op.now reply.answer) }
     ensures copy { IfOk result (λ reply. reply.copy ≡ reply.answer) }
+    ensures own { IfOk result (λ reply. IsOpenAnswer schema.now op.now reply.answer) }
     ensures stays { OnErr result (Stays (R.RowStore.state rows.old) (R.RowStore.state rows.new) control.old control.new client) }
     ensures memory { IsErrOf result RowError.NoMemory → (R.RowStore.state rows.new).failed ≡ (R.RowStore.state rows.old).failed }
+    ensures disk { IsErrOf result RowError.Disk → IsTrue (R.RowStore.state rows.new).failed }
 {
     match op {
-        Op::Enter => answer_enter(rows, control, size, client, op),
+        Op::Enter => answer_enter(rows, control, schema, size, client, op),
         Op::Leave { keep } => {
             if depth(control, client) == 1 {
-                answer_commit(alloc, rows, control, size, client, op, keep)
+                answer_commit(alloc, rows, control, schema, size, client, op, keep)
             } else {
-                answer_inner_leave(rows, control, size, client, op, keep)
+                answer_inner_leave(rows, control, schema, size, client, op, keep)
             }
         }
-        Op::Back { depth } => answer_back(rows, control, size, client, op, *depth),
+        Op::Back { depth } => answer_back(rows, control, schema, size, client, op, *depth),
         Op::Next { .. } | Op::Get { .. } | Op::CurrentValue { .. } => {
-            answer_question(rows, control, size, client, op)
+            answer_question(rows, control, schema, size, client, op)
         }
         Op::Lock {
             table,
@@ -79,21 +84,27 @@ fn answer_allowed<R: RowStore>(
             exclusive,
             wait,
         } => answer_lock(
-            alloc, rows, control, size, client, op, *table, *row, *exclusive, *wait,
+            alloc, rows, control, schema, size, client, op, *table, *row, *exclusive, *wait,
         ),
         Op::Insert { table, values } => {
-            answer_insert(alloc, rows, control, size, client, op, *table, values)
+            answer_insert(
+                alloc, rows, control, schema, size, client, op, *table, values,
+            )
         }
         Op::Put { table, row, values } => {
-            answer_put(alloc, rows, control, size, client, op, *table, *row, values)
+            answer_put(
+                alloc, rows, control, schema, size, client, op, *table, *row, values,
+            )
         }
         Op::Delete { table, row } => {
-            answer_delete(rows, control, size, client, op, *table, *row)
+            answer_delete(rows, control, schema, size, client, op, *table, *row)
         }
-        Op::Drop { row } => answer_drop(rows, control, size, client, op, *row),
+        Op::Drop { row } => answer_drop(rows, control, schema, size, client, op, *row),
         Op::NextValue { sequence } => {
             let increment = increment(schema, *sequence);
-            answer_next_value(rows, control, size, client, op, *sequence, increment)
+            answer_next_value(
+                rows, control, schema, size, client, op, *sequence, increment,
+            )
         }
         Op::End => Err(RowError::NoMemory),
     }
@@ -121,12 +132,16 @@ fn try_answer<R: RowStore>(
     requires some { IsSome (R.RowStore.state rows.old) control.old }
     requires other { op.now ≢ End }
     ensures step { IfOk result (λ reply. IsStep (R.RowStore.state rows.old) (R.RowStore.state rows.new) control.old control.new size closed client op.now reply.answer) }
+    ensures refused { IfOk result (λ reply. reply.answer ≡ Refused → ¬ IsAllowed (setting_at schema.now control.old) (known control.old) client op.now) }
     ensures copy { IfOk result (λ reply. reply.copy ≡ reply.answer) }
+    ensures fits { IfOk result (λ reply. Fits schema.now op.now reply.answer) }
     ensures fine { IfOk result (λ reply. (closed || is_closed reply.answer) ≡ false → (R.RowStore.state rows.new).failed ≡ false) }
     ensures stays { OnErr result (Stays (R.RowStore.state rows.old) (R.RowStore.state rows.new) control.old control.new client) }
     ensures allowed { OnErr result (IsAllowed (setting_at schema.now control.old) (known control.old) client op.now) }
     ensures memory { IsErrOf result RowError.NoMemory → (R.RowStore.state rows.new).failed ≡ (R.RowStore.state rows.old).failed }
+    ensures disk { IsErrOf result RowError.Disk → IsTrue (R.RowStore.state rows.new).failed }
     ensures unshut { OnErr result (closed ≡ false) }
+    ensures shut { IfOk result (λ reply. reply.answer ≡ Closed → IsTrue closed) }
 {
     a_refusal_changes_nothing();
     refusals_are_known();
@@ -168,8 +183,11 @@ fn answer_other<R: RowStore>(
     requires some { IsSome (R.RowStore.state rows.old) control.old }
     requires other { op.now ≢ End }
     ensures step { IsStep (R.RowStore.state rows.old) (R.RowStore.state rows.new) control.old control.new size closed client op.now result.answer }
+    ensures refused { result.answer ≡ Refused → ¬ IsAllowed (setting_at schema.now control.old) (known control.old) client op.now }
     ensures copy { result.copy ≡ result.answer }
+    ensures fits { Fits schema.now op.now result.answer }
     ensures fine { (closed || is_closed result.answer) ≡ false → (R.RowStore.state rows.new).failed ≡ false }
+    ensures cause { result.answer ≡ Closed → IsTrue closed ⊎ IsTrue (R.RowStore.state rows.new).failed }
 {
     refusals_are_known();
     match try_answer(alloc, rows, control, schema, size, closed, client, op) {
@@ -209,8 +227,11 @@ fn answer_end<R: RowStore>(
     requires sequences { length control.old.sequences.items ≡ length schema.now.sequences }
     requires some { IsSome (R.RowStore.state rows.old) control.old }
     ensures step { IsStep (R.RowStore.state rows.old) (R.RowStore.state rows.new) control.old control.new size closed client Op.End result.answer }
+    ensures refused { result.answer ≡ Refused → ¬ IsAllowed (setting_at schema.now control.old) (known control.old) client Op.End }
     ensures copy { result.copy ≡ result.answer }
+    ensures fits { Fits schema.now Op.End result.answer }
     ensures fine { (closed || is_closed result.answer) ≡ false → (R.RowStore.state rows.new).failed ≡ false }
+    ensures cause { result.answer ≡ Closed → IsTrue closed ⊎ IsTrue (R.RowStore.state rows.new).failed }
 {
     a_refusal_changes_nothing();
     refusals_are_known();
@@ -247,8 +268,11 @@ pub(crate) fn answer<R: RowStore>(
     requires sequences { length control.old.sequences.items ≡ length schema.now.sequences }
     requires some { IsSome (R.RowStore.state rows.old) control.old }
     ensures step { IsStep (R.RowStore.state rows.old) (R.RowStore.state rows.new) control.old control.new size closed client op.now result.answer }
+    ensures refused { result.answer ≡ Refused → ¬ IsAllowed (setting_at schema.now control.old) (known control.old) client op.now }
     ensures copy { result.copy ≡ result.answer }
+    ensures fits { Fits schema.now op.now result.answer }
     ensures fine { (closed || is_closed result.answer) ≡ false → (R.RowStore.state rows.new).failed ≡ false }
+    ensures cause { result.answer ≡ Closed → IsTrue closed ⊎ IsTrue (R.RowStore.state rows.new).failed }
 {
     if is_end(op) {
         return answer_end(rows, control, schema, size, closed, client);

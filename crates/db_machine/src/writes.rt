@@ -1,6 +1,6 @@
 //! The answers to Insert, Put and Delete.
 
-ghost use Rattle.std.specs.Prelude.{◌≡◌, ◌<◌, ◌≤◌, ◌+◌, ℕ, List, IfOk, IsErrOf, None, OnErr, OnOk, length, false};
+ghost use Rattle.std.specs.Prelude.{◌≡◌, ◌<◌, ◌≤◌, ◌+◌, ℕ, List, IfErr, IfOk, IsErrOf, None, OnErr, OnOk, length, false, IsTrue};
 ghost use Rattle.abl_base.specs.declared.limits.TheConstants.{MAX_ROW_BYTES, MAX_TRACE_BYTES as MOST};
 ghost use Rattle.database_meaning.specs.Setting.{FitsTable, HasTable, Setting, row_size};
 ghost use Rattle.database_meaning.specs.State.{HoldsExclusively, State};
@@ -10,11 +10,13 @@ ghost use Rattle.db_core.specs.Keeps.{SameCounts, Stays};
 ghost use Rattle.db_core.specs.Known.{known};
 ghost use Rattle.db_core.specs.Represents.{FitsOp, IsSound, Represents, lock_asked, marks_at};
 ghost use Rattle.db_machine.specs.Machine.{IsSome};
+ghost use Rattle.db_machine.specs.OwnAnswers.{IsOpenAnswer};
 ghost use Rattle.db_machine.specs.Replies.{IsReply};
 
 use crate::replies::{Reply, is_refusal, prepare};
 use abl_base::{Row, RowId};
 use abl_rows::{RowError, RowStore};
+use abl_values::Schema;
 use client_database::{Answer, Op};
 use db_core::Control;
 use db_core::answers::end_request;
@@ -33,6 +35,7 @@ fn wait_at(control: &mut Control, client: u16, op: &Op) -> Result<(), RowError>
     ensures sound { OnOk result ((rows : RowState) → FitsOp rows.schema op.now → IsSound rows control.old → IsSound rows control.new) }
     ensures counts { OnOk result (SameCounts control.old control.new) }
     ensures err { OnErr result (control.new ≡ control.old) }
+    ensures memory { IfErr result (λ error. error ≡ RowError.NoMemory) }
 {
     match op.copy() {
         Ok(copy) => {
@@ -48,6 +51,7 @@ pub(crate) fn answer_insert<R: RowStore>(
     alloc: Global,
     rows: &mut R,
     control: &mut Control,
+    schema: &Schema,
     size: u64,
     client: u16,
     op: &Op,
@@ -59,6 +63,7 @@ pub(crate) fn answer_insert<R: RowStore>(
     requires few { length control.old.sessions.items ≤ 16 }
     requires sound { IsSound (R.RowStore.state rows.old) control.old }
     requires fine { (R.RowStore.state rows.old).failed ≡ false }
+    requires some { IsSome (R.RowStore.state rows.old) control.old }
     requires size { size ≤ MOST + 1 }
     requires level { 0 < length (marks_at control.old client) }
     requires table { HasTable (R.RowStore.state rows.old).schema table }
@@ -67,11 +72,13 @@ pub(crate) fn answer_insert<R: RowStore>(
     requires op { op.now ≡ Op.Insert table values.now }
     ensures reply { IfOk result (λ reply. IsReply (R.RowStore.state rows.old) (R.RowStore.state rows.new) control.old control.new size client op.now reply.answer) }
     ensures copy { IfOk result (λ reply. reply.copy ≡ reply.answer) }
+    ensures own { IfOk result (λ reply. IsOpenAnswer schema.now op.now reply.answer) }
     ensures stays { OnErr result (Stays (R.RowStore.state rows.old) (R.RowStore.state rows.new) control.old control.new client) }
     ensures memory { IsErrOf result RowError.NoMemory → (R.RowStore.state rows.new).failed ≡ (R.RowStore.state rows.old).failed }
+    ensures disk { IsErrOf result RowError.Disk → IsTrue (R.RowStore.state rows.new).failed }
 {
     let decided = decide_insert(alloc, rows, control, client, op, table, values)?;
-    let reply = prepare(size, op, decided)?;
+    let reply = prepare(schema, size, op, decided)?;
     if is_refusal(&reply.answer) {
         end_request(control, client);
         return Ok(reply);
@@ -94,6 +101,7 @@ pub(crate) fn answer_put<R: RowStore>(
     alloc: Global,
     rows: &mut R,
     control: &mut Control,
+    schema: &Schema,
     size: u64,
     client: u16,
     op: &Op,
@@ -116,11 +124,13 @@ pub(crate) fn answer_put<R: RowStore>(
     requires op { op.now ≡ Op.Put table row values.now }
     ensures reply { IfOk result (λ reply. IsReply (R.RowStore.state rows.old) (R.RowStore.state rows.new) control.old control.new size client op.now reply.answer) }
     ensures copy { IfOk result (λ reply. reply.copy ≡ reply.answer) }
+    ensures own { IfOk result (λ reply. IsOpenAnswer schema.now op.now reply.answer) }
     ensures stays { OnErr result (Stays (R.RowStore.state rows.old) (R.RowStore.state rows.new) control.old control.new client) }
     ensures memory { IsErrOf result RowError.NoMemory → (R.RowStore.state rows.new).failed ≡ (R.RowStore.state rows.old).failed }
+    ensures disk { IsErrOf result RowError.Disk → IsTrue (R.RowStore.state rows.new).failed }
 {
     let decided = decide_put(alloc, rows, control, client, op, table, row, values)?;
-    let reply = prepare(size, op, decided)?;
+    let reply = prepare(schema, size, op, decided)?;
     if is_refusal(&reply.answer) {
         end_request(control, client);
         return Ok(reply);
@@ -143,6 +153,7 @@ pub(crate) fn answer_put<R: RowStore>(
 pub(crate) fn answer_delete<R: RowStore>(
     rows: &mut R,
     control: &mut Control,
+    schema: &Schema,
     size: u64,
     client: u16,
     op: &Op,
@@ -161,11 +172,13 @@ pub(crate) fn answer_delete<R: RowStore>(
     requires op { op.now ≡ Op.Delete table row }
     ensures reply { IfOk result (λ reply. IsReply (R.RowStore.state rows.old) (R.RowStore.state rows.new) control.old control.new size client op.now reply.answer) }
     ensures copy { IfOk result (λ reply. reply.copy ≡ reply.answer) }
+    ensures own { IfOk result (λ reply. IsOpenAnswer schema.now op.now reply.answer) }
     ensures stays { OnErr result (Stays (R.RowStore.state rows.old) (R.RowStore.state rows.new) control.old control.new client) }
     ensures memory { IsErrOf result RowError.NoMemory → (R.RowStore.state rows.new).failed ≡ (R.RowStore.state rows.old).failed }
+    ensures disk { IsErrOf result RowError.Disk → IsTrue (R.RowStore.state rows.new).failed }
 {
     let decided = decide_delete(rows, control, client, table, row)?;
-    let reply = prepare(size, op, decided)?;
+    let reply = prepare(schema, size, op, decided)?;
     if is_refusal(&reply.answer) {
         end_request(control, client);
         return Ok(reply);

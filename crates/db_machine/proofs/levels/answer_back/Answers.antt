@@ -1,8 +1,6 @@
-use Rattle.std.proofs.Common.{◌≡◌, ◌∙◌, sym, ap, subst, refl, inl, inr, length}
+use Rattle.std.proofs.Common.{refl, inl}
 use Rattle.client_database.specs.declared.operation.Op.TheVariants.{Back}
 use Rattle.client_database.specs.declared.answer.Answer.TheVariants.{Done}
-use Rattle.abl_rows.specs.Rows.{RowState}
-use Rattle.db_core.specs.Represents.{Represents}
 use Rattle.db_core.proofs.WriteRows.{not_so}
 use Rattle.db_machine.proofs.Replying.{after_as, from_op, reply_of, still_reply}
 use Rattle.db_machine.proofs.Rooms.{back_row, fitted_is, refusal_ends, refusal_fails}
@@ -13,10 +11,10 @@ returns-then-is_refusal-clause-reply g c =
     let rows = g.R.RowStore.state c.args.rows.now in
     let reply = c.in_ok-reply.reply in
     let is = c.is_refusal.ensures.0 c.if-is_refusal.true in
-    still_reply rows (g.R.RowStore.state c.args.rows.now) c.args.control.now c.end_request.new.control c.args.size c.args.client c.args.op.now Done reply.answer
+    still_reply rows (g.R.RowStore.state c.args.rows.now) c.args.control.now c.end_request.new.control c.args.size c.args.client c.args.op.now Done reply.answer c.requires.some
     refl c.end_request.ensures.counts (c.end_request.ensures.sound rows c.requires.sound)
     (λ seen f s h. from_op f s c.args.client c.args.op.now (Back c.args.depth) Done c.requires.op (back_row f s c.args.client c.args.depth)) c.in_ok-reply.ensures.fitted
-    (λ seen f s h. c.end_request.ensures.represents f rows s c.args.op.now reply.answer h (refusal_ends reply.answer is s c.args.client c.args.op.now) (inl (refusal_fails reply.answer is)))
+    (λ f s h. c.end_request.ensures.represents f rows s c.args.op.now reply.answer h (refusal_ends reply.answer is s c.args.client c.args.op.now) (inl (refusal_fails reply.answer is)))
 
 pub returns-clause-reply : goal.returns-clause-reply
 returns-clause-reply g c =
@@ -24,6 +22,6 @@ returns-clause-reply g c =
     let reply = c.in_ok-reply.reply in
     let is = fitted_is c.args.size c.args.op.now (Done) reply.answer c.in_ok-reply.ensures.fitted (λ refusal. not_so c.is_refusal.result c.if-is_refusal.false (c.is_refusal.ensures.1 refusal)) in
     let new = g.R.RowStore.state c.back.new.rows in
-    reply_of rows new c.args.control.now c.back.new.control c.args.size c.args.client c.args.op.now Done reply.answer c.in_ok-back.ensures.keeps c.in_ok-back.ensures.sound
+    reply_of rows new c.args.control.now c.back.new.control c.args.size c.args.client c.args.op.now Done reply.answer c.requires.some c.in_ok-back.ensures.keeps c.in_ok-back.ensures.sound
     (λ seen f s h. from_op f s c.args.client c.args.op.now (Back c.args.depth) Done c.requires.op (back_row f s c.args.client c.args.depth)) c.in_ok-reply.ensures.fitted
-    (λ seen f s h. after_as f new c.back.new.control s c.args.client c.args.op.now (Back c.args.depth) reply.answer Done c.requires.op is (c.in_ok-back.ensures.represents f s h))
+    (λ f s h. after_as f new c.back.new.control s c.args.client c.args.op.now (Back c.args.depth) reply.answer Done c.requires.op is (c.in_ok-back.ensures.represents f s h))

@@ -1,6 +1,8 @@
 use Rattle.std.proofs.Common.{◌∙◌}
 use Rattle.client_database.specs.declared.operation.Op.TheVariants.{End}
+use Rattle.client_database.specs.declared.answer.Answer.TheVariants.{Done}
 use Rattle.answer_table.proofs.TableLaws.{end_row}
+use Rattle.db_machine.proofs.Replying.{levels_by}
 use Rattle.db_machine.proofs.steps.answer_end.Goals as goal
 
 pub returns-clause-step : goal.returns-clause-step
@@ -13,4 +15,5 @@ returns-clause-step g c =
       sound = c.end.ensures.sound;
       answers = λ observable f s h is closed_is. end_row f s c.args.client (λ refused. refused ((c.refusals_are_known.ensures.allowed f (g.R.RowStore.state c.args.rows.now) c.args.control.now s c.args.schema.now h observable (h.schema ∙ c.requires.schema) c.args.client End).0 (c.is_allowed.ensures.0 c.if-not-is_allowed.false)));
       represents = λ observable f s h. c.end.ensures.represents f s h;
+      levels = levels_by (g.R.RowStore.state c.args.rows.now) (g.R.RowStore.state c.end.new.rows) c.args.control.now c.end.new.control c.args.client End Done c.requires.some c.end.ensures.represents;
     }

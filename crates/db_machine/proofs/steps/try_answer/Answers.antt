@@ -1,7 +1,8 @@
-use Rattle.std.proofs.Common.{◌≡◌, ◌∙◌, refl, inl, true, false}
+use Rattle.std.proofs.Common.{◌∙◌, refl, inl, false}
 use Rattle.client_database.specs.declared.answer.Answer.TheVariants.{Closed}
 use Rattle.db_core.proofs.LockRows.{ok_more}
 use Rattle.db_core.proofs.WriteRows.{not_so}
+use Rattle.db_machine.proofs.OwnAnswers.{not_end, open_fits, open_unclosed, open_unrefused}
 use Rattle.db_machine.proofs.Replying.{left_false, step_closed, step_refused, step_reply}
 use Rattle.db_machine.proofs.steps.try_answer.Goals as goal
 
@@ -21,7 +22,7 @@ returns-then-closed-clause-step g c =
     let rows = g.R.RowStore.state c.args.rows.now in
     step_closed rows c.args.control.now c.args.schema.now c.args.size c.args.closed c.args.client c.args.op.now c.requires.schema
     (λ f s h o e. c.refusals_are_known.ensures.allowed f rows c.args.control.now s c.args.schema.now h o e c.args.client c.args.op.now)
-    (c.is_allowed.ensures.0 c.if-not-is_allowed.false) c.end_request.new.control c.requires.other c.if-closed.true c.end_request.ensures.counts (c.end_request.ensures.sound rows c.requires.sound)
+    (c.is_allowed.ensures.0 c.if-not-is_allowed.false) c.end_request.new.control c.requires.some c.requires.other c.if-closed.true c.end_request.ensures.counts (c.end_request.ensures.sound rows c.requires.sound)
     (λ f s h. c.end_request.ensures.represents f rows s c.args.op.now Closed h refl (inl refl))
 
 pub returns-clause-step : goal.returns-clause-step
@@ -35,3 +36,18 @@ returns-clause-step g c =
 
 pub returns-clause-fine : goal.returns-clause-fine
 returns-clause-fine g c = ok_more c.answer_allowed.result _ _ (λ reply h unshut. h.keeps.failed ∙ c.requires.fine c.if-closed.false) c.answer_allowed.ensures.reply
+
+pub returns-then-not-is_allowed-clause-refused : goal.returns-then-not-is_allowed-clause-refused
+returns-then-not-is_allowed-clause-refused g c = λ is allowed. not_so c.is_allowed.result c.if-not-is_allowed.true (c.is_allowed.ensures.1 allowed)
+
+pub returns-clause-refused : goal.returns-clause-refused
+returns-clause-refused g c = ok_more c.answer_allowed.result _ _ (λ reply h is. absurd (open_unrefused c.args.schema.now c.args.op.now reply.answer h is)) c.answer_allowed.ensures.own
+
+pub returns-then-closed-clause-fits : goal.returns-then-closed-clause-fits
+returns-then-closed-clause-fits g c = not_end c.args.op.now c.requires.other
+
+pub returns-clause-fits : goal.returns-clause-fits
+returns-clause-fits g c = ok_more c.answer_allowed.result _ _ (λ reply h. open_fits c.args.schema.now c.args.op.now reply.answer h) c.answer_allowed.ensures.own
+
+pub returns-clause-shut : goal.returns-clause-shut
+returns-clause-shut g c = ok_more c.answer_allowed.result _ _ (λ reply h is. absurd (open_unclosed c.args.schema.now c.args.op.now reply.answer h is)) c.answer_allowed.ensures.own

@@ -2,8 +2,11 @@ use Rattle.std.proofs.Common.{List, sym, subst}
 use Rattle.client_database.specs.declared.event.Event.{Event}
 use Rattle.database_meaning.specs.Traces.{left_by}
 use Rattle.database_meaning.specs.Waiting.{HasNoCycle, WaitsFor}
+use Rattle.db_machine.specs.Machine.{Machine}
 use Rattle.db_machine.proofs.db.Db.close.Goals as goal
 
 pub returns-clause-no_cycle : goal.returns-clause-no_cycle
-returns-clause-no_cycle g c = λ f contents was.
-    subst (λ (es : List Event). HasNoCycle (WaitsFor f (left_by f contents es))) (sym c.from_vec.ensures) (c.no_cycle_ever.ensures f contents c.args.self.trace.items (was.sound_contents, was.follows))
+returns-clause-no_cycle g c = λ f contents opened.
+    subst (λ (es : List Event). HasNoCycle (WaitsFor f (left_by f contents es))) (sym c.from_vec.ensures)
+    (subst (λ (m : Machine g.row.R.Denot). HasNoCycle (WaitsFor f (left_by f contents m.trace))) (sym c.self.view_is)
+    (c.no_cycle_ever.ensures f contents c.args.self.trace (opened.was.sound_contents, opened.was.follows)))

@@ -1,13 +1,18 @@
-use Rattle.std.proofs.Common.{◌≡◌, ℕ, ◌≤◌, false, List, [], length, refl, sym, ap, ◌∙◌, subst, arith}
+use Rattle.std.proofs.Common.{◌≡◌, ℕ, ◌<◌, ◌≤◌, Bool, true, false, List, [], length, refl, sym, ap, ◌∙◌, subst, arith}
+use Rattle.std.proofs.lemmas.List.{length-replicate}
+use Rattle.db_core.specs.Known.{known}
+use Rattle.db_core.specs.Levels.{SameLevels}
+use Rattle.db_machine.specs.Running.{IsRunning, running_in}
 use Rattle.client_database.specs.declared.event.Event.{Event}
 use Rattle.database_meaning.specs.Setting.{Setting}
 use Rattle.database_meaning.specs.Traces.{Follows, left_by, opened}
 use Rattle.db_core.specs.Represents.{Represents}
 use Rattle.db_machine.specs.Replies.{IsSize}
+use Rattle.db_machine.proofs.Stepping.{levels_first, running_first, runs_first}
 use Rattle.db_machine.proofs.db.Db.new.Goals as goal
 
-pub returns-clause-safe : goal.returns-clause-safe
-returns-clause-safe g c =
+pub invariant_of-result : goal.invariant_of-result
+invariant_of-result g c =
     let rows = g.R.RowStore.state c.args.rows in
     let control = c.in_ok-control.control in
     let e = c.in_ok-control.ensures in
@@ -16,15 +21,33 @@ returns-clause-safe g c =
     let is_new = e.new contents c.requires.opened.2 in
     let zero : c.in_ok-control.control.frees ≡ 0 = e.frees in
     let f : Setting = record { schema = c.args.schema; clients = c.args.clients } in
+    let none : length c.in_ok-trace.trace.items ≡ 0 = ap length c.in_ok-trace.ensures.items in
+    let all = running_first c.args.clients in
+    let running : running_in c.in_ok-running.running ≡ c.args.clients = ap running_in c.in_ok-running.ensures ∙ all in (
+      record {
+        sound = law.sound rows control contents c.requires.opened.1 is_new;
+        few = subst (λ (n : ℕ). n ≤ 16) (sym e.count) c.requires.few;
+        same_schema = c.requires.schema;
+        sequences = ap length e.sequences ∙ c.requires.sequences;
+        frees = omega (arith, zero);
+        bound = omega arith;
+        fine = λ unshut. c.requires.fine;
+        some = λ observable. (f, opened contents, law.represents f rows control contents (sym c.requires.schema) (sym e.count) c.requires.opened.1 is_new);
+      },
+      record {
+        clients = ap length c.in_ok-running.ensures ∙ (length-replicate c.args.clients true ∙ sym e.count);
+        room = omega (arith, none, running, c.in_ok-trace.ensures.capacity);
+      },
+    )
+
+pub returns-clause-setting : goal.returns-clause-setting
+returns-clause-setting g c =
+    let e = c.in_ok-control.ensures in
     record {
-      sound = law.sound rows control contents c.requires.opened.1 is_new;
-      few = subst (λ (n : ℕ). n ≤ 16) (sym e.count) c.requires.few;
-      same_schema = c.requires.schema;
-      sequences = ap length e.sequences ∙ c.requires.sequences;
-      frees = omega arith;
-      bound = omega arith;
-      fine = λ unshut. c.requires.fine;
-      some = λ observable. (f, opened contents, law.represents f rows control contents (sym c.requires.schema) (sym e.count) c.requires.opened.1 is_new);
+      schema = refl;
+      clients = sym e.count;
+      levels = λ contents. subst (λ (es : List Event). SameLevels (known c.in_ok-control.control) (left_by (record { schema = c.args.schema; clients = c.args.clients }) contents es)) (sym c.in_ok-trace.ensures.items)
+          (levels_first c.in_ok-control.control c.requires.opened.0 contents (e.new c.requires.opened.0 c.requires.opened.2));
     }
 
 pub returns-clause-opened : goal.returns-clause-opened
@@ -33,14 +56,25 @@ returns-clause-opened g c = λ contents is sequences observable sound.
     let control = c.in_ok-control.control in
     let e = c.in_ok-control.ensures in
     let f : Setting = record { schema = c.args.schema; clients = c.args.clients } in
-    let none : [] ≡ c.new.result.items = sym c.new.ensures.items in
+    let none : [] ≡ c.in_ok-trace.trace.items = sym c.in_ok-trace.ensures.items in
     record {
-      observable = observable;
-      sound_contents = sound;
-      follows = subst (λ (es : List Event). Follows f (opened contents) es) none tt;
-      represents =
-          subst (λ (es : List Event). Represents f rows control (left_by f contents es)) none
-          (c.a_new_database_is_represented.ensures.represents f rows control contents (sym c.requires.schema) (sym e.count) is (e.new contents sequences));
-      size_is = subst (λ (es : List Event). IsSize 0 (left_by f contents es).size) none refl;
-      closed_is = subst (λ (es : List Event). false ≡ (left_by f contents es).closed) none refl;
+      setting = record {
+        schema = refl;
+        clients = sym e.count;
+        levels = λ other. subst (λ (es : List Event). SameLevels (known control) (left_by f other es)) none (levels_first control contents other (e.new contents sequences));
+      };
+      was = record {
+        observable = observable;
+        sound_contents = sound;
+        follows = subst (λ (es : List Event). Follows f (opened contents) es) none tt;
+        represents =
+            subst (λ (es : List Event). Represents f rows control (left_by f contents es)) none
+            (c.a_new_database_is_represented.ensures.represents f rows control contents (sym c.requires.schema) (sym e.count) is (e.new contents sequences));
+        size_is = subst (λ (es : List Event). IsSize 0 (left_by f contents es).size) none refl;
+        closed_is = subst (λ (es : List Event). false ≡ (left_by f contents es).closed) none refl;
+      };
     }
+
+pub returns-clause-active : goal.returns-clause-active
+returns-clause-active g c = λ client within.
+    (subst (λ (n : ℕ). client < n) (sym c.in_ok-control.ensures.count) within, subst (λ (xs : List Bool). IsRunning xs client) (sym c.in_ok-running.ensures) (runs_first c.args.clients client within))
