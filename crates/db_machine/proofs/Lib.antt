@@ -4,3 +4,4 @@ pub mod Replying
 pub mod Stepping
 pub mod Refusing
 pub mod Sessions
+pub mod Sends
