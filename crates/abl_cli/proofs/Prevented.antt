@@ -202,7 +202,7 @@ module _ (arguments : List (List ℕ)) (files : FileState) (faults : ℕ) (old n
   moved named same =
       subst
       (λ (r : Run). (texts : Texts files r.schema r.clients) → violation_of texts.df ≡ None → (works : List Work) → AreWorks files (schema_in texts.df) texts.texts works →
-          ((Rose old.faults new.faults → ⊥) → (report.status ≡ 0) ⊎ ((report.status ≡ 8) ⊎ (report.status ≡ 7))) → Outcome)
+      ((Rose old.faults new.faults → ⊥) → (report.status ≡ 0) ⊎ ((report.status ≡ 8) ⊎ (report.status ≡ 7))) → Outcome)
       (sym same) had_run
 
   outcome : CommandResult arguments files faults old new report → Outcome

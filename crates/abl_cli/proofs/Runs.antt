@@ -33,7 +33,7 @@ did_as_meant trace units number (w ∷ ws) (o ∷ os) (n ∷ ns) (sections ∷ p
             unrefused = first.unrefused w.tree.outputs p units (to_do.0 p is);
           })),
       did_as_meant trace units (number + 1) ws os ns parts (omega (arith, long)) to_do.1
-      (λ k t less. subst (λ m. HasEnded trace m (slice_index_or os k t) (slice_index_or ns k t)) (omega arith) (ended (suc k) t (omega (arith, less)))) have.1,
+          (λ k t less. subst (λ m. HasEnded trace m (slice_index_or os k t) (slice_index_or ns k t)) (omega arith) (ended (suc k) t (omega (arith, less)))) have.1,
     )
 
 -- each client has written some sections

@@ -8,7 +8,10 @@ use abl_base::Bytes;
 use std::alloc::{AllocError, Global};
 
 /// The clients that these arguments name, in order.
-pub(crate) fn clients_of(alloc: Global, arguments: &[Arg]) -> Result<Vec<ClientArgument<'_>>, AllocError>
+pub(crate) fn clients_of(
+    alloc: Global,
+    arguments: &[Arg],
+) -> Result<Vec<ClientArgument<'_>>, AllocError>
     ensures { (cs : List ClientFiles) → arguments.now ≡ map client_argument cs → All IsClientFiles cs → IfOk result (λ clients. map client_in clients.items ≡ cs) }
 {
     let mut clients = Vec::new(alloc);
@@ -17,7 +20,10 @@ pub(crate) fn clients_of(alloc: Global, arguments: &[Arg]) -> Result<Vec<ClientA
 }
 
 /// Adds the clients that these arguments name.
-fn add_clients<'a>(arguments: &'a [Arg], clients: &mut Vec<ClientArgument<'a>>) -> Result<(), AllocError>
+fn add_clients<'a>(
+    arguments: &'a [Arg],
+    clients: &mut Vec<ClientArgument<'a>>,
+) -> Result<(), AllocError>
     ensures { (cs : List ClientFiles) → arguments.now ≡ map client_argument cs → All IsClientFiles cs → OnOk result (map client_in clients.new.items ≡ map client_in clients.old.items ++ cs) }
 {
     let Some((argument, rest)) = arguments.split_first() else {
@@ -31,7 +37,10 @@ fn add_clients<'a>(arguments: &'a [Arg], clients: &mut Vec<ClientArgument<'a>>) 
 }
 
 /// The names of the clients.
-pub(crate) fn names_of(alloc: Global, clients: &[ClientArgument<'_>]) -> Result<Vec<Bytes>, AllocError>
+pub(crate) fn names_of(
+    alloc: Global,
+    clients: &[ClientArgument<'_>],
+) -> Result<Vec<Bytes>, AllocError>
     ensures { IfOk result (λ names. names.items ≡ map (λ (c : ClientFiles). c.name) (map client_in clients.now)) }
 {
     let mut names = Vec::new(alloc);
@@ -40,7 +49,11 @@ pub(crate) fn names_of(alloc: Global, clients: &[ClientArgument<'_>]) -> Result<
 }
 
 /// Adds the names of the clients.
-fn add_names(alloc: Global, clients: &[ClientArgument<'_>], names: &mut Vec<Bytes>) -> Result<(), AllocError>
+fn add_names(
+    alloc: Global,
+    clients: &[ClientArgument<'_>],
+    names: &mut Vec<Bytes>,
+) -> Result<(), AllocError>
     ensures { OnOk result (names.new.items ≡ names.old.items ++ map (λ (c : ClientFiles). c.name) (map client_in clients.now)) }
 {
     let Some((client, rest)) = clients.split_first() else {

@@ -1,6 +1,6 @@
 //! From the arguments of a run to its clients, ready to run.
 
-ghost use Rattle.std.specs.Prelude.{◌≡◌, ◌≤◌, ◌⊎◌, ◌++◌, ◌+◌, All, List, None, Some, IfErr, IfOk, OnOk, length, map, option_copied};
+ghost use Rattle.std.specs.Prelude.{◌≡◌, ◌≤◌, ◌⊎◌, ◌++◌, ◌∷◌, [], ◌+◌, All, List, None, Some, IfErr, IfOk, OnOk, length, map, option_copied};
 ghost use Rattle.std.specs.List.{flat_map};
 ghost use Rattle.abl_schema.specs.Rules.{violation_of};
 ghost use Rattle.abl_arguments.specs.CommandLine.{client_in};
@@ -54,15 +54,7 @@ pub fn load<F: Files>(
     read_clients(alloc, files, clients, &mut texts)?;
     let codes = codes_in(alloc, df.as_slice(), &texts)?;
     let mut tasks = Vec::new(alloc);
-    match begin_clients(
-        alloc,
-        files,
-        df.as_slice(),
-        units,
-        codes,
-        texts,
-        &mut tasks,
-    ) {
+    match begin_clients(alloc, files, df.as_slice(), units, codes, texts, &mut tasks) {
         Ok(()) => Ok(tasks),
         Err(refusal) => Err(refusal),
     }
@@ -256,13 +248,33 @@ fn begin_clients<F: Files>(
         return Ok(());
     }
     let code = codes.remove(0);
-    let ClientTexts { source, input } = texts.remove(0);
+    let text = texts.remove(0);
+    add_client(alloc, files, df, units, code, text, tasks)?;
+    begin_clients(alloc, files, df, units, codes, texts, tasks)
+}
+
+/// Adds the client of this code with the input of its texts, and the files after INPUT FROM that the
+/// code names.
+fn add_client<F: Files>(
+    alloc: Global,
+    files: &mut F,
+    df: &[u8],
+    units: u64,
+    code: Code,
+    text: ClientTexts,
+    tasks: &mut Vec<RunTask>,
+) -> Result<(), Refusal>
+    ensures begun { OnOk result ((task : TheTask) × (tasks.new.items ≡ tasks.old.items ++ task ∷ []) × IsBegun (F.state files.old) units (schema_in df.now).tables code text.input task) }
+    ensures same { OnOk result (AreSame (F.state files.old) (F.state files.new)) }
+    ensures refused { IfErr result (λ refusal. (refusal ≡ NoMemory) ⊎ OneIsNotRead (F.state files.old) (F.state files.new).faults code.inputs.items refusal) }
+{
+    let ClientTexts { source, input } = text;
     drop(source);
     let task = begin_client(alloc, files, df, units, code, input)?;
-    let Ok(()) = tasks.push(task) else {
-        return Err(Refusal::NoMemory);
-    };
-    begin_clients(alloc, files, df, units, codes, texts, tasks)
+    match tasks.push(task) {
+        Ok(()) => Ok(()),
+        Err(_) => Err(Refusal::NoMemory),
+    }
 }
 
 /// The client of this code with this input, and the files after INPUT FROM that the code names. The

@@ -1,9 +1,11 @@
-use Rattle.std.proofs.Common.{◌≡◌, ◌⊎◌, inr, Err, List, ℕ, sym, subst}
+use Rattle.std.proofs.Common.{◌≡◌, ◌⊎◌, ◌+◌, inl, inr, Err, List, ℕ, sym, subst}
+use Rattle.bound_tree.specs.Bound.{source_of}
+use Rattle.abl_cli.proofs.Named.{if_err}
 use Rattle.std.proofs.lemmas.Result.{err_from_is_err_and}
 use Rattle.abl_cli.specs.declared.load.ClientTexts.{ClientTexts}
 use Rattle.abl_cli.specs.declared.refusal.Refusal.{Refusal}
 use Rattle.abl_cli.specs.declared.refusal.Refusal.TheVariants.{NoMemory}
-use Rattle.abl_cli.specs.Command.{BreaksSource, OneSourceBreaks, this_source}
+use Rattle.abl_cli.specs.Command.{BreaksSource, OneSourceBreaks, later_source, this_source}
 use Rattle.abl_cli.proofs.Causes.{of_error}
 use Rattle.abl_cli.proofs.load.+add_codes.Goals as goal
 
@@ -15,3 +17,14 @@ returns-in_err-code-clause-refused t c =
     let broken = subst (λ (source : List ℕ). BreaksSource c.args.schema.now c.args.number source refusal) c.as_slice.ensures c.in_err-code.ensures.refused in
     of_error (λ (refusal : Refusal). (refusal ≡ NoMemory) ⊎ OneSourceBreaks c.args.schema.now c.args.number c.args.texts.now refusal) is
     (inr (subst (λ (texts : List ClientTexts). OneSourceBreaks c.args.schema.now c.args.number texts refusal) (sym c.in-Some.ensures.cases.0) (this_source broken)))
+
+pub returns-clause-refused : goal.returns-clause-refused
+returns-clause-refused t c =
+    if_err c.add_codes.result
+    (λ (refusal : Refusal). (refusal ≡ NoMemory) ⊎ OneSourceBreaks c.args.schema.now (c.args.number + 1) c.in-Some.rest.now refusal)
+    (λ (refusal : Refusal). (refusal ≡ NoMemory) ⊎ OneSourceBreaks c.args.schema.now c.args.number c.args.texts.now refusal)
+    (λ refusal h. elim h [
+      | inl e ↦ inl e
+      | inr one ↦ inr (subst (λ (texts : List ClientTexts). OneSourceBreaks c.args.schema.now c.args.number texts refusal) (sym c.in-Some.ensures.cases.0) (later_source (source_of c.in_ok-code.ensures.code.bound) c.in_ok-code.ensures.code.form one))
+    ])
+    c.add_codes.ensures.refused

@@ -41,7 +41,7 @@ returns-clause-read g t c =
       first ∷ rest.0,
       rest.1 ∙ ap (λ (texts : List ClientTexts). texts ++ rest.0) c.in-Ok.ensures.items ∙ append_assoc old (first ∷ []) rest.0,
       subst (λ (clients : List ClientArgument). HaveClients files (map client_in clients) (first ∷ rest.0)) (sym c.in-Some.ensures.cases.0)
-      ((c.in_ok-read.ensures.source, c.in_ok-read.ensures.input), still_clients files later c.in_ok-read.ensures.same sound (map client_in c.in-Some.rest.now) rest.0 rest.2),
+          ((c.in_ok-read.ensures.source, c.in_ok-read.ensures.input), still_clients files later c.in_ok-read.ensures.same sound (map client_in c.in-Some.rest.now) rest.0 rest.2),
     ))
     c.read_clients.ensures.read
 
@@ -57,6 +57,6 @@ returns-clause-refused g t c =
     (λ refusal h. elim h [
       | inl e ↦ inl e
       | inr one ↦ inr (subst (λ (clients : List ClientArgument). OneIsNotRead files faults (flat_map client_files (map client_in clients)) refusal) (sym c.in-Some.ensures.cases.0)
-      (unread_clients files faults (client_in c.in-Some.client.now) (map client_in c.in-Some.rest.now) c.in_ok-read.read c.in_ok-read.ensures.source c.in_ok-read.ensures.input (still_one files later c.in_ok-read.ensures.same sound one)))
+          (unread_clients files faults (client_in c.in-Some.client.now) (map client_in c.in-Some.rest.now) c.in_ok-read.read c.in_ok-read.ensures.source c.in_ok-read.ensures.input (still_one files later c.in_ok-read.ensures.same sound one)))
     ])
     c.read_clients.ensures.refused
