@@ -268,13 +268,14 @@ fn add_client<F: Files>(
     ensures same { OnOk result (AreSame (F.state files.old) (F.state files.new)) }
     ensures refused { IfErr result (λ refusal. (refusal ≡ NoMemory) ⊎ OneIsNotRead (F.state files.old) (F.state files.new).faults code.inputs.items refusal) }
 {
+    let Ok(()) = tasks.reserve(1) else {
+        return Err(Refusal::NoMemory);
+    };
     let ClientTexts { source, input } = text;
     drop(source);
     let task = begin_client(alloc, files, df, units, code, input)?;
-    match tasks.push(task) {
-        Ok(()) => Ok(()),
-        Err(_) => Err(Refusal::NoMemory),
-    }
+    tasks.push_reserved(task);
+    Ok(())
 }
 
 /// The client of this code with this input, and the files after INPUT FROM that the code names. The
