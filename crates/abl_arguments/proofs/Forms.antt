@@ -96,7 +96,7 @@ fit_of_begin arguments few begins = by_run arguments begins.0 few begins.1.0 beg
         (word 0 e, (subst (λ x. 0 < length x) (sym (word 1 e)) is.schema, (subst IsSteps (sym (word 2 e)) is.steps, ((run.mode, word 3 e), tt))))
     by_run (a ∷ b ∷ c ∷ d ∷ f ∷ fs) more few run is e = absurd (omega (arith, few))
 
--- at most as many arguments fit as the form has places
+-- at most four arguments fit, the number of places in the form
 pub fit_is_short : (arguments : List (List ℕ)) → FitAll form arguments → length arguments ≤ 4
 fit_is_short [] fit = omega arith
 fit_is_short (a ∷ []) fit = omega arith

@@ -28,8 +28,8 @@ fn first_empty(names: &[Arg]) -> usize
     names.len()
 }
 
-/// The programs of a check of this schema, where 1 to 16 follow, none empty; else the number of the
-/// wrong argument, of which the first two are `check` and SCHEMA.
+/// The programs of a check of this schema, where 1 to 16 follow and none is empty. Otherwise the
+/// number of the wrong argument, from 0. `check` and SCHEMA are counted as the first two.
 fn read_programs<'a>(schema: &'a [u8], programs: &'a [Arg]) -> Result<CheckArguments<'a>, u32>
     requires { 0 < length schema.now }
     ensures form { IfOk result (NamesCheck (codes "check" ∷ schema.now ∷ programs.now)) }

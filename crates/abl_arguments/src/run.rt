@@ -110,8 +110,8 @@ fn first_wrong(arguments: &[Arg]) -> usize
 }
 
 /// What the arguments name, where they have the form `run SCHEMA STEPS MODE CLIENT...` with 1 to 16
-/// clients whose names differ; else the number of the argument that is wrong by this form, from 0,
-/// which is the count of arguments where more are missing.
+/// clients whose names differ. Otherwise the number of the argument that is wrong by this form, from
+/// 0; where more arguments are missing, this is the count of arguments.
 pub fn read_run(arguments: &[Arg]) -> Result<RunArguments<'_>, u32>
     ensures form { IfOk result (λ run. Names arguments.now run) }
     ensures wrong { IfErr result (IsWrongIn HaveRunForm arguments.now) }

@@ -30,7 +30,7 @@ one_is_broken schema n (t ∷ ts) [] (suc i) text refusal below have is h = absu
 one_is_broken schema n (t ∷ ts) (l ∷ ls) (suc i) text refusal below have is h =
     later_breaks have.0 (one_is_broken schema (n + 1) ts ls i text refusal (omega (arith, below)) have.1 is (subst (λ m. BreaksProgram schema text m refusal) (omega arith) h))
 
--- the texts that were read are short, and as many as their names
+-- the texts read are short, and their number is that of the names
 pub short_texts : (files : FileState) (names texts : List (List ℕ)) → HaveTexts files names texts → All (λ (text : List ℕ). length text ≤ MAX_FILE_BYTES) texts
 short_texts files [] [] have = All-nil (λ (text : List ℕ). length text ≤ MAX_FILE_BYTES)
 short_texts files [] (t ∷ ts) have = absurd have

@@ -12,7 +12,7 @@ use Rattle.abl_cli.specs.declared.refusal.Refusal.TheVariants.{NoMemory}
 use Rattle.abl_cli.specs.Command.{CommandResult, Refused, Ran, HasRun, IsRefused, Prevents, prevented, run_wants, Work, client_names}
 use Rattle.abl_cli.specs.Inside.{AreToDo, IsReady}
 
--- the line of a refusal for want of memory names no client
+-- a refusal for out of memory is the same for any client names
 pub nameless : (names : List (List ℕ)) (old new : OutState) (report : Report) → IsRefused [] NoMemory old new report → IsRefused names NoMemory old new report
 nameless names old new report is = record { refusal = is.refusal; status = is.status; trace = is.trace; ends = is.ends; lines = is.lines }
 

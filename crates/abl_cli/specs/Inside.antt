@@ -1,4 +1,4 @@
--- What holds inside of a run: of the clients before they run, and after it.
+-- What holds during a run: of the clients before they run, and after they have run.
 use Rattle.std.specs.Prelude.{◌≡◌, ℕ, List, [], ◌∷◌, Option, Some, None}
 use Rattle.std.specs.List.{flat_map}
 use Rattle.abl_schema.specs.Rules.{violation_of}
@@ -75,15 +75,15 @@ pub record IsReady (files : FileState) (schema : List ℕ) (clients : List Clien
 
 -- ---- after it
 
--- the client of this number has come to its end in this trace: it did what its program means under its own answers, of which none is
--- Refused
+-- The client of this number has ended in this trace. Its execution agrees with its program under its own answers,
+-- and none of these answers is Refused.
 pub record HasEnded (trace : List Event) (number : ℕ) (old new : ClientTask) : Type 0 where
   pub how : ClientEnd
   pub ended : new.end ≡ Some how
   pub done : (names : List (List ℕ)) (p : Program) (units : ℕ) → IsToRun old names p units → HasDone new.client.client names (run p units) (own_events number trace) how
   pub unrefused : (names : List (List ℕ)) (p : Program) (units : ℕ) → IsToRun old names p units → NoneIsRefused (own_events number trace)
 
--- how a client has ended
+-- how a client has ended; NoMemory where it has not
 abbrev pub end_or_none : Option ClientEnd → ClientEnd
 end_or_none None = NoMemory
 end_or_none (Some how) = how

@@ -37,7 +37,7 @@ either_letter b on off = 32 ∷ (if b then on else off) ∷ []
 abbrev pub sequence_name : SchemaData → ℕ → List ℕ
 sequence_name schema sequence = (slice_index_or schema.sequences sequence no_sequence).name
 
--- What follows the operation's name, each after a blank: the number of rows that are kept, the level, the name of the table or of the
+-- What follows the operation's name, each after a blank: the number of rows kept, the level, the name of the table or
 -- sequence, the row, and for a lock S or X and then W or N
 abbrev pub operands : SchemaData → Op → List ℕ
 operands schema Enter = []
@@ -114,7 +114,7 @@ trace_part schema names trace = codes "== trace ==" ++ 10 ∷ trace_lines schema
 
 -- ---- what is built
 
--- an event of levels: its line looks at no schema, and its answer is a name alone
+-- an event of levels: its line does not depend on a schema, and its answer is a name alone
 pub record IsLevelEvent (event : Event) : Type 0 where
   pub op : IsLevelOp event.op
   pub answer : (names : List (List ℕ)) → added names event.answer ≡ []

@@ -28,7 +28,7 @@ use std::alloc::Global;
 /// The most bytes that a schema file, a source or an input may have.
 pub const MAX_FILE_BYTES: u64 = 1_048_576;
 
-/// The texts of a client that are read before the rules are looked at.
+/// The texts of a client that are read before the rules are checked.
 #[derive(Drop)]
 pub struct ClientTexts {
     pub source: Bytes,
@@ -36,8 +36,8 @@ pub struct ClientTexts {
 }
 
 /// Reads the schema file, and the source and the input of each client, compiles the sources where the
-/// schema breaks no rule, and reads the files after INPUT FROM. The clients may spend so many units
-/// each.
+/// schema breaks no rule, and reads the files after INPUT FROM. Each client may spend this number of
+/// units.
 pub fn load<F: Files>(
     alloc: Global,
     files: &mut F,
@@ -174,7 +174,7 @@ fn codes_in(alloc: Global, df: &[u8], texts: &[ClientTexts]) -> Result<Vec<Code>
     }
 }
 
-/// Adds the codes of the sources over the schema; they have the numbers from this one on.
+/// Adds the codes of the sources over the schema, numbered from this number.
 fn add_codes(
     alloc: Global,
     schema: &Schema,

@@ -107,8 +107,8 @@ fn op_name(op: &Op) -> &'static [u8]
     }
 }
 
-/// The number after the name of an operation of levels, where it has one: the number of rows that
-/// are kept, or the level.
+/// The number after the name of an operation of levels, if it has one: the number of rows kept, or
+/// the level.
 fn operand(op: &Op) -> Option<u64>
     requires { IsLevelOp op.now }
     ensures none { IfNone result ((schema : SchemaData) → operands schema op.now ≡ []) }

@@ -117,7 +117,7 @@ pub(crate) fn is_yes(value: &Value) -> bool
     matches!(value, Value::Logical(true))
 }
 
-/// AND of two values of which the first is not no.
+/// AND of two values, where the first is not no.
 pub(crate) fn conjunction<'a>(a: &Value, b: Held<'a>) -> Held<'a>
     ensures { is_no a.now ≡ false → and_then a.now (Ok (held_value b.entry)) ≡ Ok (held_value result) }
 {
@@ -127,7 +127,7 @@ pub(crate) fn conjunction<'a>(a: &Value, b: Held<'a>) -> Held<'a>
     }
 }
 
-/// OR of two values of which the first is not yes.
+/// OR of two values, where the first is not yes.
 pub(crate) fn disjunction<'a>(a: &Value, b: Held<'a>) -> Held<'a>
     ensures { holds a.now ≡ false → or_else a.now (Ok (held_value b.entry)) ≡ Ok (held_value result) }
 {

@@ -1,11 +1,11 @@
--- How a line begins, when a byte is put in front of it.
+-- How the first line of an input changes when a byte is prepended.
 use Rattle.std.proofs.Common.{◌≡◌, ℕ, Bool, true, false, ◌&&◌, ◌||◌, ◌==◌, inl, inr, if◌then◌else◌, List, [], ◌∷◌, ◌++◌, drop, refl, sym, ap, ◌∙◌, subst, append_assoc, append-nil}
 use Rattle.std.proofs.lemmas.Bool.{false≢true, eqb-true, and_from, and_parts, or_parts}
 use Rattle.abl_format.specs.declared.element.Element.{Element}
 use Rattle.abl_format.specs.declared.element.Element.TheVariants.{Bare, Quoted}
 use Rattle.abl_format.specs.Lines.{is_blank, starts, starts_end, after_end, Begins, Spells}
 
--- a byte in front
+-- prepends a byte
 abbrev pub before : ℕ → List ℕ → List ℕ
 before b xs = b ∷ xs
 
@@ -17,7 +17,7 @@ begins_more true b c bs cs rest (inr (inl h)) = inr (inl (ap (before b) h))
 begins_more true b c bs cs rest (inr (inr h)) = inr (inr (ap (before b) h.0, h.1))
 begins_more false b c bs cs rest h = (ap (before b) h.0, h.1)
 
--- a byte in a line that is not empty
+-- a byte prepended to a line that is not empty
 pub begins_inside : (closed : Bool) (b : ℕ) (bs line rest : List ℕ) → (line ≡ [] → ⊥) → Begins closed bs line rest → Begins closed (b ∷ bs) (b ∷ line) rest
 begins_inside closed b bs [] rest some h = absurd (some refl)
 begins_inside closed b bs (c ∷ cs) rest some h = begins_more closed b c bs cs rest h
@@ -31,7 +31,7 @@ no_return b bs rest t e =
     let u : ((b == 10) || ((b == 13) && true)) ≡ false = subst (λ (xs : List ℕ). starts_end (b ∷ xs) ≡ false) e t in
     and_true (b == 13) (or_parts (b == 10) ((b == 13) && true) u).1
 
--- a byte that is no part of the line's end
+-- a prepended byte that does not begin a line end
 pub begins_before : (closed : Bool) (b : ℕ) (bs line rest : List ℕ) → starts_end (b ∷ bs) ≡ false → Begins closed bs line rest → Begins closed (b ∷ bs) (b ∷ line) rest
 begins_before true b bs [] rest t (inl h) = inl (ap (before b) h.0, no_return b bs rest t h.0)
 begins_before true b bs [] rest t (inr (inl h)) = inr (inl (ap (before b) h))
@@ -43,7 +43,7 @@ feed_of : (bs : List ℕ) → starts 10 bs ≡ true → bs ≡ 10 ∷ drop 1 bs
 feed_of [] h = absurd (false≢true h)
 feed_of (c ∷ cs) h = ap (λ (x : ℕ). x ∷ cs) (eqb-true c 10 h)
 
--- the end of the line is in front
+-- the input begins with a line end
 pub begins_at_end : (b : ℕ) (bs : List ℕ) → starts_end (b ∷ bs) ≡ true → Begins true (b ∷ bs) [] (after_end (b ∷ bs))
 begins_at_end b bs h = by_feed (b == 10) refl
   where
@@ -53,7 +53,7 @@ begins_at_end b bs h = by_feed (b == 10) refl
         let both = and_parts (b == 13) (starts 10 bs) (subst (λ (t : Bool). (t || ((b == 13) && starts 10 bs)) ≡ true) e h) in
         inr (inl (ap (λ (x : ℕ). x ∷ bs) (eqb-true b 13 both.0) ∙ ap (before 13) (feed_of bs both.1)))
 
--- what is left is at the end of the input
+-- the rest is a suffix of the input
 pub rest_after : (closed : Bool) (input line rest : List ℕ) → Begins closed input line rest → (front : List ℕ) × (input ≡ front ++ rest)
 rest_after true input line rest (inl h) = (line ++ 10 ∷ [], h.0 ∙ sym (append_assoc line (10 ∷ []) rest))
 rest_after true input line rest (inr (inl h)) = (line ++ 13 ∷ 10 ∷ [], h ∙ sym (append_assoc line (13 ∷ 10 ∷ []) rest))

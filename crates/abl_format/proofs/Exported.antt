@@ -1,4 +1,4 @@
--- The line that EXPORT writes of a row is made of elements that give the row.
+-- The line that EXPORT writes of a row consists of elements that yield the row.
 use Rattle.std.proofs.Common.{◌≡◌, ◌+◌, ℕ, suc, ◌<◌, ◌≤◌, ◌^◌, inl, Bool, true, false, not, ◌&&◌, ◌||◌, ◌==◌, ◌/◌, ◌%◌, nat_le, if◌then◌else◌, List, [], ◌∷◌, ◌++◌, map, length, drop, Some, None, option_map, ℤ, pos, negsuc, refl, sym, ap, ◌∙◌, subst, arith, append_assoc, append-nil, length-append, lit≤}
 use Rattle.std.specs.List.{list_all, flat_map, join_by}
 use Rattle.std.specs.Fmt.{decimal, signed_decimal}
@@ -37,7 +37,7 @@ use Rattle.abl_format.proofs.DayTexts.{day_back, year_digits}
 abbrev is_high : ℕ → Bool
 is_high b = nat_le 35 b
 
--- some such bytes, of which the first is no point
+-- one or more such bytes, not beginning with a point
 abbrev is_word : List ℕ → Bool
 is_word [] = false
 is_word (b ∷ bs) = not (b == 46) && list_all is_high (b ∷ bs)
@@ -71,12 +71,12 @@ digits_word (d ∷ ds) more h k =
     and_from (not (d == 46)) (list_all is_high ((d ∷ ds) ++ more)) (not_from_false (d == 46) (ne_eqb d 46 (λ e. omega (arith, e, low))))
     (all_append is_high (d ∷ ds) more (digits_are_high (d ∷ ds) h) k)
 
--- ---- no word of these is a bare `?` or `-`
+-- ---- none of these elements is a bare `?` or `-`
 
 first_differs : (b : ℕ) (bs : List ℕ) (c : ℕ) → (b == c) ≡ false → same_bytes (b ∷ bs) (c ∷ []) ≡ false
 first_differs b bs c h = and_left (b == c) (same_bytes bs []) h
 
--- neither of the two
+-- neither `?` nor `-` alone
 record IsNeither (word : List ℕ) : Type 0 where
   no_question : same_bytes word (63 ∷ []) ≡ false
   no_minus : same_bytes word (45 ∷ []) ≡ false
@@ -101,7 +101,7 @@ given_bare kind word h =
     ap (λ (t : Bool). if t then Some (Some Unknown) else if same_bytes word (45 ∷ []) then Some None else given kind word) h.no_question
     ∙ ap (λ (t : Bool). if t then Some None else given kind word) h.no_minus
 
--- a word that is neither
+-- such bytes that are neither
 record Plain (word : List ℕ) : Type 0 where
   is_one : is_word word ≡ true
   neither : IsNeither word
@@ -162,7 +162,7 @@ wider k (negsuc n) room h =
 
 -- ---- the element that denotes a value
 
--- the word of a value gives the value to a target of the kind
+-- the bytes, as a bare element, give the value to a target of the kind
 record WordOf (kind : Kind) (v : Value) (word : List ℕ) : Type 0 where
   is_one : is_word word ≡ true
   gives : taken (Some kind) (Bare word) ≡ Some (Some v)
@@ -388,7 +388,7 @@ row_line kinds row more h = record {
   spells = spells_row kinds row h;
 }
 
--- the line stands anywhere in an input
+-- the line may be anywhere in an input
 pub row_back_at : (front : List ℕ) (row : List Value) (kinds : List Kind) (more : List ℕ) → AreOfKinds kinds row
     → line_at (front ++ (export row ++ more)) (length front) (map (λ k. Some k) kinds) ≡ Elements (map (λ v. Some v) row) (length front + length (export row))
 row_back_at front row kinds more h =

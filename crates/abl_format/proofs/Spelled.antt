@@ -138,9 +138,9 @@ trimmed_shorter ds = (trimmed 0 ds).shorter
 pub trimmed_number : (ds : List ℕ) → number_of (without_trailing 48 ds) * 10 ^ (length ds - length (without_trailing 48 ds)) ≡ number_of ds
 trimmed_number ds = (trimmed 0 ds).number
 
--- ---- digits in front of other bytes
+-- ---- digits before other bytes
 
--- no digit is in front
+-- the bytes do not begin with a digit
 abbrev pub no_digit : List ℕ → Bool
 no_digit [] = true
 no_digit (b ∷ bs) = not (is_digit b)

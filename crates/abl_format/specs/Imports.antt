@@ -32,7 +32,7 @@ taken (Some kind) (Quoted text) = given kind text
 
 -- ---- the elements of a line, as a relation
 
--- these are the values that the targets get, one each. Elements beyond the targets count for nothing
+-- these are the values that the targets get, one each. Elements beyond the targets are ignored
 abbrev pub AreTaken : List (Option Kind) → List Element → List (Option Value) → Type 0
 AreTaken [] es [] = Unit {0}
 AreTaken [] es (v ∷ vs) = ⊥
@@ -48,7 +48,7 @@ IsFirstBad (k ∷ ks) (e ∷ es) zero = ⊥
 IsFirstBad (k ∷ ks) (e ∷ es) (suc zero) = taken k e ≡ None
 IsFirstBad (k ∷ ks) (e ∷ es) (suc (suc number)) = IsSome (taken k e) × IsFirstBad ks es (suc number)
 
--- A line that is not the end of the input stands between these places, and this holds of its elements.
+-- The bytes between these places are a line that is not the end of the input, and this holds of its elements.
 pub record ReadsLine (input : List ℕ) (from next : ℕ) (holds : List Element → Type 0) : Type 0 where
   pub goes_on : IsInputEnd (drop from input) → ⊥
   pub elements : List Element
@@ -64,17 +64,17 @@ IsImport input from kinds (Elements values next) = ReadsLine input from next (λ
 
 -- ---- the same as a function
 
--- one more value in front
+-- prepends one value; an error is unchanged
 abbrev pub value_before : Option Value → Result (List (Option Value)) ℕ → Result (List (Option Value)) ℕ
 value_before v (Ok vs) = Ok (v ∷ vs)
 value_before v (Err number) = Err number
 
--- what a target gets, and what those after it get
+-- the value of one target before those of the later targets, or this number where its element is bad
 abbrev pub next_value : ℕ → Option (Option Value) → Result (List (Option Value)) ℕ → Result (List (Option Value)) ℕ
 next_value number None tail = Err number
 next_value number (Some v) tail = value_before v tail
 
--- the values that the targets get, or the number of the first bad element, when the first has this number
+-- the values that the targets get, or the number of the first bad element. The first element has this number
 abbrev pub values_from : ℕ → List (Option Kind) → List Element → Result (List (Option Value)) ℕ
 values_from number [] es = Ok []
 values_from number (k ∷ ks) [] = value_before None (values_from (number + 1) ks [])

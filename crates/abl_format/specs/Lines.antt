@@ -1,4 +1,4 @@
--- A line of an input, and the elements that it is made of.
+-- A line of an input, and the elements that it contains.
 use Rattle.std.specs.Prelude.{◌≡◌, ℕ, Bool, true, false, not, ◌&&◌, ◌||◌, ◌==◌, ◌⊎◌, if◌then◌else◌, List, [], ◌∷◌, ◌++◌, drop}
 use Rattle.std.specs.List.{list_all}
 use Rattle.abl_values.specs.Texts.{doubled}
@@ -20,12 +20,12 @@ starts c (b ∷ bs) = b == c
 abbrev pub is_bare_byte : ℕ → Bool
 is_bare_byte b = not (is_blank b || (b == 10))
 
--- a bare element: some such bytes, of which the first is no quotation mark
+-- a bare element: one or more such bytes, not beginning with a quotation mark
 abbrev pub is_bare : List ℕ → Bool
 is_bare [] = false
 is_bare (b ∷ bs) = not (b == 34) && list_all is_bare_byte (b ∷ bs)
 
--- one more byte would belong to a bare element before it
+-- the first byte would continue a bare element before it
 abbrev pub starts_bare : List ℕ → Bool
 starts_bare [] = false
 starts_bare (b ∷ bs) = is_bare_byte b
@@ -66,15 +66,15 @@ ends_in_return [] = false
 ends_in_return (b ∷ []) = b == 13
 ends_in_return (b ∷ c ∷ bs) = ends_in_return (c ∷ bs)
 
--- The input begins with the line, and this follows: a closed line ends at a line feed, which takes a
--- carriage return before it along, and any line at the end of the input.
+-- The input begins with the line, and `rest` follows the line's end. A line feed ends a closed line,
+-- together with a carriage return directly before it. The end of the input ends any line.
 abbrev pub Begins : Bool → List ℕ → List ℕ → List ℕ → Type 0
 Begins true input line rest =
     ((input ≡ line ++ 10 ∷ rest) × (ends_in_return line ≡ false))
     ⊎ ((input ≡ line ++ 13 ∷ 10 ∷ rest) ⊎ ((input ≡ line) × (rest ≡ [])))
 Begins false input line rest = (input ≡ line) × (rest ≡ [])
 
--- the first line of the input has these elements, and this follows the line
+-- the first line of the input has these elements, and `rest` follows the line
 pub record IsLine (input : List ℕ) (elements : List Element) (rest : List ℕ) : Type 0 where
   pub closed : Bool
   pub line : List ℕ
@@ -87,25 +87,25 @@ IsInputEnd input = (input ≡ []) ⊎ ((rest : List ℕ) × Begins true input (4
 
 -- ---- the same read off the bytes, from the right
 
--- what bytes give: those up to the end of the element that is open, the elements after it, and what follows the line
+-- the result of reading bytes: those up to the end of the open element, the elements after it, and the bytes after the line
 pub record Reading : Type 0 where
   pub open_bytes : List ℕ
   pub elements : List Element
   pub rest : List ℕ
 
--- no element is open, and these follow
+-- no element is open; the same elements and rest follow
 abbrev pub closing : Reading → Reading
 closing r = record { open_bytes = []; elements = r.elements; rest = r.rest }
 
--- one more byte of the element that is open
+-- one more byte of the open element
 abbrev pub byte_before : ℕ → Reading → Reading
 byte_before b r = record { open_bytes = b ∷ r.open_bytes; elements = r.elements; rest = r.rest }
 
--- the element that is open begins here
+-- the open element begins here
 abbrev pub opened : (List ℕ → Element) → Reading → Reading
 opened as_element r = record { open_bytes = []; elements = as_element r.open_bytes ∷ r.elements; rest = r.rest }
 
--- the line ends, and this is left
+-- the line ends, and this is the remaining input
 abbrev pub line_ending : List ℕ → Reading
 line_ending rest = record { open_bytes = []; elements = []; rest = rest }
 
@@ -116,12 +116,12 @@ pub record Readings : Type 0 where
   pub in_quotes : Reading
   pub after_mark : Reading
 
--- a line feed, or a carriage return and a line feed, is in front
+-- the bytes begin with a line feed, or with a carriage return and a line feed
 abbrev pub starts_end : List ℕ → Bool
 starts_end [] = false
 starts_end (b ∷ bs) = (b == 10) || ((b == 13) && starts 10 bs)
 
--- what follows it
+-- the bytes after that line end
 abbrev pub after_end : List ℕ → List ℕ
 after_end [] = []
 after_end (b ∷ bs) = if b == 10 then bs else drop 1 bs
@@ -179,7 +179,7 @@ readings (b ∷ bs) = readings_at b bs (readings bs)
 unfoldable pub first_line : List ℕ → Reading
 first_line input = (readings input).between
 
--- a point is in front, and the line or the input ends after it
+-- the input is empty, or begins with a point directly before a line end or the end of the input
 abbrev pub is_input_end : List ℕ → Bool
 is_input_end [] = true
 is_input_end (b ∷ []) = b == 46

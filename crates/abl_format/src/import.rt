@@ -19,7 +19,7 @@ use text_values::value_in;
 ///
 /// Refusals: `AtEnd` exactly where no byte is left or the line is a `.` alone; `BadField` exactly
 /// at the first element that is no text of its target's kind; else out of memory. (OpenEdge ABL
-/// Reference, IMPORT; which texts are of which kind is this project's choice.)
+/// Reference, IMPORT; the texts of each kind are this project's choice.)
 #[tactic(auto, unfolding(crate::specs::Imports::line_at))]
 pub fn import_line(
     alloc: Global,
@@ -90,7 +90,7 @@ fn taken(
     }
 }
 
-/// Whether the word is this byte alone.
+/// Whether the text is this byte alone.
 fn is_alone(word: &[u8], byte: u8) -> bool
     ensures { result ≡ same_bytes word.now (byte ∷ []) }
 {

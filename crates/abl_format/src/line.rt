@@ -14,7 +14,7 @@ fn is_blank(byte: u8) -> bool
     byte == b' ' || byte == b'\t'
 }
 
-/// Whether a line feed, or a carriage return and a line feed, is in front.
+/// Whether the bytes begin with a line feed, or with a carriage return and a line feed.
 fn starts_end(bytes: &[u8]) -> bool
     ensures { result ≡ starts_end bytes.now }
 {
@@ -26,7 +26,7 @@ fn starts_end(bytes: &[u8]) -> bool
     }
 }
 
-/// What follows the end of the line that is in front.
+/// What follows the line end at the start of the bytes.
 fn after_end(bytes: &[u8]) -> &[u8]
     ensures { result.now ≡ after_end bytes.now }
 {

@@ -1,4 +1,4 @@
--- One word at each place, and the run over a whole text.
+-- One lexeme at each place, and the run over a whole text.
 use Rattle.std.proofs.Common.{ℕ, ◌+◌, ◌-◌, ◌<◌, ◌≤◌, ◌≡◌, true, false, not, List, [], ◌∷◌, ◌++◌, length, take, drop, refl, sym, ◌∙◌, ap, subst, arith, append_assoc, ◌⊎◌, inl, inr, length-drop, drop-drop}
 use Rattle.std.proofs.Math.Decide.{dec_lt}
 use Rattle.abl_base.specs.declared.rule.Rule.{Rule}
@@ -23,7 +23,7 @@ use Rattle.abl_lex.proofs.Prefixes.{length_take}
 order : (q r : ℕ) → (q < r) ⊎ ((r < q) ⊎ (q ≡ r))
 order q r = elim (dec_lt q r) [ yes h ↦ inl h | no h ↦ elim (dec_lt r q) [ yes g ↦ inr (inl g) | no g ↦ inr (inr (omega arith)) ] ]
 
--- the longest word is one
+-- the length of the longest lexeme is unique
 same_long : (f g : Form) (n m : ℕ) (text : List ℕ) → Longest f n text → Longest g m text → n ≡ m
 same_long f g n m text a b = elim (order n m) [
   | inl h ↦ absurd (a.longest g m h b.within b.matches)
@@ -51,7 +51,7 @@ word_unique text at f g s e s' e' a b =
       end = omega arith;
     }
 
--- WHAT STANDS AT A PLACE
+-- THE LEXEME AT A PLACE
 pub gap_stops : {text : List ℕ} {n : ℕ} → Gap text n → starts_gap (drop n text) ≡ false
 gap_stops (nothing e) = e
 gap_stops (white w g) = gap_stops g
@@ -92,7 +92,7 @@ word_length text at f s e w =
     let b = w.longest.within in
     length_take (e - s) (drop s text) (omega arith)
 
--- a word at a place where no form matches
+-- no lexeme is at a place where no form matches
 no_such : (text : List ℕ) (at : ℕ) (f : Form) (s e gap : ℕ) → IsNextWord text at f s e → Gap (drop at text) gap → NoForm (drop (at + gap) text) → ⊥
 no_such text at f s e gap w g n =
     let u : w.gap ≡ gap = gap_unique w.gap_is g in
@@ -106,7 +106,7 @@ two_quotes text at gap gap' g h e f =
     let u : gap ≡ gap' = gap_unique g h in
     both_ways (starts_quote (drop (at + gap) text)) e (subst (λ x. starts_quote (drop (at + x) text) ≡ true) (sym u) f)
 
--- WHAT IS BROKEN FIRST AT A PLACE
+-- THE RULE BROKEN FIRST AT A PLACE
 level : (a b : ℕ) → a ≡ b → a ≤ b
 level a b e = omega arith
 
@@ -180,7 +180,7 @@ pub record LexSofar (text : List ℕ) (at : ℕ) (done : List Token) : Type 0 wh
 pub begin : (text : List ℕ) → LexSofar text 0 []
 begin text = record { within = omega arith; tokens = λ list t. t; back = λ r p b. b; forth = λ r p b. b }
 
--- a word that fits breaks nothing at its place
+-- a lexeme that breaks no rule of its own leaves no rule broken at its place
 fine_word : (text : List ℕ) (at : ℕ) (f : Form) (s e : ℕ) (rule : Rule) (spot : ℕ) → IsNextWord text at f s e → IsFit f (bytes_of text s e) → Broken text at rule spot → ⊥
 fine_word text at f s e rule spot w fit (no_token gap g h q n) = no_such text at f s e gap w g n
 fine_word text at f s e rule spot w fit (open_comment gap g) = gap_open w.gap_is g
@@ -198,7 +198,7 @@ past text at f s e rule spot w fit (later {start = s'} {end = e'} {f = g} v b) =
     let u = word_unique text at f g s e s' e' w v in
     subst (λ x. BreaksFrom text x rule spot) (sym u.end) b
 
--- at the end there is no word, and nothing is broken
+-- at the end no lexeme follows, and no rule is broken
 no_word_here : (text : List ℕ) (at : ℕ) (f : Form) (s e : ℕ) → EndsAt text at → IsNextWord text at f s e → ⊥
 no_word_here text at f s e d w =
     let u : w.gap ≡ d.0 = gap_unique w.gap_is d.1 in
@@ -241,7 +241,7 @@ pub finished : (text : List ℕ) (at : ℕ) (done more : List Token) (t : Token)
 finished text at done more t s w e m =
     subst (HasTokens text) (ap (λ x. done ++ (x ∷ [])) (sym e) ∙ sym m) (s.tokens (end_token text ∷ []) (ended w.0 w.1 w.2))
 
--- nothing is broken where the text ends
+-- no rule is broken where the text ends
 pub clean : (text : List ℕ) (at : ℕ) (done : List Token) → LexSofar text at done → EndsAt text at → (rule : Rule) (spot : ℕ) → Breaks text rule spot → ⊥
 clean text at done s w rule spot b = no_break text at rule spot w (s.back rule spot b)
 
@@ -260,7 +260,7 @@ later_on text at rule spot h (later {start = s} {end = e} {f} v b) =
     let q = w.some in
     omega arith
 
--- after a word
+-- after a lexeme
 past_word : (text : List ℕ) (at : ℕ) (f : Form) (s e : ℕ) (rule : Rule) (spot : ℕ) → s < e → IsNextWord text at f s e → Broken text at rule spot → spot < e
 past_word text at f s e rule spot l w (no_token gap g h q n) = absurd (no_such text at f s e gap w g n)
 past_word text at f s e rule spot l w (open_comment gap g) = absurd (gap_open w.gap_is g)
@@ -349,7 +349,7 @@ one_list text at l m (token {list = x} {f} {start} {end} w t) (token {list = y} 
 pub tokens_one : (text : List ℕ) (l m : List Token) → HasTokens text l → HasTokens text m → l ≡ m
 tokens_one text l m a b = one_list text 0 l m a b
 
--- AS THE CODE FINDS THEM
+-- IN THE FORM THAT THE CODE USES
 pub misfit_inside : (text : List ℕ) (at : ℕ) (f : Form) (s e : ℕ) (rule : Rule) (offset : ℕ) (word : List ℕ) → at ≤ length text → IsNextWord text at f s e → word ≡ bytes_of text s e → IsFirstMisfit f word rule offset → s + offset < length text
 misfit_inside text at f s e rule offset word h w q m =
     let i = word_inside text at f s e h w in

@@ -88,7 +88,7 @@ pub first_byte : (f : Form) (m b : ℕ) (bs : List ℕ) → form f (take m (b �
 first_byte f zero b bs e = absurd (no_empty f (b ∷ bs) e)
 first_byte f (suc m) b bs e = started f b (take m bs) (drop m bs) e
 
--- NAMES AND DIGITS IN FRONT
+-- NAMES AND DIGITS AT THE START OF A TEXT
 pub letter_byte : (b : ℕ) → is_letter b ≡ true → is_name_byte b ≡ true
 letter_byte b e = or_left (is_letter b || is_digit b) (is_name_sign b) (or_left (is_letter b) (is_digit b) e)
 

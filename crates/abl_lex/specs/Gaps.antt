@@ -3,7 +3,7 @@ use Rattle.std.specs.Prelude.{ℕ, zero, suc, ◌+◌, ◌≡◌, true, false, �
 use Rattle.abl_lex.specs.Bytes.{star, slash, is_white, starts_gap}
 use Rattle.abl_lex.specs.Forms.{plus}
 
--- How many bytes end the comments that are open, as many as d; none where one is open at the end.
+-- The number of bytes up to the end of d open comments, nested ones included; None if one is still open at the end of the text.
 unfoldable pub comment : ℕ → List ℕ → Option ℕ
 comment zero text = Some 0
 comment (suc d) [] = None

@@ -1,4 +1,4 @@
--- What a word of each form denotes.
+-- What a lexeme of each form denotes.
 use Rattle.std.specs.Prelude.{ℕ, zero, suc, ◌+◌, ◌-◌, ◌*◌, ◌^◌, ◌%◌, Bool, false, not, ◌&&◌, ◌||◌, ◌==◌, nat_le, nat_lt, if◌then◌else◌, List, [], ◌∷◌, ◌++◌, length, fold, Option, Some, None, unwrap_or}
 use Rattle.abl_tree.specs.Keywords.{keyword_of}
 use Rattle.abl_tree.specs.declared.token.TokenKind.{TokenKind}
@@ -112,7 +112,7 @@ symbol_kind [] = Caret
 symbol_kind (b ∷ []) = single_kind b
 symbol_kind (b ∷ c ∷ bs) = pair_kind b c
 
--- the kind of a word of this form
+-- the kind of a lexeme of this form
 unfoldable pub kind_of : Form → List ℕ → TokenKind
 kind_of Word w = unwrap_or (keyword_of w) Name
 kind_of Qualified w = QualifiedName
@@ -127,7 +127,7 @@ abbrev pub word_meaning : Option TokenKind → List ℕ → Meaning
 word_meaning None w = Spelling w
 word_meaning (Some k) w = KindAlone
 
--- what a word of this form denotes
+-- what a lexeme of this form denotes
 unfoldable pub meaning_of : Form → List ℕ → Meaning
 meaning_of Word w = word_meaning (keyword_of w) w
 meaning_of Qualified w = Parts (leading is_name_byte w) (after_separator is_name_byte w)

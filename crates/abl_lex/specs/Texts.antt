@@ -14,8 +14,8 @@ use Rattle.abl_lex.specs.Forms.{Longest, NoForm, leading, after_separator}
 use Rattle.abl_lex.specs.Gaps.{Gap, OpenGap}
 use Rattle.abl_lex.specs.Meanings.{kind_of, meaning_of, is_date, date_of}
 
--- The line and the column of a place, from 1: the line feeds before it, and the bytes back to the
--- last of these.
+-- The line and the column of a place, from 1. They count the line feeds before it, and the bytes
+-- after the last of these.
 unfoldable pub place_of : List ℕ → ℕ → Place
 place_of text at = record {
   line = 1 + count_by (λ b. b == line_feed) (take at text);
@@ -26,7 +26,7 @@ place_of text at = record {
 abbrev pub bytes_of : List ℕ → ℕ → ℕ → List ℕ
 bytes_of text start end = take (end - start) (drop start text)
 
--- the next word after the gap at this place: its form and its ends; no longer word begins there
+-- the next lexeme after the gap at this place: its form and its ends; no longer lexeme begins there
 pub record IsNextWord (text : List ℕ) (at : ℕ) (f : Form) (start end : ℕ) : Type 0 where
   pub gap : ℕ
   pub gap_is : Gap (drop at text) gap
@@ -35,7 +35,7 @@ pub record IsNextWord (text : List ℕ) (at : ℕ) (f : Form) (start end : ℕ) 
   pub end_is : end ≡ start + n
   pub longest : Longest f n (drop start text)
 
--- the token that a word of this form is
+-- the token of a lexeme of this form
 unfoldable pub token_of : List ℕ → Form → ℕ → ℕ → Token
 token_of text f start end = record {
   kind = kind_of f (bytes_of text start end);
@@ -63,8 +63,8 @@ pub data TokensFrom (text : List ℕ) : ℕ → List Token → Type 0 where
 abbrev pub HasTokens : List ℕ → List Token → Type 0
 HasTokens text list = TokensFrom text 0 list
 
--- How a word of a form breaks a rule, and the number of bytes after its start at which it does: a name or a part of one
--- above 32 bytes, a number of more than 18 digits or more than 10 after the point, no date.
+-- How a lexeme breaks a rule, and the offset from its start at which it does: a name or a part of one above 32 bytes,
+-- a number with more than 18 digits before or 10 after the point, or an invalid date.
 pub data Misfit : Form → List ℕ → Rule → ℕ → Type 0 where
   long_name : {w : List ℕ} → 32 < length w → Misfit Word w L4 0
   long_first : {w : List ℕ} → 32 < length (leading is_name_byte w) → Misfit Qualified w L4 0
@@ -99,17 +99,17 @@ number L4 = 4
 number L5 = 5
 number _ = 6
 
--- the text is not empty and begins with no word of a form
+-- no form matches at the start of the text: L3 where it begins with a quote, else L1
 abbrev pub BreaksFront : Rule → List ℕ → Type 0
 BreaksFront L1 text = (starts_quote text ≡ false) × NoForm text
 BreaksFront L3 text = (starts_quote text ≡ true) × NoForm text
 BreaksFront _ text = ⊥
 
--- the word breaks no rule
+-- the lexeme breaks no rule
 abbrev pub IsFit : Form → List ℕ → Type 0
 IsFit f w = (rule : Rule) (offset : ℕ) → Misfit f w rule offset → ⊥
 
--- the first rule that the word breaks
+-- the first rule that the lexeme breaks
 pub record IsFirstMisfit (f : Form) (w : List ℕ) (rule : Rule) (offset : ℕ) : Type 0 where
   pub breaks : Misfit f w rule offset
   pub first : (other : Rule) (at : ℕ) → Misfit f w other at → (offset ≤ at) × (number rule ≤ number other)
@@ -123,7 +123,7 @@ pub record IsBrokenFirst (text : List ℕ) (at : ℕ) (rule : Rule) (spot : ℕ)
   pub breaks : Broken text at rule spot
   pub first : (other : Rule) (x : ℕ) → Broken text at other x → (spot ≤ x) × (number rule ≤ number other)
 
--- The first place in the text, and there the least rule.
+-- The first place that breaks a rule, and the least rule broken there.
 pub record IsFirst (text : List ℕ) (rule : Rule) (spot : ℕ) : Type 0 where
   pub breaks : Breaks text rule spot
   pub first : (other : Rule) (at : ℕ) → Breaks text other at → (spot < at) ⊎ ((spot ≡ at) × (number rule ≤ number other))

@@ -1,4 +1,4 @@
-//! The meanings of words.
+//! The meanings of lexemes.
 
 ghost use Rattle.std.specs.Prelude.{◌+◌, ◌<◌, ◌≤◌, ◌≡◌, ◌++◌, ℕ, List, drop, length, true, IfOk, OnOk};
 ghost use Rattle.std.specs.List.{list_all, prefix_len};
@@ -163,7 +163,7 @@ fn fractional(word: &[u8]) -> Meaning
     Meaning::Scaled(scaled(piece(word, 0, n), rest_from(word, n + 1)))
 }
 
-/// The kind of a word of this form, and what it denotes.
+/// The kind of a lexeme of this form, and what it denotes.
 pub fn meaning(alloc: Global, shape: Form, word: &[u8]) -> Result<(TokenKind, Meaning), AllocError>
     requires form { (after : List ℕ) × (form shape word.now after ≡ true) }
     requires fit { IsFit shape word.now }

@@ -1,4 +1,4 @@
-//! Words that break a rule: names and numbers that are too long, and dates that are none.
+//! Lexemes that break a rule: names and numbers that are too long, and invalid dates.
 
 ghost use Rattle.std.specs.Prelude.{◌≡◌, ℕ, List, true, IfNone, IfSome};
 ghost use Rattle.abl_lex.specs.Forms.{form};
@@ -47,9 +47,9 @@ fn long_fraction(word: &[u8]) -> Option<(Rule, usize)>
     None
 }
 
-/// The first rule that a word of this form breaks, and how many bytes after its start: L4 for a
+/// The first rule that a lexeme of this form breaks, and the offset from its start: L4 for a
 /// part of a name above 32 bytes; L5 for more than 18 digits before or 10 after the point, and
-/// for no date of the years 1 to 9999.
+/// for an invalid date, with years from 1 to 9999.
 pub fn misfit(shape: Form, word: &[u8]) -> Option<(Rule, usize)>
     requires { (after : List ℕ) × (form shape word.now after ≡ true) }
     ensures none { IfNone result (IsFit shape word.now) }

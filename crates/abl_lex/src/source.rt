@@ -21,7 +21,7 @@ use std::alloc::{AllocError, AllocFailed, Global};
 pub enum LexRefusal {
     /// The first rule of tokens that the source breaks, L1 to L5, and its place.
     Broken { rule: Rule, place: Place },
-    /// There is no memory for the tokens.
+    /// Out of memory for the tokens.
     NoMemory,
 }
 
@@ -45,7 +45,7 @@ impl<T: Drop> From<AllocFailed<T>> for LexRefusal {
     }
 }
 
-// A word of a source: its form, its first byte and the byte after its last.
+// A lexeme of a source: its form, its first byte and the byte after its last.
 #[derive(Clone, Copy)]
 struct Found {
     form: Form,
@@ -53,7 +53,7 @@ struct Found {
     end: usize,
 }
 
-// The next word after the gap, or none at the end, or the first rule that is broken there.
+// The next lexeme after the gap, or none at the end, or the first rule that is broken there.
 fn next(text: &[u8], at: usize) -> Result<Option<Found>, (Rule, usize)>
     requires { at ≤ length text.now }
     ensures word { IfOk result (λ found. IfSome found (λ w. IsNextWord text.now at w.form w.start w.end × IsFit w.form (bytes_of text.now w.start w.end))) }
@@ -75,7 +75,7 @@ fn next(text: &[u8], at: usize) -> Result<Option<Found>, (Rule, usize)>
     }
 }
 
-// The word, or the first rule that it breaks.
+// The lexeme, or the first rule that it breaks.
 fn fitting(
     text: &[u8],
     at: usize,
@@ -95,7 +95,7 @@ fn fitting(
     }
 }
 
-// The token that a word is, at its place.
+// The token of a lexeme, at its place.
 fn token(
     alloc: Global,
     text: &[u8],

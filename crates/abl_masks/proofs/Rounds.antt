@@ -38,7 +38,7 @@ units_many j m =
 rounded_one : (m : ℕ) → rounded m 1 ≡ m
 rounded_one m = omega arith
 
--- a number times a power of ten ends with as many zeros
+-- multiplying a number by 10^j appends j zeros to its last digits
 last_digits_scaled : (k j m : ℕ) → last_digits (k + j) (m * 10 ^ j) ≡ last_digits k m ++ replicate j 48
 last_digits_scaled k zero m =
     let none : k + 0 ≡ k = omega arith in

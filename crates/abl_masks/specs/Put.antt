@@ -45,7 +45,7 @@ text_width (x ∷ b ∷ bs) = if b == 40 then number_of (take_while is_within bs
 
 -- ---- LOGICAL
 
--- the word for yes is before the `/`, the word for no after it
+-- the text for yes precedes the `/`, the text for no follows it
 abbrev pub first_word : List ℕ → List ℕ
 first_word mask = take_while is_mask_word_byte mask
 
@@ -56,13 +56,13 @@ abbrev pub word_for : List ℕ → Bool → List ℕ
 word_for mask true = first_word mask
 word_for mask false = second_word mask
 
--- the longer of the two words
+-- the length of the longer of the two texts
 abbrev pub word_width : List ℕ → ℕ
 word_width mask = max (length (first_word mask)) (length (second_word mask))
 
 -- ---- DATE
 
--- month and day with two digits, and the last digits of the year, as many as the mask has for it
+-- month and day have two digits; the year has its last `length mask - 6` digits
 abbrev pub date_under : List ℕ → CivilDate → List ℕ
 date_under mask d =
     last_digits 2 d.month ++ 47 ∷ last_digits 2 d.day ++ 47 ∷ last_digits (length mask - 6) d.year

@@ -16,7 +16,7 @@ use abl_values::{date_parts, mask_fits};
 use std::alloc::{AllocError, Global};
 
 /// The text of a value under a mask for its kind; `?` takes a mask for any kind. A text is cut or
-/// filled with blanks on the right; yes and no are the mask's two words, filled to the longer; month
+/// filled with blanks on the right; yes and no are the mask's two texts, filled to the longer; month
 /// and day have two digits and the year its last two or all four. A number is rounded to the mask's
 /// decimals, a half away from zero, and filled with blanks on the left; where it has more whole
 /// digits than the mask has signs for them, or is negative and the mask has no `-`, all bytes are
@@ -85,14 +85,14 @@ fn first_word_len(mask: &[u8]) -> usize
     mask.iter().take_while(|byte| **byte != b'/').count()
 }
 
-/// The word of a mask that denotes yes.
+/// The text of a mask that denotes yes.
 fn first_word(mask: &[u8]) -> &[u8]
     ensures { result.now ≡ first_word mask.now }
 {
     &mask[..first_word_len(mask)]
 }
 
-/// The word of a mask that denotes no.
+/// The text of a mask that denotes no.
 fn second_word(mask: &[u8]) -> &[u8]
     ensures { result.now ≡ second_word mask.now }
 {
@@ -102,7 +102,7 @@ fn second_word(mask: &[u8]) -> &[u8]
     }
 }
 
-/// The word of a mask that denotes yes or no.
+/// The text of a mask that denotes yes or no.
 fn word_for(mask: &[u8], yes: bool) -> &[u8]
     ensures { result.now ≡ word_for mask.now yes }
 {
@@ -113,7 +113,7 @@ fn word_for(mask: &[u8], yes: bool) -> &[u8]
     }
 }
 
-/// The length of the longer word of a mask.
+/// The length of the longer text of a mask.
 fn word_width(mask: &[u8]) -> usize
     ensures { result ≡ word_width mask.now }
 {

@@ -15,7 +15,7 @@ pub(crate) struct Magnitude {
     pub(crate) whole: u128,
     /// The magnitude in units of its last digit.
     pub(crate) units: u128,
-    /// The number of the mask's decimals that it has, at most `DECIMAL_PLACES`: the others are zeros.
+    /// The number of decimals computed, at most `DECIMAL_PLACES`; further mask decimals are zeros.
     pub(crate) digits: usize,
 }
 

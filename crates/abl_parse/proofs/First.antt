@@ -11,7 +11,7 @@ use Rattle.abl_parse.specs.Engine.{entries, Steps}
 use Rattle.abl_parse.proofs.Flags.{same_first, no_first}
 use Rattle.abl_parse.proofs.Trees.{taken, opened}
 
--- the symbols are empty, and the derivation goes on after them
+-- the symbols derive no tokens, and the derivation continues after them
 pub record Passed (at : ℕ) (symbols : List Symbol) (stack : List Entry) (os : List Opening) (ts : List TokenKind) : Type 0 where
   pub vanishes : Vanishes symbols
   pub more : List Opening
@@ -40,7 +40,7 @@ first (suc n) at room (Open a ∷ symbols) stack os k ts h d =
           ]
     ]
 
--- before no token the symbols are empty
+-- where no token remains, the symbols derive no tokens
 pub silent : (n at : ℕ) (room : Room) (symbols : List Symbol) (stack : List Entry) (os : List Opening) → length os ≤ n → Steps at (entries room symbols ++ stack) os [] → Passed at symbols stack os []
 silent n at room [] stack os h d = record { vanishes = nothing; more = os; shorter = omega arith; then' = d }
 silent n at room (Take w ∷ symbols) stack os h d = absurd (no_first (taken d).is)

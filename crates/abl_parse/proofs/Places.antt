@@ -47,7 +47,7 @@ begun tokens stack used t e u =
       clean = λ p h. absurd (omega arith);
     }))
 
--- what the first tokens are
+-- the tokens before this place are a viable prefix
 so_far : (tokens : List TokenKind) (at : ℕ) (stack : List Entry) (used : List Opening) → At tokens at stack used → Viable (take at tokens)
 so_far tokens at stack used a = viable at stack used (take at tokens) (drop at tokens) a.reached a.suits
 
@@ -57,14 +57,14 @@ first_stop tokens at stack used a h f = record {
   none_before = λ other p l b. a.clean p l other b;
 }
 
--- no production goes on
+-- no production applies
 pub stuck_here : (tokens : List TokenKind) (at : ℕ) (k : TokenKind) (stack stack' : List Entry) (used used' : List Opening) → At tokens at stack used → at < length tokens → k ≡ slice_index_or tokens at Name
     → Leads at stack used stack' used' k → Stuck at stack' k → IsFirst tokens G1 at
 stuck_here tokens at k stack stack' used used' a h e l s =
     first_stop tokens at stack used a h (
     refused tokens at Name stack stack' used used' h a.reached (subst (λ x. Leads at stack used stack' used' x) e l) (subst (λ x. Stuck at stack' x) e s))
 
--- another token is awaited
+-- the stack expects another token
 pub other_here : (tokens : List TokenKind) (at : ℕ) (k n : TokenKind) (stack stack' : List Entry) (used used' : List Opening) → At tokens at stack used → at < length tokens → k ≡ slice_index_or tokens at Name
     → Went at stack used stack' used' k n → IsTaking stack' → ((rest : List Entry) → stack' ≡ Await k ∷ rest → ⊥) → IsFirst tokens G1 at
 other_here tokens at k n stack stack' used used' a h e w t o =
@@ -89,7 +89,7 @@ moved tokens at k n stack stack' rest used used' t a h e m w top s =
 added_is : (used used' : List Opening) (at : ℕ) (start goal : List Entry) (k : TokenKind) → (o : Onward at start used goal used' k) → drop (length used) used' ≡ o.added
 added_is used used' at start goal k o = ap (drop (length used)) o.is ∙ drop-append_seam used o.added
 
--- it opens the 65th
+-- one of the new openings is too deep
 pub deep_here : (tokens : List TokenKind) (at : ℕ) (k n : TokenKind) (stack stack' rest : List Entry) (used used' : List Opening) → IsText tokens → At tokens at stack used → at < length tokens → k ≡ slice_index_or tokens at Name
     → (at + 1 < length tokens → n ≡ slice_index_or tokens (at + 1) Name) → Went at stack used stack' used' k n → stack' ≡ Await k ∷ rest → suits rules (plain stack') EndOfSource ≡ true
     → any_deep (drop (length used) used') ≡ true → IsFirst tokens G2 at
@@ -108,7 +108,7 @@ clean_on tokens at stack used a s o p h broken b = elim (dec_lt p at) [
   | no l ↦ (let e : p ≡ at = omega arith in unbroken tokens at s o broken (subst (λ q. Breaks tokens broken q) e b))
 ]
 
--- it does not, and the parser goes on to the next token
+-- none of the new openings is too deep, and the parser continues with the next token
 pub onward_here : (tokens : List TokenKind) (at : ℕ) (k n : TokenKind) (stack stack' rest : List Entry) (used used' : List Opening) → IsText tokens → At tokens at stack used → at < length tokens → k ≡ slice_index_or tokens at Name
     → (at + 1 < length tokens → n ≡ slice_index_or tokens (at + 1) Name) → Went at stack used stack' used' k n → stack' ≡ Await k ∷ rest → suits rules (plain stack') EndOfSource ≡ true → ends_once (plain stack') ≡ true
     → any_deep (drop (length used) used') ≡ false → At tokens (at + 1) rest used'

@@ -54,7 +54,7 @@ viable_by os seen more d =
     let r = forest_of_steps os (seen ++ more) d in
     (more, nodes 0 0 r.forest, (r.forest, record { derives = r.reads.derives; spells = r.reads.spells; laid = refl }))
 
--- what is viable has a run
+-- a viable prefix has a run
 pub record Run (seen : List TokenKind) : Type 0 where
   pub os : List Opening
   pub more : List TokenKind
@@ -68,7 +68,7 @@ run_of seen v =
 no_token : {at : ℕ} {os : List Opening} {k : TokenKind} {ts : List TokenKind} → Steps at [] os (k ∷ ts) → ⊥
 no_token d = elim d [ ]
 
--- the token is not on top, and no nonterminal is
+-- neither this token nor a nonterminal is on top
 pub mismatch : (at : ℕ) (stack : List Entry) (k : TokenKind) → IsTaking stack → ((rest : List Entry) → stack ≡ Await k ∷ rest → ⊥) → Stuck at stack k
 mismatch at [] k t o os ts d = no_token d
 mismatch at (Await w ∷ rest) k t o os ts d = o rest (ap (λ x. Await x ∷ rest) (sym (same_first (taken d).is)))
@@ -105,7 +105,7 @@ first_is tokens at d ts h = subst (FirstIs (slice_index_or tokens at d ∷ ts)) 
 first_next : (tokens : List TokenKind) (at : ℕ) (d : TokenKind) (ts : List TokenKind) → at + 1 < length tokens → FirstIs ts (drop (at + 1) tokens) → (rest : List TokenKind) × (ts ≡ slice_index_or tokens (at + 1) d ∷ rest)
 first_next tokens at d ts h f = subst (FirstIs ts) (drop_one tokens (at + 1) d h) f
 
--- NO DERIVATION GOES ON
+-- NO DERIVATION CONTINUES
 pub refused : (tokens : List TokenKind) (at : ℕ) (d : TokenKind) (stack stack' : List Entry) (earlier later : List Opening) → at < length tokens
     → Reached at stack earlier (take at tokens) (drop at tokens) → Leads at stack earlier stack' later (slice_index_or tokens at d) → Stuck at stack' (slice_index_or tokens at d) → Viable (take (at + 1) tokens) → ⊥
 refused tokens at d stack stack' earlier later h r l s v =
@@ -115,14 +115,14 @@ refused tokens at d stack stack' earlier later h r l s v =
     let two = l.only one.0 run.more one.2 in
     s two.0 run.more two.2
 
--- also where two tokens were read, since then the token is on top
+-- also where two tokens were read, because this token is then on top
 pub refused_went : (tokens : List TokenKind) (at : ℕ) (d n : TokenKind) (stack stack' : List Entry) (earlier later : List Opening) → at < length tokens
     → Reached at stack earlier (take at tokens) (drop at tokens) → Went at stack earlier stack' later (slice_index_or tokens at d) n → IsTaking stack' → ((rest : List Entry) → stack' ≡ Await (slice_index_or tokens at d) ∷ rest → ⊥) → Viable (take (at + 1) tokens) → ⊥
 refused_went tokens at d n stack stack' earlier later h r (plainly l) t o v = refused tokens at d stack stack' earlier later h r l (mismatch at stack' (slice_index_or tokens at d) t o) v
 refused_went tokens at d n stack stack' earlier later h r (looking room rest between l m k) t o v = o m.top.0 (m.top.1 ∙ ap (λ x. Await x ∷ m.top.0) (sym k))
 
--- ON BY ONE TOKEN
--- the openings of some steps, and that these preserve soundness
+-- ADVANCING BY ONE TOKEN
+-- the openings that some steps add, and that the steps preserve soundness
 pub record Onward (at : ℕ) (start : List Entry) (earlier : List Opening) (goal : List Entry) (later : List Opening) (k : TokenKind) : Type 0 where
   pub added : List Opening
   pub is : later ≡ earlier ++ added
@@ -219,7 +219,7 @@ pub open_source : ends_once (plain source) ≡ true
 unfolding same_kind
 open_source = refl
 
--- WHAT WAS READ IS VIABLE
+-- THE TOKENS READ ARE VIABLE
 pub record Finished (at : ℕ) (used : List Opening) (seen : List TokenKind) : Type 0 where
   pub stack : List Entry
   pub more : List Opening

@@ -1,4 +1,4 @@
--- The one production that a derivation can go on with, and one step of the reader.
+-- The one production with which a derivation can continue, and one step of the reader.
 use Rattle.std.proofs.Common.{ℕ, ◌+◌, ◌<◌, ◌≡◌, Bool, true, false, not, ◌&&◌, cond, List, [], ◌∷◌, ◌++◌, length, refl, sym, ◌∙◌, ap, subst, append_assoc, arith, ◌⊎◌, inl, inr}
 use Rattle.abl_tree.specs.declared.token.TokenKind.{TokenKind}
 use Rattle.abl_tree.specs.declared.token.TokenKind.TheVariants.{EndOfSource, Name}
@@ -33,14 +33,14 @@ same_rule q r at room xs ys e = ap (λ o. o.production) (first_opening e)
 nothing_begins : {k : TokenKind} → Begins [] k → ⊥
 nothing_begins b = elim b [ ]
 
--- what the production of a derivation is like, where the next token is k
+-- the production of a derivation starts with the next token k or can be empty
 pub begun : (at : ℕ) (room : Room) (a : Nonterminal) (k : TokenKind) (stack : List Entry) (os : List Opening) (ts : List TokenKind) → (o : Opened at room stack os a (k ∷ ts)) → (has (rule o.r).starts k ≡ true) ⊎ ((rule o.r).empty ≡ true)
 begun at room a k stack os ts o = elim (first (length o.rest) at (inside o.r room) (rule o.r).symbols stack o.rest k ts (omega arith) o.then') [
   | inl b ↦ inl (starts_are o.r k o.within b)
   | inr p ↦ inr ((row_holds o.r o.within).empties (vanishing_is p.vanishes))
 ]
 
--- and where there is none
+-- without a next token the production can be empty
 pub begun_silent : (at : ℕ) (room : Room) (a : Nonterminal) (stack : List Entry) (os : List Opening) → (o : Opened at room stack os a []) → (rule o.r).empty ≡ true
 begun_silent at room a stack os o =
     let p = silent (length o.rest) at (inside o.r room) (rule o.r).symbols stack o.rest (omega arith) o.then' in
@@ -49,7 +49,7 @@ begun_silent at room a stack os o =
 no_empty_begins : (r : ℕ) (k : TokenKind) → (rule r).symbols ≡ [] → Begins (rule r).symbols k → ⊥
 no_empty_begins r k e b = nothing_begins (subst (λ s. Begins s k) e b)
 
--- a row that starts with the token is the one
+-- a row that starts with the token is the only one that applies
 pub by_start : (a : Nonterminal) (k : TokenKind) (r : ℕ) → (k ≡ Name → a ≡ Statement → ⊥) → r < rule_count → starts_with a k (rule r) ≡ true → OnlyRule a k r
 by_start a k r one_decides h e =
     let p = nonterminals_same (rule r).nonterminal a (left_of_and (same_nonterminal (rule r).nonterminal a) (has (rule r).starts k) e) in
@@ -70,7 +70,7 @@ by_start a k r one_decides h e =
           ];
     }
 
--- where no row starts with it, the row that can be empty is
+-- where no row starts with the token, the row that can be empty is the only one that applies
 pub by_nothing : (a : Nonterminal) (k : TokenKind) (r : ℕ) → r < rule_count → vanishes_as a (rule r) ≡ true → ((q : ℕ) → q < rule_count → starts_with a k (rule q) ≡ false) → OnlyRule a k r
 by_nothing a k r h e none =
     let p = nonterminals_same (rule r).nonterminal a (left_of_and (same_nonterminal (rule r).nonterminal a) (rule r).empty e) in
@@ -91,7 +91,7 @@ by_nothing a k r h e none =
           ];
     }
 
--- where neither is there, no derivation goes on
+-- where neither row exists, no derivation continues
 pub by_none : (a : Nonterminal) (k : TokenKind) → ((q : ℕ) → q < rule_count → starts_with a k (rule q) ≡ false) → ((q : ℕ) → q < rule_count → vanishes_as a (rule q) ≡ false) → (at : ℕ) (room : Room) (stack : List Entry) → Stuck at (Derive a room ∷ stack) k
 by_none a k none empty_none at room stack os ts d =
     let o = opened d in
@@ -101,7 +101,7 @@ by_none a k none empty_none at room stack os ts d =
     ]
 
 -- ONE STEP
--- every derivation of tokens that begin with k goes by these openings from one stack to the other
+-- every derivation of tokens that begin with k takes these openings from one stack to the other
 pub record Along (at : ℕ) (start : List Entry) (added : List Opening) (goal : List Entry) (k : TokenKind) : Type 0 where
   pub sound : (os : List Opening) (ts : List TokenKind) → Steps at goal os (k ∷ ts) → Steps at start (added ++ os) (k ∷ ts)
   pub only : (os : List Opening) (ts : List TokenKind) → Steps at start os (k ∷ ts) → (more : List Opening) × (os ≡ added ++ more) × Steps at goal more (k ∷ ts)
@@ -183,7 +183,7 @@ ends_row room a r from rest to h e f s =
     subst (λ x. ends_once (plain x) ≡ true) (sym f) (
     ap ends_once (plain_append (inside r room) (rule r).symbols rest) ∙ ends_append (rule r).symbols (plain rest) (row_holds r h).ends ∙ subst (λ x. ends_once (plain x) ≡ true) e s)
 
--- steps after steps
+-- steps compose
 pub all_at_append : (at : ℕ) (xs ys : List Opening) → AllAt at xs → AllAt at ys → AllAt at (xs ++ ys)
 all_at_append at [] ys h g = g
 all_at_append at (x ∷ xs) ys h g = (h.0, all_at_append at xs ys h.1 g)
@@ -200,7 +200,7 @@ leads_more at a b c u v w k l m = record {
       (y.0, x.1 ∙ ap (λ z. l.added ++ z) y.1 ∙ sym (append_assoc l.added m.added y.0), y.2);
 }
 
--- at a name the two tokens together go on
+-- at a name, the next two tokens determine the steps
 pub went_named : (at : ℕ) (start mid goal rest : List Entry) (u v w : List Opening) (a : Nonterminal) (room : Room) (k n : TokenKind) → Leads at start u mid v k → mid ≡ Derive a room ∷ rest → a ≡ Statement → k ≡ Name → Named at room rest v goal w n → Went at start u goal w k n
 went_named at start mid goal rest u v w a room k n l e p q m =
     looking room rest v (subst (λ x. Leads at start u x v k) (e ∙ ap (λ x. Derive x room ∷ rest) p) l) m q

@@ -11,7 +11,7 @@ use Rattle.abl_parse.specs.declared.symbol.Opening.{Opening}
 use Rattle.abl_parse.specs.Grammar.{rule, rule_count, Greedy, Forest, none, leaf, node, spelt, Derives, openings, opening, inside}
 use Rattle.abl_parse.specs.Engine.{entries, body, Steps, take_one, open_one}
 
--- what a derivation from a token has done
+-- the first step of a derivation from a token
 pub record Taken (at : ℕ) (stack : List Entry) (os : List Opening) (k : TokenKind) (ts : List TokenKind) : Type 0 where
   pub rest : List TokenKind
   pub is : ts ≡ k ∷ rest
@@ -20,7 +20,7 @@ pub record Taken (at : ℕ) (stack : List Entry) (os : List Opening) (k : TokenK
 pub taken : {at : ℕ} {stack : List Entry} {os : List Opening} {k : TokenKind} {ts : List TokenKind} → Steps at (Await k ∷ stack) os ts → Taken at stack os k ts
 taken (take_one d) = record { rest = _; is = refl; then' = d }
 
--- what a derivation from a nonterminal has done
+-- the first step of a derivation from a nonterminal
 pub record Opened (at : ℕ) (room : Room) (stack : List Entry) (os : List Opening) (a : Nonterminal) (ts : List TokenKind) : Type 0 where
   pub r : ℕ
   pub rest : List Opening
@@ -39,7 +39,7 @@ shift_one at n = omega arith
 shift_append : (at : ℕ) (f g : List TokenKind) → at + length (f ++ g) ≡ at + length f + length g
 shift_append at f g = let e = length-append f g in omega arith
 
--- a tree before a derivation
+-- prepends the steps of a tree to a derivation
 pub steps_of : (f : Forest) (at : ℕ) (room : Room) (symbols : List Symbol) (stack : List Entry) (after : List TokenKind) (os : List Opening) → Derives f symbols after → Steps (at + length (spelt f)) stack os after
     → Steps at (entries room symbols ++ stack) (openings at room f ++ os) (spelt f ++ after)
 steps_of none at room [] stack after os d s = subst (λ n. Steps n stack os after) (omega arith) s
@@ -59,7 +59,7 @@ steps_of (leaf k f) at room (Open nonterminal ∷ symbols) stack after os d s = 
 steps_of (node r f g) at room [] stack after os d s = absurd d
 steps_of (node r f g) at room (Take wanted ∷ symbols) stack after os d s = absurd d
 
--- a derivation split after these symbols: a tree for them, and what goes on after it
+-- a derivation split after these symbols: a tree for them, and the remaining derivation
 pub record Split (at : ℕ) (room : Room) (symbols : List Symbol) (stack : List Entry) (os : List Opening) (ts : List TokenKind) : Type 0 where
   pub tree : Forest
   pub more : List Opening

@@ -1,4 +1,4 @@
--- How the reader goes: what is still to come, from the next on, against the tokens that are left.
+-- The parser's steps: a stack of expected entries, the topmost first, against the remaining tokens.
 use Rattle.std.specs.Prelude.{ℕ, ◌<◌, ◌≡◌, ◌+◌, List, [], ◌∷◌, ◌++◌, true}
 use Rattle.abl_tree.specs.declared.token.TokenKind.{TokenKind}
 use Rattle.abl_tree.specs.declared.token.TokenKind.TheVariants.{Name}
@@ -16,12 +16,12 @@ abbrev pub entry : Room → Symbol → Entry
 entry room (Take k) = Await k
 entry room (Open a) = Derive a room
 
--- symbols that come with this room
+-- the stack entries of these symbols, with this room
 abbrev pub entries : Room → List Symbol → List Entry
 entries room [] = []
 entries room (s ∷ ss) = entry room s ∷ entries room ss
 
--- the symbols of a production that is opened with this room
+-- the stack entries of a production opened with this room
 abbrev pub body : ℕ → Room → List Entry
 body r room = entries (inside r room) (rule r).symbols
 
@@ -38,7 +38,7 @@ abbrev pub plain : List Entry → List Symbol
 plain [] = []
 plain (e ∷ es) = symbol_of e ∷ plain es
 
--- These openings in turn, each for the leftmost nonterminal, make these tokens of what is to come, where the first of the tokens has this number.
+-- These openings in order, each applied to the leftmost nonterminal, derive these tokens from the stack. The first token has this number.
 pub data Steps : ℕ → List Entry → List Opening → List TokenKind → Type 0 where
   done : {at : ℕ} → Steps at [] [] []
   take_one : {at : ℕ} {stack : List Entry} {os : List Opening} {k : TokenKind} {ts : List TokenKind} → Steps (at + 1) stack os ts → Steps at (Await k ∷ stack) os (k ∷ ts)
@@ -50,7 +50,7 @@ abbrev pub AllAt : ℕ → List Opening → Type 0
 AllAt at [] = Unit {0}
 AllAt at (o ∷ os) = (o.first ≡ at) × AllAt at os
 
--- From one stack to another, with the openings between: every derivation of tokens that begin with k takes these steps.
+-- Steps from one stack to another, and the openings they add. Every derivation of tokens that begin with k takes these steps.
 pub record Leads (at : ℕ) (start : List Entry) (earlier : List Opening) (goal : List Entry) (later : List Opening) (k : TokenKind) : Type 0 where
   pub added : List Opening
   pub is : later ≡ earlier ++ added
@@ -65,7 +65,7 @@ pub record OnlyRule (a : Nonterminal) (k : TokenKind) (r : ℕ) : Type 0 where
   pub greedy : (ts : List TokenKind) → Greedy r (k ∷ ts)
   pub only : (at : ℕ) (q : ℕ) (room : Room) (stack : List Entry) (os : List Opening) (ts : List TokenKind) → Steps at (Derive a room ∷ stack) (opening q at room ∷ os) (k ∷ ts) → q ≡ r
 
--- No derivation goes on from this stack where the next token is k.
+-- No derivation from this stack accepts k as the next token.
 abbrev pub Stuck : ℕ → List Entry → TokenKind → Type 0
 Stuck at stack k = (os : List Opening) (ts : List TokenKind) → Steps at stack os (k ∷ ts) → ⊥
 
@@ -73,7 +73,7 @@ Stuck at stack k = (os : List Opening) (ts : List TokenKind) → Steps at stack 
 abbrev pub IsTaking : List Entry → Type 0
 IsTaking stack = (a : Nonterminal) (room : Room) (rest : List Entry) → stack ≡ Derive a room ∷ rest → ⊥
 
--- The same where the token after a name is known too, from a statement on.
+-- The same from a statement that begins with a name, where the token after the name is known too.
 pub record Named (at : ℕ) (room : Room) (rest : List Entry) (earlier : List Opening) (goal : List Entry) (later : List Opening) (next : TokenKind) : Type 0 where
   pub added : List Opening
   pub is : later ≡ earlier ++ added
@@ -83,17 +83,17 @@ pub record Named (at : ℕ) (room : Room) (rest : List Entry) (earlier : List Op
   pub sound : (os : List Opening) (ts : List TokenKind) → Steps at goal os (Name ∷ ts) → Steps at (Derive Statement room ∷ rest) (added ++ os) (Name ∷ ts)
   pub only : (os : List Opening) (ts : List TokenKind) → Steps at (Derive Statement room ∷ rest) os (Name ∷ next ∷ ts) → (more : List Opening) × (os ≡ added ++ more) × Steps at goal more (Name ∷ next ∷ ts)
 
--- by k alone, or at a name by the token after it too
+-- steps chosen by k alone, or at a name by k and the token after it
 pub data Went (at : ℕ) (start : List Entry) (earlier : List Opening) (goal : List Entry) (later : List Opening) (k next : TokenKind) : Type 0 where
   plainly : Leads at start earlier goal later k → Went at start earlier goal later k next
   looking : (room : Room) (rest : List Entry) (between : List Opening) → Leads at start earlier (Derive Statement room ∷ rest) between k → Named at room rest between goal later next → k ≡ Name → Went at start earlier goal later k next
 
--- the first of the tokens is that of the others, where these have one
+-- both lists begin with the same token, unless the second is empty
 abbrev pub FirstIs : List TokenKind → List TokenKind → Type 0
 FirstIs ts [] = Unit {0}
 FirstIs ts (k ∷ others) = (rest : List TokenKind) × (ts ≡ k ∷ rest)
 
--- where the reader has come to, after these tokens and before others
+-- the parser's state after the tokens seen and before those ahead
 pub record Reached (at : ℕ) (stack : List Entry) (used : List Opening) (seen ahead : List TokenKind) : Type 0 where
   pub sound : (os : List Opening) (ts : List TokenKind) → Steps at stack os ts → Steps 0 source (used ++ os) (seen ++ ts)
   pub only : (os : List Opening) (ts : List TokenKind) → FirstIs ts ahead → Steps 0 source os (seen ++ ts) → (more : List Opening) × (os ≡ used ++ more) × Steps at stack more ts

@@ -1,4 +1,4 @@
-//! The one production that a derivation can go on with.
+//! The one production with which a derivation can continue.
 
 ghost use Rattle.std.specs.Prelude.{ℕ, ◌<◌, ◌≡◌, true, false, List, ◌∷◌, IfSome, IfNone};
 ghost use Rattle.abl_tree.specs.declared.token.TokenKind.{TokenKind};
@@ -54,7 +54,7 @@ pub(crate) fn choose(nonterminal: Nonterminal, kind: TokenKind) -> Option<usize>
     }
 }
 
-/// Whether the next token alone does not decide: a statement that begins with a name.
+/// Whether the choice needs a second token: for a statement that begins with a name.
 pub(crate) fn needs_two(nonterminal: Nonterminal, kind: TokenKind) -> bool
     ensures yes { result ≡ true → (nonterminal ≡ Nonterminal.Statement) × (kind ≡ TokenKind.Name) }
     ensures no { result ≡ false → kind ≡ TokenKind.Name → nonterminal ≡ Nonterminal.Statement → ⊥ }

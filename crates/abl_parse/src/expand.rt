@@ -119,7 +119,7 @@ fn open_name(
     Ok(())
 }
 
-/// Goes on until a token is on top; false where no production allows the next token.
+/// Expands until no nonterminal is on top. Returns false where no production allows the next token.
 pub(crate) fn expand(
     stack: &mut Stack,
     used: &mut Vec<Opening>,

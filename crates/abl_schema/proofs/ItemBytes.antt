@@ -1,4 +1,4 @@
--- The bytes of an item's own line, told from the census of the items before it.
+-- The bytes of an item's own line, computed from the census of the items before it.
 use Rattle.std.proofs.Common.{◌≡◌, ℕ, suc, ◌+◌, Bool, true, false, not, ◌&&◌, ◌||◌, cond, List, [], ◌∷◌, ◌++◌, length, map, Option, Some, None, refl, sym, ap, ◌∙◌, arith, length-append}
 use Rattle.std.specs.Prelude.{codes, is_some, option_map, sum_by}
 use Rattle.std.specs.List.{list_any}
@@ -125,7 +125,7 @@ index_bytes-is fs name as_ =
     go false true = refl
     go false false = refl
 
--- the bytes that are counted are those of the item's own line
+-- the number of bytes counted is the length of the item's own line
 pub item_bytes-is : (before : List Item) (census : Census) (attributes : List Attributed) (head : Head) → first_after [] before ≡ None → Counts before census → lacks_table before head ≡ false
     → item_bytes census attributes head ≡ length (line_said before attributes head)
 item_bytes-is before census attributes Malformed h c k = refl

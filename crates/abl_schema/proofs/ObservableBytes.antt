@@ -1,4 +1,4 @@
--- Where the words of a line end, and which numbers its digits tell.
+-- Where the parts of a line end, and which numbers its digits determine.
 use Rattle.std.proofs.Common.{◌≡◌, ℕ, zero, suc, ◌+◌, ◌/◌, ◌%◌, ◌^◌, ◌<◌, ◌≤◌, true, List, [], ◌∷◌, ◌++◌, length, ℤ, pos, negsuc, refl, sym, ap, ◌∙◌, arith}
 use Rattle.std.proofs.lemmas.Bool.{ltb-true}
 use Rattle.std.proofs.lemmas.List.{same_from_push, length_push}
@@ -18,7 +18,7 @@ tails a b xs ys e = cc
 
 -- ---- words
 
--- no blank, no line feed, nor any other byte up to a blank
+-- every byte is above the blank
 abbrev pub IsPlain : List ℕ → Type 0
 IsPlain [] = Unit {0}
 IsPlain (b ∷ bs) = (32 < b) × IsPlain bs
@@ -28,7 +28,7 @@ pub record Cut (xs ys : List ℕ) (a b : ℕ) (r s : List ℕ) : Type 0 where
   pub ends : a ≡ b
   pub rests : r ≡ s
 
--- two words and what ends each
+-- equal lines have equal first parts, equal ends of these, and equal rests
 pub cut : (xs ys : List ℕ) (a b : ℕ) (r s : List ℕ) → IsPlain xs → IsPlain ys → a ≤ 32 → b ≤ 32 → xs ++ a ∷ r ≡ ys ++ b ∷ s → Cut xs ys a b r s
 cut [] [] a b r s hx hy ha hb h = record { words = refl; ends = cc; rests = cc }
 cut [] (y ∷ ys) a b r s hx hy ha hb h =
@@ -49,7 +49,7 @@ abbrev pub IsDigits : List ℕ → Type 0
 IsDigits [] = Unit {0}
 IsDigits (b ∷ bs) = ((48 ≤ b) × (b ≤ 57)) × IsDigits bs
 
--- digits and what stands before and between those of a number or a date: `-`, `.`, `/`
+-- digits, and the marks before and between the digits of a number or a date: `-`, `.`, `/`
 abbrev pub IsMarks : List ℕ → Type 0
 IsMarks [] = Unit {0}
 IsMarks (b ∷ bs) = ((45 ≤ b) × (b ≤ 57)) × IsMarks bs

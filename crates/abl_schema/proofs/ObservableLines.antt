@@ -1,4 +1,4 @@
--- The lines of a schema's canonical text tell its tables and sequences.
+-- The lines of a schema's canonical text determine its tables and sequences.
 use Rattle.std.proofs.Common.{◌≡◌, ◌≢◌, ℕ, zero, suc, ◌<◌, Bool, true, false, ◌||◌, if◌then◌else◌, List, [], ◌∷◌, ◌++◌, length, map, get_or, Option, Some, None, refl, sym, ap, subst, ◌∙◌, arith, append_assoc}
 use Rattle.std.specs.Prelude.{codes, nat_lt, slice_index_or}
 use Rattle.std.specs.List.{AllByRecursion, flat_map, list_all}
@@ -21,7 +21,7 @@ use Rattle.abl_schema.proofs.ObservableBytes.{IsPlain, cut, heads, tails}
 use Rattle.abl_schema.proofs.ObservableNames.{is_name-plain}
 use Rattle.abl_schema.proofs.ObservableValues.{value-tells}
 
--- ---- what the first byte tells
+-- ---- what follows from the first byte
 
 abbrev pub first : List ℕ → ℕ
 first [] = 0
@@ -42,7 +42,7 @@ kind_text-plain (Some Decimal) = plain_if (kind_text (Some Decimal)) refl
 kind_text-plain (Some Logical) = plain_if (kind_text (Some Logical)) refl
 kind_text-plain (Some Date) = plain_if (kind_text (Some Date)) refl
 
--- the word of a kind names it
+-- the text of a kind determines the kind
 kind_text-named : (kind : Option Kind) → kind_named (kind_text kind) ≡ kind
 kind_text-named None = refl
 kind_text-named (Some Character) = refl
@@ -58,7 +58,7 @@ kind_text-tells k j e = sym (kind_text-named k) ∙ ap kind_named e ∙ kind_tex
 abbrev pub letter_of : Bool → ℕ → ℕ → ℕ
 letter_of b on off = if b then on else off
 
--- one of two letters tells which
+-- one of two different letters determines the flag
 pub letter-tells : (b c : Bool) (on off : ℕ) → (on ≡ off → ⊥) → letter_of b on off ≡ letter_of c on off → b ≡ c
 letter-tells true true on off h e = refl
 letter-tells true false on off h e = absurd (h e)
@@ -129,7 +129,7 @@ among_at [] name q h e = absurd (omega arith)
 among_at (n ∷ ns) name zero h e = ap (λ b. b || is_among name ns) e
 among_at (n ∷ ns) name (suc q) h e = or_right (same_name n name) (is_among name ns) (among_at ns name q (omega arith) e)
 
--- where no name stands twice, a name tells its place
+-- where no name occurs twice, a name determines its index
 place-tells : (names : List (List ℕ)) → has_twice names ≡ false → (p q : ℕ) → p < length names → q < length names → folded (get_or names p []) ≡ folded (get_or names q []) → p ≡ q
 place-tells [] h p q hp hq e = absurd (omega arith)
 place-tells (n ∷ ns) h zero zero hp hq e = refl

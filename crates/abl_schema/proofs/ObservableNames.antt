@@ -1,4 +1,4 @@
--- A name has no blank and no line feed, so it is a word of its line.
+-- A name contains no blank and no line feed, so it is one token of its line.
 use Rattle.std.proofs.Common.{◌≡◌, ℕ, ◌+◌, ◌<◌, Bool, true, false, ◌==◌, ◌&&◌, ◌||◌, cond, List, [], ◌∷◌, length, ap, arith}
 use Rattle.std.specs.Prelude.{nat_le}
 use Rattle.std.specs.List.{list_all}

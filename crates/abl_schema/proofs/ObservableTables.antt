@@ -1,4 +1,4 @@
--- The canonical text tells each table and each sequence.
+-- The canonical text determines what is observable of each table and each sequence.
 use Rattle.std.proofs.Common.{◌≡◌, ◌≢◌, ◌⊎◌, inl, inr, ℕ, zero, suc, ◌+◌, ◌<◌, Bool, true, false, ◌==◌, cond, List, [], ◌∷◌, ◌++◌, length, map, Option, Some, None, ℤ, refl, sym, ap, ◌∙◌, arith, append_assoc, zero-add, add-zero}
 use Rattle.std.specs.Prelude.{IfSome, codes, count_by}
 use Rattle.std.specs.List.{AllByRecursion, flat_map}

@@ -1,4 +1,4 @@
--- The EXPORT text of a value tells the value, beside its kind.
+-- The EXPORT text of a value determines the value, given its kind.
 use Rattle.std.proofs.Common.{◌≡◌, ℕ, zero, suc, ◌+◌, ◌-◌, ◌/◌, ◌%◌, ◌^◌, ◌<◌, ◌≤◌, Bool, true, false, ◌==◌, ◌&&◌, if◌then◌else◌, cond, List, [], ◌∷◌, ◌++◌, length, Option, Some, None, ℤ, pos, negsuc, refl, sym, ap, subst, ◌∙◌, arith, append_assoc}
 use Rattle.std.proofs.lemmas.Bool.{and_parts, eqb-true, eqb-false, ltb-true, leb-true}
 use Rattle.std.proofs.lemmas.Bool.Decides.{nat_tests}
@@ -20,7 +20,7 @@ use Rattle.abl_schema.proofs.ObservableBytes.{IsDigits, IsMarks, IsMarks-append,
 
 -- ---- decimals
 
--- what is left without the zeros at the end tells the bytes, where they are equally many
+-- two lists of the same length are equal if they are equal without their trailing bytes d
 trailing-tells : (d : ℕ) (xs ys : List ℕ) → length xs ≡ length ys → without_trailing d xs ≡ without_trailing d ys → xs ≡ ys
 trailing-tells d [] [] h e = refl
 trailing-tells d [] (y ∷ ys) h e = absurd (omega arith)
@@ -51,7 +51,7 @@ trailing-tells d (x ∷ xs) (y ∷ ys) h e =
     go (u ∷ us) [] e = absurd (none_here (y == d) x u us (sym e))
     go (u ∷ us) (v ∷ vs) e = (cc, cc)
 
--- digits, and nothing or a point and more after them
+-- digits, followed by nothing or by a point and more
 digits_cut : (xs ys us vs : List ℕ) → IsDigits xs → IsDigits ys → xs ++ after_point us ≡ ys ++ after_point vs → (xs ≡ ys) × (us ≡ vs)
 digits_cut [] [] us vs hx hy e = (refl, same us vs e)
   where
@@ -263,7 +263,7 @@ day-tells d e hd he same =
 
 -- ---- values
 
--- a number of 32 bits is one of 64
+-- a number that fits in 32 bits fits in 64
 wider : (n : ℤ) → fits_bits 31 n ≡ true → fits_bits 63 n ≡ true
 wider (pos n) h = grind (arith, nat_tests)
 wider (negsuc n) h = grind (arith, nat_tests)

@@ -1,4 +1,4 @@
--- The rules that a line breaks, told from the census of the items before it.
+-- The rules that a line breaks, computed from the census of the preceding items.
 use Rattle.std.proofs.Common.{◌≡◌, ℕ, ◌+◌, ◌==◌, Bool, true, false, not, ◌&&◌, ◌||◌, cond, List, [], ◌∷◌, ◌++◌, length, Option, Some, None, refl, sym, ap, ◌∙◌, arith}
 use Rattle.std.specs.Prelude.{nat_le, nat_lt}
 use Rattle.std.specs.List.{flat_map, list_any}
@@ -27,7 +27,7 @@ use Rattle.abl_schema.proofs.Counting.{has_name-field, has_name-index, is_some-n
 
 -- ---- the first line of an item
 
--- the rules that it may break, save the length of the canonical text
+-- the rules that it may break, except the length of the canonical text
 abbrev pub own_conditions : List Item → List Attributed → Head → List Condition
 own_conditions before attributes head =
     record { rule = F1; broken = is_malformed head }
@@ -118,7 +118,7 @@ abbrev index_rules : List ℕ → List ℕ → Bool → ℕ → Bool → ℕ →
 index_rules name table taken parts twice n =
     cond (not (is_name name && is_name table)) (Some F2) (cond taken (Some F6) (cond ((parts == 0) || twice) (Some F8) (cond (nat_le MAX_INDEXES n || nat_lt MAX_PARTS parts) (Some F12) None)))
 
--- the first rule that the first line of an item breaks, save the length of the canonical text
+-- the first rule that the first line of an item breaks, except the length of the canonical text
 pub head_rule-told : (before : List Item) (census : Census) (attributes : List Attributed) (head : Head) → Counts before census → head_rule_in census attributes head ≡ head_rule before attributes head
 head_rule-told before census attributes Malformed c = refl
 head_rule-told before census attributes (Table name) c = name_rule-told census.names (tables_in before) name F3 MAX_TABLES c.names

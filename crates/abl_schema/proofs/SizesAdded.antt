@@ -1,4 +1,4 @@
--- How many bytes one more item adds to the canonical text: those of its own line.
+-- One more item adds the bytes of its own line to the canonical text.
 use Rattle.std.proofs.Common.{◌≡◌, ℕ, ◌+◌, Bool, true, false, not, if◌then◌else◌, cond, List, [], ◌∷◌, ◌++◌, length, map, Option, Some, None, refl, sym, ap, ◌∙◌, arith, append-nil, length-append, zero-add, add-zero}
 use Rattle.std.specs.Prelude.{codes}
 use Rattle.std.proofs.lemmas.Bool.{and_parts, not-true, not-false, both_ways, false_from_ne_true}
@@ -40,7 +40,7 @@ item_line before item = line_said before item.attributes item.head
 
 -- ---- how long the text is
 
--- the bytes that an item adds to the text, after it and all the others are read
+-- the number of bytes that an item adds to the text, once it and all other items are read
 abbrev pub size_said : List Item → List Attributed → Head → ℕ
 size_said items attributes (Table name) = table_size items name
 size_said items attributes (Sequence name) =
@@ -64,7 +64,7 @@ canonical_text-length items =
 
 -- ---- the tables' sizes grow by this
 
--- this much, where the head is a table of this name
+-- `much` if the head is a table of this name, else 0
 abbrev pub much_at : ℕ → List ℕ → Head → ℕ
 much_at much table (Table name) = if same_name table name then much else 0
 much_at much table head = 0
@@ -81,7 +81,7 @@ much_at-total much table (i ∷ is) = one i.head (much_at-total much table is)
     one (Index name t) again = zero-add (total (λ i. much_at much table i.head) is) ∙ again
     one (Sequence name) again = zero-add (total (λ i. much_at much table i.head) is) ∙ again
 
--- the sizes of all tables stay but for those of this name
+-- the size of each table of this name grows by `much`, and no other size changes
 abbrev pub Grows : List Item → List Item → ℕ → List ℕ → Type 0
 Grows before more much table = (t : List ℕ) → table_size more t ≡ table_size before t + (if same_name table t then much else 0)
 
@@ -100,7 +100,7 @@ total-grows before more xs much table h =
     ∙ total-plus (size_of before) (λ (i : Item). much_at much table i.head) xs
     ∙ ap (λ n. total (size_of before) xs + n) (much_at-total much table xs)
 
--- one table that stands grows
+-- one existing table grows, and the total grows by the same number
 grows_once : (before more : List Item) (much : ℕ) (table : List ℕ) → IsSoundSoFar before → is_among table (tables_in before) ≡ true → Grows before more much table
     → total (size_of more) before ≡ total (size_of before) before + much
 grows_once before more much table s there h =
@@ -176,12 +176,12 @@ table_size-no_field before item t h =
 
 -- ---- one more field
 
--- the same names in front, and the names of more fields
+-- the names of appended fields: those of the first list, then those of the second
 names-append : (fs gs : List Ordered) → field_names (map field_in (fs ++ gs)) ≡ field_names (map field_in fs) ++ field_names (map field_in gs)
 names-append [] gs = refl
 names-append (f ∷ fs) gs = ap (λ (ns : List (List ℕ)). f.field.name ∷ ns) (names-append fs gs)
 
--- the components of an index are found as before, with more fields or not
+-- more fields do not change how the components of an index are found
 found_alike : (before : List Item) (table t : List ℕ) (more : List Ordered) → IsSoundSoFar before → same_name table t ≡ true → has_twice (field_names (map field_in (fields_in_text before t ++ more))) ≡ false
     → (name : List ℕ) (a : Attribute) → not (lacks_field before (Index name table) a) ≡ true → AreFoundAlike (fields_of before t) (map field_in (by_order (fields_in_text before t ++ more))) a
 found_alike before table t more s same once name (IndexField (Some c)) h =
@@ -235,7 +235,7 @@ indexes_size-alike before t more s once =
     total-along_all (has_its_fields before) (λ (i : Item). length (index_text (fields_of before t) t i.attributes i.head)) (λ (i : Item). length (index_text (map field_in (by_order (fields_in_text before t ++ more))) t i.attributes i.head))
     (λ i h. ap length (index_text-alike before t more s once i.attributes i.head h)) before s.fields_stand
 
--- the lines of a table with one more field, or with no more
+-- the size of a table grows by the sizes of its additional fields, if any
 table_size-field : (before : List Item) (item : Item) (t : List ℕ) (more : List Ordered) → IsSoundSoFar before → fields_in_text (before ++ item ∷ []) t ≡ fields_in_text before t ++ more
     → has_twice (field_names (map field_in (fields_in_text before t ++ more))) ≡ false → ((fields : List FieldDef) → index_text fields t item.attributes item.head ≡ [])
     → table_size (before ++ item ∷ []) t ≡ table_size before t + total field_size more

@@ -17,8 +17,8 @@ use Rattle.schema_lines.specs.Initials.{initial_given}
 use Rattle.abl_schema.specs.Meaning.{schema_of}
 use Rattle.abl_schema.specs.Rules.{violation_of}
 
--- a table of two fields, the second of an unsupported kind, with a unique primary index; these lines stand under
--- its number
+-- a table with two fields, the second of an unsupported kind, and a unique primary index. The given lines follow those of
+-- the field ItemNum
 abbrev pub item_file_with : List ℕ → List ℕ
 item_file_with lines =
     codes "ADD TABLE \"Item\"\n  LABEL \"Items\"\n"
@@ -47,7 +47,7 @@ an_index_of_nothing : violation_of (codes "ADD TABLE \"t\"\nADD INDEX \"i\" ON \
 unfolding violation_of items_of said schema_of canonical_text lines_in_order
 an_index_of_nothing = refl
 
--- ---- what the canonical text tells, and what it does not
+-- ---- what is observable in the canonical text, and what is not
 
 -- the table's number, with this mask
 abbrev pub number_field : List ℕ → FieldDef
@@ -74,13 +74,13 @@ with_format : schema_of (items_of (item_file_with (codes "  FORMAT \">>9\"\n")))
 unfolding items_of said schema_of initial_given number_in mask_is_for
 with_format = refl
 
--- two schemas that differ in one mask alone have one canonical text, whatever the two masks
+-- two schemas that differ in one mask only have the same canonical text, for any two masks
 masks_are_not_told : (one other : List ℕ) → canonical_text (item_schema one) ≡ canonical_text (item_schema other)
 unfolding canonical_text lines_in_order
 masks_are_not_told one other = refl
 
--- a table and a sequence, in this order. Every other reader answers the same of both orders, and the canonical text
--- tells them apart
+-- a table and a sequence, in this order. Every other reader returns the same for both orders; only the canonical text
+-- differs
 abbrev pub table_and_sequence : List Bool → SchemaData
 table_and_sequence order = record {
   tables = record { name = codes "Item"; fields = []; indexes = []; primary = None } ∷ [];

@@ -23,7 +23,7 @@ other_number m n e = grind (arith, nat_tests)
 equal_numbers : (m n : ℕ) → (m == n) ≡ true → m ≡ n
 equal_numbers m n e = grind (arith, nat_tests)
 
--- a test that gives true keeps an element, and one that gives false leaves it out
+-- an element is kept if the test is true, and left out if it is false
 kept : {A : Type 0} (c : Bool) (x : A) (xs ys : List A) → c ≡ true → xs ≡ ys → (if c then x ∷ xs else xs) ≡ x ∷ ys
 kept true x xs ys e f = ap (λ l. x ∷ l) f
 kept false x xs ys e f = absurd cc
@@ -32,7 +32,7 @@ pub left_out : {A : Type 0} (c : Bool) (x : A) (xs ys : List A) → c ≡ false 
 left_out true x xs ys e f = absurd cc
 left_out false x xs ys e f = f
 
--- of blocks that are all in procedure p, each is kept for p, and none for another
+-- where all blocks are in procedure p, the selection for p keeps all of them, and the selection for another procedure none
 pub all_kept : (p n : ℕ) (bs : List TextBlock) → AreIn p bs → in_procedure p (numbered n bs) ≡ numbered n bs
 all_kept p n [] h = refl
 all_kept p n (b ∷ bs) h = kept (b.procedure == p) _ _ _ (same_number b.procedure p h.0) (all_kept p (n + 1) bs h.1)
@@ -64,7 +64,7 @@ pub record IsNumbered (n : ℕ) (bs : List TextBlock) (p : ℕ) (b : NumberedBlo
 one_later : {n : ℕ} {p : ℕ} {b : NumberedBlock} (x : TextBlock) (bs : List TextBlock) → IsNumbered (n + 1) bs p b → IsNumbered n (x ∷ bs) p b
 one_later {n = n} {b = b} x bs h = record { place = suc h.place; number = (let e = h.number in omega (arith, e)); at = h.at; procedure = h.procedure }
 
--- each block of procedure p among the numbered ones has its place for number
+-- the number of each block of procedure p is n plus its place in the list
 first_numbered : (p n : ℕ) (x : TextBlock) (bs : List TextBlock) (c : Bool) → (x.procedure == p) ≡ c → (i : ℕ) (b : NumberedBlock) →
     ((j : ℕ) → slice_get (in_procedure p (numbered (n + 1) bs)) j ≡ Some b → IsNumbered (n + 1) bs p b) →
     slice_get (if c then record { number = n; block = x } ∷ in_procedure p (numbered (n + 1) bs) else in_procedure p (numbered (n + 1) bs)) i ≡ Some b → IsNumbered n (x ∷ bs) p b

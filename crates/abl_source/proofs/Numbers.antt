@@ -29,7 +29,7 @@ use Rattle.abl_source.proofs.BlockLists.{AreIn, all_kept, in_both, in_join, left
 
 -- ---- statements
 
--- these blocks, where n begin before them, have these headers
+-- these blocks, preceded by n others, have these headers
 abbrev Have : ℕ → List TextBlock → List Header → Type 0
 Have n bs hs = map name_of_header hs ≡ map name_of_block (numbered n bs)
 
@@ -40,17 +40,17 @@ have_join n xs ys hs ks g h =
     ∙ ap (λ l. map name_of_block (numbered n xs) ++ l) h
     ∙ sym (ap (map name_of_block) (numbered_join n xs ys) ∙ map-append name_of_block (numbered n xs) (numbered (n + length xs) ys))
 
--- the headers of statements one after the other
+-- the headers of appended statements
 headers_appended : (x y : Body) → headers_within (append x y) ≡ headers_within x ++ headers_within y
 headers_appended t.Nothing y = refl
 headers_appended (t.Then first rest) y = ap (λ l. headers_in first ++ l) (headers_appended rest y) ∙ sym (append_assoc (headers_in first) (headers_within rest) (headers_within y))
 
--- the blocks of a statement have its headers, and are counted
+-- the blocks of the statements have their headers, and the count grows by the number of blocks
 record AreCounted (n : ℕ) (bs : List TextBlock) (body : Body) (after : Known) : Type 0 where
   headers : Have n bs (headers_within body)
   count : after.blocks ≡ n + length bs
 
--- a statement that is no block, and in which none is
+-- a statement that is not a block and contains none
 plain : (n : ℕ) (body : Body) (after : Known) → headers_within body ≡ [] → after.blocks ≡ n → AreCounted n [] body after
 plain n body after none same = record { headers = ap (map name_of_header) none; count = same ∙ (let e : n ≡ n + 0 = omega arith in e) }
 
@@ -96,7 +96,7 @@ export_plain w name es = plain w.known.blocks _ _ (go (stream w name).is (from (
     go n None = refl
     go n (Some x) = refl
 
--- the blocks of one part after another
+-- the numbers of blocks of two consecutive parts add up
 count_then : (n : ℕ) (xs ys : List TextBlock) (k l : Known) → k.blocks ≡ n + length xs → l.blocks ≡ k.blocks + length ys → l.blocks ≡ n + length (xs ++ ys)
 count_then n xs ys k l e f = let g = length-append xs ys in omega (arith, e, f, g)
 
@@ -169,11 +169,11 @@ mutual
   all_are_in p s.Nothing = tt
   all_are_in p (s.Then x xs) = in_join p (blocks_in p x) (blocks_within p xs) (are_in p x) (all_are_in p xs)
 
--- of these blocks, where n begin before them, those of procedure p have these headers
+-- among these blocks, preceded by n others, those of procedure p have these headers
 abbrev Own : ℕ → ℕ → List TextBlock → List Header → Type 0
 Own p n bs hs = map name_of_header hs ≡ map name_of_block (in_procedure p (numbered n bs))
 
--- all of them are in the procedure, and none is
+-- the blocks are all in the procedure, or none of them is
 own_all : (p n : ℕ) (bs : List TextBlock) (hs : List Header) → AreIn p bs → Have n bs hs → Own p n bs hs
 own_all p n bs hs are h = h ∙ sym (ap (map name_of_block) (all_kept p n bs are))
 
@@ -187,14 +187,14 @@ own_join p n xs ys hs ks g h =
     ∙ ap (λ l. map name_of_block (in_procedure p (numbered n xs)) ++ l) h
     ∙ sym (ap (map name_of_block) (in_both p n xs ys) ∙ map-append name_of_block (in_procedure p (numbered n xs)) (in_procedure p (numbered (n + length xs) ys)))
 
--- one part after another, where so many blocks begin before the second
+-- two consecutive parts, where m blocks begin before the second
 own_then : (p n m : ℕ) (xs ys : List TextBlock) (hs ks : List Header) → Own p n xs hs → m ≡ n + length xs → Own p m ys ks → Own p n (xs ++ ys) (hs ++ ks)
 own_then p n m xs ys hs ks g e h = own_join p n xs ys hs ks g (subst (λ k. Own p k ys ks) e h)
 
 own_first : (p n : ℕ) (xs ys : List TextBlock) (hs : List Header) → Own p n xs hs → Own p (n + length xs) ys [] → Own p n (xs ++ ys) hs
 own_first p n xs ys hs g h = subst (λ l. Own p n (xs ++ ys) l) (append-nil hs) (own_join p n xs ys hs [] g h)
 
--- a procedure has none of the blocks of those after it
+-- items whose internal procedures are numbered from m on contain no block of an earlier internal procedure
 own_earlier : (q n m : ℕ) (program : Program) → 1 ≤ q → q < m → Own q n (blocks_among m program) []
 own_earlier q n m [] a b = refl
 own_earlier q n m (s.Alone x ∷ rest) a b =
@@ -204,7 +204,7 @@ own_earlier q n m (s.Procedure keyword name body ∷ rest) a b =
     (own_none m q n (procedure_blocks m keyword body) (refl, all_are_in m body) (λ e. omega (arith, b, e)))
     (own_earlier q (n + length (procedure_blocks m keyword body)) (m + 1) rest a (omega (arith, b)))
 
--- so many blocks begin before what follows an internal procedure
+-- an internal procedure increases the number of blocks by the number of its own
 after_procedure : (w : Scene) (p m : ℕ) (keyword : Place) (body : Statements) → (statements (inside_procedure p w) body).is.after.blocks ≡ w.known.blocks + length (procedure_blocks m keyword body)
 after_procedure w p m keyword body =
     let it = all_counted m (inside_procedure p w) body in
@@ -231,7 +231,7 @@ outer_items w names (s.Procedure keyword name body ∷ rest) m a =
     (after_procedure w (length names + 1) m keyword body)
     (outer_items u (name ∷ names) rest (m + 1) (omega (arith, a)))
 
--- the blocks of the internal procedure of this place, of which the first is m
+-- the blocks of the internal procedure at place i, where the first internal procedure has number m
 inner_items : (w : Scene) (names : List Word) (program : Program) (m : ℕ) → 1 ≤ m → (i : ℕ) (q : Procedure) → slice_get (items w names program).is.procedures i ≡ Some q → Own (m + i) w.known.blocks (blocks_among m program) (headers_of q)
 inner_items w names [] m a i q e = absurd cc
 inner_items w names (s.Alone x ∷ rest) m a i q e =

@@ -104,7 +104,7 @@ its_procedure p b [] are h = absurd h
 its_procedure p b (x ∷ xs) are (inl e) = subst (λ (y : TextBlock). y.procedure ≡ p) e are.0
 its_procedure p b (x ∷ xs) are (inr h) = its_procedure p b xs are.1 h
 
--- the block is in the external procedure, or in one of these, of which the first is m
+-- the block is in one of these procedures, where the first has number m
 record IsInOne (m : ℕ) (qs : List Procedure) (b : TextBlock) : Type 0 where
   place : ℕ
   procedure : Procedure
@@ -157,7 +157,7 @@ judged_has schema program said b h = go h
     go (inl e) = outer (sym (ap (λ (y : TextBlock). y.procedure) e))
     go (inr g) = found (items_have (beginning (record { schema = schema; namings = said; procedures = signatures program })) [] program 1 b g)
 
--- ---- the blocks of which scopes speak are those of the text
+-- ---- the blocks in scopes are those of the text
 
 abbrev keyword_of_placed : Placed → Place
 keyword_of_placed b = b.keyword
@@ -165,7 +165,7 @@ keyword_of_placed b = b.keyword
 abbrev keyword_of_block : TextBlock → Place
 keyword_of_block b = b.keyword
 
--- these blocks, and then those
+-- the blocks `after` are the blocks `before`, followed by the blocks `bs`
 abbrev Follow : List Placed → List Placed → List TextBlock → Type 0
 Follow after before bs = map keyword_of_placed after ≡ map keyword_of_placed before ++ map keyword_of_block bs
 
@@ -213,7 +213,7 @@ same_keywords program = items_follow 1 (one_more [] (record { line = 1; column =
 
 -- ---- the tree of a bound source
 
--- what is bound is what is judged
+-- the bound tree is the judged one
 bound_is_judged : (schema : SchemaData) (program : Program) (tree : Source) → bound schema program ≡ Ok tree → (judged schema program (namings schema program)).is ≡ tree
 bound_is_judged schema program tree e = go (first (violations schema program)) e
   where
@@ -225,7 +225,7 @@ bound_blocks : (schema : SchemaData) (program : Program) (plain : Source) → bo
 bound_blocks schema program plain is p q at =
     judged_blocks schema program (namings schema program) p q (subst (λ (x : Source). slice_get x.procedures p ≡ Some q) (sym (bound_is_judged schema program plain is)) at)
 
--- an element of such a list is made of one at the same place
+-- an element of a list mapped by f and g is the image of the element at the same place
 record IsMade {A B C : Type 0} (f : A → B) (g : B → C) (xs : List A) (n : ℕ) (y : C) : Type 0 where
   from : A
   at : slice_get xs n ≡ Some from
@@ -241,7 +241,7 @@ make_at f g [] n x e = absurd cc
 make_at f g (y ∷ xs) zero x e = let is : y ≡ x = cc in ap (λ z. Some (g (f z))) is
 make_at f g (y ∷ xs) (suc n) x e = make_at f g xs n x e
 
--- elements at the same place of lists that are the same in one respect
+-- the list has an element at place i whose image under f is y
 record IsBeside {A B : Type 0} (f : A → B) (xs : List A) (i : ℕ) (y : B) : Type 0 where
   element : A
   at : slice_get xs i ≡ Some element
@@ -264,7 +264,7 @@ module _ (schema : SchemaData) (program : Program) (plain : Source) (is : bound 
       let it = made_at (scoped_procedure (blocks_of program)) flagged_procedure plain.procedures p q at in
       subst (AreItsBlocks program p) it.is (procedure_names (blocks_of program) it.from ∙ bound_blocks schema program plain is p it.from it.at)
 
-  -- the header of a place has a block of the text
+  -- the header at a place is that of a block of the text
   block_of : (p i : ℕ) (h : Header) → IsHeaderAt (with_flags (with_scopes program plain)) p i h → IsBeside name_of_block (blocks_of_procedure program p) i (name_of_header h)
   block_of p i h it =
       beside name_of_block name_of_header (blocks_of_procedure program p) (headers_of it.procedure) (sym (its_blocks p it.procedure it.at_number)) i h it.at_place
@@ -275,7 +275,7 @@ module _ (schema : SchemaData) (program : Program) (plain : Source) (is : bound 
       scoped_at (scoped_to (blocks_of program) it.procedure) (headers_of it.procedure) i h
       (subst (λ (q : Procedure). AreScoped (scoped_to (blocks_of program) q) (headers_of q)) made.is (procedure_scoped (blocks_of program) made.from)) it.at_place
 
-  -- one number is the number of one header
+  -- only one header has a given number
   alone : (n : ℕ) (b : TextBlock) → slice_get (text_blocks program) n ≡ Some b → (place : ℕ) → slice_get (blocks_of_procedure program b.procedure) place ≡ Some (record { number = n; block = b }) →
       (p i : ℕ) (h : Header) → IsHeaderAt (with_flags (with_scopes program plain)) p i h → h.number ≡ n → (p ≡ b.procedure) × (i ≡ place)
   alone n b at place here p i h it same =

@@ -1,4 +1,4 @@
--- A text breaks one rule first over a schema, and one that denotes a tree breaks none.
+-- At most one rule is the first that a text breaks over a schema, and a text that denotes a tree breaks none.
 use Rattle.std.proofs.Common.{ℕ, ◌<◌, ◌≤◌, ◌≡◌, ◌⊎◌, inl, inr, List, Option, Some, None, Result, Ok, Err, refl, sym, ◌∙◌, ap, subst, arith}
 use Rattle.std.specs.Prelude.{slice_get, ◌==◌, if◌then◌else◌}
 use Rattle.std.proofs.lemmas.Bool.{cases_order}
@@ -70,7 +70,7 @@ pub record Same (rule other : Rule) (place spot : Place) : Type 0 where
   pub places : place ≡ spot
 
 module _ (text : List ℕ) where
-  -- of two first ones neither comes before the other
+  -- two positions are equal if neither precedes the other
   one_spot : (a b : ℕ) (m n : ℕ) → (a < b) ⊎ ((a ≡ b) × (m ≤ n)) → (b < a) ⊎ ((b ≡ a) × (n ≤ m)) → (a ≡ b) × (m ≡ n)
   one_spot a b m n (inl x) (inl y) = absurd (omega (arith, x, y))
   one_spot a b m n (inl x) (inr y) = let z = y.0 in absurd (omega (arith, x, z))
@@ -111,7 +111,7 @@ one_of_grammar tokens rule other p q a b = by_case (cases_order p q)
     by_case (inr (inl below)) = absurd (b.none_before rule p below a.breaks)
     by_case (inr (inr above)) = absurd (a.none_before other q above b.breaks)
 
--- one token stands at a place
+-- a place has at most one token
 one_token : {found : Option Token} {token other : Token} → found ≡ Some token → found ≡ Some other → token ≡ other
 one_token e f = let g = sym e ∙ f in cc
 
@@ -152,7 +152,7 @@ module _ (text : List ℕ) where
   not_broken : {p q : Syntax} {v : Violation} → HasSyntax text p → HasSyntax text q → first_broken_label p ≡ None → first_broken_label q ≡ Some v → ⊥
   not_broken has is e f = let both = one_label has is e f in cc both
 
--- two that are one violation
+-- equal violations have the same rule and the same place
 same_violation : {v w : Violation} → v ≡ w → Same v.rule w.rule v.place w.place
 same_violation one = record { rules = ap (λ (x : Violation). x.rule) one; places = ap (λ (x : Violation). x.place) one }
 
@@ -182,7 +182,7 @@ module _ (schema : SchemaData) (text : List ℕ) where
   same_tree : {p q : Syntax} {a b : Source} → HasSyntax text p → HasSyntax text q → bound schema p ≡ Ok a → bound schema q ≡ Ok b → with_flags (with_scopes p a) ≡ with_flags (with_scopes q b)
   same_tree {q = q} {a = a} has is e f = ap (λ s. with_flags (with_scopes s a)) (one_syntax text has is) ∙ ap (λ t. with_flags (with_scopes q t)) (one_plain has is e f)
 
-  -- one rule L, G, Y, S or U is first
+  -- at most one of the rules L, G, Y, S and U is the first one broken
   pub one_rule : {rule other : Rule} {place spot : Place} → BreaksRule schema text rule place → BreaksRule schema text other spot → Same rule other place spot
   one_rule (of_tokens a) (of_tokens b) = one_of_tokens text a b
   one_rule (of_tokens a) (of_grammar more have next there) = absurd (not_clean text a have)

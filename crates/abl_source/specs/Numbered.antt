@@ -1,4 +1,4 @@
--- WHICH HEADER OF A TREE IS THAT OF WHICH BLOCK OF THE TEXT: each block has one header, in its own procedure, with its number.
+-- THE HEADER OF EACH BLOCK OF THE TEXT: each block has exactly one header, in its own procedure, with its number.
 use Rattle.std.specs.Prelude.{ℕ, ◌≡◌, Some, slice_get}
 use Rattle.abl_syntax.specs.Syntax.{Program as Syntax}
 use Rattle.bound_tree.specs.Tree.{Header, Procedure, Source}
@@ -12,8 +12,8 @@ pub record IsHeaderAt (tree : Source) (p i : ℕ) (h : Header) : Type 0 where
   pub at_number : slice_get tree.procedures p ≡ Some procedure
   pub at_place : slice_get (headers_of procedure) i ≡ Some h
 
--- THE HEADER OF THE BLOCK b of the text, before which n blocks begin: it is in the block's procedure, it has the block's number, line and kind and the buffers
--- scoped to that block, and no other header has its number
+-- THE HEADER OF THE BLOCK b of the text, where n blocks begin before b. It is in the block's procedure. It has the block's number, line
+-- and kind and the buffers scoped to that block. No other header has its number
 pub record HasOneHeader (syntax_of : Syntax) (tree : Source) (n : ℕ) (b : TextBlock) : Type 0 where
   pub place : ℕ
   pub header : Header

@@ -33,7 +33,7 @@ abbrev mutual
 abbrev pub procedure_blocks : ℕ → Place → Statements → List TextBlock
 procedure_blocks p keyword body = record { procedure = p; keyword = keyword; kind = block_kind.Procedure } ∷ blocks_within p body
 
--- the blocks of items in text order, of which the next internal procedure is p
+-- the blocks of items in text order, where the next internal procedure has number p
 abbrev pub blocks_among : ℕ → Program → List TextBlock
 blocks_among p [] = []
 blocks_among p (s.Alone statement ∷ items) = blocks_in 0 statement ++ blocks_among p items
@@ -45,12 +45,12 @@ text_blocks program = record { procedure = 0; keyword = record { line = 1; colum
 
 -- ---- their numbers
 
--- a block and how many blocks begin before it
+-- a block and the number of blocks that begin before it
 pub record NumberedBlock : Type 0 where
   pub number : ℕ
   pub block : TextBlock
 
--- these blocks, where n begin before them
+-- these blocks with their numbers, where n blocks begin before them
 abbrev pub numbered : ℕ → List TextBlock → List NumberedBlock
 numbered n [] = []
 numbered n (b ∷ bs) = record { number = n; block = b } ∷ numbered (n + 1) bs
@@ -80,7 +80,7 @@ abbrev mutual
 abbrev pub headers_of : t.Procedure → List Header
 headers_of q = q.header ∷ headers_within q.body
 
--- ---- which header is that of which block
+-- ---- the header of each block
 
 -- what names a block: its number, the line of its first keyword, and what it is
 pub record BlockName : Type 0 where

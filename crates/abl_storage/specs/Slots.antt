@@ -19,7 +19,7 @@ abbrev pub wrote : List Undo → ℕ → Bool
 wrote [] k = false
 wrote (u ∷ later) k = (k == u.slot) || wrote later k
 
--- the committed slots, and those of these writes as they read
+-- the slots of these writes as they read, and all other slots as committed
 abbrev pub joined : List Undo → (ℕ → List ℕ) → (ℕ → List ℕ) → ℕ → List ℕ
 joined writes reads committed k = if wrote writes k then reads k else committed k
 
@@ -30,7 +30,7 @@ is_low slot = nat_le 5000 slot && nat_le (slot + 1) 5100
 -- a client's transaction
 pub record Transaction : Type 0 where
   pub begun : Bool
-  -- the writes that stand, the first of them first, each with the bytes that it replaced
+  -- the writes that are not undone, in the order of writing, each with the bytes that it replaced
   pub undo : List Undo
   -- the slots that it wrote, writes that were undone included
   pub written : ℕ → Bool
@@ -42,7 +42,7 @@ pub record Transaction : Type 0 where
   pub room : ℕ
 
 pub record SlotState : Type 0 where
-  -- whether what reads give and what is committed is observable
+  -- whether the results of reads and the committed slots are observable
   pub observable : Bool
   pub reads : ℕ → List ℕ
   -- what the committed transactions left
@@ -65,11 +65,11 @@ IsReadable s = IsTrue s.observable × (s.failed ≡ false)
 abbrev pub IsAlone : SlotState → ℕ → ℕ → Type 0
 IsAlone s client slot = (other : ℕ) → other ≢ client → other < 16 → (s.transaction other).begun ≡ true → (s.transaction other).written slot ≡ false
 
--- the transaction has all the writes that may count, and this one would count too
+-- the transaction has reached the limit of counted writes, and this write would count too
 abbrev pub IsFull : SlotState → ℕ → ℕ → Type 0
 IsFull s client slot = (is_low slot ≡ false) × (7989 ≤ (s.transaction client).counted)
 
--- what is committed stays
+-- the committed slots do not change
 pub record KeepsCommitted (old new : SlotState) : Type 0 where
   pub observable : new.observable ≡ old.observable
   pub committed : IsTrue old.observable → new.committed ≡ old.committed
@@ -111,13 +111,13 @@ pub record Writes (old new : SlotState) (client slot : ℕ) (bytes : List ℕ) :
   pub before_is : IsReadable old → before ≡ old.reads slot
   pub transaction : let t = old.transaction client in Becomes client old.transaction new.transaction true (t.undo ++ record { slot = slot; old = before } ∷ []) (λ k. (k == slot) || t.written k) (if is_low slot then t.counted else t.counted + 1) (if is_low slot then t.low + 1 else t.low) (t.room - 1)
 
--- the writes since the mark are undone, and go on counting
+-- the writes since the mark are undone, but still count
 pub record GoesBack (old new : SlotState) (client mark : ℕ) : Type 0 where
   pub keeps : KeepsCommitted old new
   pub reads : IsReadable old → new.reads ≡ undone (drop mark (old.transaction client).undo) old.reads
   pub transaction : let t = old.transaction client in Becomes client old.transaction new.transaction true (take mark t.undo) t.written t.counted t.low t.room
 
--- all writes are undone and the transaction ends, where the disk fails on the way too; that is no answer Disk
+-- all writes are undone and the transaction ends, even if the disk fails meanwhile; such a failure does not count as an answer Disk
 pub record Ends (old new : SlotState) (client : ℕ) : Type 0 where
   pub keeps : KeepsCommitted old new
   pub reads : IsReadable old → new.reads ≡ undone (old.transaction client).undo old.reads
@@ -125,7 +125,7 @@ pub record Ends (old new : SlotState) (client : ℕ) : Type 0 where
   pub later : old.faults ≤ new.faults
   pub failed : new.failed ≡ old.failed
 
--- the transaction's writes are committed, and it ends; no call before answered Disk
+-- the transaction's writes are committed, and it ends; no earlier call answered Disk
 pub record Commits (old new : SlotState) (client : ℕ) : Type 0 where
   pub observable : new.observable ≡ old.observable
   pub reads : IsReadable old → new.reads ≡ old.reads
@@ -142,7 +142,8 @@ pub record Fails (old new : SlotState) (client : ℕ) : Type 0 where
   pub doubt : IsTrue old.observable → (new.doubt ≡ old.doubt) ⊎ ((old.failed ≡ false) × (new.doubt ≡ joined (old.transaction client).undo old.reads old.committed))
   pub transaction : new.transaction ≡ old.transaction
 
--- Time goes on. What is known of earlier moments stays, and at each moment of the call a stop leaves what was committed before it, or that with the one commit that is in doubt.
+-- The moment does not decrease. A stop at an earlier moment leaves the same slots as before the call. A stop at a later moment leaves the
+-- slots committed before the call, or the slots in doubt after it.
 pub record Goes (old new : SlotState) (before after : ℕ → (ℕ → List ℕ) → Type 0) : Type 0 where
   pub later : old.moment ≤ new.moment
   pub since : new.since ≡ old.since

@@ -14,7 +14,7 @@ pub enum SlotFault {
     NoMemory,
 }
 
-/// A place in a transaction: the number of its writes that stand there.
+/// A place in a transaction: the number of its writes that are not undone at this place.
 #[derive(Clone, Copy)]
 pub struct Mark {
     pub at: usize,
@@ -31,7 +31,7 @@ pub struct Undo {
 /// to 15. Each slot is written by one begun transaction at most. That writes of the slots 5,000 to
 /// 5,099 do not count, and the numbers 16, 7,989 and ten, are this project's choice.
 pub trait Slots {
-    /// What reads give, what is committed, which transactions are begun, and the moment.
+    /// The results of reads, the committed slots, the begun transactions, and the moment.
     ghost state: { Self → SlotState };
 
     /// The slots that reopening after a stop at that moment may give. It is empty outside the moments
@@ -75,8 +75,8 @@ pub trait Slots {
 
     /// Writes the slot, which no other begun transaction wrote, writes that `back` undid included. A
     /// transaction writes low slots at most ten times, and such a write never answers NoMemory.
-    /// `TxFull` comes exactly where the transaction has 7,989 writes that count and the slot is not
-    /// low. The undo list grows by this write alone, and undoing it restores the slots as they were.
+    /// `TxFull` is returned exactly if the transaction has 7,989 writes that count and the slot is
+    /// not low. The undo list grows by this write alone. Undoing it restores the slots as they were.
     fn write(&mut self, client: u16, slot: u32, bytes: &[u8; 256]) -> Result<(), SlotFault>
         requires client { client < 16 }
         requires slot { slot < 2 ^ 20 }
@@ -97,8 +97,8 @@ pub trait Slots {
         requires begun { ((state self.now).transaction client).begun ≡ true }
         ensures { result.at ≡ length ((state self.now).transaction client).undo };
 
-    /// Undoes the writes since the mark, which go on counting. The mark is of this transaction, and no
-    /// `back` to an earlier one came since it was made. It takes no memory.
+    /// Undoes the writes since the mark, which still count. The mark is of this transaction, and no
+    /// `back` to an earlier mark was called since it was made. It takes no memory.
     fn back(&mut self, client: u16, mark: Mark) -> Result<(), SlotFault>
         requires client { client < 16 }
         requires begun { ((state self.old).transaction client).begun ≡ true }
@@ -123,7 +123,7 @@ pub trait Slots {
         ensures cause { HasCause (state self.old) (state self.new) result }
         ensures only { OnlyDisk result };
 
-    /// Undoes all of the transaction's writes and ends it. It has no refusal and takes no memory.
+    /// Undoes all of the transaction's writes and ends it. It cannot fail and takes no memory.
     /// Where the disk fails on the way, its count rises and the next call finishes the undoing: that
     /// call answers Disk only where the disk fails again, or where a call had answered Disk before.
     fn abandon(&mut self, client: u16)

@@ -1,4 +1,4 @@
--- The statements that hold others in a Vec, as the lists that it has.
+-- The statements that contain others in a Vec, in terms of the list in the Vec.
 use Rattle.std.proofs.Common.{◌≡◌, refl, ap, rules}
 use Rattle.std.specs.Prelude.{Vec, Box, Option, Some, None}
 use Rattle.std.specs.declared.alloc.Global.{Global}

@@ -1,4 +1,4 @@
--- The expressions whose operands are in a Vec, as the lists that it has.
+-- The expressions whose operands are in a Vec, in terms of the list in the Vec.
 use Rattle.std.proofs.Common.{◌≡◌, List, [], ◌∷◌, refl, ap, ◌∙◌, rules}
 use Rattle.std.specs.Prelude.{Vec, Box}
 use Rattle.std.specs.declared.alloc.Global.{Global}

@@ -49,7 +49,7 @@ pub enum PutItem {
     Space(Option<Count>),
 }
 
-/// A statement; `quiet` says that it has NO-ERROR.
+/// A statement; `quiet` is whether it has NO-ERROR.
 #[derive(Drop)]
 pub enum Statement {
     Block {
@@ -117,7 +117,7 @@ pub enum Statement {
         stream: Option<Word>,
         values: Vec<Expression>,
     },
-    /// `plain` says that it has UNFORMATTED.
+    /// `plain` is whether it has UNFORMATTED.
     Put {
         stream: Option<Word>,
         plain: bool,

@@ -14,7 +14,7 @@ use Rattle.abl_syntax_reader.specs.Plain.{AreArgumentsFrom, AreFindOptions, AreO
 use Rattle.abl_syntax_reader.specs.Streaming.{AreTargets, IsImportTarget, all_targets, one_target}
 use Rattle.abl_syntax_reader.specs.Statements.{IsStatement, AreStatements, all_statements, one_statement}
 
--- with what is read so far before it, the rest of the row is the whole row
+-- the elements read so far, followed by any rest of the row, are the whole row
 pub record InRow {A : Type 0} (R : ℕ → ℕ → List A → Type 0) (begun n : ℕ) (found : List A) : Type 0 where
   pub go : (rest : List A) (end : ℕ) → R n end rest → R begun end (found ++ rest)
   pub after : begun ≤ n
@@ -32,7 +32,7 @@ row_more {A} {R} {begun} {n} {m} {found} new a so_far onward is step = record {
 pub row_done : {A : Type 0} {R : ℕ → ℕ → List A → Type 0} {begun n : ℕ} {found : List A} → InRow R begun n found → R n (n + 1) [] → R begun (n + 1) found
 row_done {A} {R} {begun} {n} {found} so_far last = subst (λ (xs : List A). R begun (n + 1) xs) (append-nil found) (so_far.go [] (n + 1) last)
 
--- the same of rows that nodes of two productions make
+-- the same for a row that is built by two productions: one adds an element, the other ends the row
 pub all_more : {A : Type 0} {c : Source} {more none : ℕ} {Is : ℕ → ℕ → A → Type 0} {begun n k m : ℕ} {found : List A} (new : List A) (a : A) → InRow (AreAll c more none Is) begun n found → Uses c n more k →
     Is (n + 1) m a → n < m → new ≡ found ++ a ∷ [] → InRow (AreAll c more none Is) begun m new
 all_more new a so_far u b onward is = row_more new a so_far onward is (λ rest end r. one_more u b r)
@@ -43,7 +43,7 @@ all_done so_far u = row_done so_far (all_read u)
 pub mapped : {T A : Type 0} (f : T → A) (found new : List T) (x : T) → new ≡ found ++ x ∷ [] → map f new ≡ map f found ++ f x ∷ []
 mapped f found new x is = ap (map f) is ∙ map-append f found (x ∷ [])
 
--- a row of which the first part was read before
+-- a row whose first element was read before the loop
 pub record InRest {A : Type 0} (R : ℕ → ℕ → List A → Type 0) (begun n : ℕ) (first : A) (found : List A) : Type 0 where
   pub others : List A
   pub is : found ≡ first ∷ others
@@ -107,7 +107,7 @@ argument_more f c begun n k m first found new x so_far u b onward is = rest_more
 pub arguments_done : (c : Source) (begun n k : ℕ) (first : Argument) (found : List Argument) → InRest (AreOtherArguments c) begun n first found → Uses c n p.MORE_ARGUMENTS_NONE k → AreArgumentsFrom c begun (n + 1) first found
 arguments_done c begun n k first found so_far u = record { others = so_far.others; read = row_done so_far.row (all_read u); is = so_far.is }
 
--- statements with others after them
+-- statements followed by others
 abbrev pub statements_onto : List TypedStatement → Statements → Statements
 statements_onto [] more = more
 statements_onto (t ∷ rest) more = Then (statement_of t) (statements_onto rest more)

@@ -137,7 +137,7 @@ fn returned(
     Ok((Statement::Return { at, error, value }, end))
 }
 
-/// A value behind a pointer, if there is one.
+/// Boxes the value, if there is one.
 fn boxed_value(
     alloc: Global,
     value: Option<Expression>,
@@ -153,7 +153,7 @@ fn boxed_value(
     }
 }
 
-/// An action behind a pointer, if there is one.
+/// Boxes the action, if there is one.
 fn boxed_action(alloc: Global, action: Option<Action>) -> Result<Option<Box<Action>>, ReadFault>
     ensures { IfOk result (λ r. maybe_boxed_action_of r ≡ maybe_action_of action) }
 {

@@ -117,7 +117,7 @@ fn counting(
     Ok((None, n + 1))
 }
 
-/// The names of a list, of which the first one is read.
+/// The names of a list whose first name is already read.
 fn more_names(
     alloc: Global,
     reader: &Reader<'_>,

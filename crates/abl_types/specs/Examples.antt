@@ -93,7 +93,7 @@ pub a_field_of_two_buffers : violations shop two_buffers ≡ breaks r.Y2 3 1 ∷
 unfolding table_named field_named
 a_field_of_two_buffers = refl
 
--- IF 1 THEN x = 1.   two rules are broken: the first place is told
+-- IF 1 THEN x = 1.   two rules are broken: the one at the first place is reported
 abbrev two_rules : Program
 two_rules =
     s.Alone (s.Choose (s.Literal (value.Int64 (pos 1)) (place 1 4)) (s.Assign (record { target = spelled.Plain (named (codes "x") 1 11); right = s.ValueOf (s.Literal (value.Int64 (pos 1)) (place 1 15)) } ∷ []) false) s.Nothing)
@@ -190,7 +190,7 @@ pub an_internal_procedure : bound shop with_procedure ≡ Ok (record {
 unfolding table_named field_named
 an_internal_procedure = refl
 
--- PROCEDURE p: / DEFINE VARIABLE i AS INTEGER. / END. / PROCEDURE P: / END. / i = 1.   after it its variable is unknown
+-- PROCEDURE p: / DEFINE VARIABLE i AS INTEGER. / END. / PROCEDURE P: / END. / i = 1.   the variable is unknown outside its procedure
 abbrev two_procedures : Program
 two_procedures =
     s.Procedure (place 1 1) (named (codes "p") 1 11) (s.Then (s.Define (s.Variable (named (codes "i") 2 17) kind.Integer [])) s.Nothing)

@@ -10,11 +10,11 @@ use Rattle.abl_base.specs.declared.value.Value.TheVariants.{Text, Int, Int64, De
 
 -- ---- texts
 
--- an ASCII capital letter as its small one, any other byte as it is
+-- an ASCII capital letter in lower case, any other byte unchanged
 abbrev pub folded_byte : ℕ → ℕ
 folded_byte b = if nat_le 65 b && nat_le b 90 then b + 32 else b
 
--- a byte before the kept rest of a text: it goes too where it is the dropped byte and nothing is kept after it
+-- puts b before a text without trailing `dropped` bytes. If that text is empty and b is `dropped`, b is removed too
 abbrev pub kept_before : ℕ → ℕ → List ℕ → List ℕ
 kept_before dropped b [] = if b == dropped then [] else b ∷ []
 kept_before dropped b (c ∷ cs) = b ∷ c ∷ cs
@@ -24,11 +24,11 @@ abbrev pub without_trailing : ℕ → List ℕ → List ℕ
 without_trailing dropped [] = []
 without_trailing dropped (b ∷ bs) = kept_before dropped b (without_trailing dropped bs)
 
--- a name or a text with its ASCII letters small
+-- a name or a text with its ASCII letters in lower case
 abbrev pub folded : List ℕ → List ℕ
 folded = map folded_byte
 
--- what is compared of a text: its bytes folded and without trailing blanks
+-- the compared bytes of a text: folded and without trailing blanks
 abbrev pub compared_text : List ℕ → List ℕ
 compared_text text = folded (without_trailing 32 text)
 

@@ -11,9 +11,9 @@ use std::cmp::Ordering;
 
 /// The order of two values in an index: `?` is above all other values and level with itself, no is
 /// below yes, numbers of all kinds compare by value, dates by day, and texts by their bytes, with
-/// ASCII letters folded to lower case and without trailing blanks. Two values of which neither is
-/// `?` and which are not both texts, numbers, LOGICALs or DATEs are never compared by a program;
-/// here they compare by kind. (OpenEdge ABL Reference, Indexes; the place of `?` is this project's
+/// ASCII letters folded to lower case and without trailing blanks. A program never compares values
+/// of different classes (texts, numbers, LOGICALs, DATEs) unless one of them is `?`; here they
+/// compare by class. (OpenEdge ABL Reference, Indexes; the place of `?` is this project's
 /// choice.)
 #[tactic(auto, unfolding(crate::specs::Order::value_order))]
 pub fn compare(a: &Value, b: &Value) -> Ordering
@@ -57,7 +57,7 @@ fn class(value: &Value) -> u8
     }
 }
 
-/// The number that a value counts by within its class, 0 where it counts by none.
+/// The number by which a value compares within its class, or 0 if there is none.
 fn rank(value: &Value) -> i128
     ensures { result ≡ rank_of value.now }
 {
@@ -89,7 +89,7 @@ pub(crate) fn trimmed(text: &[u8], dropped: u8) -> &[u8]
     &text[..end]
 }
 
-/// A byte with an ASCII capital letter folded to its small one.
+/// The byte, with an ASCII capital letter folded to lower case.
 pub(crate) fn folded_byte(byte: u8) -> u8
     ensures { result ≡ folded_byte byte }
 {

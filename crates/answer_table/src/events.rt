@@ -17,7 +17,7 @@ fn within(number: u64, limit: u64) -> Option<u64>
     if number <= limit { Some(number) } else { None }
 }
 
-/// The bytes of a list of so many numbers, if these are no more than the limit.
+/// The number of bytes of a list of `count` numbers, if it is no more than the limit.
 fn list_size(count: usize, limit: u64) -> Option<u64>
     ensures { MatchOption result (limit < NUMBER * count) (λ n. (n ≡ NUMBER * count) × (n ≤ limit)) }
 {

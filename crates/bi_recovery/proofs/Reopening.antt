@@ -33,7 +33,7 @@ opens_step a g d image s = record {
   either = ⊎_elim (λ (holds_it : Holds (image a) (fresh g)). inl holds_it) (λ (shut : get_or (image a) 0 0 ≢ 1). inr (λ h o. absurd (no_head (image a) shut h o))) s.holds;
 }
 
--- the last of two steps counts, where it leaves the new generation or no open header
+-- two steps form one, if the first adds no open header, or if no header is open both after the first and after the second
 pub step_twice : (a g : ℕ) (d e image : Image) → StepsTo a g d e → StepsTo a g e image → ((h : ℕ) → IsOpened (e a) h → IsOpened (d a) h) ⊎ ((h : ℕ) → IsOpened (image a) h → IsOpened (e a) h → ⊥) → StepsTo a g d image
 step_twice a g d e image one two why = record {
   others = λ k other. two.others k other ∙ one.others k other;
@@ -66,14 +66,14 @@ keeps_twice d e image one two = record { to = λ slots r. two.to slots (one.to s
 pub state_keeps : (a g e : ℕ) (bs : List (List Note)) (base : ℕ → List ℕ) (d image : Image) → LogState a g e bs base d → LogState a g e bs base image → SameRecovery d image
 state_keeps a g e bs base d image x y = keeps_same d image _ _ (stands_for a g e bs base d x) (stands_for a g e bs base image y) (λ s. refl)
 
--- one run after another, each step of which preserves the recovered slots
+-- two consecutive runs preserve the recovered slots, if each step does
 pub stage : (was mid now : ℕ) (before between after : ℕ → Image → Type 0) (Step : Image → Image → Type 0)
     → Run was mid before between SameRecovery → Run mid now between after Step → ((d image : Image) → between mid d → Step d image → SameRecovery d image) → Run was now before after SameRecovery
 stage was mid now before between after Step one two step = joined _ _ _ _ _ _ SameRecovery SameRecovery SameRecovery one
     (wider _ _ _ _ Step SameRecovery two (λ d image there s. step d image there s))
     (λ d image there s. s) (λ d image there mid s. s) (λ d e image there x mid y. keeps_twice d e image x y)
 
--- the steps to a new generation without notes, over an area 0 that has all slots as they recover
+-- the steps to a new generation without notes preserve the recovered slots, if area 0 contains all slots as they recover
 pub steps_keep : (a g h e wider_e : ℕ) (bs : List (List Note)) (base : ℕ → List ℕ) (d image : Image) → g < h → StepsTo (3 - a) h d image → 256 * wider_e ≤ length (d 0)
     → ((s : ℕ) → recovered (notes_in bs) base s ≡ slot_of (d 0) s) → LogState a g e bs base d → SameRecovery d image
 steps_keep a g h e wider_e bs base d image later step there same st = ⊎_elim
@@ -82,7 +82,7 @@ steps_keep a g h e wider_e bs base d image later step there same st = ⊎_elim
     (λ (less : (k : ℕ) → IsOpened (image (3 - a)) k → IsOpened (d (3 - a)) k). state_keeps a g e bs base d image st (others_agree a g e bs base d image step.others less st))
     step.either
 
--- what is below a slot that has no note counts
+-- the recovered slots depend on the base only at slots without a note
 pub same_below : (notes : List Note) (f g : ℕ → List ℕ) (s : ℕ) → (changes_of s notes ≡ [] → f s ≡ g s) → recovered notes f s ≡ recovered notes g s
 same_below notes f g s same = given-below (is_committed notes) (f s) (g s) (changes_of s notes) same
 

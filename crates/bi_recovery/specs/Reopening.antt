@@ -11,7 +11,7 @@ use Rattle.log_meaning.specs.Images.{IsNewest, IsOpened, Recovers}
 use Rattle.bi_log.specs.Appending.{Holds, fresh}
 use Rattle.bi_recovery.specs.ReadNotes.{HoldsNotes}
 
--- the other areas stay, and this one holds the new generation, or has an open header only where it had one
+-- the other areas do not change. This area holds the new generation, or each header that is open in it was open before
 pub record StepsTo (area generation : ℕ) (old new : Image) : Type 0 where
   pub others : Others area old new
   pub either : Holds (new area) (fresh generation) ⊎ ((h : ℕ) → IsOpened (new area) h → IsOpened (old area) h)
@@ -25,7 +25,7 @@ pub record SameRecovery (old new : Image) : Type 0 where
 abbrev pub SameAreas : Image → Image → Type 0
 SameAreas seen image = (k : ℕ) → k < 3 → image k ≡ seen k
 
--- these are the slots that the notes recover to, whatever is below, and each of them may be written
+-- these slots over any base are what the notes recover to over that base, and each of them may be written
 pub record Gives (extent : ℕ) (batches : List (List Note)) (slots : List Undo) : Type 0 where
   pub are : (below : ℕ → List ℕ) (s : ℕ) → undone slots below s ≡ recovered (notes_in batches) below s
   pub may : (s : ℕ) → wrote slots s ≡ true → MayWrite extent batches (256 * s) 256
@@ -35,7 +35,8 @@ pub record LogIs (image : Image) (area generation : ℕ) (notes : List Note) : T
   pub newest : IsNewest image area generation
   pub holds : HoldsNotes (image area) generation notes
 
--- Every image has its log in this area, and its next gate at this place. Whichever transactions are committed besides, each slot recovers to these bytes; and each slot that has a note may be written to area 0.
+-- In every image, the log is in this area and the next gate is at this place. Whichever transactions are committed, each slot recovers to
+-- these bytes. Each slot that has a note may be written to area 0.
 pub record NewLog (left : Image → Type 0) (area generation extent gate : ℕ) (slots : ℕ → List ℕ) : Type 0 where
   pub batches : List (List Note)
   pub base : ℕ → List ℕ

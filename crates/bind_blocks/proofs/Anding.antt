@@ -122,7 +122,7 @@ chain_says w x f e first v a ls is is_a is_ls name begun r hn hb all =
     let t = all (expression_of a) hn hb in
     rw (is, chain_is first v) (rw (is_a, is_ls) at t)
 
--- the links so far say so much
+-- the results for the first i links of the chain
 pub record LinksSay (w : Scene) (x : NamedBuffer) (f : ℕ) (a : Expression) (ls : List Link) (i : ℕ) (name : Option Named) (found : Option Expr) : Type 0 where
   pub alone : name ≡ lone_name (linked_of (take i ls) a)
   pub said : found ≡ first_said w x f (and_parts (linked_of (take i ls) a))

@@ -1,11 +1,11 @@
--- What is noted of several parts, one after the other, is what is noted of all.
+-- The notes of several consecutive parts are the notes of all of them.
 use Rattle.std.proofs.Common.{◌≡◌, ◌++◌, append_assoc}
 use Rattle.bind_names.specs.declared.notes.Notes.{Notes}
 use Rattle.bind_names.specs.Judged.{Judged, made_of}
 use Rattle.bind_names.specs.Views.{IsJudged}
 use Rattle.bind_names.proofs.Joined.{first_of_append}
 
--- what is made of three parts, and of four
+-- combines the judgements of three parts, and of four
 abbrev pub made_of_three : {A B C D : Type 0} → (A → B → C → D) → Judged A → Judged B → Judged C → Judged D
 made_of_three f a b c = record { is = f a.is b.is c.is; breaks = a.breaks ++ (b.breaks ++ c.breaks); names = a.names ++ (b.names ++ c.names) }
 

@@ -29,7 +29,7 @@ on_phrase w label act =
     let block = block_named undoing w.around label in
     made (λ a. record { target = block; action = a }) (action w block act)
 
--- the phrases, of which the first of each kind counts
+-- the phrases of a header; the first of each kind counts
 pub record Phrases : Type 0 where
   pub while_test : Option Expr
   pub on_error : Option b.OnPhrase

@@ -1,4 +1,4 @@
--- The arguments that are kept, as a list.
+-- The kept arguments, as a list.
 use Rattle.std.proofs.Common.{◌≡◌, ◌∙◌, ap, List}
 use Rattle.std.specs.Prelude.{unwrap_or}
 use Rattle.std.proofs.lemmas.Option.{unwrap_or-slice_get}

@@ -1,4 +1,4 @@
--- What is noted of one part after another is what is noted of both: a lemma for each way in which judgements are joined.
+-- The notes of two consecutive parts are the notes of both: one lemma for each way of joining judgements.
 use Rattle.std.proofs.Common.{◌≡◌, ◌<◌, ◌+◌, ℕ, List, [], ◌∷◌, ◌++◌, length, drop, get_or, suc, refl, ap, sym, subst, ◌∙◌, add-one, drop-cons, append_assoc}
 use Rattle.std.specs.Option.{is_some}
 use Rattle.abl_base.specs.declared.place.Place.{Place}
@@ -69,7 +69,7 @@ pub linked_is : (w : Scene) (ls : List Link) (a : Expression) → expression w (
 linked_is w [] a = refl
 linked_is w (l ∷ ls) a = linked_is w ls (joined l.operator l.at a (expression_of l.operand)) ∙ ap (links_judged w ls) (joined_is w l.operator l.at a (expression_of l.operand))
 
--- what is bound so far, with the links to come, is the whole chain
+-- the part that is bound so far, continued with the remaining links, is the whole chain
 pub record ChainContinues (w : Scene) (a : Expression) (ls : List Link) (i : ℕ) (now : Typed) (n begun : Notes) : Type 0 where
   pub so_far : Judged Typed
   pub judged : IsJudged so_far now begun n

@@ -32,7 +32,7 @@ pub record Typed : Type 0 where
 abbrev pub typed : Expr → Sort → Typed
 typed e s = record { expr = e; sort = s }
 
--- what takes the place of an expression that breaks a rule
+-- replaces an expression that breaks a rule
 abbrev pub no_value : Typed
 no_value = typed (b.Literal value.Unknown) Broken
 
@@ -105,7 +105,7 @@ abbrev pub exprs : List Typed → List Expr
 exprs [] = []
 exprs (a ∷ as_) = a.expr ∷ exprs as_
 
--- the argument of this number, or what is taken for it
+-- the argument with this number, or `other` if there is none
 abbrev pub nth : List Expr → ℕ → Expr → Expr
 nth es i other = slice_index_or es i other
 
@@ -176,7 +176,7 @@ value_for w kind e =
     let x = expression w e in
     breaking x (unless (fits x.is.sort kind) Y5 (starts_at e))
 
--- a number, as TO and BY want it
+-- a number, as required by TO and BY
 abbrev pub number : Scene → Expression → Judged Typed
 number w e =
     let x = expression w e in

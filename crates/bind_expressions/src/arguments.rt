@@ -70,7 +70,7 @@ fn or(argument: Option<BoundExpr>, other: BoundExpr) -> BoundExpr
     }
 }
 
-/// `?`, what takes the place of an argument that has to be there.
+/// `?`, which replaces a required argument that is missing.
 fn missing() -> BoundExpr
     ensures { expr_of result ≡ missing }
 {
@@ -99,7 +99,7 @@ fn one(alloc: Global, operator: Unary, a: Arguments) -> Result<BoundExpr, BindFa
     Ok(BoundExpr::Unary(operator, Box::new(alloc, or(a.first, missing()))?))
 }
 
-/// A function of three values, the third of which may be left out.
+/// A function of three values; the third may be left out.
 fn three(
     alloc: Global,
     operator: Ternary,

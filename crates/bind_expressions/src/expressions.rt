@@ -105,7 +105,7 @@ pub fn expression(
     }
 }
 
-/// What the links of a chain make of its first operand, from the left.
+/// Applies the links of a chain to its first operand, from the left.
 #[cycle(expressions)]
 #[tactic(auto, using(bound_tree::proofs::Chains::chain_expr))]
 fn links(
@@ -162,8 +162,8 @@ fn call(
     Ok(made)
 }
 
-/// A function of these arguments, each of which is good or not: Y7 at the function where they are
-/// too few.
+/// A function of these arguments; `good` is whether all of them fit. Y7 at the function where they
+/// are too few.
 fn finished(
     alloc: Global,
     function: Function,

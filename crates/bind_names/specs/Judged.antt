@@ -75,7 +75,7 @@ fine a = record { is = a; breaks = []; names = [] }
 abbrev pub broken : {A : Type 0} → A → Rule → Place → Judged A
 broken a rule place = record { is = a; breaks = at rule place; names = [] }
 
--- what is made of one part, and of two
+-- combines the judgements of the parts: of one part, and of two
 abbrev pub made : {A B : Type 0} → (A → B) → Judged A → Judged B
 made f a = record { is = f a.is; breaks = a.breaks; names = a.names }
 

@@ -22,7 +22,7 @@ use Rattle.bind_names.specs.declared.names.Signature.{Signature}
 use Rattle.bind_names.specs.declared.names.Around.{Around}
 use Rattle.bind_names.specs.Judged.{Judged, fine, broken, naming}
 
--- what is the same all over a source: the schema, the namings of buffers in it, and its internal procedures
+-- the context that is the same throughout a source: the schema, the namings of buffers in it, and its internal procedures
 pub record Context : Type 0 where
   pub schema : SchemaData
   pub namings : List Naming
@@ -169,7 +169,7 @@ abbrev pub meaning : Scene → Named → Judged Meaning
 meaning w (Plain word) = plain w word (variable_named w.known word.spelling)
 meaning w (Qualified buffer field place) = qualified w (buffer_named w buffer) field place
 
--- a buffer where one is wanted, with its naming: Y1 where there is none
+-- a buffer that is required here, with its naming: Y1 where there is none
 abbrev pub wanted_buffer : Scene → NamingKind → Bool → Word → Option NamedBuffer → Judged (Option NamedBuffer)
 wanted_buffer w kind explicit word None = broken None Y1 word.at
 wanted_buffer w kind explicit word (Some b) = naming (names_it w b kind explicit word.at) (fine (Some b))

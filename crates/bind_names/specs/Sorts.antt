@@ -58,7 +58,7 @@ is_date = is_of (same_kind Date)
 abbrev pub is_decimal : Sort → Bool
 is_decimal = is_of (same_kind Decimal)
 
--- it may be where a value of such a kind is expected: `?` fits everything, and nothing more is asked of what is broken
+-- whether it may be used where a value of such a kind is expected: `?` and a broken expression may be used anywhere
 abbrev pub may : (Kind → Bool) → Sort → Bool
 may test (Of k) = test k
 may test Unknown = true
@@ -142,7 +142,7 @@ result_of two.AtLeast a b = where_holds (are_comparable a b) (Of Logical)
 result_of two.Begins a b = where_holds (may_be_text a && may_be_text b) (Of Logical)
 result_of two.NumEntries a b = where_holds (may_be_text a && may_be_text b) (Of Int64)
 
--- what is made of two sorts is broken where one is
+-- the result is broken if an operand is
 abbrev pub unless_broken : Bool → Option Sort → Option Sort
 unless_broken true s = Some Broken
 unless_broken false s = s
@@ -186,7 +186,7 @@ if_sort test branches = if may_be_logical test && not (is_broken test) then sort
 
 -- ---- masks
 
--- a mask beside `?` fits where it fits any kind
+-- a mask for `?` fits if it fits any kind
 abbrev pub is_any_mask : List ℕ → Bool
 is_any_mask mask = mask_is_for mask Character || (mask_is_for mask Decimal || (mask_is_for mask Logical || mask_is_for mask Date))
 
@@ -237,7 +237,7 @@ takes_then x = may_be_text
 abbrev pub takes : Function → ℕ → Sort → Bool
 takes x i = if i == 0 then takes_first x else takes_then x
 
--- what it gives
+-- the kind of its result
 abbrev pub kind_of_function : Function → Kind
 kind_of_function f.Integer = Integer
 kind_of_function f.Int64 = Int64

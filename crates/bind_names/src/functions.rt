@@ -1,5 +1,5 @@
-//! How many arguments a function takes, of which sorts, and what it gives (OpenEdge ABL Reference,
-//! each function by its name).
+//! The number of arguments of a function, their sorts, and the kind of its result (OpenEdge ABL
+//! Reference, each function by its name).
 
 ghost use Rattle.std.specs.Prelude.{◌≡◌};
 ghost use Rattle.bind_names.specs.Sorts.{fewest, is_any_mask, kind_of_function, mask_fits, may_be_converted, most, takes, takes_first, takes_then};
@@ -70,7 +70,7 @@ pub fn takes(function: Function, number: usize, sort: Sort) -> bool
     }
 }
 
-/// The kind of what it gives.
+/// The kind of its result.
 pub fn kind_of_function(function: Function) -> Kind
     ensures { result ≡ kind_of_function function }
 {

@@ -149,7 +149,7 @@ pub fn names_it(
     })
 }
 
-/// The buffer with this name where one is wanted, with its naming: Y1 where there is none.
+/// The buffer with this name that is required here, with its naming: Y1 where there is none.
 pub fn wanted_buffer<'a>(
     alloc: Global,
     scene: &'a Scene<'_>,

@@ -38,7 +38,7 @@ target_kind None = None
 target_kind (Some (target.Variable x)) = Some x.kind
 target_kind (Some (target.Field buffer field kind)) = Some kind
 
--- the value for a target, of which nothing is asked where the target is at fault
+-- the value for a target; its kind is not checked if the target breaks a rule
 abbrev pub value_for_target : Scene → Option Kind → Expression → Judged Typed
 value_for_target w None e = expression w e
 value_for_target w (Some k) e = value_for w k e

@@ -32,7 +32,7 @@ is_taken d name =
     is_some (number_of_name 0 (map (λ v. v.name) d.variables) name)
     || (is_some (number_of_name 0 (map (λ b. b.name) d.buffers) name) || is_some (number_of_name 0 (map (λ s. s.name) d.streams) name))
 
--- no option of a variable so far, of which the first of each counts
+-- the options of a variable before any is read; the first of each kind counts
 abbrev pub no_options : Options
 no_options = record { undoable = true; initial = None; mask = None }
 

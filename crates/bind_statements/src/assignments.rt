@@ -40,7 +40,7 @@ pub fn value_for(
     Ok(x)
 }
 
-/// A value for a target, of which nothing is asked where the target is at fault.
+/// A value for a target; its kind is not checked if the target breaks a rule.
 fn value_for_target(
     alloc: Global,
     scene: &Scene<'_>,

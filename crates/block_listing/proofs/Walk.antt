@@ -1,4 +1,4 @@
--- The walk over the tree goes on by one statement, by one procedure, and into a block.
+-- The walk over the tree proceeds by one statement, by one procedure, and into a block.
 use Rattle.std.proofs.Common.{◌≡◌, ℕ, suc, ◌+◌, ◌<◌, List, ◌∷◌, length, get_or, drop, sym, ap, ◌∙◌, add-one}
 use Rattle.std.specs.Prelude.{map, Box, Vec}
 use Rattle.std.specs.declared.alloc.Global.{Global}

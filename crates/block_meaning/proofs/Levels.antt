@@ -1,4 +1,4 @@
--- A part of a run asks for Leave and Back of open levels only, and leaves as many open as its completion says.
+-- A part of a run requests Leave and Back of open levels only. Its completion determines how many levels are open after it.
 use Rattle.std.proofs.Common.{◌≡◌, refl, sym, ap, ◌∙◌, subst, ℕ, zero, suc, ◌+◌, ◌≤◌, List, [], ◌∷◌, ◌++◌, Bool, true, false, Option, Some, None}
 use Rattle.std.proofs.Math.Path.{fun_ext}
 use Rattle.client_database.specs.declared.operation.Op.{Op}
@@ -13,12 +13,12 @@ use Rattle.block_meaning.proofs.Continues.{Continues, Fits, Handles}
 
 -- ---- the levels that are open when a part completes. It began with k of them
 
--- an UNDO, ERROR or ENDKEY leaves the levels open that it has passed; the first of them is level k + 1
+-- UNDO, ERROR and ENDKEY leave open the levels that they have passed; the first of these is level k + 1
 abbrev pub FirstAt : ℕ → Option Copy → State → Type 0
 FirstAt k None s = s.level ≡ k
 FirstAt k (Some copy) s = (copy.depth ≡ k + 1) × (k + 1 ≤ s.level)
 
--- n are open by the operations that were asked
+-- after the requested operations n levels are open, as the state and the completion require
 abbrev pub Over : ℕ → ℕ → Completion → State → Type 0
 Over k n (Stops end) s = Unit {0}
 Over k n (Undoes block action retry passed) s = (n ≡ s.level) × FirstAt k passed.first s
@@ -54,7 +54,7 @@ abbrev pub Later : (ℕ → Completion → State → Type 0) → ℕ → Outcome
 Later O n (Done completion s left) a rest = (left ≡ []) × O n completion s
 Later O n (Suspended d) a rest = WantsAt n d.wants × rest (after_wants (is_blocked a) n d.wants)
 
--- what a run does, answer by answer, where n levels are open by what was asked
+-- a run requests only operations that may be requested, answer by answer, where n levels are open after the requests so far
 abbrev pub Legal : (ℕ → Completion → State → Type 0) → ℕ → (List Answer → Outcome) → List Answer → Type 0
 Legal O n f [] = Now O n (f [])
 Legal O n f (a ∷ ans) = Later O n (f []) a (λ m. Legal O m (λ more. f (a ∷ more)) ans)

@@ -132,7 +132,7 @@ pub data Completion : Type 0 where
   -- the client ends
   Stops : (end : ClientEnd) → Completion
 
--- what a client has written, and what it wants next, when it has used all its answers
+-- what a client has written, and its next step, when it has used all its answers
 pub record Progress : Type 0 where
   pub written : List Piece
   pub wants : NextStep

@@ -20,7 +20,7 @@ use Rattle.block_meaning.specs.Program.{no_procedure, no_buffer_def}
 use Rattle.abl_values.specs.Schema.{no_table, no_field, no_index}
 use Rattle.block_meaning.specs.Blocks.{iterates, is_given}
 
--- what a place of a source is judged by
+-- the data by which a place of a source is judged
 pub record Scene : Type 0 where
   -- the tables of the schema, and the numbers of its sequences and of the source's named outputs and inputs
   pub tables : List TableDef
@@ -55,7 +55,7 @@ abbrev pub is_of_kind : Option Kind → Kind → Bool
 is_of_kind None k = false
 is_of_kind (Some l) k = same_kind l k
 
--- the same truth
+-- equal truth values
 abbrev pub same_bool : Bool → Bool → Bool
 same_bool true b = b
 same_bool false b = not b
@@ -119,19 +119,19 @@ table_has_field t f k = nat_lt f (length t.fields) && is_of_kind (slice_index_or
 abbrev pub has_field : Scene → ℕ → ℕ → Kind → Bool
 has_field w b f k = has_buffer w b && table_has_field (table_of_buffer w b) f k
 
--- what is assigned to is there
+-- the target of an assignment exists
 abbrev pub has_target : Scene → Target → Bool
 has_target w (target.Variable x) = has_variable w x
 has_target w (target.Field b f k) = has_field w b f k
 
--- `^` or a target that is there
+-- `^` or a target that exists
 abbrev pub has_target_if : Scene → Option Target → Bool
 has_target_if w None = true
 has_target_if w (Some t) = has_target w t
 
 -- ---- expressions
 
--- every variable, buffer and field of the expression is there
+-- every variable, buffer and field of the expression exists
 abbrev pub expr_is_within : Scene → Expr → Bool
 expr_is_within w (Literal v) = true
 expr_is_within w (TheVariable x) = has_variable w x
@@ -262,7 +262,7 @@ argument_is_within w (In e) = expr_is_within w e
 argument_is_within w (Out x) = has_variable w x
 argument_is_within w (InOut x) = has_variable w x
 
--- RUN of an internal procedure, with as many arguments as it has parameters
+-- RUN of an internal procedure; the number of arguments is the number of its parameters
 abbrev pub run_is_within : Scene → ℕ → List Argument → Bool
 run_is_within w n args =
     nat_lt 0 n && (nat_lt n (length w.source.procedures)

@@ -50,7 +50,7 @@ pub fn leave_and_back_need_a_level()
 {}
 
 /// An UNDO with a level restores exactly the undoable variables of the copy, provided that the copy
-/// has as many procedures as are open, which holds for each open level. It changes no NO-UNDO
+/// has one entry for each open procedure, which holds for each open level. It changes no NO-UNDO
 /// variable, no place in a stream or input, and nothing that was written. In every buffer but those
 /// scoped inside, a record that was pending in the copy is pending again, and no record is left that
 /// was created later.

@@ -1,4 +1,4 @@
--- The walk goes on by one statement, by one item, and into a block.
+-- The walk proceeds by one statement, by one item, and into a block.
 use Rattle.std.proofs.Common.{◌≡◌, ℕ, suc, ◌+◌, ◌<◌, List, ◌∷◌, length, get_or, drop, sym, ap, ◌∙◌, add-one}
 use Rattle.std.specs.Prelude.{map, Option, Box, Vec}
 use Rattle.std.specs.declared.alloc.Global.{Global}

@@ -16,7 +16,7 @@ is_while p = false
 abbrev pub has_while : List Phrase → Bool
 has_while = list_any is_while
 
--- TRANSACTION, ON ERROR and ON ENDKEY, each of which gives a DO the undo property
+-- TRANSACTION, ON ERROR or ON ENDKEY: each of these gives a DO the undo property
 abbrev pub has_undo_phrase : List Phrase → Bool
 has_undo_phrase = list_any (λ p. not (is_while p))
 
@@ -46,7 +46,7 @@ abbrev pub from_undo : List Head → List Head
 from_undo [] = []
 from_undo (h ∷ hs) = if has_undo h then h ∷ hs else from_undo hs
 
--- it is no procedure's
+-- it is not the block of a procedure
 abbrev pub is_inner : List Head → Bool
 is_inner [] = false
 is_inner (h ∷ hs) = true

@@ -1,4 +1,4 @@
--- A call of a client, from an answer to what it wants next.
+-- A call of a client, from an answer to its next step.
 use Rattle.std.proofs.Common.{◌≡◌, ℕ, ◌⊎◌, inl, inr, List, [], ◌∷◌, ◌++◌, refl, sym, ap, ◌∙◌, subst, append_assoc, append-nil}
 use Rattle.client_database.specs.declared.operation.Op.{Op}
 use Rattle.client_database.specs.declared.operation.Op.TheVariants.{End}
@@ -37,7 +37,7 @@ use Rattle.block_vm.specs.Refines.{after, Follows, HasEnded, FollowsIn, Refines,
 
 -- ---- any configuration
 
--- what was written stays, and something is asked, whatever the mode
+-- in every mode, the written pieces begin with those that were written before
 written_in : (tree : ℕ → Body) (p : Program) (m : flat.Mode) (ks : List flat.StackEntry) (s : State) → Begins s.written (finished (means tree p (config m ks s) [])).written
 written_in tree p (flat.Execute t) ks s = written_continues tree p (config (flat.Execute t) ks s) tt []
 written_in tree p (flat.Unwind completion) ks s = written_continues tree p (config (flat.Unwind completion) ks s) tt []
@@ -87,7 +87,7 @@ recode tree p a b e is = subst (λ (k : SourceCode). IsCodeOf (record { instr = 
 pub begin_going : (m : List Answer → Progress) (names : List (List ℕ)) (from : List Piece) (c : Machine) → Follows m names from c → RunsFrom m names from c
 begin_going m names from c f = record { pieces = from; more = begins_itself from; follows = f }
 
--- a machine that went on, and was given these answers
+-- a machine that ran on, and received these answers
 went : (m m' : List Answer → Progress) (names : List (List ℕ)) (from : List Piece) (answers : List Answer) (c c' : Machine) → ((ans : List Answer) → m' ans ≡ m (answers ++ ans)) → Follows m names from c → StepKeeps answers c c' → RunsFrom m' names from c'
 went m m' names from answers c c' is f k =
     let x = k f.tree f.program f.rest f.code f.fits in
@@ -119,7 +119,7 @@ stands_going m names from c wants run_from shows g =
     f.same [] ∙ shows f.tree f.program f.rest f.fits ∙ ap (λ ps. let d : Progress = record { written = ps; wants = wants } in d) f.is in
     record { pieces = g.pieces; more = g.more; has = f.has; at = inl (record { run_from = run_from; follows = f; refines = refines }) }
 
--- out of memory; the sections are as they were
+-- out of memory; the sections are unchanged
 pub fails_going : (m : List Answer → Progress) (names : List (List ℕ)) (from : List Piece) (c : Machine) (new : Client) (wants : NextStep) → new.phase ≡ phase.GivingUp → wants ≡ Ask End → IsUnchanged c.output new.machine.output → RunsFrom m names from c → RunsOn m names from new wants
 fails_going m names from c new wants gives asks same g =
     let f = g.follows in
@@ -136,7 +136,7 @@ fails_going m names from c new wants gives asks same g =
       });
     }
 
--- ---- what comes of going on
+-- ---- the result of running on
 
 runs_does : (ph : Phase) (c : Machine) (m : List Answer → Progress) (names : List (List ℕ)) (written : List Piece) → ph ≡ phase.Running → Follows m names written c → FollowsIn ph m names written c
 runs_does ph c m names written e f = subst (λ x. FollowsIn x m names written c) (sym e) f
@@ -189,7 +189,7 @@ asking_now (mode.Await o k) m names written c e waits f =
 least_at : (m : List Answer → Progress) (answers : List Answer) (a : Answer) (written : List Piece) → (after answers m []).written ≡ written → Begins (written_at m (answers ++ a ∷ [])) written
 least_at m answers a written e = begins_same _ _ (written_before m answers a ∙ ap (λ (d : Progress). d.written) (sym (now answers m)) ∙ e)
 
--- the answer was taken, and the client went on
+-- the answer was accepted, and the client ran on
 pub answered_call : (names : List (List ℕ)) (a : Answer) (m : List Answer → Progress) (answers : List Answer) (old new : Client) (mid : Machine) (w : NextStep) → old.phase ≡ phase.Running → IsAwaiting old.machine.mode → StepKeeps (a ∷ []) old.machine mid → WillGoOn old.phase mid new w → Refines old names m answers → AfterResume new names m (answers ++ a ∷ []) w
 answered_call names a m answers old new mid w run_from waits k will d =
     let f = followed old.phase old.machine (after answers m) names d.written run_from d.follows in
@@ -197,7 +197,7 @@ answered_call names a m answers old new mid w run_from waits k will d =
     let least = least_at m answers a d.written (asking_now old.machine.mode (after answers m) names d.written old.machine refl waits f) in
     came m names (answers ++ a ∷ []) g.pieces new w (begins_further _ d.written g.pieces least g.more) (will names (after (answers ++ a ∷ []) m) g.pieces run_from g.follows)
 
--- out of memory where the answer was to be taken
+-- out of memory while accepting the answer
 fails_by : (x : Mode) (a : Answer) (m : List Answer → Progress) (names : List (List ℕ)) (written : List Piece) (c : Machine) → x ≡ c.mode → IsAwaiting x → Follows m names written c → IsAsked (m (a ∷ [])).wants × Begins written (m (a ∷ [])).written
 fails_by (mode.Execute t) a m names written c e waits f = absurd waits
 fails_by (mode.Unwind w) a m names written c e waits f = absurd waits

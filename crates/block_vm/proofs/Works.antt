@@ -1,4 +1,4 @@
--- What a client waits for, and how much it has still to do.
+-- What a client waits for, and its remaining work.
 use Rattle.std.proofs.Common.{◌≡◌, ℕ, ◌+◌, ◌<◌, List, [], ◌∷◌, refl, sym, subst, arith}
 use Rattle.client_database.specs.declared.operation.Op.TheVariants as op
 use Rattle.client_database.specs.declared.next_step.NextStep.{NextStep}
@@ -14,7 +14,7 @@ use Rattle.block_vm.specs.NextStep.{IsAsking, IsLevelOp}
 use Rattle.block_vm.specs.Standing.{Standing}
 use Rattle.block_vm.specs.Work.{operations_in, WaitsIn, EndsIn, ShowsIn, IsWaiting, IsEnding, IsRequest, ShowsWants}
 
--- where it waits and awaits no answer, all is over
+-- if a running client waits but awaits no answer, the run is over and the stack is empty
 pub at_end : (ph : Phase) (m : Mode) (ks : List StackEntry) → ph ≡ phase.Running → WaitsIn ph m ks → (IsAwaiting m → ⊥) → IsOver m × (ks ≡ [])
 at_end phase.Running (mode.Execute t) ks e waits none = absurd waits
 at_end phase.Running (mode.Await o k) ks e waits none = absurd (none tt)
@@ -23,7 +23,7 @@ at_end phase.Running (mode.Unwind w) (k ∷ ks) e waits none = absurd waits
 at_end phase.GivingUp m ks e waits none = absurd (cc)
 at_end phase.Ended m ks e waits none = absurd (cc)
 
--- what it shows is an operation of levels
+-- its next step requests an operation of levels or End, or it has ended
 shows_level_in : (ph : Phase) (m : Mode) (ks : List StackEntry) (w : NextStep) → ShowsIn ph m ks w → IsLevelOp w
 shows_level_in phase.Running m ks w shows = shows.1.level
 shows_level_in phase.GivingUp m ks w shows = subst IsLevelOp (sym shows) tt
@@ -33,7 +33,7 @@ shows_level_in phase.Ended m ks (Ended e) shows = tt
 pub shows_level : (c : Standing) (w : NextStep) → ShowsWants c w → IsLevelOp w
 shows_level c w shows = shows_level_in c.phase c.machine.mode c.machine.stack.items w shows
 
--- where it asks it waits
+-- if it requests an operation, it waits
 waits_in : (ph : Phase) (m : Mode) (ks : List StackEntry) (w : NextStep) → ShowsIn ph m ks w → IsAsking w → WaitsIn ph m ks
 waits_in phase.Running (mode.Execute t) ks w shows asks = absurd shows.0
 waits_in phase.Running (mode.Await o k) ks w shows asks = tt
@@ -46,7 +46,7 @@ waits_in phase.Ended m ks (Ended e) shows asks = absurd asks
 pub shows_waits : (c : Standing) (w : NextStep) → ShowsWants c w → IsAsking w → IsWaiting c
 shows_waits c w shows asks = waits_in c.phase c.machine.mode c.machine.stack.items w shows asks
 
--- where it asks End it waits for the answer to it
+-- if it requests End, it waits for the answer to End
 ends_in : (ph : Phase) (m : Mode) (ks : List StackEntry) → ShowsIn ph m ks (Ask op.End) → EndsIn ph m ks
 ends_in phase.Running (mode.Execute t) ks shows = absurd shows.0
 ends_in phase.Running (mode.Await o k) ks shows = absurd (shows.1.no_end refl tt)
@@ -58,7 +58,7 @@ ends_in phase.Ended m ks shows = absurd shows
 pub shows_end : (c : Standing) → ShowsWants c (Ask op.End) → IsEnding c
 shows_end c shows = ends_in c.phase c.machine.mode c.machine.stack.items shows
 
--- an answer to an operation leaves fewer
+-- after an answer to an operation, fewer operations remain
 pub fewer_left : (ph : Phase) (m : Mode) (ks : List StackEntry) (units limit : ℕ) (w : NextStep) → ph ≡ phase.Running → Shows m ks w → (IsAwaiting m → units < limit) → operations_in ph m ks units < limit + 2
 fewer_left phase.Running (mode.Execute t) ks units limit w e shows less = absurd shows
 fewer_left phase.Running (mode.Await o k) ks units limit w e shows less = let lt = less tt in omega (arith, lt)
@@ -67,7 +67,7 @@ fewer_left phase.Running (mode.Unwind x) (k ∷ ks) units limit w e shows less =
 fewer_left phase.GivingUp m ks units limit w e shows less = absurd (cc)
 fewer_left phase.Ended m ks units limit w e shows less = absurd (cc)
 
--- what it shows while it runs
+-- its next step while it runs
 pub shows_running : (ph : Phase) (m : Mode) (ks : List StackEntry) (w : NextStep) → ph ≡ phase.Running → Shows m ks w → IsRequest m w → ShowsIn ph m ks w
 shows_running ph m ks w e shows request = subst (λ x. ShowsIn x m ks w) (sym e) (shows, request)
 
@@ -86,7 +86,7 @@ ended_fewer phase.Running (mode.Unwind w) (k ∷ ks) units units' m' ks' ph' e w
 ended_fewer phase.GivingUp m ks units units' m' ks' ph' e waits = subst (λ x. operations_in x m' ks' units' < 1) (sym e) (let lt : 0 < 1 = omega arith in lt)
 ended_fewer phase.Ended m ks units units' m' ks' ph' e waits = absurd waits
 
--- the most operations of one that awaits an answer
+-- the bound on the operations of a client that awaits an answer
 pub awaiting_has : (ph : Phase) (m : Mode) (ks : List StackEntry) (units : ℕ) → ph ≡ phase.Running → IsAwaiting m → operations_in ph m ks units ≡ units + 2
 awaiting_has phase.Running (mode.Execute t) ks units e waits = absurd waits
 awaiting_has phase.Running (mode.Await o k) ks units e waits = refl
@@ -94,7 +94,7 @@ awaiting_has phase.Running (mode.Unwind w) ks units e waits = absurd waits
 awaiting_has phase.GivingUp m ks units e waits = absurd (cc)
 awaiting_has phase.Ended m ks units e waits = absurd (cc)
 
--- one that awaits an answer does not wait for that of End
+-- a client that awaits an answer does not wait for the answer to End
 pub awaiting_not_ending : (ph : Phase) (m : Mode) (ks : List StackEntry) → ph ≡ phase.Running → IsAwaiting m → EndsIn ph m ks → ⊥
 awaiting_not_ending phase.Running (mode.Execute t) ks e waits ends = absurd waits
 awaiting_not_ending phase.Running (mode.Await o k) ks e waits ends = absurd ends

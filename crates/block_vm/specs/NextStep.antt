@@ -1,4 +1,4 @@
--- What a client wants, and what it hears.
+-- The next step of a client, and the answers that it receives.
 use Rattle.client_database.specs.declared.operation.Op.{Op}
 use Rattle.client_database.specs.declared.operation.Op.TheVariants as op
 use Rattle.client_database.specs.declared.answer.Answer.{Answer}
@@ -7,7 +7,7 @@ use Rattle.client_database.specs.declared.next_step.NextStep.{NextStep}
 use Rattle.client_database.specs.declared.next_step.NextStep.TheVariants.{Ask, Ended}
 use Rattle.std.specs.Prelude.{[], ◌≡◌}
 
--- it asks an operation
+-- it requests an operation
 abbrev pub IsAsking : NextStep → Type 0
 IsAsking (Ask op) = Unit {0}
 IsAsking (Ended end) = ⊥
@@ -17,7 +17,7 @@ abbrev pub IsEnded : NextStep → Type 0
 IsEnded (Ask op) = ⊥
 IsEnded (Ended end) = Unit {0}
 
--- an answer after which the client goes on or ends
+-- an answer other than Blocked: the client continues or ends
 abbrev pub IsPlain : Answer → Type 0
 IsPlain (Blocked holders) = ⊥
 IsPlain answer = Unit {0}
@@ -30,7 +30,7 @@ IsOfLevels (op.Leave keep) = keep ≡ []
 IsOfLevels op.End = Unit {0}
 IsOfLevels other = ⊥
 
--- it asks such an operation, or has ended
+-- it requests such an operation, or has ended
 abbrev pub IsLevelOp : NextStep → Type 0
 IsLevelOp (Ask o) = IsOfLevels o
 IsLevelOp (Ended end) = Unit {0}

@@ -1,4 +1,4 @@
--- What it is that a client does as its run means.
+-- When a client refines its run.
 use Rattle.std.specs.Prelude.{◌≡◌, ◌⊎◌, ℕ, List, [], ◌∷◌, ◌++◌, Option, Some, None}
 use Rattle.client_database.specs.declared.answer.Answer.{Answer}
 use Rattle.client_database.specs.declared.operation.Op.TheVariants.{End}
@@ -31,7 +31,7 @@ use Rattle.block_vm.specs.declared.client.Phase.TheVariants as phase
 abbrev pub after : List Answer → (List Answer → Progress) → List Answer → Progress
 after answers m more = m (answers ++ more)
 
--- a machine that has written these pieces goes on as m says
+-- a machine that has written these pieces continues as m
 pub record Follows (m : List Answer → Progress) (names : List (List ℕ)) (written : List Piece) (c : Machine) : Type 0 where
   pub tree : ℕ → Body
   pub program : Program
@@ -43,7 +43,7 @@ pub record Follows (m : List Answer → Progress) (names : List (List ℕ)) (wri
   pub has : Wrote c.output names written
   pub same : (ans : List Answer) → m ans ≡ finished (means tree program (config_of rest c) ans)
 
--- it has ended, and the run has
+-- the client has ended, and so has the run
 pub record HasEnded (m : List Answer → Progress) (names : List (List ℕ)) (written : List Piece) (c : Machine) : Type 0 where
   pub has : Wrote c.output names written
   pub end : ClientEnd
@@ -54,31 +54,31 @@ FollowsIn phase.Running m names written c = Follows m names written c
 FollowsIn phase.GivingUp m names written c = ⊥
 FollowsIn phase.Ended m names written c = HasEnded m names written c
 
--- a client that has heard these answers has written what m wrote, and goes on as m says
+-- a client that has received these answers has written the same pieces as m, and continues as m
 pub record Refines (client : Client) (names : List (List ℕ)) (m : List Answer → Progress) (answers : List Answer) : Type 0 where
   pub written : List Piece
   pub follows : FollowsIn client.phase (after answers m) names written client.machine
 
--- out of memory after these answers: the client has written these pieces, and asks End
+-- out of memory after these answers: the client has written these pieces, and requests End
 pub record HasGivenUp (client : Client) (names : List (List ℕ)) (m : List Answer → Progress) (answers : List Answer) (pieces : List Piece) : Type 0 where
   pub ends : client.phase ≡ phase.GivingUp
   pub has : HasWritten client names pieces
   pub gave : GaveUp m answers pieces
 
--- it does as m says: it has written and wants what m says after these answers
+-- agrees with m: after these answers, it has written the same pieces and has the same next step
 pub record Agrees (client : Client) (names : List (List ℕ)) (m : List Answer → Progress) (answers : List Answer) (wants : NextStep) : Type 0 where
   pub refines : Refines client names m answers
   pub pieces : List Piece
   pub has : HasWritten client names pieces
   pub meant : m answers ≡ record { written = pieces; wants = wants }
 
--- it gives up, and asks End
+-- it gives up, and requests End
 pub record GivesUpAt (client : Client) (names : List (List ℕ)) (m : List Answer → Progress) (answers : List Answer) (wants : NextStep) : Type 0 where
   pub pieces : List Piece
   pub given_up : HasGivenUp client names m answers pieces
   pub asks : wants ≡ Ask End
 
--- what came of a call after these answers
+-- the result of a call after these answers: the client agrees with m, or gives up
 abbrev pub AfterResume : Client → List (List ℕ) → (List Answer → Progress) → List Answer → NextStep → Type 0
 AfterResume client names m answers wants = Agrees client names m answers wants ⊎ GivesUpAt client names m answers wants
 
@@ -86,7 +86,7 @@ AfterResume client names m answers wants = Agrees client names m answers wants �
 abbrev pub HasNotBegun : Client → Type 0
 HasNotBegun c = (c.phase ≡ phase.Running) × IsRunning (mode_of c.machine.code.instrs.items c.machine.memory.copies c.machine.mode)
 
--- an answer comes where one is waited for, and none at the first call
+-- a call passes an answer if the client waits for one, and none if it is the first call
 abbrev pub IsExpected : Option Answer → Client → List Answer → Type 0
 IsExpected None c answers = HasNotBegun c × (answers ≡ [])
 IsExpected (Some a) c answers = IsWaiting c
@@ -98,13 +98,13 @@ answers_with answers (Some a) = answers ++ a ∷ []
 
 -- ---- inside of a call
 
--- a machine that went on from what was written
+-- a machine that has run on from these pieces
 pub record RunsFrom (m : List Answer → Progress) (names : List (List ℕ)) (from : List Piece) (c : Machine) : Type 0 where
   pub pieces : List Piece
   pub more : Begins from pieces
   pub follows : Follows m names pieces c
 
--- it stands where the run stands
+-- the client and the run are at the same point, and have the same next step
 pub record IsAt (m : List Answer → Progress) (names : List (List ℕ)) (pieces : List Piece) (c : Client) (wants : NextStep) : Type 0 where
   pub run_from : c.phase ≡ phase.Running
   pub follows : Follows m names pieces c.machine
@@ -117,7 +117,7 @@ pub record GaveIn (m : List Answer → Progress) (pieces : List Piece) (c : Clie
   pub op_asked : IsAsked (m []).wants
   pub to : Begins pieces (m []).written
 
--- what came of going on
+-- the result of running on: the client is where the run is, or out of memory
 pub record RunsOn (m : List Answer → Progress) (names : List (List ℕ)) (from : List Piece) (c : Client) (wants : NextStep) : Type 0 where
   pub pieces : List Piece
   pub more : Begins from pieces

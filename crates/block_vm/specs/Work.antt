@@ -1,4 +1,4 @@
--- How much a client has still to do, and what it waits for.
+-- The remaining work of a client, and what it waits for.
 use Rattle.std.specs.Prelude.{◌≡◌, ◌+◌, ℕ, List, [], ◌∷◌}
 use Rattle.client_database.specs.declared.operation.Op.TheVariants.{End}
 use Rattle.client_database.specs.declared.next_step.NextStep.{NextStep}
@@ -13,8 +13,8 @@ use Rattle.block_vm.specs.Standing.{Standing}
 use Rattle.client_machine.specs.Step.{IsAwaiting}
 use Rattle.block_vm.specs.NextStep.{IsEnded, IsLevelOp}
 
--- the most operations that a client will still ask, the one that it asks included and beside those it asks again after
--- Blocked: each one but End costs a unit
+-- an upper bound on further operations, the current one included; repeats after Blocked do not count. Each operation but
+-- End costs a unit
 abbrev pub operations_in : Phase → Mode → List StackEntry → ℕ → ℕ
 operations_in phase.Running (mode.Execute t) ks units = units + 2
 operations_in phase.Running (mode.Await o k) ks units = units + 2
@@ -50,12 +50,12 @@ EndsIn phase.Ended m ks = ⊥
 abbrev pub IsEnding : Standing → Type 0
 IsEnding c = EndsIn c.phase c.machine.mode c.machine.stack.items
 
--- it asks an operation of levels, and End alone at the end
+-- it requests an operation of levels or has ended; it does not request End while the machine awaits an answer
 pub record IsRequest (m : Mode) (wants : NextStep) : Type 0 where
   pub level : IsLevelOp wants
   pub no_end : wants ≡ Ask End → IsAwaiting m → ⊥
 
--- what it wants
+-- its next step
 abbrev pub ShowsIn : Phase → Mode → List StackEntry → NextStep → Type 0
 ShowsIn phase.Running m ks wants = Shows m ks wants × IsRequest m wants
 ShowsIn phase.GivingUp m ks wants = wants ≡ Ask End

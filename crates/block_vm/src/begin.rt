@@ -24,7 +24,7 @@ fn slots_of(values: &Row) -> Result<Slots, AllocError>
     Ok(Slots::new(copy_row(values)?.into_vec()))
 }
 
-/// Adds streams at which nothing is opened.
+/// Adds streams without an opened input or output.
 fn push_streams(streams: &mut Vec<Stream>, count: u32) -> Result<(), AllocError>
     ensures { OnOk result (streams.new.items ≡ streams.old.items ++ replicate count no_stream) }
 {
@@ -38,7 +38,7 @@ fn push_streams(streams: &mut Vec<Stream>, count: u32) -> Result<(), AllocError>
     Ok(())
 }
 
-/// The streams of a client that begins: the unnamed one, and so many others.
+/// The initial streams of a client: the unnamed one, and then `named` others.
 fn first_streams(alloc: Global, named: u32) -> Result<Vec<Stream>, AllocError>
     ensures { IfOk result (λ streams. streams.items ≡ replicate (named + 1) no_stream) }
 {
@@ -52,8 +52,8 @@ fn first_streams(alloc: Global, named: u32) -> Result<Vec<Stream>, AllocError>
     Ok(streams)
 }
 
-/// The memory of a client that begins: the variables and the empty buffers of the external procedure,
-/// which is the first. A source has one always.
+/// The initial memory of a client: the variables and the empty buffers of the external procedure,
+/// which is the first one. Every source has it.
 fn first_memory(alloc: Global, code: &Code) -> Result<Memory, AllocError>
     ensures { IfOk result (λ memory. HasFirst memory code.now.procedures.items) }
 {
@@ -80,7 +80,7 @@ fn first_place(code: &Code) -> usize
     }
 }
 
-/// The machine that runs the code from its beginning, with so many units.
+/// The machine at the start of the code, with `units` units.
 pub fn first_machine(
     alloc: Global,
     code: Code,

@@ -62,8 +62,8 @@ impl Client {
         })
     }
 
-    /// The answer to what was asked last, none at the first call; then what the client asks next,
-    /// or how it has ended. Blocked makes it ask the same operation again.
+    /// Takes the answer to the last request, or None at the first call. Returns the next request,
+    /// or how the client has ended. Blocked makes it repeat the same request.
     pub fn resume(&mut self, answer: Option<Answer>) -> NextStep
         ensures refines { (names : List (List ℕ)) (m : List Answer → Progress) (answers : List Answer) → IsExpected answer self.old answers → Refines self.old names m answers → AfterResume self.new names m (answers_with answers answer) result }
         ensures given_up { (names : List (List ℕ)) (m : List Answer → Progress) (answers : List Answer) (pieces : List Piece) → HasGivenUp self.old names m answers pieces → IfSome answer (λ _. (result ≡ NextStep.Ended ClientEnd.NoMemory) × HasWritten self.new names pieces) }
@@ -91,7 +91,7 @@ impl Client {
         }
     }
 
-    /// The answer to what was asked last, and what comes after it.
+    /// Takes the answer to the last request, and returns the next step.
     fn resume_with(&mut self, answer: Answer) -> NextStep
         ensures refines { (names : List (List ℕ)) (m : List Answer → Progress) (answers : List Answer) → IsWaiting self.old → Refines self.old names m answers → AfterResume self.new names m (answers ++ answer ∷ []) result }
         ensures given_up { (names : List (List ℕ)) (m : List Answer → Progress) (answers : List Answer) (pieces : List Piece) → HasGivenUp self.old names m answers pieces → (result ≡ NextStep.Ended ClientEnd.NoMemory) × HasWritten self.new names pieces }
@@ -110,7 +110,7 @@ impl Client {
         }
     }
 
-    /// The answer to what the machine asked last, and what comes after it.
+    /// Takes the answer to the machine's last request, and returns the next step.
     fn run_with(&mut self, answer: Answer) -> NextStep
         requires running { self.old.phase ≡ Phase.Running }
         ensures refines { (names : List (List ℕ)) (m : List Answer → Progress) (answers : List Answer) → IsWaiting self.old → Refines self.old names m answers → AfterResume self.new names m (answers ++ answer ∷ []) result }
@@ -133,8 +133,8 @@ impl Client {
         }
     }
 
-    /// Steps until there is something to ask. An operation costs a unit, so that fewer than `limit`
-    /// are left where it asks one.
+    /// Steps the machine until it has a request. An operation costs a unit, so fewer than `limit`
+    /// units are left when it requests one.
     fn run_on(&mut self, limit: u64) -> NextStep
         ensures follows { (names : List (List ℕ)) (m : List Answer → Progress) (from : List Piece) → self.old.phase ≡ Phase.Running → Follows m names from self.old.machine → RunsOn m names from self.new result }
         ensures fewer { self.old.phase ≡ Phase.Running → most_operations self.new < limit + 2 }
@@ -162,7 +162,7 @@ impl Client {
         self.give_up()
     }
 
-    /// Whether it asks an operation with at least so many units left.
+    /// Whether the machine awaits an operation with at least `limit` units left.
     fn asks_too_much(&self, limit: u64) -> bool
         ensures { result ≡ false → IsAwaiting self.now.machine.mode → self.now.machine.units < limit }
     {
@@ -193,14 +193,15 @@ impl Client {
     }
 }
 
-/// Whether the database had no memory for the operation.
+/// Whether the database answered out of memory.
 fn is_no_memory(answer: &Answer) -> bool
     ensures { result ≡ false → answer.now ≡ Answer.NoMemory → ⊥ }
 {
     matches!(answer, Answer::NoMemory)
 }
 
-/// After Blocked the same operation is asked again, which costs nothing.
+/// The limit for the next request: the units left, or no limit after Blocked, because repeating the
+/// operation costs nothing.
 fn limit_after(answer: &Answer, units: u64) -> u64
     ensures { IsPlain answer.now → result ≡ units }
 {

@@ -1,5 +1,5 @@
--- Two places that differ in the namings of the source alone, and the namings of names and expressions there, compared by a relation that holds of what
--- single names make and is kept where lists are joined.
+-- Two scenes that differ only in the namings and buffers of their source. The namings that names and expressions make in each are compared
+-- by a relation. It holds for the namings of single names, and appending lists preserves it.
 use Rattle.std.proofs.Common.{◌≡◌, ℕ, ◌+◌, Bool, true, false, List, [], ◌∷◌, ◌++◌, Option, Some, None, refl, sym, ap, subst}
 use Rattle.std.specs.Prelude.{slice_index_or}
 use Rattle.abl_base.specs.declared.place.Place.{Place}
@@ -26,13 +26,13 @@ use Rattle.bind_blocks.specs.Headers.{counter_of}
 
 -- ---- the two places
 
--- other namings of a source
+-- other namings and buffers of a source
 pub record Others : Type 0 where
   pub said : List Naming
   pub buffers : List NamedBuffer
   pub named : List NamedBuffer
 
--- the place in a source of other namings
+-- the scene with these other namings and buffers, and otherwise the same
 abbrev pub varied : Scene → Others → Scene
 varied w d = record {
   context = record { schema = w.context.schema; namings = d.said; procedures = w.context.procedures };
@@ -44,12 +44,12 @@ varied w d = record {
   block = w.block;
 }
 
--- the relation is kept where lists are joined
+-- the relation holds for empty lists, and appending preserves it
 pub record IsKept (R : List Naming → List Naming → Type 0) : Type 0 where
   pub nil : R [] []
   pub join : (ps qs rs ss : List Naming) → R ps qs → R rs ss → R (ps ++ rs) (qs ++ ss)
 
--- it holds of what single names make
+-- appending preserves the relation, and it holds for the namings of single names
 pub record IsLeaf (R : List Naming → List Naming → Type 0) (w : Scene) (d : Others) : Type 0 where
   pub kept : IsKept R
   pub buffers : (name : List ℕ) (x : NamedBuffer) → buffer_named w name ≡ Some x → (kind : NamingKind) (explicit : Bool) (place : Place) → R (names_it w x kind explicit place ∷ []) (names_it w x kind explicit place ∷ [])
@@ -60,7 +60,7 @@ nothing R xs ys h e f = rw (e, f) h
 
 -- ---- names
 
--- the naming of a buffer that stands where a value or a target is wanted
+-- the naming made by using a name as a value or a target: one if it means a buffer, else none
 abbrev pub used : Scene → Place → Meaning → List Naming
 used w place (TheVariable v mask) = []
 used w place (TheField buffer field kind mask) = []
@@ -105,7 +105,7 @@ among_uses w place word [] = refl
 among_uses w place word (x ∷ []) = field_uses w place word.at x false (field_named w.context.schema x.table word.spelling)
 among_uses w place word (x ∷ y ∷ bs) = refl
 
--- what a field of a buffer names
+-- a field of a buffer makes no naming
 pub field_as_names : (buffer field : ℕ) (mask : List ℕ) (k : Option Kind) (place : Place) → (field_as buffer field mask k place).names ≡ []
 field_as_names buffer field mask None place = refl
 field_as_names buffer field mask (Some k) place = refl
@@ -131,7 +131,7 @@ none_or R (Some a) x h g = g
 pub both_names : (R : List Naming → List Naming → Type 0) (xs ys zs : List Naming) → xs ≡ zs → ys ≡ zs → R zs zs → R xs ys
 both_names R xs ys zs e f h = rw (e, f) h
 
--- what a name makes, where it stands for a value
+-- the relation holds for the namings of a name used as a value, judged as i and as j
 abbrev pub NameRelates : (List Naming → List Naming → Type 0) → Scene → Others → Place → Judged Meaning → Judged Meaning → Type 0
 NameRelates R w d place i j = R (i.names ++ used w place i.is) (j.names ++ used (varied w d) place j.is)
 
@@ -165,7 +165,7 @@ of_meaning_relates R w d l place name f g e h =
     subst (λ xs. R ((meaning w name).names ++ xs) ((meaning (varied w d) name).names ++ (g (meaning (varied w d) name).is).names)) (sym (e (meaning w name).is))
     (subst (λ ys. R ((meaning w name).names ++ used w place (meaning w name).is) ((meaning (varied w d) name).names ++ ys)) (sym (h (meaning (varied w d) name).is)) (name_relates R w d l place name))
 
--- a name alone
+-- the namings of a name, without those of its use as a value
 pub alone_relates : (R : List Naming → List Naming → Type 0) (w : Scene) (d : Others) → IsLeaf R w d → (name : Named) → R (meaning w name).names (meaning (varied w d) name).names
 alone_relates R w d l (Plain word) = go (variable_named w.known word.spelling)
   where
@@ -184,7 +184,7 @@ alone_relates R w d l (Qualified z field at) = go (buffer_named w z) refl
         both_names R _ _ _ (field_names_it w x field true at) (field_names_it (varied w d) x field true at)
         (none_or R (field_named w.context.schema x.table field) (names_it w x naming_kind.Free true at) l.kept.nil (l.buffers z x e naming_kind.Free true at))
 
--- a buffer that is wanted
+-- a name in a position that requires a buffer
 pub buffer_relates : (R : List Naming → List Naming → Type 0) (w : Scene) (d : Others) → IsLeaf R w d → (kind : NamingKind) (explicit : Bool) (word : Word) → R (buffer w kind explicit word).names (buffer (varied w d) kind explicit word).names
 buffer_relates R w d l kind explicit word = go (buffer_named w word.spelling) refl
   where

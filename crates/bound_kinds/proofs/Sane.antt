@@ -1,4 +1,4 @@
--- What a procedure has defined where it breaks no rule: each variable begins with a value of its kind, under a mask for its kind.
+-- The definitions of a procedure that breaks no rule: each variable has an initial value of its kind, and a mask for its kind.
 use Rattle.std.proofs.Common.{◌≡◌, ℕ, Bool, true, false, List, [], ◌∷◌, ◌++◌, Option, Some, None, length, map, zero, suc, refl, sym, ap, subst, ◌∙◌, append-nil}
 use Rattle.std.specs.Prelude.{if◌then◌else◌, slice_get, unwrap_or}
 use Rattle.std.specs.Option.{is_some}
@@ -118,7 +118,7 @@ options_make k o (x ∷ xs) h e = options_make k (option k x o).is xs (option_ma
 
 -- ---- variables
 
--- the variable is the procedure's own, and of the kind that it has there
+-- the variable is not external, and the definitions list its kind at its number
 pub record HasKind (d : Defined) (v : Variable) : Type 0 where
   pub own : v.external ≡ false
   pub kind : is_kind v.kind (slice_get (if v.undoable then undoable_kinds d.variables else no_undo_kinds d.variables) v.number) ≡ true
@@ -127,7 +127,7 @@ pub record IsSane (d : Defined) (v : NamedVariable) : Type 0 where
   pub has : HasKind d v.variable
   pub masked : mask_is_for v.mask v.variable.kind ≡ true
 
--- the variables have their kinds, and the values with which they begin are of these
+-- the variables and parameters have the listed kinds, each mask is for its variable's kind, and the initial values have these kinds
 pub record AreSane (d : Defined) : Type 0 where
   pub variables : Each (IsSane d) d.variables
   pub parameters : Each (HasKind d) d.parameters
@@ -176,7 +176,7 @@ one_value k v [] (u ∷ vs) g h = absurd cc
 one_value k v (l ∷ ks) [] g h = absurd cc
 one_value k v (l ∷ ks) (u ∷ vs) g h = both _ _ (both_left (is_of_kind l u) _ h) (one_value k v ks vs g (both_right (is_of_kind l u) _ h))
 
--- it has the number after those before it
+-- its number is the length of the list before it, and its kind is listed there
 new_kind : (k : Kind) (c : Bool) (name mask : List ℕ) (external : Bool) (n : ℕ) (xs : List NamedVariable) (vs us : List Value) → n ≡ length (if c then vs else us) →
     are_of_kinds (undoable_kinds xs) vs ≡ true → are_of_kinds (no_undo_kinds xs) us ≡ true →
     let one : NamedVariable = record { name = name; variable = record { external = external; undoable = c; number = n; kind = k }; mask = mask } in
@@ -220,7 +220,7 @@ with_variable_sane k name o is_parameter d m g h =
       no_undo = new_no_undo k first o.undoable name.spelling mask false n d.variables d.no_undo is_first h.no_undo;
     }
 
--- what has the same variables and parameters
+-- definitions with the same variables, parameters and initial values are sane too
 same_sane : (d e : Defined) → e.variables ≡ d.variables → e.parameters ≡ d.parameters → e.undoable ≡ d.undoable → e.no_undo ≡ d.no_undo → AreSane d → AreSane e
 same_sane d e vs ps us ns h = record {
   variables = subst (Each (IsSane e)) (sym vs) (each_map (IsSane d) (IsSane e) d.variables (λ v g. record { has = again v.variable g.has; masked = g.masked }) h.variables);

@@ -110,7 +110,7 @@ abbrev pub is_shown : Surroundings → Option (List ℕ) → Expr → Bool
 is_shown x None = is_value x
 is_shown x (Some mask) = is_good x (mask_fits mask)
 
--- nothing is asked of what is left out
+-- a part that is left out passes the test
 abbrev pub if_there : {A : Type 0} → (A → Bool) → Option A → Bool
 if_there test None = true
 if_there test (Some a) = test a
@@ -140,7 +140,7 @@ abbrev pub parts_of : TableDef → Option ℕ → List KeyPart
 parts_of t None = []
 parts_of t (Some i) = (slice_index_or t.indexes i no_index).parts
 
--- each value of a bracket has the kind of the component beside it, and fits it
+-- each value of a bracket has a component at its position, is of that component's kind, and fits it
 abbrev pub is_bracket : Surroundings → TableDef → List KeyPart → List BracketValue → Bool
 is_bracket x t parts [] = true
 is_bracket x t [] (v ∷ vs) = false
@@ -177,14 +177,14 @@ is_argument x p (b.In e) = is_for x p.kind e
 is_argument x p (b.Out v) = is_variable x v && same_kind p.kind v.kind
 is_argument x p (b.InOut v) = is_variable x v && same_kind p.kind v.kind
 
--- as many arguments as parameters
+-- the lists have the same length, and each argument fits its parameter
 abbrev pub are_arguments : Surroundings → List Variable → List Argument → Bool
 are_arguments x [] [] = true
 are_arguments x [] (a ∷ as_) = false
 are_arguments x (p ∷ ps) [] = false
 are_arguments x (p ∷ ps) (a ∷ as_) = is_argument x p a && are_arguments x ps as_
 
--- for the parameters of a procedure that there is
+-- the procedure exists, and the arguments fit its parameters
 abbrev pub is_run : Surroundings → Option (List Variable) → List Argument → Bool
 is_run x None as_ = false
 is_run x (Some ps) as_ = are_arguments x ps as_
@@ -233,7 +233,7 @@ abbrev mutual
 abbrev pub is_of_kind : Kind → Value → Bool
 is_of_kind kind v = may (same_kind kind) (sort_of_value v)
 
--- each value is of the kind beside it, or `?`, and there are as many values as kinds
+-- the lists have the same length, and each value is `?` or of the kind at its position
 abbrev pub are_of_kinds : List Kind → List Value → Bool
 are_of_kinds [] [] = true
 are_of_kinds [] (v ∷ vs) = false
@@ -257,14 +257,15 @@ is_good_procedure x q = begins_well x.own q && (list_all (is_variable x) q.param
 abbrev pub is_procedure : SchemaData → VariableKinds → List (List Variable) → VariableKinds → Procedure → Bool
 is_procedure schema outer parameters own q = is_good_procedure (inside schema outer parameters own q) q
 
--- each procedure with the kinds beside it
+-- the lists have the same length, and each procedure is well-kinded with the variable kinds at its position
 abbrev pub are_procedures : SchemaData → VariableKinds → List (List Variable) → List VariableKinds → List Procedure → Bool
 are_procedures schema outer parameters [] [] = true
 are_procedures schema outer parameters [] (q ∷ qs) = false
 are_procedures schema outer parameters (own ∷ kinds) [] = false
 are_procedures schema outer parameters (own ∷ kinds) (q ∷ qs) = is_procedure schema outer parameters own q && are_procedures schema outer parameters kinds qs
 
--- IT IS WELL-KINDED where the variables of its procedures have these kinds, those of the external one first: one kind a variable, wherever it is used
+-- IT IS WELL-KINDED where the variables of its procedures have these kinds, the external procedure's first: one kind per variable, wherever
+-- it is used
 abbrev pub is_well_kinded : SchemaData → List VariableKinds → Source → Bool
 is_well_kinded schema [] source = false
 is_well_kinded schema (main ∷ others) source = are_procedures schema main (parameters_of source.procedures) (main ∷ others) source.procedures

@@ -1,4 +1,4 @@
--- The walk over the syntax goes on by one statement, by one item, and into a block.
+-- The walk over the syntax advances by one statement or one item, or enters a block.
 use Rattle.std.proofs.Common.{◌≡◌, ℕ, suc, ◌+◌, ◌<◌, List, ◌∷◌, length, get_or, drop, sym, ap, ◌∙◌, add-one}
 use Rattle.std.specs.Prelude.{map, Bool, Box, Vec}
 use Rattle.std.specs.declared.alloc.Global.{Global}

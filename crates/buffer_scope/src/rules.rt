@@ -21,7 +21,7 @@ use bound_tree::{Reference, ReferenceKind};
 use std::alloc::{AllocError, Global};
 use std::collections::BTreeSet;
 
-/// Rules S1 to S4 for a buffer with these references, which has these scopes.
+/// Rules S1 to S4 for a buffer with these references and scopes.
 #[tactic(auto, using(crate::proofs::Joined::first_of_append))]
 pub fn buffer_breaks(
     alloc: Global,
@@ -176,7 +176,8 @@ fn repeats(
     Ok(())
 }
 
-/// A reference after others, of which the strong ones are in the headers of the blocks `seen`.
+/// Checks rule S4 for a reference, and adds its block to `seen` if it is strong. `seen` contains
+/// the blocks whose headers have the strong references before it.
 fn see(
     seen: &mut BTreeSet<usize>,
     reference: &Reference,

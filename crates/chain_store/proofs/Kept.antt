@@ -1,4 +1,4 @@
--- What is kept of the slots for rows, over changes of what is known of slots and over writes.
+-- The invariant `IsKept` of the slots for rows is preserved by changes of the places and by writes.
 use Rattle.std.proofs.Common.{◌≡◌, ◌≢◌, ◌⊎◌, inl, inr, ⊎_elim, ℕ, zero, suc, ◌+◌, ◌<◌, ◌||◌, cond, eqb, Bool, true, false, List, [], ◌∷◌, ◌++◌, drop, replicate, refl, sym, ap, ◌∙◌, subst, arith}
 use Rattle.std.specs.List.{Contains}
 use Rattle.std.proofs.lemmas.Bool.{cases_eq}
@@ -15,7 +15,7 @@ use Rattle.row_chain.proofs.Within.{none_in, head_in, tail_in}
 use Rattle.chain_store.specs.declared.places.Place.{Place}
 use Rattle.chain_store.specs.Places.{AreLaid, AreReady, Fits, IsKept, IsReady, owner_in, place_in, previous_in, row_in}
 
--- a slot is among others or not
+-- a slot is in a list, or it is not
 pub among : (xs : List ℕ) (k : ℕ) → Contains xs k ⊎ (¬ Contains xs k)
 among [] k = inr (none_in k)
 among (x ∷ xs) k = elim (cases_eq k x) [
@@ -38,7 +38,7 @@ not_both false e f = cc e
 pub not_here : {X : Type 0} (k n : ℕ) (x y : X) → k ≢ n → cond (eqb k n) x y ≡ y
 not_here k n x y ne = let other : eqb k n ≡ false = grind (arith, nat_tests, ne) in ap (λ (b : Bool). cond b x y) other
 
--- slots are tied to rows
+-- the invariant ties slots to rows
 pub tied_of : (s : SlotState) (places : List Place) → IsKept s places → IsReadable s → IsTied (IsValue s) (row_in places)
 tied_of s places kept readable = record {
   first = λ k bytes is within kind. (kept.fits readable k bytes within is).first kind;
@@ -47,7 +47,7 @@ tied_of s places kept readable = record {
 
 -- ---- slots are noted as a row's
 
--- what was known of a slot of the chain, and what is known of it then
+-- the place of a slot of the chain, before and after it is laid
 record Moved (was now : Place) (k row owner : ℕ) : Type 0 where
   pub within : ends k ≡ false
   pub previous : ℕ

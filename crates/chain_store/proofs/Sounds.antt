@@ -1,4 +1,4 @@
--- What holds between calls, after each call.
+-- The invariant between calls holds after each call.
 use Rattle.std.proofs.Common.{◌≡◌, ◌≢◌, ◌⊎◌, inl, inr, ⊎_elim, ℕ, ◌<◌, Bool, true, false, List, length, slice_set, Result, Ok, Err, IsErrOf, OnOk, refl, sym, ◌∙◌, ap, arith}
 use Rattle.std.proofs.lemmas.Bool.{cases_eq}
 use Rattle.std.proofs.lemmas.List.{length-set}
@@ -12,7 +12,7 @@ use Rattle.chain_store.specs.Noted.{IsNoted, IsSound}
 use Rattle.chain_store.proofs.ClientLists.{client_set_other, client_set_same}
 use Rattle.chain_store.proofs.NotedSteps.{noted_rests}
 
--- what a refusal says of the flag
+-- the flag after a refusal: it equals `failed` of the new state, which is either unchanged or true
 pub record FlagAfter (s t : SlotState) (now : Bool) : Type 0 where
   pub same : now ≡ t.failed
   pub either : (t.failed ≡ s.failed) ⊎ (t.failed ≡ true)
@@ -59,7 +59,7 @@ sound_turned s t places free cs client x flag lt others begun same noted sound =
     at : (c : ℕ) → c ≡ client → client_in (slice_set cs client x) c ≡ view_of x
     at c e = ap (λ (n : ℕ). client_in (slice_set cs client x) n) e ∙ client_set_same cs client x within
 
--- one client's transaction goes on
+-- one client's transaction changes, and stays begun
 pub sound_goes_on : (s t : SlotState) (places : List Place) (free : ℕ → ℕ) (cs : List Client) (client : ℕ) (flag : Bool) → client < 16 → ((c : ℕ) → c ≢ client → t.transaction c ≡ s.transaction c) → (s.transaction client).begun ≡ true → (t.transaction client).begun ≡ true
     → t.failed ≡ s.failed → (t.failed ≡ false → IsNoted t places free cs) → IsSound s places free cs flag → IsSound t places free cs flag
 sound_goes_on s t places free cs client flag lt others was now same noted sound = record {
@@ -87,13 +87,13 @@ sound_wrote s t places new free left cs ds client flag lt others begun same many
   noted = λ fine. noted;
 }
 
--- a refusal that is not of the disk, and not of a full transaction, is of memory
+-- a refusal other than Disk and TxFull is NoMemory
 pub memory_left : {T : Type 0} (fault : SlotFault) → (IsErrOf {T = T} (Err fault) TxFull → ⊥) → (IsErrOf {T = T} (Err fault) Disk → ⊥) → IsErrOf {T = T} (Err fault) NoMemory
 memory_left Disk full disk = absurd (disk refl)
 memory_left TxFull full disk = absurd (full refl)
 memory_left NoMemory full disk = refl
 
--- what holds of each answer but Disk holds of Ok
+-- what holds for every answer except Disk holds for Ok
 pub on_fine : {T P : Type 0} (r : Result T SlotFault) → ((IsErrOf r Disk → ⊥) → P) → OnOk r P
 on_fine (Ok v) f = f (λ e. cc e)
 on_fine (Err e) f = tt

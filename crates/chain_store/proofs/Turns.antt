@@ -1,4 +1,4 @@
--- What is kept of the slots for rows, where a transaction begins, goes back or ends.
+-- The invariant `IsKept` of the slots for rows is preserved when a transaction begins, goes back to a mark, or ends.
 use Rattle.std.proofs.Common.{◌≡◌, inl, inr, ℕ, zero, suc, ◌+◌, ◌==◌, ◌||◌, Bool, true, false, List, [], ◌∷◌, take, drop, refl, sym, ap, ◌∙◌, subst}
 use Rattle.std.proofs.lemmas.Bool.{cases_eq}
 use Rattle.abl_storage.specs.Slots.{SlotState, Transaction, Becomes, Begins, Commits, Ends, GoesBack, Grows, IsReadable, Rests, undone, wrote}
@@ -24,7 +24,7 @@ wrote_take (suc n) (u ∷ us) k is = more (k == u.slot) (wrote (take n us) k) (w
     more true b c e f = refl
     more false b c e f = f e
 
--- one client's transaction becomes another, and no value comes
+-- one client's transaction changes, and no slot gets a new possible value
 module _ (old new : SlotState) (places : List Place) (client : ℕ) (goes_on : Bool) (writes : List Undo) (touched : ℕ → Bool) (many few more : ℕ)
     (b : Becomes client old.transaction new.transaction goes_on writes touched many few more)
     (touched_was : (k : ℕ) → touched k ≡ true → ((old.transaction client).begun ≡ true) × ((old.transaction client).written k ≡ true))

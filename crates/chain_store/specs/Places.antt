@@ -25,12 +25,12 @@ previous_in places slot = (place_in places slot).previous
 abbrev pub owner_in : List Place → ℕ → ℕ
 owner_in places slot = (place_in places slot).owner
 
--- the slot is free, or comes after this one in the row and no other client changes it
+-- the slot is free and has no owner, or it follows `previous` in the row and no other client changes it
 abbrev pub IsReady : Place → ℕ → ℕ → ℕ → Type 0
 IsReady place row previous owner =
     ((place.row ≡ 0) × (place.owner ≡ 0)) ⊎ ((place.row ≡ row) × (place.previous ≡ previous) × ((place.owner ≡ 0) ⊎ (place.owner ≡ owner)))
 
--- each is the number of a slot for rows, which may come after the one before it in the row
+-- each is a slot for rows, and is ready to follow the one before it in the list
 abbrev pub AreReady : List Place → List ℕ → ℕ → ℕ → ℕ → Type 0
 AreReady places [] row previous owner = Unit {0}
 AreReady places (at ∷ rest) row previous owner =
@@ -49,14 +49,15 @@ pub record Fits (places : List Place) (slot : ℕ) (bytes : List ℕ) : Type 0 w
   pub after : ends (next_in bytes) ≡ false → previous_in places (next_in bytes) ≡ slot
   pub free : row_in places slot ≡ 0 → kind_in bytes ≡ 0
 
--- What is kept of the slots for rows: each that a begun transaction wrote is noted as its client's, and each value that a slot has, or may have again when writes are undone, fits.
+-- The invariant of the slots for rows. A slot that a begun transaction wrote, or that an undo would restore, is recorded as its client's. A
+-- transaction that is not begun has nothing to undo. Each value that a slot has, or may have again after an undo, fits.
 pub record IsKept (s : SlotState) (places : List Place) : Type 0 where
   pub owned : (c k : ℕ) → ends k ≡ false → (s.transaction c).begun ≡ true → (s.transaction c).written k ≡ true → owner_in places k ≡ c + 1
   pub noted : (c k : ℕ) → ends k ≡ false → wrote (s.transaction c).undo k ≡ true → owner_in places k ≡ c + 1
   pub idle : (c : ℕ) → (s.transaction c).begun ≡ false → (s.transaction c).undo ≡ []
   pub fits : IsReadable s → (k : ℕ) (bytes : List ℕ) → ends k ≡ false → IsValue s k bytes → Fits places k bytes
 
--- The slot holds nothing, and neither does the slot before it point to it, which no other client changes.
+-- The slot is empty. The slot before it, if any, does not point to it, and no other client changes that slot.
 pub record IsLeft (reads : ℕ → List ℕ) (places : List Place) (slot : ℕ) : Type 0 where
   pub empty : kind_in (reads slot) ≡ 0
   pub before : ends (previous_in places slot) ≡ false →

@@ -40,8 +40,8 @@ pub struct Chains<S: Slots + Drop> {
 }
 
 impl<S: Slots + Drop> Chains<S> {
-    /// The rows of these slots. The refusals are Disk and NoMemory; the latter comes too where a slot
-    /// from 8,192 on is not empty and stands in the chain of no row, or of two.
+    /// Opens the rows of these slots. The errors are Disk and NoMemory. NoMemory is also returned
+    /// if a slot from 8,192 on is not empty and is in the chain of no row, or of two.
     pub fn open(mut slots: S, alloc: Global) -> Result<Chains<S>, (SlotFault, S)>
         requires idle { (c : ℕ) → ((S.Slots.state slots).transaction c).begun ≡ false }
         requires clean { (c : ℕ) → ((S.Slots.state slots).transaction c).undo ≡ [] }
@@ -72,7 +72,7 @@ impl<S: Slots + Drop> Chains<S> {
         }
     }
 
-    /// The slots again. Where no transaction is begun, they can be opened once more.
+    /// Returns the slots. If no transaction is begun, they can be opened again.
     pub fn close(self) -> S
         ensures same { result ≡ self.slots }
         ensures idle { (S.Slots.state result).failed ≡ false → ((c : ℕ) → c < 16 → ((S.Slots.state result).transaction c).begun ≡ false) → (c : ℕ) → (((S.Slots.state result).transaction c).begun ≡ false) × (((S.Slots.state result).transaction c).undo ≡ []) }
@@ -96,8 +96,8 @@ impl<S: Slots + Drop> Chains<S> {
         self.clients[client as usize].begun
     }
 
-    /// The number of slots that the client's transaction drew, those of undone changes included; 0
-    /// without one.
+    /// The number of slots that the client's transaction drew, including those of undone changes; 0
+    /// without a transaction.
     pub fn drawn(&self, client: u16) -> u64
         requires { client < 16 }
         ensures { result ≡ (client_in self.now.clients.items client).drawn }
@@ -105,8 +105,8 @@ impl<S: Slots + Drop> Chains<S> {
         u64::from(self.clients[client as usize].drawn)
     }
 
-    /// The number of slots that the client's transaction wrote, those of undone changes included and
-    /// those of sequences left out; 0 without one.
+    /// The number of slots that the client's transaction wrote; 0 without a transaction. Undone
+    /// changes count, slots of sequences do not.
     pub fn written(&self, client: u16) -> u64
         requires { client < 16 }
         ensures noted { result ≡ (client_in self.now.clients.items client).written }
@@ -203,7 +203,7 @@ impl<S: Slots + Drop> Chains<S> {
         }
     }
 
-    /// The transaction's present place.
+    /// The transaction's current position in its undo list.
     pub fn mark(&self, client: u16) -> Mark
         requires client { client < 16 }
         requires begun { ((S.Slots.state self.now.slots).transaction client).begun ≡ true }
@@ -212,8 +212,8 @@ impl<S: Slots + Drop> Chains<S> {
         self.slots.mark(client)
     }
 
-    /// Undoes the changes since the mark; they go on counting. The mark is of this transaction, and no
-    /// `back` to an earlier one came since it was made. It takes no memory.
+    /// Undoes the changes since the mark; undone changes still count. The mark is of this
+    /// transaction, and no `back` to an earlier mark has followed it. Takes no memory.
     pub fn back(&mut self, client: u16, mark: Mark) -> Result<(), ChainFault>
         requires client { client < 16 }
         requires begun { ((S.Slots.state self.old.slots).transaction client).begun ≡ true }
@@ -234,8 +234,8 @@ impl<S: Slots + Drop> Chains<S> {
         }
     }
 
-    /// Commits the client's transaction and ends it. It returns the moment from which on each stop
-    /// leaves its changes. After an error it is still begun. It takes no memory.
+    /// Commits the client's transaction and ends it. Returns the moment from which on every stop
+    /// preserves its changes. After an error the transaction is still begun. Takes no memory.
     pub fn commit(&mut self, client: u16) -> Result<u64, ChainFault>
         requires client { client < 16 }
         requires begun { ((S.Slots.state self.old.slots).transaction client).begun ≡ true }

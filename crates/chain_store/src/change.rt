@@ -49,9 +49,9 @@ pub fn prepare<S: Slots>(
     slots.room(client, chain.len() as u32)
 }
 
-/// Writes the slots `chain` of the row: the first of them, `kept`, hold these bytes then, and the
-/// others, `freed`, nothing. Where none is kept the row is gone. Each slot is written once, and Disk
-/// is the only refusal.
+/// Writes the slots `chain` of the row. The first ones, `kept`, then contain these bytes, and the
+/// others, `freed`, are empty. If `kept` is empty, the row is deleted. Each slot is written once.
+/// Disk is the only error.
 pub fn rewrite<S: Slots>(
     slots: &mut S,
     places: &mut [Place],
@@ -97,10 +97,10 @@ pub fn rewrite<S: Slots>(
     clear(slots, client, freed)
 }
 
-/// Changes the row by writing these slots, which are its own in their order, with free ones after
-/// them where it grows: the first `keep` of them hold the bytes then, and the others nothing; where
-/// none is kept the row is gone. Each slot is written once. A refusal for memory changes nothing; it
-/// comes too where the slots are none that the client may write.
+/// Changes the row by writing the slots `chain`: the row's own in their order, followed by free
+/// ones if it grows. The first `keep` of them then contain the bytes, and the others are empty. If
+/// `keep` is 0, the row is deleted. Each slot is written once. NoMemory changes nothing; it is also
+/// returned if the client may not write these slots.
 pub fn change<S: Slots>(
     slots: &mut S,
     places: &mut Vec<Place>,

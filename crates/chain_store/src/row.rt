@@ -1,4 +1,4 @@
-//! Changing a row: the slots that it needs are drawn, and those that it has are kept.
+//! Changing a row: its own slots are written, and free ones are drawn if it grows.
 
 ghost use Rattle.std.specs.Prelude.{◌≡◌, ◌≢◌, ◌≤◌, ◌<◌, ◌+◌, ◌-◌, ◌*◌, ◌^◌, ◌++◌, ℕ, List, length, drop, true, false, None, Some, OnOk, OnErr, IsErrOf, vec_capacity};
 ghost use Rattle.std.specs.List.{Contains};
@@ -76,10 +76,10 @@ fn draw_after(free: &mut FreeSlots, more: u32, slots: &mut Vec<u32>) -> Result<(
     Ok(())
 }
 
-/// Changes the row that is read from the slots `chain`, or inserts one where there are none: `more`
-/// free slots are drawn after them, the lowest first, and then the first `keep` of all hold the bytes
-/// and the others nothing; where none is kept the row is gone. Each slot is written once. A refusal
-/// for memory changes nothing; it comes too where the slots are none that the client may write.
+/// Changes the row that is read from the slots `chain`, or inserts one if `chain` is empty. The
+/// `more` lowest free slots are appended to `chain`. The first `keep` slots then contain the bytes,
+/// and the others are empty. If `keep` is 0, the row is deleted. Each slot is written once.
+/// NoMemory changes nothing; it is also returned if the client may not write these slots.
 pub fn write_row<S: Slots>(
     slots: &mut S,
     places: &mut Vec<Place>,

@@ -103,11 +103,11 @@ impl<S: Slots + Drop> Chains<S> {
         }
     }
 
-    /// Inserts a row of at most 30,000 bytes. It draws and writes the least number of slots that holds
-    /// the bytes, the lowest free ones. Full comes exactly where there are fewer vacant slots than that
-    /// (`IsVacant`): where the used fragments and the new ones pass 1,040,384. TxFull comes exactly
-    /// where the transaction's writes would pass 7,989. After each refusal but Disk nothing has
-    /// changed.
+    /// Inserts a row of at most 30,000 bytes. It draws and writes the least number of slots that
+    /// holds the bytes, the lowest free ones. Returns Full exactly if fewer slots are vacant
+    /// (`IsVacant`): the used fragments and the new ones would exceed 1,040,384. Returns TxFull
+    /// exactly if the transaction's writes would exceed 7,989. After any error except Disk nothing
+    /// has changed.
     pub fn insert(&mut self, client: u16, table: u16, bytes: &[u8]) -> Result<RowId, ChainFault>
         requires client { client < 16 }
         requires begun { ((S.Slots.state self.old.slots).transaction client).begun ≡ true }
@@ -138,9 +138,9 @@ impl<S: Slots + Drop> Chains<S> {
         }
     }
 
-    /// Gives the row other bytes, at most 30,000; its table stays. It writes as many slots as the
-    /// longer of the two rows has. Out of memory comes too where another client's open transaction
-    /// changed the row. The refusals are those of `insert`.
+    /// Replaces the bytes of the row by others, at most 30,000; its table stays. The number of
+    /// slots written is that of the longer of the two rows. Out of memory is also returned if
+    /// another client's open transaction changed the row. The errors are those of `insert`.
     pub fn put(&mut self, client: u16, row: RowId, bytes: &[u8]) -> Result<(), ChainFault>
         requires client { client < 16 }
         requires begun { ((S.Slots.state self.old.slots).transaction client).begun ≡ true }
@@ -167,8 +167,8 @@ impl<S: Slots + Drop> Chains<S> {
         self.change(client, &mut found.slots, keep as usize, found.table, bytes)
     }
 
-    /// Deletes the row. It writes as many slots as the row has, and never answers Full. Out of memory
-    /// comes too where another client's open transaction changed the row.
+    /// Deletes the row. Writes each slot of the row, and never returns Full. Out of memory is also
+    /// returned if another client's open transaction changed the row.
     pub fn delete(&mut self, client: u16, row: RowId) -> Result<(), ChainFault>
         requires client { client < 16 }
         requires begun { ((S.Slots.state self.old.slots).transaction client).begun ≡ true }

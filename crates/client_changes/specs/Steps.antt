@@ -1,4 +1,4 @@
--- How the steps of a change go on, from the state before to the state after.
+-- The continuation of each step of a change, from the state before it to the state after it.
 use Rattle.std.specs.Prelude.{◌≡◌, ℕ, Bool, true, false, List, ◌∷◌, Option, Some, None, nat_lt, length}
 use Rattle.abl_base.specs.declared.limits.TheConstants.{MAX_ROW_BYTES}
 use Rattle.abl_base.specs.declared.row.RowId.{RowId}
@@ -26,7 +26,7 @@ LockGoes change_lock.Enough b s = (ks : List StackEntry) → lock_step (content_
 LockGoes change_lock.ReadNoLock b s = (ks : List StackEntry) → lock_step (content_of b s) (table_of b s) b ks s ≡ fault (IsReadNoLock b) ks s
 LockGoes (change_lock.Asks op row) b s = (values : List Value) × (made : Option ℕ) × (content_of b s ≡ Record row values Share made) × ((ks : List StackEntry) → lock_step (content_of b s) (table_of b s) b ks s ≡ ask op (WasUpgraded b row values made) ks s)
 
--- the same for a row that is held so
+-- the same for a row with the lock `held`
 abbrev pub UpgradeGoes : ChangeLock → ℕ → RowId → Held → Type 0
 UpgradeGoes change_lock.Enough t row held = (b : ℕ) (values : List Value) (made : Option ℕ) (ks : List StackEntry) (s : State) → upgrade_step held t b row values made ks s ≡ config (Unwind Normal) ks s
 UpgradeGoes change_lock.ReadNoLock t row held = (b : ℕ) (values : List Value) (made : Option ℕ) (ks : List StackEntry) (s : State) → upgrade_step held t b row values made ks s ≡ fault (IsReadNoLock b) ks s
@@ -44,7 +44,7 @@ FoundGoes delete.NoRecord b s = (ks : List StackEntry) → delete_step (content_
 FoundGoes delete.Dropped b s = (ks : List StackEntry) → delete_step (content_of b s) (table_of b s) b ks s ≡ config (Unwind Normal) ks (emptied b s)
 FoundGoes (delete.Row table row) b s = (ks : List StackEntry) → delete_step (content_of b s) (table_of b s) b ks s ≡ lock_step (content_of b s) (table_of b s) b (ThenDo (DeletesRow b table row) ∷ ks) s
 
--- why a row may not be stored: its first mandatory field that is `?`, else that it has too many bytes
+-- why a row may not be stored: its first mandatory field that is `?`, or else its size
 abbrev pub storing_complaint : Option ℕ → Bool → ℕ → Option Complaint
 storing_complaint (Some f) long t = Some (IsMandatory t f)
 storing_complaint None true t = Some (RecordTooLong t)
@@ -54,14 +54,14 @@ storing_complaint None false t = None
 abbrev pub complaint_about : Program → ℕ → List Value → Option Complaint
 complaint_about p t vs = storing_complaint (missing_field 0 (table_at p t).fields vs) (nat_lt MAX_ROW_BYTES (length (bytes_of_row vs))) t
 
--- a row that is held is stored, where it may be
+-- a row in a buffer is stored: a fault if it may not be, else the operation that stores it
 abbrev pub PutGoes : StoreStep → Program → ℕ → RowId → List Value → Type 0
 PutGoes store.Nothing p t row vs = ⊥
 PutGoes store.Inserts p t row vs = ⊥
 PutGoes (store.Fails c) p t row vs = (b : ℕ) (ks : List StackEntry) (s : State) → put_unless (missing_field 0 (table_at p t).fields vs) b t row vs ks s ≡ fault (complaint_in c) ks s
 PutGoes (store.Asks op) p t row vs = (b : ℕ) (ks : List StackEntry) (s : State) → put_unless (missing_field 0 (table_at p t).fields vs) b t row vs ks s ≡ ask op (WasPut b t) ks s
 
--- a pending record is inserted, where it may be
+-- a pending record is inserted: a fault if it may not be, else the operation that inserts it
 abbrev pub InsertGoes : StoreStep → Program → ℕ → List Value → Type 0
 InsertGoes store.Nothing p t vs = ⊥
 InsertGoes store.Inserts p t vs = ⊥

@@ -1,8 +1,8 @@
 //! How a record is changed, step by step: the lock before the change, storing a changed record,
 //! inserting a pending one, CREATE and DELETE. It depends on `client_buffers` for the buffers of the
 //! running procedure and on `record_rules` for what may be stored. A layer above may rely on
-//! `specs/Steps.antt`: each call changes the buffers as the step of `block_flat` does, and says how
-//! the step goes on.
+//! `specs/Steps.antt`: each call changes the buffers as the step of `block_flat` does, and returns
+//! how the step continues.
 #![tactic(auto)]
 
 pub mod creates;

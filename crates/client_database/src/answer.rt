@@ -6,9 +6,9 @@ use crate::row_order::ClientIds;
 use abl_base::{Bytes, Row, RowId, copy_row};
 use std::alloc::AllocError;
 
-/// What the database answers (this project's choice). The variants up to `NoMemory` are no successes,
-/// in the order in which the database checks for them; after each of them rows, locks, reserved keys,
-/// levels and sequences are as before.
+/// The answers of the database (this project's choice). The variants up to `NoMemory` are not
+/// successes, and are in the order in which the database checks for them. They leave rows, locks,
+/// reserved keys, levels and sequences unchanged.
 #[derive(Drop)]
 pub enum Answer {
     /// The operation is not allowed in the present state.
@@ -42,7 +42,7 @@ pub enum Answer {
     Done,
     /// The transaction is committed, at this moment of the disk.
     Committed { moment: u64 },
-    /// A row with the key bytes that it has in the index, empty without one.
+    /// A row with its key bytes in the index; they are empty without an index.
     Found { row: RowId, key: Bytes, values: Row },
     Row(Row),
     Granted,

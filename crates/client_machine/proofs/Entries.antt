@@ -20,7 +20,7 @@ use Rattle.client_machine.specs.Inputs.{names_of}
 use Rattle.client_machine.specs.Order.{nesting_of, CompletesInOrder, ModeInOrder, IsNoFault}
 use Rattle.client_machine.specs.Step.{FitsIn, KeepsCompletion, KeepsEntry}
 
--- the machine goes on in another mode
+-- the machine changes only its mode
 pub entry_kept : (entry : StackEntry) (w : Completion) (old new : Machine) (m : Mode) → (let x : Machine = record old { mode = m } in new ≡ x) →
     (CompletesInOrder (nesting_of old.memory) w (entry ∷ reverse old.stack.items) → ModeInOrder (nesting_of old.memory) m (reverse old.stack.items)) →
     ((p : Program) (rest : State) → flat.config (mode_of old.code.instrs.items old.memory.copies m) (stack_in old) (state_in rest old) ≡ flat.pop_step p (entry_of old.code.instrs.items old.memory.copies entry) (completion_of old.code.instrs.items old.memory.copies w) (stack_in old) (state_in rest old)) →
@@ -39,7 +39,7 @@ entry_kept entry w old new m moved order steps = λ tree p rest is f.
           ∙ ap (λ (m : Machine). flat.means tree p (config_of rest m) ans) (sym moved);
     }
 
--- the innermost entry was taken off the stack
+-- the innermost entry was popped from the stack
 pub unwound : (entry : StackEntry) (w : Completion) (old mid new : Machine) → reverse old.stack.items ≡ entry ∷ reverse mid.stack.items →
     (let x : Machine = record old { stack = mid.stack } in KeepsEntry entry w x new) → KeepsCompletion w old new
 unwound entry w old mid new popped kept = λ tree p rest is f.
@@ -53,7 +53,7 @@ unwound entry w old mid new popped kept = λ tree p rest is f.
       same = λ ans. ap (λ ks. flat.means tree p (flat.config (flat.Unwind (completion_of old.code.instrs.items old.memory.copies w)) (stack_of old.code.instrs.items old.memory.copies ks) (state_in rest old)) ans) popped ∙ k.same ans;
     }
 
--- no fault: the entry of a statement lets it pass
+-- a completion that is no fault passes the entry of a statement
 pub passes : (quiet : Bool) (w : Completion) (old : Machine) (p : Program) (rest : State) → IsNoFault w →
     flat.config (mode_of old.code.instrs.items old.memory.copies (mode.Unwind w)) (stack_in old) (state_in rest old) ≡ flat.pop_step p (flat.Handles quiet) (completion_of old.code.instrs.items old.memory.copies w) (stack_in old) (state_in rest old)
 passes quiet completion.Normal old p rest x = refl
@@ -70,7 +70,7 @@ passes quiet completion.Lost old p rest x = refl
 passes quiet completion.NotFound old p rest x = refl
 passes quiet (completion.Stops why) old p rest x = refl
 
--- a task that follows is passed by another completion
+-- a completion other than Normal skips a task that follows
 pub then_past : (w : Completion) (code : List Instr) (cs : List Copy) (t : flat.Task) (ks : List flat.StackEntry) (s : State) → (w ≡ completion.Normal → ⊥) →
     flat.config (flat.Unwind (completion_of code cs w)) ks s ≡ flat.then_step (completion_of code cs w) t ks s
 then_past completion.Normal code cs t ks s x = absurd (x refl)

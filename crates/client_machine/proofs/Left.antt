@@ -1,4 +1,4 @@
--- Leave is answered: the innermost level is over, and what is open keeps its copies.
+-- After the answer to Leave the innermost level is closed, and the open ones keep their copies.
 use Rattle.std.proofs.Common.{◌≡◌, ℕ, ◌-◌, ◌<◌, List, [], ◌∷◌, ◌++◌, length, refl, sym, ap, ◌∙◌, subst, arith}
 use Rattle.std.proofs.lemmas.List.{length-append}
 use Rattle.block_meaning.specs.State as state

@@ -1,4 +1,4 @@
--- What is kept, from one mode to another.
+-- The invariant of a run is preserved from one mode to the next.
 use Rattle.std.proofs.Common.{◌≤◌, ◌<◌, length, ◌≡◌, ◌⊎◌, Bool, ℕ, List, [], ◌∷◌, ◌++◌, Some, sym, ap, ◌∙◌, subst}
 use Rattle.std.specs.Prelude.{Result, Ok, Err, OnOk, IfOk, IfSome, Option, None, reverse, slice_get}
 use Rattle.client_database.specs.declared.answer.Answer.{Answer}
@@ -85,7 +85,7 @@ shows_by op k m x e tree p rest =
 pub shows_asked : (op : Op) (k : OnAnswer) (m : Machine) → m.mode ≡ mode.Await op k → Wants (Ask op) m
 shows_asked op k m e = λ tree p rest f. shows_by op k m m.mode e tree p rest
 
--- with these levels open
+-- an operation that is not on levels fits any number of open levels
 names_no_level : (n : ℕ) (o : Op) → IsNotOnLevels o → IsOfOpenLevels n (Ask o)
 names_no_level n op.Enter x = tt
 names_no_level n (op.Leave keep) x = absurd x
@@ -184,7 +184,7 @@ completion_kept completion old new moved order steps = λ tree p rest is f.
 pub pushed : {A : Type 0} (xs ys : List A) (x : A) → ys ≡ xs ++ x ∷ [] → reverse ys ≡ x ∷ reverse xs
 pushed xs ys x e = ap reverse e ∙ reverse-append xs (x ∷ [])
 
--- where it asks
+-- where the task may request an operation
 pub task_kept_ask : (task : Task) (op : Op) (k : OnAnswer) (old new : Machine) → (let m : Machine = record old { mode = new.mode; units = new.units } in new ≡ m) → (new.mode ≡ mode.Await op k) ⊎ (new.mode ≡ mode.Unwind (completion.Stops why.Budget)) →
     IsAskedFor k op →
     (TaskInOrder (nesting_of old.memory) task (reverse old.stack.items) → AskingInOrder (nesting_of old.memory) k (reverse old.stack.items)) →

@@ -22,7 +22,7 @@ IsOfAnswerClass (answer_class.Stops why) a = (p : Program) (o : Op) (k : flat.On
 IsOfAnswerClass answer_class.NoMemory a = Unit {0}
 IsOfAnswerClass answer_class.Done a = (p : Program) (o : Op) (k : flat.OnAnswer) (ks : List flat.StackEntry) (s : State) → flat.answered p a o k ks s ≡ flat.answer_step p k a ks s
 
--- the answer to the operation was taken: the run is kept
+-- taking the answer to the operation preserves the run (`RunKept`)
 abbrev pub KeepsAnswer : Op → OnAnswer → Answer → Machine → Machine → Type 0
 KeepsAnswer o on_answer a old new = (tree : ℕ → Body) (p : Program) (rest : State) → flat.IsCodeOf (code_in old) p tree → FitsIn p rest (mode.Await o on_answer) old →
     RunKept tree p (flat.config (flat.Await o (on_answer_of old.code.instrs.items old.memory.copies o on_answer)) (stack_in old) (state_in rest old)) (a ∷ []) rest.written old new

@@ -7,7 +7,7 @@ use Rattle.client_machine.specs.declared.mode.StackEntry.{StackEntry}
 use Rattle.client_machine.specs.declared.mode.Mode.{Mode}
 use Rattle.client_machine.specs.declared.mode.Mode.TheVariants as mode
 
--- in a mode, with a stack: the operation that it awaits; End, where all is over
+-- what a mode with this stack requests: the operation that it awaits, or End when it unwinds an empty stack
 abbrev pub Shows : Mode → List StackEntry → NextStep → Type 0
 Shows (mode.Execute t) ks wants = ⊥
 Shows (mode.Await o k) ks wants = wants ≡ Ask o

@@ -28,7 +28,7 @@ reading_in (flat.Plain (Find word r wait quiet) next) = r
 reading_in (flat.Plain (FindCurrent r wait quiet) next) = r
 reading_in i = no_reading
 
--- the word of a FIND, and whether it waits
+-- the kind of a FIND (`FindWord`), and whether it waits
 abbrev pub find_word_in : flat.Instr → FindWord
 find_word_in (flat.Plain (Find word r wait quiet) next) = word
 find_word_in i = find.Only

@@ -34,9 +34,8 @@ use std::alloc::AllocError;
 
 impl Machine {
     /// Assigns the values of the assignments at the place, from left to right. Under NO-ERROR a
-    /// fault sets ERROR-STATUS:ERROR, else it raises ERROR, with its line; what was assigned before
-    /// it stays. An assignment to a field, and one from a sequence, is not built: it answers that
-    /// there is no memory.
+    /// fault sets ERROR-STATUS:ERROR, else it raises ERROR, with its line. What was assigned before
+    /// it stays. Assignments to fields and from sequences are not built: they return out of memory.
     pub fn assign(
         &mut self,
         place: usize,
@@ -106,7 +105,7 @@ impl Machine {
         }
     }
 
-    /// Assigns the values of the assignments at the place, all of which are to variables.
+    /// Assigns the values of the assignments at the place. Their targets are all variables.
     fn assign_at(&mut self, place: usize, retry: bool) -> Result<(), EvalFault>
         ensures moved { self.new ≡ record self.old { memory = self.new.memory } }
         ensures shape { HasSameShape self.old.memory self.new.memory }

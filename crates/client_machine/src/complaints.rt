@@ -54,7 +54,7 @@ impl Machine {
         }
     }
 
-    /// The same for another completion, which goes on.
+    /// The same for a completion that is no fault: unwinding continues with it.
     fn passes_by(&mut self, quiet: bool, completion: Completion) -> Result<(), AllocError>
         requires other { IsNoFault completion }
         ensures ok { OnOk result (KeepsEntry (StackEntry.Handles quiet) completion self.old self.new) }

@@ -21,7 +21,7 @@ pub struct TurnData {
     /// The start value of TO, until it is set.
     pub start: Option<Value>,
     pub by: Value,
-    /// FOR: the place of the record that it has read last.
+    /// FOR: the cursor of the record that it has read last.
     pub own: Option<Cursor>,
 }
 
@@ -32,7 +32,7 @@ pub struct IterationData {
     pub turn: TurnData,
 }
 
-/// Where an expression of RETURN stands in the instruction at a place.
+/// The part of an instruction that contains the expression of a RETURN.
 #[derive(Clone, Copy, Debug)]
 pub enum ReturnSource {
     /// The statement RETURN or RETURN ERROR.
@@ -51,7 +51,7 @@ pub enum AfterUndo {
     Retry,
     Leave(u32),
     Next(u32),
-    /// RETURN, or RETURN ERROR: its expression, if it has one, stands in the code.
+    /// RETURN, or RETURN ERROR: its expression, if it has one, is in the code.
     Return {
         error: bool,
         place: usize,
@@ -61,15 +61,14 @@ pub enum AfterUndo {
     Error,
 }
 
-/// What an unwinding has passed: the outermost level that was opened there, and the buffers that are
-/// scoped there.
+/// What unwinding has passed: the outermost level opened there, and the buffers scoped there.
 #[derive(Drop)]
 pub struct PassedLevels {
     pub first: Option<u32>,
     pub buffers: BufferList,
 }
 
-/// What a statement or a header fails with, where it has a line.
+/// A fault of a statement or a header that has a line.
 #[derive(Clone, Copy)]
 pub enum LineFault {
     /// An expression, or a value that is assigned.
@@ -154,7 +153,8 @@ pub enum Task {
         passed: PassedLevels,
     },
     GoesBack(Option<u32>),
-    /// After the block at the place was undone. It names no level, since the level is left then.
+    /// After the block at the place was undone. It names no level, because that level has been
+    /// left.
     Acts {
         place: usize,
         turn: TurnData,

@@ -54,7 +54,7 @@ pub shared_count : (bs : List Buffer) → pending_count (map buffer_shared bs) �
 shared_count [] = refl
 shared_count (b ∷ bs) = ap (λ x. cond x 1 0 + pending_count (map buffer_shared bs)) (shared_pending b.content) ∙ ap (λ n. cond (is_pending b.content) 1 0 + n) (shared_count bs)
 
--- a buffer with a change that its content does not feel
+-- a change of a buffer that preserves its content preserves the count
 pub same_count : (bs : List Buffer) (n : ℕ) (change : Buffer → Buffer) → ((b : Buffer) → (change b).content ≡ b.content) → pending_count (changed_at n change bs) ≡ pending_count bs
 same_count [] n change e = refl
 same_count (b ∷ bs) zero change e = ap (λ c. cond (is_pending c) 1 0 + pending_count bs) (e b)
@@ -80,7 +80,7 @@ pub count_bound : (bs : List Buffer) → pending_count bs ≤ length bs
 count_bound [] = omega arith
 count_bound (b ∷ bs) = let h = count_bound bs in let one = one_or_none (is_pending b.content) in omega (arith, h, one)
 
--- the number of pending records that is kept
+-- the recorded number of pending records is still right after the content of a buffer changes
 pub counted_again : (bs bs' : List Buffer) (n pending pending' : ℕ) (old c : Content) (was is : Bool) → n < length bs → length bs < 2 ^ 63 → pending ≡ pending_count bs → old ≡ (slice_index_or bs n no_buffer).content → bs' ≡ changed_at n (with_content c) bs → was ≡ is_pending old → is ≡ is_pending c →
     (pending + 1 < 2 ^ 64 → (was ≡ true → 0 < pending) → pending' + cond was 1 0 ≡ pending + cond is 1 0) → pending' ≡ pending_count bs'
 counted_again bs bs' n pending pending' old c was is lt small kept held new is_was is_is recount =
@@ -91,7 +91,7 @@ counted_again bs bs' n pending pending' old c was is lt small kept held new is_w
     let e : pending' ≡ pending_count (changed_at n (with_content c) bs) = omega (arith, r, x, kept) in
     e ∙ ap pending_count (sym new)
 
--- no record is pending in buffers that begin
+-- no record is pending in initial buffers
 pub new_count : (definitions : List BufferDef) → 0 ≡ pending_count (map new_buffer definitions)
 new_count [] = refl
 new_count (d ∷ definitions) = let h = new_count definitions in omega (arith, h)
@@ -227,7 +227,7 @@ pub changed_nowhere : (at : Place) (change : Buffer → Buffer) (bss : List (Lis
 changed_nowhere at change bss le =
     sym (ap reverse (set_past (reverse bss) at.out (changed_at at.number change (buffers_out at.out bss)) (let l = length-reverse bss in omega (arith, l, le))) ∙ reverse-reverse bss)
 
--- what a call stored, of a list that it was given
+-- what a call stored, restated for an equal list
 pub stored_here : (css : List (List Content)) (xss bss : List (List Buffer)) → xss ≡ bss → contents_with css (counts_of xss) ≡ map saved_contents xss → contents_with css (counts_of bss) ≡ map saved_contents bss
 stored_here css xss bss is h = subst (λ (yss : List (List Buffer)). contents_with css (counts_of yss) ≡ map saved_contents yss) is h
 

@@ -75,7 +75,7 @@ take_inner (suc a) (suc b) (x ∷ xs) le = ap (λ ys. x ∷ ys) (take_inner a b 
 same_part : (a b : ℕ) (xs ys : List ℕ) → a ≤ b → take b xs ≡ take b ys → take a xs ≡ take a ys
 same_part a b xs ys le e = sym (take_inner a b xs le) ∙ ap (take a) e ∙ take_inner a b ys le
 
--- only procedures that were open then count
+-- a savepoint depends only on the procedures that were open when it was made
 pub savepoints_same : (counts counts' : List ℕ) (old_values frames low few n : ℕ) (ms : List SavepointRs) → take frames counts ≡ take frames counts' → AreInOrder old_values frames low few ms → savepoints_from counts n ms ≡ savepoints_from counts' n ms
 savepoints_same counts counts' old_values frames low few n [] e h = refl
 savepoints_same counts counts' old_values frames low few n (m ∷ ms) e h =
@@ -102,7 +102,7 @@ length_taken zero xs le = refl
 length_taken (suc n) [] le = absurd (omega (arith, le))
 length_taken (suc n) (x ∷ xs) le = ap suc (length_taken n xs (omega (arith, le)))
 
--- a savepoint has as many procedures as were open
+-- the pending records of a savepoint have one entry for each procedure that was open
 pub length_pending : (counts : List ℕ) (n : ℕ) (m : SavepointRs) → m.frames ≤ length counts → length (savepoint_of counts n m).pending ≡ m.frames
 length_pending counts n m le = length_contents m.pending.items (take m.frames counts) ∙ length_taken m.frames counts le
 

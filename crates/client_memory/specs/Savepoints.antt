@@ -7,17 +7,18 @@ use Rattle.client_memory.specs.declared.memory.Savepoint.{Savepoint as Savepoint
 use Rattle.client_memory.specs.OldValues.{old_values_of}
 use Rattle.client_memory.specs.Memory.{Remembered}
 
--- the pending records that are stored of the first procedures, and none of the others, which have so many buffers
+-- the contents for each procedure: the stored ones for the first procedures, and Empty for every buffer of the others. The second list has
+-- the number of buffers of each procedure
 abbrev pub contents_with : List (List Content) → List ℕ → List (List Content)
 contents_with css [] = []
 contents_with [] (n ∷ ns) = replicate n Empty ∷ contents_with [] ns
 contents_with (cs ∷ css) (n ∷ ns) = cs ∷ contents_with css ns
 
--- a savepoint with n outer levels, where the procedures have so many buffers
+-- a savepoint with n outer levels; `counts` has the number of buffers of each procedure
 abbrev pub savepoint_of : List ℕ → ℕ → SavepointRs → Savepoint
 savepoint_of counts n m = record { depth = n + 1; made = m.made; old_values = m.old_values; pending = contents_with m.pending.items (take m.frames counts) }
 
--- all of them, the outermost level first
+-- all savepoints, the outermost level first
 abbrev pub savepoints_from : List ℕ → ℕ → List SavepointRs → List Savepoint
 savepoints_from counts n [] = []
 savepoints_from counts n (m ∷ ms) = savepoint_of counts n m ∷ savepoints_from counts (n + 1) ms

@@ -1,4 +1,4 @@
--- How the steps of a reading go on, from the state before to the state after.
+-- The continuation of each step of a reading, from the state before it to the state after it.
 use Rattle.std.specs.Prelude.{◌≡◌, ℕ, Bool, true, false, List, ◌∷◌, Option, Some, None, Result, Ok, Err}
 use Rattle.abl_base.specs.declared.row.RowId.{RowId}
 use Rattle.abl_base.specs.declared.value.Value.{Value}
@@ -38,7 +38,7 @@ Tested (Ok false) p r retry s t = (good bad : State → Config) (ks : List Stack
 Tested (Err (Fault f)) p r retry s t = (good bad : State → Config) (ks : List StackEntry) → test_step p r.test r.buffer retry good bad ks s ≡ fault (complaint_of f) ks t
 Tested (Err NoMemory) p r retry s t = Unit {0}
 
--- after Next found a record: it is taken, or the search goes on after it
+-- after Next found a record: it is taken, or the search continues after it
 abbrev pub NextTested : Bool → Program → Reading → Bool → FoundRow → State → State → Type 0
 NextTested true p r retry x s t = (n : ℕ) (forward only wait : Bool) (prefix : List Value) (ks : List StackEntry) →
     next_answered p (Some x) n (search_with r forward only wait retry prefix) ks s ≡ config (Execute (Takes (search_with r forward only wait retry prefix) x.cursor x.values)) (OrDo (Looks n (search_with r forward only wait retry prefix) (Some x.cursor)) ∷ ks) t
@@ -51,7 +51,7 @@ NextGoes (Err (Fault f)) p r retry x s t = (n : ℕ) (forward only wait : Bool) 
     next_answered p (Some x) n (search_with r forward only wait retry prefix) ks s ≡ fault (complaint_of f) ks t
 NextGoes (Err NoMemory) p r retry x s t = Unit {0}
 
--- after the search for a second match found a record: it is one, or the search goes on after it
+-- after the search for a second match found a record: it is a match, or the search continues after it
 abbrev pub SecondTested : Bool → Program → Reading → Bool → FoundRow → State → State → Type 0
 SecondTested true p r retry x s t = (n : ℕ) (forward only wait : Bool) (prefix : List Value) (c : Cursor) (values : List Value) (ks : List StackEntry) →
     second_answered p (Some x) n (search_with r forward only wait retry prefix) c values ks s ≡ fault (MoreThanOne r.buffer) ks t
@@ -64,12 +64,12 @@ SecondGoes (Err (Fault f)) p r retry x s t = (n : ℕ) (forward only wait : Bool
     second_answered p (Some x) n (search_with r forward only wait retry prefix) c values ks s ≡ fault (complaint_of f) ks t
 SecondGoes (Err NoMemory) p r retry x s t = Unit {0}
 
--- a record that passed WHERE is locked, where a lock is wanted
+-- a record that passed WHERE is locked if the reading requires a lock
 abbrev pub TakeGoes : Option Op → Reading → RowId → Bool → State → Type 0
 TakeGoes None r row wait s = (retry : Bool) (ks : List StackEntry) → take_step r.lock r wait retry row ks s ≡ config (Unwind Normal) ks s
 TakeGoes (Some op) r row wait s = (retry : Bool) (ks : List StackEntry) → take_step r.lock r wait retry row ks s ≡ ask op (WasGranted r retry row) ks s
 
--- a row is locked where a lock is wanted, else read: for FIND CURRENT, and for a retry of a FOR, which waits
+-- a row is locked if the reading requires a lock, else read. This serves FIND CURRENT, and the retry of a FOR, which waits
 abbrev pub RequestGoes : RowRequest → Reading → RowId → Bool → State → Type 0
 RequestGoes (row_request.Lock op) r row wait s = (retry : Bool) (made : Option ℕ) (ks : List StackEntry) →
     (current_step r.lock r wait row made ks s ≡ ask op (CurrentGranted r row made) ks s) × (wait ≡ true → take_again_step r.lock r retry row ks s ≡ ask op (WasGranted r retry row) ks s)
@@ -83,7 +83,8 @@ ReadGoes (Ok false) p values r retry row lock s t = (ks : List StackEntry) → r
 ReadGoes (Err (Fault f)) p values r retry row lock s t = (ks : List StackEntry) → read_answered p values r retry row (held_as lock) ks s ≡ fault (complaint_of f) ks t
 ReadGoes (Err NoMemory) p values r retry row lock s t = Unit {0}
 
--- after the lock was granted nothing has changed; a search or FIND CURRENT goes on where it was refused, or the row is gone
+-- after the answer to Lock: a granted lock changes nothing, and a busy row is a fault. A row that is gone is Lost for a search, and a fault
+-- for FIND CURRENT
 abbrev pub GrantGoes : Grant → Reading → State → State → Type 0
 GrantGoes grant.Granted r s t = t ≡ s
 GrantGoes grant.Busy r s t = (retry : Bool) (row : RowId) (made : Option ℕ) (ks : List StackEntry) →

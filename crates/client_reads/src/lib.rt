@@ -1,7 +1,7 @@
 //! How a record is read, step by step: the search of FIND and FOR, the second match, the lock, the
 //! second reading, and FIND CURRENT. It depends on `reading_values` and `record_rules`, and on
 //! buffers through the trait `RecordBuffers`. A layer above may rely on `specs/Steps.antt`: each
-//! call changes the buffers as the step of `block_flat` does, and says how the step goes on.
+//! call changes the buffers as the step of `block_flat` does, and returns how the step continues.
 #![tactic(auto)]
 
 pub mod buffers;

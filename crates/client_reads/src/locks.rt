@@ -41,7 +41,7 @@ pub fn lock_op<B: RecordBuffers>(buffers: &B, reading: &Reading, row: RowId, wai
     }
 }
 
-/// The operation that locks a record that passed WHERE, and none where the reading wants no lock.
+/// The operation that locks a record that passed WHERE, or None if the reading requires no lock.
 pub fn take<B: RecordBuffers>(buffers: &B, reading: &Reading, row: RowId, wait: bool) -> Option<Op>
     ensures { (p : Program) (rest : State) → B.fits p rest buffers.now → TakeGoes result (reading_of reading.now) row wait (B.state rest buffers.now) }
 {
@@ -60,8 +60,8 @@ pub enum RowRequest {
     Get(Op),
 }
 
-/// The operation with which a row is read that the client knows: that of FIND CURRENT, or that of
-/// its iteration in a retry of a FOR.
+/// The operation that reads a row known to the client: the row of FIND CURRENT, or the row of the
+/// iteration in a retry of a FOR.
 pub fn request_row<B: RecordBuffers>(
     buffers: &B,
     reading: &Reading,
@@ -106,10 +106,9 @@ pub fn settle_grant<B: RecordBuffers>(buffers: &mut B, reading: &Reading, grant:
     }
 }
 
-/// After the row was read again under its lock: the buffer holds it where WHERE holds of the values
-/// that it has now. Answers no where the row is gone or fails: the search goes on then.
-/// (OpenEdge ABL Reference, FIND and FOR statements; that WHERE is tested again is this project's
-/// choice.)
+/// After the row was read again under its lock: the buffer holds it if WHERE holds for its current
+/// values. Returns false if the row is gone or WHERE fails; the search then continues. (OpenEdge
+/// ABL Reference, FIND and FOR statements; that WHERE is tested again is this project's choice.)
 pub fn read_again<B: RecordBuffers>(
     alloc: Global,
     buffers: &mut B,

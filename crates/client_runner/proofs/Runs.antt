@@ -1,4 +1,4 @@
--- A client in the midst of its run, beside its own events.
+-- A client during its run, and its own events.
 use Rattle.std.proofs.Common.{◌≡◌, ◌≢◌, ℕ, List, [], ◌∷◌, ◌++◌, Option, Some, None, IfSome, IsSomeAnd, refl, sym, ap, subst}
 use Rattle.std.proofs.lemmas.List.Elements.{All-nil, All-push}
 use Rattle.client_database.specs.declared.event.Event.{Event}
@@ -21,7 +21,8 @@ use Rattle.turn_lock.specs.Shared.{Lock}
 use Rattle.turn_lock.specs.Passes.{ClientPass}
 use Rattle.client_runner.specs.Tasks.{RanToEnd, ByItself, OutOfMemory, client_pass}
 
--- the client does what is meant under the answers of its own events, which fit, and none of which is Refused. Some settings are those of the run
+-- the client agrees with its meaning under the answers of its own events; these answers fit, and none is Refused. `IsSetting` selects the
+-- settings of the run
 pub record Along {C : Type 0} (begins : C → Meant → Type 0) (along : C → Meant → List Event → NextStep → Type 0) (suits : C → Setting → Type 0) (careful : Meant → Type 0) (IsSetting : Setting → Type 0) (start now : C) (own : List Event) (wants : NextStep) : Type 0 where
   pub does : (m : Meant) → begins start m → along now m own wants
   pub suits_too : (f : Setting) → suits start f → suits now f
@@ -74,7 +75,7 @@ module _ {C : Type 0} (begins : C → Meant → Type 0) (along : C → Meant →
             (sure f is (sound old f m n own op (h.suits_too f suit) mild (h.does m begun) (h.fits f is) (h.unrefused m f begun mild is suit))));
       }
 
--- what a client did that has come to its end
+-- what holds for a client that has ended
 pub record Over {C : Type 0} (begins : C → Meant → Type 0) (along : C → Meant → List Event → NextStep → Type 0) (suits : C → Setting → Type 0) (careful : Meant → Type 0) (IsSetting : Setting → Type 0) (start now : C) (own : List Event) (end : ClientEnd) : Type 0 where
   pub came : (m : Meant) → begins start m → RanToEnd along now m own end
   pub fits : (f : Setting) → IsSetting f → AllFit f own
@@ -104,19 +105,19 @@ end_is_answered (Some a) some none = (a, refl, some)
 end_is_answered None some none = absurd (none refl refl)
 
 module _ {D : Type 0} (P : D → Type 0) where
-  -- what holds of the database that the lock was made of holds of the one that a value of the lock began with
+  -- what holds for the initial database of the lock holds for the initial database of each of its values
   pub began_told : (Q : Key (Serving D) → Type 0) (key : Option (Key (Serving D))) (start : Start D)
       → IsSomeAnd key (λ k. (start ≡ k.start.value.start) × Q k) → IsSomeAnd key (λ k. P k.start.value.start.database.value) → P start.database.value
   began_told Q None start h is = absurd h
   began_told Q (Some k) start h is = subst (λ (s : Start D). P s.database.value) (sym h.0) is
 
 module _ {D : Type 0} where
-  -- the client of the run is one of a value of the lock
+  -- a client of the lock's run is a client of the run of each of its values
   pub one_told : (Q : Key (Serving D) → Type 0) (key : Option (Key (Serving D))) (start : Start D) (n : ℕ)
       → IsSomeAnd key (λ k. (start ≡ k.start.value.start) × Q k) → IsSomeAnd key (λ k. IsOneOf k.start.value.start n) → IsOneOf start n
   one_told Q None start n h is = absurd h
   one_told Q (Some k) start n h is = subst (λ (s : Start D). IsOneOf s n) (sym h.0) is
 
-  -- the pass that a task has
+  -- the fields of a task's pass
   pub pass_told : (p : ClientPass (Serving D) Event) (lock : Lock (Serving D)) (n : ℕ) (own : List Event) → Some p ≡ Some (client_pass lock n own) → (p.lock ≡ lock) × (p.client ≡ n) × (p.list ≡ own)
   pass_told p lock n own e = let q : p ≡ client_pass lock n own = cc in (ap (λ (z : ClientPass (Serving D) Event). z.lock) q, ap (λ (z : ClientPass (Serving D) Event). z.client) q, ap (λ (z : ClientPass (Serving D) Event). z.list) q)

@@ -48,7 +48,7 @@ no_contents = record { rows = []; sequences = [] }
 -- ---- what is kept
 
 module _ {D : Type 0} (setting_of : D → Setting → Type 0) (opened_of : D → Setting → Contents → Type 0) (trace_of : D → List Event) (serves_of : D → ℕ → Op → Type 0) (active_of : D → ℕ → Type 0) where
-  -- nothing happened, or one event more of a client
+  -- the trace is unchanged, or has one more event of the client
   abbrev pub HasStepped : D → D → ℕ → Op → Option Answer → Type 0
   HasStepped old new n op None = trace_of new ≡ trace_of old
   HasStepped old new n op (Some a) = trace_of new ≡ trace_of old ++ event_of n op a ∷ []
@@ -57,7 +57,7 @@ module _ {D : Type 0} (setting_of : D → Setting → Type 0) (opened_of : D →
   stepped old new n op None some none = none refl
   stepped old new n op (Some a) some none = some
 
-  -- what a step leaves of everything but the trace
+  -- what a step preserves, apart from the trace, which may grow. The client is active after it unless it requested End
   pub record Keeps (old new : D) (n : ℕ) (op : Op) : Type 0 where
     pub active : op ≢ End → active_of new n
     pub others : (other : ℕ) → other ≢ n → active_of old other → active_of new other

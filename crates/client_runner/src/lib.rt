@@ -1,8 +1,8 @@
 //! Clients on threads of their own over one database. It depends on `turn_lock` for the turns and on
 //! `database_interface` for the steps; the trait `Session` says what a client is.
-//! `run_clients` says that the trace continues the one handed in by events of these clients
-//! alone, that it is legal, and that each client came to its end by its meaning under the answers
-//! of its own events, none of which is Refused.
+//! `run_clients` says that the trace extends the given one by events of these clients alone, and
+//! that it is legal. Each client ended in agreement with its meaning under the answers of its own
+//! events, and none of these is Refused.
 #![tactic(auto)]
 
 pub mod laws;

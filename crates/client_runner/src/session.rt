@@ -10,13 +10,13 @@ ghost use Rattle.client_runner.specs.Meant.{Meant, IsSureOf, IsOver, Requests, N
 
 use client_database::{Answer, NextStep};
 
-/// The session of a client: a machine that requests operations, hears their answers, and ends.
+/// The session of a client: a machine that requests operations, receives their answers, and ends.
 pub trait Session {
-    /// It has not begun, and is to do what is meant.
+    /// It has not begun, and this is its meaning.
     ghost begins: { Self → Meant → Type 0 };
 
-    /// Its own events so far are those, in order; it does what is meant under their answers, and
-    /// this is its next step.
+    /// These are its own events so far, in order. It agrees with its meaning under their answers,
+    /// and this is its next step.
     ghost along: { Self → Meant → List Event → Step → Type 0 };
 
     /// This was its last step: it awaits the answer to this operation, or has ended so.
@@ -25,14 +25,15 @@ pub trait Session {
     /// An operation that such a session may request.
     ghost may_request: { Op → Type 0 };
 
-    /// What it does was made for the tables and sequences of this setting.
+    /// The session was built for the tables and sequences of this setting.
     ghost suits: { Self → Setting → Type 0 };
 
-    /// What is meant requests nothing that the client's own events forbid, where none was refused.
+    /// The meaning requests nothing that the client's own events forbid, if none was refused.
     ghost careful: { Meant → Type 0 };
 
-    /// The answer to the last request, none at the first call; then the next request, or how it has
-    /// ended. Blocked makes it request the same operation again. After End it has ended.
+    /// Takes the answer to the last request, or None at the first call. Returns the next request,
+    /// or how the session has ended. Blocked makes it repeat the same request. After End it has
+    /// ended.
     fn resume(&mut self, answer: Option<Answer>) -> NextStep
         ensures first { (m : Meant) → answer ≡ None → begins self.old m → along self.new m [] result }
         ensures next { (m : Meant) (own : List Event) (op : Op) (n : ℕ) → along self.old m own (Step.Ask op) → IfSome answer (λ a. along self.new m (own ++ event_of n op a ∷ []) result) }
@@ -41,7 +42,7 @@ pub trait Session {
         ensures over { shows self.old (Step.Ask Op.End) → IfSome answer (λ _. IsOver result) }
         ensures suits { (setting : Setting) → suits self.old setting → suits self.new setting };
 
-    /// Whatever the trace is, if these are its own events, with answers that fit and none of which is
-    /// Refused, then what a session with a careful meaning requests is well formed.
+    /// For any trace: if these are its own events, their answers fit, and none is Refused, then the
+    /// request of a session with a careful meaning is well formed.
     ghost sure: { (session : Self) (setting : Setting) (m : Meant) (n : ℕ) (own : List Event) (op : Op) → suits session setting → careful m → along session m own (Step.Ask op) → AllFit setting own → NoneIsRefused own → IsSureOf setting n own op };
 }

@@ -27,8 +27,8 @@ pub struct Task<C, D: Database> {
     pub end: Option<ClientEnd>,
 }
 
-/// What came of an operation: its answer, and the pass behind it. No answer means that there was no
-/// memory for the event.
+/// The result of an operation: its answer, and the pass after it. None means out of memory for the
+/// event.
 pub(crate) struct Answered<D: Database> {
     answer: Option<Answer>,
     pass: Pass<Served<D>>,
@@ -99,8 +99,8 @@ impl<C: Session, D: Database> Task<C, D> {
         }
     }
 
-    /// Runs the client to its end: it takes turns and hears the answers. Where there is no memory for
-    /// the event of an operation, End is requested in its place, and the client ends so.
+    /// Runs the client to its end: it takes turns and receives the answers. If there is no memory
+    /// for the event of an operation, End is requested instead, and the client ends.
     pub(crate) fn run<R: Wait, G: Gate>(
         &mut self,
         rt: &R,
@@ -161,7 +161,7 @@ impl<C: Session, D: Database> Task<C, D> {
     }
 }
 
-/// Requests End in place of an operation for whose event there was no memory.
+/// Requests End instead of an operation for whose event there was no memory.
 fn request_end<R: Wait, D: Database, G: Gate>(
     rt: &R,
     shared: &Shared<Served<D>>,

@@ -1,4 +1,4 @@
--- A client and its own events, beside what its run means.
+-- A client and its own events, compared with the meaning of its run.
 use Rattle.std.specs.Prelude.{◌≡◌, ◌<◌, ◌≤◌, ℕ, ◌∷◌, ◌++◌, [], List, map}
 use Rattle.client_database.specs.declared.operation.Op.{Op}
 use Rattle.client_database.specs.declared.operation.Op.TheVariants.{Leave, Back, End}
@@ -30,11 +30,11 @@ WaitsIfAsking client (Ended end) = Unit {0}
 
 -- a client whose own events are these, and whose next step this is
 pub data Along (client : Standing) (m : Meant) (own : List Event) (next : NextStep) : Type 0 where
-  -- it does as m says
+  -- it agrees with m
   AsMeant : WaitsIfAsking client next → Agrees client m.names m.run (answers_in own) next → operations_in own ≡ asked m.run (answers_in own) → Along client m own next
   -- it is out of memory, and requests End
   AsksEnd : WaitsIfAsking client next → (pieces : List Piece) → HasGivenUp client m.names m.run (answers_in own) pieces → next ≡ Ask End → operations_in own ≡ asked m.run (answers_in own) → Along client m own next
-  -- and it has ended so: the last event is that End
+  -- it has ended out of memory: the last event is that End
   IsOver : (pieces : List Piece) (before : List Event) (last : Event) → HasWritten client m.names pieces → next ≡ Ended NoMemory → own ≡ before ++ last ∷ [] → last.op ≡ End
       → operations_in before ≡ asked m.run (answers_in before) → GaveUp m.run (answers_in before) pieces → Along client m own next
 
@@ -44,12 +44,12 @@ IsOpen open_levels (Leave keep) = 0 < open_levels
 IsOpen open_levels (Back depth) = (0 < depth) × (depth ≤ open_levels)
 IsOpen open_levels _ = Unit {0}
 
--- after own events with answers that fit, none of which is Refused, what m requests names levels that these events have left open
+-- if the client's own events have answers that fit and none is Refused, the next request of m names only levels that these events left open
 abbrev pub IsCareful : Meant → Type 0
 IsCareful m =
     (setting : Setting) (own : List Event) (op : Op) → operations_in own ≡ asked m.run (answers_in own) → AllFit setting own → NoneIsRefused own → (m.run (answers_in own)).wants ≡ Ask op → IsOpen (levels_left 0 own) op
 
--- the client goes along, and what it then requests is well formed if m is careful
+-- the client agrees with m, and its next request is well formed if m is careful
 pub record Goes (client : Standing) (m : Meant) (own : List Event) (next : NextStep) : Type 0 where
   pub along : Along client m own next
   pub sure : (setting : Setting) (n : ℕ) (op : Op) → next ≡ Ask op → IsCareful m → AllFit setting own → NoneIsRefused own → IsSureOf setting n own op

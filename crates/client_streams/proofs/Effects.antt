@@ -80,7 +80,7 @@ redirected_fits n change rest old xs f is = record {
   at_is = f.at_is;
 }
 
--- ---- the code goes on
+-- ---- the code runs on
 
 -- a stream is redirected
 pub redirected_kept : (n : ℕ) (change : state.Stream → state.Stream) (old new : Machine) (xs : Vec Stream Global) (next left : ℕ) (retry : Bool) →

@@ -25,7 +25,7 @@ section_or (Some x) = x.output
 abbrev pub section_in : List Stream → ℕ → Option ℕ
 section_in xs n = section_or (slice_get xs n)
 
--- the stack under a statement: its fault is handled, and the code goes on at `next`
+-- the stack while a statement runs: its fault is handled, and execution continues at `next`
 abbrev pub under : Machine → Bool → ℕ → ℕ → Bool → List flat.StackEntry
 under m quiet next left retry = flat.Handles quiet ∷ flat.ThenDo (flat.RunsFrom next left retry) ∷ stack_in m
 

@@ -1,4 +1,4 @@
-//! The values of a line are assigned.
+//! Assigning the values of a line.
 
 ghost use Rattle.std.specs.Prelude.{◌≡◌, ℕ, List, Bool};
 ghost use Rattle.block_meaning.specs.Changes.{assigns_each, buffers_in};
@@ -18,7 +18,7 @@ use bound_tree::Stmt;
 use client_machine::machine::Machine;
 use client_values::assign::{are_variable_targets, assign_values};
 
-/// Assigns the values to the targets of the IMPORT at the place, all of which are variables.
+/// Assigns the values to the targets of the IMPORT at the place. All targets are variables.
 pub(crate) fn assign_at(
     machine: &mut Machine,
     place: usize,

@@ -37,7 +37,7 @@ fn section_of(streams: &[Stream], stream: u32) -> Option<u32>
     }
 }
 
-/// The code goes on at the place after the statement.
+/// Continues execution at the place after the statement.
 pub(crate) fn go_on(machine: &mut Machine, next: usize, left: u32, retry: bool)
     ensures { machine.new ≡ record machine.old { mode = Mode.Execute (Task.RunsFrom next left retry) } }
 {
@@ -159,7 +159,7 @@ pub(crate) fn end_input(
     Ok(())
 }
 
-/// Pushes what handles the fault of a statement, and where the code goes on after it.
+/// Pushes the continuation after a statement, and the handler of its fault.
 fn push_statement(
     machine: &mut Machine,
     quiet: bool,

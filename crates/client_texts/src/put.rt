@@ -16,8 +16,8 @@ use abl_eval::{EvalFault, Surroundings};
 use bound_tree::PutItem;
 use std::alloc::{AllocError, Global};
 
-/// The text of PUT: its items in order, each value under its mask or plain. Refuses with the fault
-/// of the first item that has one; else out of memory is the only refusal. (OpenEdge ABL Reference,
+/// The text of PUT: its items in order, each value under its mask or plain. Returns the fault of
+/// the first item that has one; out of memory is the only other error. (OpenEdge ABL Reference,
 /// PUT.)
 pub fn put_items<S: Surroundings>(
     alloc: Global,
@@ -52,7 +52,7 @@ fn put_item<S: Surroundings>(
     }
 }
 
-/// Appends a byte so many times.
+/// Appends a byte `count` times.
 fn push_many(text: &mut Vec<u8>, byte: u8, count: u32) -> Result<(), AllocError>
     ensures { OnOk result (text.new.items ≡ text.old.items ++ replicate count byte) }
 {

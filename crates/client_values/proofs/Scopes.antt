@@ -1,4 +1,4 @@
--- An expression is told what the state tells it.
+-- An expression evaluated from memory has the same environment as in the state.
 use Rattle.std.proofs.Common.{◌≡◌, ℕ, zero, suc, ◌-◌, ◌<◌, List, [], ◌∷◌, ◌++◌, length, Bool, true, false, refl, sym, ap, ◌∙◌, arith}
 use Rattle.std.specs.Prelude.{reverse, slice_index_or, Result, Ok, Err, IfOk}
 use Rattle.std.proofs.lemmas.List.{reverse-append, length-append}
@@ -121,7 +121,7 @@ told p rest ns m e retry status returned even e1 e2 =
     ∙ ap (λ b. evaluate p.forms (env_in m retry b rest.returned) e) e1
     ∙ ap (λ t. evaluate p.forms (env_in m retry status t) e) e2
 
--- what a call gives
+-- a result that is right in the environment of the memory is right in the state
 pub evaluates_here : (m : Remembered) (e : Expr) (retry status : Bool) (returned : List ℕ) (r : Result Value EvalFault) → IfOk r (λ v. (forms : TextForms) → AreForms forms → evaluate forms (env_in m retry status returned) e ≡ Ok v) →
     ((fault : RunFault) → r ≡ Err (Fault fault) → (forms : TextForms) → AreForms forms → evaluate forms (env_in m retry status returned) e ≡ Err fault) →
     (p : Program) (rest : State) (ns : List ℕ) → Reads p rest ns m status returned → Evaluates r (value_here p e retry (state_with rest ns m))

@@ -77,7 +77,7 @@ ascending_same (x ∷ xs) (y ∷ ys) hx hy there_x there_y =
 same_holders : (f : Setting) (s : State) (c : ℕ) (op : Op) (xs ys : List ℕ) → IsHolders f s c op xs → IsHolders f s c op ys → xs ≡ ys
 same_holders f s c op xs ys hx hy = ascending_same xs ys hx.0 hy.0 (λ d p. (hy.1 d).1 ((hx.1 d).0 p)) (λ d p. (hx.1 d).1 ((hy.1 d).0 p))
 
--- ---- the least number of which a fact holds
+-- ---- the least number with a property
 
 same_least : (P : ℕ → Type 0) (i j : ℕ) → P i → P j → ((k : ℕ) → k < i → ¬ P k) → ((k : ℕ) → k < j → ¬ P k) → i ≡ j
 same_least P i j pi pj least_i least_j =

@@ -1,4 +1,4 @@
--- Which answers an operation may have: the table of answers, of which the first row that applies counts.
+-- Which answers an operation may have. They are given by a table, and the first row that applies decides.
 use Rattle.std.specs.Prelude.{◌≡◌, ◌≢◌, ◌⊎◌, ◌+◌, ◌<◌, ◌≤◌, ℕ, IsTrue, List, length, Option, Some, None, ℤ, pos, ◌+ℤ◌, FitsSigned, slice_index_or}
 use Rattle.std.specs.Int.{w64}
 use Rattle.std.specs.List.{All}
@@ -19,7 +19,7 @@ use Rattle.database_meaning.specs.Waiting.{row_in, HasConflict, IsHolders, Close
 use Rattle.database_meaning.specs.Search.{FindsNone, IsNext}
 use Rattle.database_meaning.specs.Counts.{draws, writes, used, HasRoom}
 
--- one row of the table: where it applies the answer is as it says, and else as the rows below say
+-- one row of the table: if it applies it decides the answer, else the rows below decide
 infixr 1 when◌comes◌otherwise◌
 abbrev pub when◌comes◌otherwise◌ : Type 0 → Type 0 → Type 0 → Type 0
 when applies comes answer otherwise below = (applies × answer) ⊎ (¬ applies × below)
@@ -204,15 +204,16 @@ FromGone f s c op a =
     when IsNextOp op × FindsNone f s op comes a ≡ AtEnd otherwise
     Succeeds f s c op a
 
--- the whole table. TraceFull looks at the event with an answer that would otherwise be given: where several
--- cycles may be answered, any of them
+-- the whole table. TraceFull depends on the event with the answer that would otherwise be given. If several cycles may be answered, it may
+-- be any of them
 abbrev pub ByTable : Setting → State → ℕ → Op → Answer → Type 0
 ByTable f s c op a =
     when IsRefused f s c op comes a ≡ Refused otherwise
     when IsTrue s.closed × (op ≢ End) comes a ≡ Closed otherwise
     ((HasRoom s op a × FromGone f s c op a) ⊎ ((a ≡ TraceFull) × (b : Answer) × FromGone f s c op b × ¬ HasRoom s op b))
 
--- an answer that may come whatever the rest of the table says: out of memory, or the disk failed in this step
+-- an answer that is possible whatever the table says, except for End: out of memory, or Closed if the disk failed in this step and the
+-- operation is not Refused
 abbrev pub IsFree : Setting → State → ℕ → Op → Answer → Type 0
 IsFree f s c op a = (op ≢ End) × ((a ≡ NoMemory) ⊎ ((a ≡ Closed) × ¬ IsRefused f s c op))
 

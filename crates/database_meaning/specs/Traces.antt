@@ -109,7 +109,7 @@ abbrev pub is_leave : Op → Bool
 is_leave (Leave keep) = true
 is_leave _ = false
 
--- the first Closed event, where it answers a Leave at level 1: a commit of which it is not known whether it was done
+-- the first Closed event, if it answers a Leave at level 1: it is unknown whether this commit was done
 abbrev pub is_unanswered_commit : State → Event → Bool
 is_unanswered_commit s e = is_closed e.answer && (not s.closed && (is_leave e.op && is_outermost s e.client))
 

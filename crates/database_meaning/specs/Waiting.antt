@@ -23,7 +23,7 @@ LocksConflict (Some false) exclusive = IsTrue exclusive
 abbrev pub LockConflicts : (ℕ → Option Bool) → ℕ → Bool → ℕ → Type 0
 LockConflicts locks c exclusive d = (d ≢ c) × LocksConflict (locks d) exclusive
 
--- a unique key that the new row has and the old one has not is reserved
+-- a unique key of the new row that the old row does not have is reserved
 abbrev pub EntersReserved : SchemaData → (Key → Bool) → Option StoredRow → Option StoredRow → Type 0
 EntersReserved schema reserved old new = (k : Key) × IsTrue (has_key (unique_keys schema new) k) × IsFalse (has_key (unique_keys schema old) k) × IsTrue (reserved k)
 
@@ -51,7 +51,7 @@ IsAscending [] = Unit {0}
 IsAscending (x ∷ []) = Unit {0}
 IsAscending (x ∷ y ∷ ys) = (x < y) × IsAscending (y ∷ ys)
 
--- the ascending list of all numbers of which the fact holds
+-- xs is the ascending list of all numbers that satisfy `Holds`
 abbrev pub ListsAll : List ℕ → (ℕ → Type 0) → Type 0
 ListsAll xs Holds = IsAscending xs × ((d : ℕ) → Contains xs d ↔ Holds d)
 
@@ -70,12 +70,12 @@ WaitsFor f s c d = (op : Op) × IsBlockedAt s c op × Conflicts f s c op d
 
 -- ---- chains and cycles, of any relation on clients
 
--- from one client over the listed ones to the last, each waits for the next
+-- a chain from one client through the listed ones to the last: each waits for the next
 abbrev pub Chain : (ℕ → ℕ → Type 0) → ℕ → List ℕ → ℕ → Type 0
 Chain Waits a [] b = Waits a b
 Chain Waits a (x ∷ xs) b = Waits a x × Chain Waits x xs b
 
--- clients of which each waits for the next and the last for the first, over none or more others
+-- no client waits for itself through a chain of zero or more others
 abbrev pub HasNoCycle : (ℕ → ℕ → Type 0) → Type 0
 HasNoCycle Waits = (c : ℕ) (others : List ℕ) → ¬ Chain Waits c others c
 
@@ -88,17 +88,17 @@ abbrev pub IsCycleFrom : (ℕ → ℕ → Type 0) → ℕ → List ℕ → Type 
 IsCycleFrom Waits c [] = ⊥
 IsCycleFrom Waits c (first ∷ others) = (first ≡ c) × IsDistinct (first ∷ others) × Chain Waits c others c
 
--- as the relation, save that c counts as waiting for those that conflict with it
+-- the relation `Waits`, except that c waits exactly for the clients in `Against`
 abbrev pub WithAsked : (ℕ → ℕ → Type 0) → ℕ → (ℕ → Type 0) → ℕ → ℕ → Type 0
 WithAsked Waits c Against a b = ((a ≡ c) × Against b) ⊎ ((a ≢ c) × Waits a b)
 
 -- ---- cycles that would close
 
--- as WaitsFor, where c counts as waiting for this operation
+-- the relation WaitsFor, except that c waits for the clients that conflict with this operation
 abbrev pub WouldWait : Setting → State → ℕ → Op → ℕ → ℕ → Type 0
 WouldWait f s c op a b = WithAsked (WaitsFor f s) c (Conflicts f s c op) a b
 
--- were c to wait for its operation, a cycle would close
+-- if c waited for this operation, a cycle would close
 abbrev pub Closes : Setting → State → ℕ → Op → Type 0
 Closes f s c op = (others : List ℕ) × Chain (WouldWait f s c op) c others c
 

@@ -13,7 +13,7 @@ ghost use Rattle.client_database.specs.declared.event.Event.{Event as TraceEvent
 ghost use Rattle.client_database.specs.declared.operation.Op.{Op as Asked};
 ghost use Rattle.client_database.specs.declared.answer.Answer.{Answer as Given};
 
-/// There is never a cycle of clients of which each waits for the next.
+/// No client ever waits for itself, directly or over other clients.
 pub fn no_cycle_ever()
     ensures { (f : Setting) (contents : Opening) (trace : List TraceEvent) → IsLegal f contents trace → HasNoCycle (WaitsFor f (left_by f contents trace)) }
 {}
@@ -54,8 +54,8 @@ pub fn refusals_change_nothing()
     ensures { (f : Setting) (s : State) (c : ℕ) (op : Asked) (a : Given) → is_success a ≡ false → IsUnchanged f s (after f s c op a) }
 {}
 
-/// The table allows one answer, save for the row of an Insert, the moment of a commit and which of
-/// several cycles is answered. Besides it only NoMemory and Closed after a fault of the disk may come.
+/// The table allows one answer, except for the row of an Insert, the moment of a commit and the choice
+/// among several cycles. The only answers outside the table are NoMemory and, after a disk fault, Closed.
 pub fn answers_are_one()
     ensures { (f : Setting) (contents : Opening) (trace : List TraceEvent) → IsLegal f contents trace → HasOneAnswer f (left_by f contents trace) }
 {}

@@ -1,4 +1,4 @@
--- What a call keeps besides the state that it answers for, and what stays after its error.
+-- What a call preserves besides the state that it represents, and what is unchanged after its error.
 use Rattle.std.specs.Prelude.{◌≡◌, ◌⊎◌, ℕ, ◌+◌, ◌≤◌, ◌==◌, if◌then◌else◌, length, None}
 use Rattle.client_database.specs.declared.answer.Answer.{Answer}
 use Rattle.client_database.specs.declared.answer.Answer.TheVariants.{Closed, NoMemory}
@@ -10,19 +10,19 @@ use Rattle.db_core.specs.Known.{known}
 use Rattle.db_core.specs.Levels.{SameLevels}
 use Rattle.db_core.specs.Represents.{IsSound, Represents}
 
--- as many clients and sequences, and nothing was freed
+-- the numbers of clients and sequences are unchanged, and nothing was freed
 pub record SameCounts (old new : Control) : Type 0 where
   pub clients : length new.sessions.items ≡ length old.sessions.items
   pub sequences : length new.sequences.items ≡ length old.sequences.items
   pub frees : new.frees ≡ old.frees
 
--- the same, but for one step more that freed something
+-- the numbers of clients and sequences are unchanged, and at most one more step freed something
 pub record NextCounts (old new : Control) : Type 0 where
   pub clients : length new.sessions.items ≡ length old.sessions.items
   pub sequences : length new.sequences.items ≡ length old.sequences.items
   pub frees : new.frees ≤ old.frees + 1
 
--- after a success: the store is of the same schema, as observable, and has not failed since
+-- after a success: the store has the same schema, is observable as before, and has not failed since
 pub record Keeps (old new : RowState) (before after : Control) : Type 0 where
   pub observable : new.observable ≡ old.observable
   pub failed : new.failed ≡ old.failed

@@ -31,7 +31,7 @@ pub(crate) fn fragments_of(values: &Row) -> u64
     }
 }
 
-/// Whether the number and so many more pass the limit.
+/// Whether `number + more` exceeds the limit.
 fn passes(number: u64, more: u64, limit: u64) -> bool
     ensures { IsTrue result ↔ (limit < number + more) }
 {

@@ -99,9 +99,9 @@ impl<R: RowStore + Drop> Db<R> {
         })
     }
 
-    /// Answers the operation of a client that has not ended, which is one event more. None means that
-    /// there is no memory for the event; then nothing happened. Closed is the answer only after an
-    /// earlier Closed, or where the disk has failed in this step.
+    /// Answers the operation of a client that has not ended, and adds one event to the trace. None
+    /// means that there is no memory for the event; then nothing happened. Closed is the answer only
+    /// after an earlier Closed, or where the disk has failed in this step.
     pub fn execute(&mut self, client: u16, op: Op) -> Option<Answer>
         requires { IsActive self.old client }
         ensures event { IfSome result (λ answer. self.new.trace ≡ self.old.trace ++ event_of client op answer ∷ []) }
@@ -200,7 +200,7 @@ impl<R: RowStore + Drop> Database for Db<R> {
     ghost blocked_as = { λ db f contents client opened. blocked_as (R.RowStore.state db.rows) db f contents client opened };
 }
 
-/// Sessions of so many clients that have asked nothing yet.
+/// Sessions of `count` clients that have requested nothing yet.
 fn new_sessions(alloc: Global, count: u16) -> Result<Vec<Session>, AllocError>
     ensures count { IfOk result (λ sessions. length sessions.items ≡ count) }
     ensures marks { IfOk result (λ sessions. (c : ℕ) → marks_in (slice_get sessions.items c) ≡ []) }

@@ -1,4 +1,4 @@
-//! The counted bytes of the trace. The number is kept up to one more than the trace may have.
+//! The counted bytes of the trace. The number is capped at one more than the limit of the trace.
 
 ghost use Rattle.std.specs.Prelude.{◌≡◌, ◌≤◌, ◌↔◌, ◌+◌, ℕ, IsTrue};
 ghost use Rattle.abl_base.specs.declared.limits.TheConstants.{MAX_TRACE_BYTES as MOST};

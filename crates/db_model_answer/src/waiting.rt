@@ -55,7 +55,7 @@ fn meets(op: &Op, new: &[Key], old: &[Key], client: &ModelClient) -> bool
     }
 }
 
-/// Adds those of the clients, the first of which has this number, that conflict with the operation.
+/// Adds the clients that conflict with the operation. The first of the clients has the number `number`.
 pub fn push_met(
     op: &Op,
     new: &[Key],
@@ -92,7 +92,7 @@ pub fn is_among(x: u16, list: &[u16]) -> bool
     }
 }
 
-/// Those that a client waits for.
+/// The clients that a client waits for.
 pub fn edges_of<'a>(graph: &'a [ClientIds], client: u16) -> &'a [u16]
     ensures { result.now ≡ edges_of graph.now client }
 {
@@ -134,7 +134,7 @@ pub fn are_among(xs: &[u16], list: &[u16]) -> bool
     }
 }
 
-/// Whether whoever is waited for by one of the first list is in the second.
+/// Whether the second list contains each client that a client of the first list waits for.
 pub fn is_closed_under(graph: &[ClientIds], xs: &[u16], list: &[u16]) -> bool
     ensures { result ≡ is_closed_under graph.now xs.now list.now }
 {

@@ -72,7 +72,7 @@ fn push_key(
     Ok(())
 }
 
-/// Adds the unique keys of the row in these indexes, of which the first has this number.
+/// Adds the unique keys of the row in these indexes. The first index has the number `number`.
 fn push_keys(
     alloc: Global,
     table: u16,
@@ -95,7 +95,7 @@ fn push_keys(
     }
 }
 
-/// The unique keys of a row. No row has none.
+/// The unique keys of a row; none where the row is None.
 #[tactic(auto, unfolding(database_meaning::specs::Setting::unique_keys))]
 pub fn unique_keys(
     alloc: Global,

@@ -16,8 +16,8 @@ const FIRST_SLOT: u32 = 8192;
 
 const LAST_SLOT: u32 = 1_048_575;
 
-/// The free slots among those from 8,192 to 1,048,575: all from `end` on, and those of `back` below
-/// it. A slot is kept there by how far it is from the last slot, so that the greatest number of the
+/// The free slots among those from 8,192 to 1,048,575: all from `end` on, and those in `back` below
+/// it. `back` contains each slot as its distance from the last slot, so that the greatest number of the
 /// heap is the lowest slot.
 #[derive(Drop)]
 pub struct FreeSlots {

@@ -41,7 +41,7 @@ module _ {Z : Type 0} where
   ListsKey [] key = ⊥
   ListsKey (v ∷ vs) key = (v.items ≡ key) ⊎ ListsKey vs key
 
-  -- the list has the key where it is touched, and where what puts it into the list is used; that is made of the key itself
+  -- the list contains the key if its node is touched or its spare is used; an unused spare has the same key
   pub record IsKeyListed (touched : List (Vec ℕ Z)) (key : List ℕ) (keyed : Keyed) : Type 0 where
     pub listed : IsTouched keyed.node → ListsKey touched key
     pub used : keyed.spare ≡ None → ListsKey touched key

@@ -1,6 +1,6 @@
 //! Runs clients of block code on threads, over the database of levels. It joins `client_runner` with
 //! `client_session`, `level_machine` and the laws of the runs of clients. The layer above relies on
-//! `run_level_clients`: each client did what its program means under its own answers, of which none is
+//! `run_level_clients`: each client ran as its program means under its own answers, no answer is
 //! Refused, and the trace is legal (`HasRunIn` in specs/Ran.antt).
 #![tactic(auto)]
 

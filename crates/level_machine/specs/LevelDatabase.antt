@@ -1,4 +1,4 @@
--- The settings and contents of which a database of levels is one, and which of its clients are active.
+-- Which settings and contents a database of levels has, and which of its clients are active.
 use Rattle.std.specs.Prelude.{◌+◌, ◌<◌, ◌≤◌, ℕ, length, vec_len, vec_capacity}
 use Rattle.std.specs.Prelude.{All}
 use Rattle.database_meaning.specs.declared.contents.Contents.{Contents}
@@ -15,13 +15,13 @@ pub record HasSetting (database : LevelDatabase) (setting : Setting) : Type 0 wh
   pub clients : length database.levels.clients ≤ setting.clients
   pub at : IsLeft setting database.levels database.trace.items
 
--- and the trace is legal from these contents, and each operation in it is one of levels
+-- the database has the setting, its trace is legal from these contents, and each operation in it is a level operation
 pub record IsOpened (database : LevelDatabase) (setting : Setting) (contents : Contents) : Type 0 where
   pub of_setting : HasSetting database setting
   pub legal : IsLegal setting contents database.trace.items
   pub levels : All (λ (e : Event). IsLevelOp e.op) database.trace.items
 
--- an operation of levels of a client of the database
+-- a level operation of a client of the database
 abbrev pub Serves : LevelDatabase → ℕ → Op → Type 0
 Serves database client op = (client < length database.levels.clients) × IsLevelOp op
 

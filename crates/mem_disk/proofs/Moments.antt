@@ -1,4 +1,4 @@
--- How time goes on over a call that is recorded, and over one that is not.
+-- How time passes over a recorded call, and over one that is not recorded.
 use Rattle.std.proofs.Common.{◌≡◌, ◌≢◌, inl, inr, ℕ, zero, suc, ◌+◌, ◌<◌, ◌≤◌, ◌^◌, ◌==◌, Bool, true, false, if◌then◌else◌, List, [], ◌∷◌, ◌++◌, length, take, slice_set, slice_index_or, Vec, refl, sym, ◌∙◌, ap, subst, arith, length-append}
 use Rattle.std.proofs.lemmas.Bool.{cases_eq}
 use Rattle.std.proofs.lemmas.Bool.Decides.{nat_tests}
@@ -20,7 +20,7 @@ take_push zero xs ys le = refl
 take_push (suc m) [] ys le = absurd (omega arith)
 take_push (suc m) (x ∷ xs) ys le = ap (λ (l : List _). x ∷ l) (take_push m xs ys (omega arith))
 
--- a call that is recorded: what is observable of the moments before stays
+-- a recorded call: what is observable of earlier moments stays
 module _ (first : ℕ → List ℕ) (notes new : List Note) (time : ℕ) (counts : time ≡ length notes) (n : Note) (more : new ≡ notes ++ n ∷ []) where
   same_past : (m : ℕ) → m ≤ time → take m new ≡ take m notes
   same_past m le = ap (λ (l : List Note). take m l) more ∙ take_push m notes (n ∷ []) (omega arith)
@@ -51,7 +51,7 @@ passes_by first notes new time ok step le same still = record {
       (image, record { past = omega arith; left = subst (λ (l : List Note). LeftBy first l image) whole left.left }, still image);
 }
 
--- a call at the last moment, which makes none
+-- a call when no moment is left: the time stays
 pub passes_not : (before : ℕ → Image → Type 0) (time : ℕ) (step : Image → Image → Type 0) → 2 ^ 64 ≤ time + 1 → ((image : Image) → step image image) → Passes false time time before before step
 passes_not before time step last still = record {
   one = inr (refl, last, refl);
@@ -92,7 +92,7 @@ module _ (first : ℕ → List ℕ) (notes : List Note) (n : Note) where
   same_by Synced a not = refl
   same_by Nothing a not = refl
 
-  -- what is read stays, but after a write that was done
+  -- what is read stays, unless the call is a completed write
   pub seen_same : (n.effect ≡ Written → ⊥) → (k : ℕ) → (held first (notes ++ n ∷ []) k).seen ≡ (held first notes k).seen
   seen_same not k = elim (cases_eq k n.area) [
     | inl e ↦ subst (λ (j : ℕ). (held first (notes ++ n ∷ []) j).seen ≡ (held first notes j).seen) (sym e) (seen_here ∙ same_by n.effect (held first notes n.area) not)
@@ -142,7 +142,7 @@ module _ (first : ℕ → List ℕ) (notes : List Note) (n : Note) where
   still_by Synced c is r = subst (λ (x : List ℕ). Reaches (held first notes n.area).synced (held first notes n.area).pending x) (sym r) (seen_reaches n.area (fresh (first n.area)) notes refl)
   still_by Nothing c is r = r
 
-  -- a call that is no write brings no image
+  -- after a call that is no write, a crash leaves only images that it might leave before
   pub still_step : is_write n.effect ≡ false → (step : Image → Image → Type 0) → ((image : Image) → step image image) → (image : Image) → LeftBy first (notes ++ n ∷ []) image → (d : Image) × LeftBy first notes d × step d image
   still_step is step still image left = (image, (λ k. each k), still image)
     where
@@ -158,7 +158,7 @@ module _ (first : ℕ → List ℕ) (notes : List Note) (n : Note) where
   synced_by Synced a c is r = r
   synced_by Nothing a c is r = absurd (cc)
 
-  -- after a sync that was done a crash leaves what is read
+  -- after a completed sync, a crash leaves what is read
   pub durable : n.effect ≡ Synced → (image : Image) → LeftBy first (notes ++ n ∷ []) image → image n.area ≡ (held first (notes ++ n ∷ []) n.area).seen
   durable is image left =
       synced_by n.effect (held first notes n.area) (image n.area) is (subst (λ (h : Held). Reaches h.synced h.pending (image n.area)) here (left n.area)) ∙ sym seen_here
@@ -193,7 +193,7 @@ held_same first notes n is k = elim (cases_eq k n.area) [
   | inr ne ↦ elsewhere first notes n k ne
 ]
 
--- what is read after a write that was done, or that was cut
+-- what is read after a completed write is torn only in the range of the write
 pub written_torn : (first : ℕ → List ℕ) (notes : List Note) (n : Note) → n.effect ≡ Written → TornIn n.area n.at (length n.bytes) (λ k. (held first notes k).seen) (λ k. (held first (notes ++ n ∷ []) k).seen)
 written_torn first notes n is = record {
   torn = subst (λ (l : List ℕ). Torn n.at (length n.bytes) (held first notes n.area).seen l) (sym (seen_here first notes n ∙ written_by n.effect is)) (torn_whole n.at n.bytes (held first notes n.area).seen);

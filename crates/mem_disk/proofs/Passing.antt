@@ -13,7 +13,7 @@ use Rattle.mem_disk.specs.Shown.{Shown, shown, seen_of, left_of, Passed, SameHel
 use Rattle.mem_disk.proofs.Record.{spent_more}
 use Rattle.mem_disk.proofs.Moments.{Image, passes, passes_by, torn_not, seen_here, seen_same, still_step, write_step, durable, held_same, written_torn}
 
--- the number of moments recorded is that of the moments so far, or that for which there is room
+-- the record has one note for each moment so far, up to the number of calls that it has room for
 pub many_notes : (d : MemDisk) → length (shown d).notes ≡ min d.time d.room.calls
 many_notes d = length-notes_of d.pool.items d.calls.items ∙ d.many
 
@@ -21,11 +21,11 @@ many_notes d = length-notes_of d.pool.items d.calls.items ∙ d.many
 pub torn_same : (area at n : ℕ) {old new : Image} → new ≡ old → TornIn area at n old new
 torn_same area at n {old} same = subst (λ (f : Image). TornIn area at n old f) (sym same) (torn_not area at n old)
 
--- what is read stays where a call is recorded that is no write that was done
+-- what is read still agrees after a recorded call that is no completed write
 pub agrees_more : (areas : List (Vec ℕ Global)) (first : Image) (notes new : List Note) (n : Note) → new ≡ notes ++ n ∷ [] → (n.effect ≡ Written → ⊥) → ((k : ℕ) → bytes_in areas k ≡ (held first notes k).seen) → (k : ℕ) → bytes_in areas k ≡ (held first new k).seen
 agrees_more areas first notes new n more not agrees k = agrees k ∙ sym (seen_same first notes n not k) ∙ sym (ap (λ (l : List Note). (held first l k).seen) more)
 
--- time goes on from what the disk showed as it does from the same first areas
+-- time passes for the new disk as it does for the new notes over the old first areas
 moved : {old new : Shown} → Passed old new → (ok : Bool) (step : Image → Image → Type 0) → Passes ok old.time (old.time + 1) (left_of old) (Left old.first new.notes (old.time + 1)) step → Passes ok old.time new.time (left_of old) (left_of new) step
 moved {old} {new} passed ok step on =
     subst (λ (x : ℕ). Passes ok old.time x (left_of old) (Left new.first new.notes x) step) (sym passed.time)
@@ -37,7 +37,7 @@ module _ {old new : Shown} (passed : Passed old new) (n : Note) (more : new.note
   pub held_now : (k : ℕ) → held new.first new.notes k ≡ held old.first (old.notes ++ n ∷ []) k
   held_now k = λ j. held (passed.first j) (more j) k
 
-  -- what is read stays, but after a write that was done
+  -- what is read stays, unless the call is a completed write
   pub seen_still : (n.effect ≡ Written → ⊥) → seen_of new ≡ seen_of old
   seen_still not = λ j k. (ap (λ (h : Held). h.seen) (held_now k) ∙ seen_same old.first old.notes n not k) j
 
@@ -45,13 +45,13 @@ module _ {old new : Shown} (passed : Passed old new) (n : Note) (more : new.note
   pub seen_here_now : seen_of new n.area ≡ (done n (held old.first old.notes n.area)).seen
   seen_here_now = ap (λ (h : Held). h.seen) (held_now n.area) ∙ seen_here old.first old.notes n
 
-  -- a write that was done tears its range alone
+  -- a completed write tears its range alone
   pub torn_now : n.effect ≡ Written → TornIn n.area n.at (length n.bytes) (seen_of old) (seen_of new)
   torn_now is = subst (λ (f : Image). TornIn n.area n.at (length n.bytes) (seen_of old) f) (sym (λ j k. (held_now k j).seen)) (written_torn old.first old.notes n is)
 
   -- where the record has room for the call
   module _ (many : length old.notes ≡ min old.time old.room.calls) (lt : old.time < old.room.calls) where
-    -- a moment passes, and what a crash may leave takes the step that the call takes
+    -- a moment passes, and what a crash may leave changes by the step of the call
     moves : (ok : Bool) (step : Image → Image → Type 0) → ((image : Image) → LeftBy old.first (old.notes ++ n ∷ []) image → (d : Image) × LeftBy old.first old.notes d × step d image) → Passes ok old.time new.time (left_of old) (left_of new) step
     moves ok step each = moved passed ok step (passes old.first old.notes new.notes old.time (omega (arith, many, lt)) n more ok step each)
 
@@ -63,7 +63,7 @@ module _ {old new : Shown} (passed : Passed old new) (n : Note) (more : new.note
     pub still_moves : is_write n.effect ≡ false → (ok : Bool) (step : Image → Image → Type 0) → ((image : Image) → step image image) → Passes ok old.time new.time (left_of old) (left_of new) step
     still_moves is ok step still = moves ok step (still_step old.first old.notes n is step still)
 
-    -- after a sync that was done a crash at its moment leaves what is read
+    -- after a completed sync, a crash at its moment leaves what is read
     pub durable_now : n.effect ≡ Synced → (image : Image) → left_of new new.time image → image n.area ≡ seen_of new n.area
     durable_now is image left =
         let size : length new.notes ≤ new.time = (let l = ap length more in let m = length-append old.notes (n ∷ []) in omega (arith, l, m, many, lt, passed.time)) in

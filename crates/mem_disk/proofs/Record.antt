@@ -19,7 +19,7 @@ pub spent_push : (notes : List Note) (n : Note) → spent_by (notes ++ n ∷ [])
 spent_push [] n = omega arith
 spent_push (m ∷ notes) n = omega (arith, spent_push notes n)
 
--- a call more spends its bytes
+-- one more call spends its bytes
 pub spent_more : (notes new : List Note) (n : Note) → new ≡ notes ++ n ∷ [] → spent_by new ≡ spent_by notes + length n.bytes
 spent_more notes new n more = ap (λ (l : List Note). spent_by l) more ∙ spent_push notes n
 
@@ -27,7 +27,7 @@ pub after_push : (k : ℕ) (a : Held) (notes : List Note) (n : Note) → after_n
 after_push k a [] n = refl
 after_push k a (m ∷ notes) n = after_push k (after_note k a m) notes n
 
--- one call more of the record
+-- one more call of the record
 pub after_more : (k : ℕ) (a : Held) (pool : List ℕ) (calls : List Call) (i : ℕ) → i < length calls
     → after_notes k a (notes_of pool (take (i + 1) calls)) ≡ after_note k (after_notes k a (notes_of pool (take i calls))) (note_of pool (get_or calls i no_call))
 after_more k a pool calls i lt =
@@ -77,7 +77,7 @@ notes_grow pool bytes (call ∷ calls) all =
 pub last_bytes : (pool bytes : List ℕ) → take (length bytes) (drop (length pool) (pool ++ bytes)) ≡ bytes
 last_bytes pool bytes = ap (λ (l : List ℕ). take (length bytes) l) (drop-append_seam pool bytes) ∙ take_all (length bytes) bytes (omega arith)
 
--- a call more, whose bytes stand at the end of the pool
+-- one more call, whose bytes are at the end of the pool
 pub notes_more : (pool bytes : List ℕ) (calls : List Call) (call : Call) → AllInside (length pool) calls → call.from ≡ length pool → call.length ≡ length bytes
     → notes_of (pool ++ bytes) (calls ++ call ∷ []) ≡ notes_of pool calls ++ record { area = call.area; at = call.at; bytes = bytes; effect = call.effect } ∷ []
 notes_more pool bytes calls call all from long =
@@ -95,7 +95,7 @@ capacity_at [] k v lt is = absurd (omega arith)
 capacity_at (x ∷ vs) zero v lt is = ap (λ (w : Vec ℕ Global). vec_capacity w) (sym is)
 capacity_at (x ∷ vs) (suc k) v lt is = capacity_at vs k v (omega arith) is
 
--- one of the areas has memory for as many bytes as each has
+-- if each area has capacity for `n` bytes, so has the one at index `k`
 pub room_at : (n : ℕ) (vs : List (Vec ℕ Global)) (k : ℕ) (v : Vec ℕ Global) → HaveRoom n vs → k < length vs → v ≡ slice_index_or vs k v → n ≤ vec_capacity v
 room_at n vs k v all lt is = let cap = capacity_at vs k v lt is in let had = all k lt in omega (arith, cap, had)
 

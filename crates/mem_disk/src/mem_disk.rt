@@ -41,7 +41,7 @@ pub struct MemDisk {
     ghost inside: { AllInside (length pool.items) calls.items },
 }
 
-/// The bytes of an area of these.
+/// The bytes of one of these areas.
 fn area_in(images: &Images, area: u8) -> &[u8]
     requires { area < 3 }
     ensures { result.now ≡ area_of images.now area }
@@ -105,9 +105,9 @@ fn note(calls: &mut Vec<Call>, pool: &mut Vec<u8>, area: u8, at: u64, bytes: &[u
 impl MemDisk {
     ghost use Rattle.mem_disk.specs.Shown.{shown, Passed, PassesRoom};
 
-    /// A disk with these areas, at moment 0 with no write pending, which takes all the memory that
-    /// its room asks for; the calls whose number is in `fails` fail, the first call being number 1.
-    /// Out of memory is the only refusal.
+    /// A disk with these areas, at moment 0 and with no write pending. It takes all the memory that its
+    /// room asks for. The calls whose number is in `fails` fail; the first call has number 1. Out of
+    /// memory is the only error.
     pub fn new(
         alloc: Global,
         areas: &Images,
@@ -139,9 +139,9 @@ impl MemDisk {
         &self.calls
     }
 
-    /// What a crash at that moment leaves: what was last synced, and of each write since, of all
-    /// areas in order, what it became. A missing one is Old, and further ones are not used. Want of
-    /// memory is the only refusal.
+    /// What a crash at that moment leaves: the bytes last synced, with the writes since then. `torn`
+    /// lists what became of each of these writes, in their order over all areas. A missing entry is Old,
+    /// and excess entries are ignored. Out of memory is the only error.
     pub fn crash(&self, moment: u64, torn: &[Torn]) -> Result<Images, AllocError>
         requires { moment ≤ (shown self.now).time }
         ensures exact { IfOk result (λ images. (k : ℕ) → area_of images k ≡ crashed (shown self.now).first (take moment (shown self.now).notes) torn.now k) }
@@ -177,7 +177,7 @@ impl MemDisk {
         self.time += 1;
     }
 
-    /// Lets a call pass for which the record has no room.
+    /// Advances the time over a call for which the record has no room.
     fn skip(&mut self)
         requires moment { self.old.time + 1 < 2 ^ 64 }
         requires full { self.old.room.calls ≤ self.old.time }
@@ -187,7 +187,7 @@ impl MemDisk {
         self.time += 1;
     }
 
-    /// Lets a call pass that changes nothing. It is recorded if there is room for it.
+    /// Advances the time over a call that changes nothing. It is recorded if there is room for it.
     fn pass_over(&mut self, area: u8)
         requires area { area < 3 }
         requires moment { self.old.time + 1 < 2 ^ 64 }
@@ -314,8 +314,8 @@ impl Disk for MemDisk {
     }
 
     /// Beyond what every disk does: it fails exactly where its number is in the list, where no
-    /// moment is left or where it would pass the room; one that is refused for room changes no
-    /// byte and spends none, and one that fails otherwise stands in the record as cut.
+    /// moment is left or where it would exceed the room. A write that is refused for room changes no
+    /// byte and spends none. A write that fails otherwise is recorded as cut.
     fn write(&mut self, area: u8, at: u64, bytes: &[u8]) -> Result<(), DiskFailed>
         requires area { area < 3 }
         requires end { at + length bytes.now < 2 ^ 40 }

@@ -1,4 +1,4 @@
--- How the clause goes on over a call of the slots.
+-- The clause still holds after a call of the slots.
 use Rattle.std.proofs.Common.{◌≡◌, ◌⊎◌, inl, inr, ⊎_elim, ℕ, zero, suc, ◌+◌, ◌<◌, ◌≤◌, List, [], ◌∷◌, ◌++◌, length, get_or, slice_get, Some, sym, ◌∙◌, ap, subst, arith, length-append}
 use Rattle.std.proofs.Math.Logic.{∥∥₁_prop, ∥∥₁_map, ∥∥₁_elim}
 use Rattle.std.proofs.lemmas.List.{append-nil, get_or_append_left, get_or_push}

@@ -1,4 +1,4 @@
--- What each call of the slots keeps between them and the trace.
+-- The relation between the slots and the trace that each call of the slots preserves.
 use Rattle.std.proofs.Common.{◌≡◌, ◌≢◌, ◌⊎◌, inl, inr, ⊎_elim, ℕ, ◌+◌, ◌<◌, ◌==◌, ◌||◌, Bool, true, false, List, [], ◌∷◌, ◌++◌, length, slice_get, Option, Some, None, IsTrue, refl, sym, ◌∙◌, ap, subst, arith, length-append}
 use Rattle.std.proofs.Math.Logic.{∥∥₁_map}
 use Rattle.std.proofs.lemmas.Bool.{cases_eq}
@@ -10,7 +10,7 @@ use Rattle.prefix_store.specs.declared.Event.TheVariants.{Begun, Set, Committed,
 use Rattle.prefix_store.proofs.Lookups.{dec_in, dec_out, with_same, with_other, with_id, put_same, put_other, joined_in, joined_out, get_left, get_next}
 use Rattle.prefix_store.proofs.Moves.{splits, still_survives, commit_survives}
 
--- a slot is changed by what is taken back only where it was written, and then by itself alone
+-- undoing changes a slot only if it was written, and the result does not depend on other slots
 pub undone_at : (u : List Undo) (r s : ℕ → List ℕ) (k : ℕ) → r k ≡ s k → undone u r k ≡ undone u s k
 undone_at [] r s k is = is
 undone_at (x ∷ u) r s k is = let rest = undone_at u r s k is in ap (λ (v : List ℕ). put (λ _. v) x.slot x.old k) rest
@@ -43,7 +43,7 @@ none_or_some : (o : Option (List ℕ)) → (o ≡ None) ⊎ ((b : List ℕ) × (
 none_or_some None = inl refl
 none_or_some (Some b) = inr (b, refl)
 
--- what is committed of one client between two calls: whether it has begun, and what it has set
+-- the invariant of one client between two calls: whether it has begun, and what it has set
 pub record IsAt (s : SlotState) (c : ℕ) (goes_on : Bool) (set : Option (List ℕ)) : Type 0 where
   pub begun : (s.transaction c).begun ≡ goes_on
   pub alone : (k : ℕ) → k ≢ 8192 + c → wrote (s.transaction c).undo k ≡ false
@@ -53,7 +53,7 @@ pub record IsAt (s : SlotState) (c : ℕ) (goes_on : Bool) (set : Option (List �
   pub none : IsReadable s → set ≡ None → (wrote (s.transaction c).undo (8192 + c) ≡ false) × (s.reads (8192 + c) ≡ s.committed (8192 + c))
   pub back : IsReadable s → undone (s.transaction c).undo s.reads (8192 + c) ≡ s.committed (8192 + c)
 
--- what is committed between two calls, from what the commits left and what is committed of each client
+-- the invariant between two calls, from what the commits left and the invariant of each client
 pub in_step : (s : SlotState) (v : World) (first : ℕ → List ℕ) → (IsTrue s.observable → decoded s.committed ≡ v.done) → slice_get (first ∷ v.lefts) (length v.moments) ≡ Some v.done → length v.lefts ≡ length v.moments
     → (v.closed ≡ false → (s.failed ≡ false) × (v.last ≡ [])) → (IsTrue s.observable → v.last ≡ [] → decoded s.doubt ≡ v.done)
     → (IsTrue s.observable → (b : ℕ → List ℕ) (rest : List (ℕ → List ℕ)) → v.last ≡ b ∷ rest → ∥ (decoded s.doubt ≡ v.done) ⊎ (decoded s.doubt ≡ b) ∥₁)
@@ -75,7 +75,7 @@ in_step s v first committed done as_many fine no_doubt doubt each = record {
   back = λ speaks c lt. (each c lt).back speaks;
 }
 
--- a client that has set nothing, and whose slot reads as what is committed
+-- a client that has set nothing, and whose slot reads as committed
 pub nothing_set : (s : SlotState) (c : ℕ) (goes_on : Bool) → (s.transaction c).begun ≡ goes_on → (s.transaction c).undo ≡ [] → ((k : ℕ) → k ≢ 8192 + c → (s.transaction c).written k ≡ false) → (IsReadable s → s.reads (8192 + c) ≡ s.committed (8192 + c)) → IsAt s c goes_on None
 nothing_set s c goes_on begun undo written reads = record {
   begun = begun;
@@ -103,11 +103,11 @@ module _ (old : SlotState) (w : World) (first : ℕ → List ℕ) (h : IsInStep 
   abbrev SameSlot : SlotState → ℕ → Type 0
   SameSlot new c = IsReadable old × (new.reads (8192 + c) ≡ old.reads (8192 + c)) × (old.committed (8192 + c) ≡ new.committed (8192 + c))
 
-  -- so it is where it reads as before and the call leaves what is committed
+  -- this holds if the slot reads as before and the call leaves what is committed
   same_slot : (new : SlotState) (c : ℕ) → KeepsCommitted old new → IsReadable old → new.reads (8192 + c) ≡ old.reads (8192 + c) → SameSlot new c
   same_slot new c keeps s reads = (s, reads, ap (λ (f : ℕ → List ℕ). f (8192 + c)) (sym (keeps.committed s.0)))
 
-  -- a client of whom nothing changes
+  -- a client for which nothing changes
   unchanged : (new : SlotState) (c : ℕ) (goes_on : Bool) (set : Option (List ℕ)) → c < 16 → goes_on ≡ w.begun c → set ≡ w.own c → new.transaction c ≡ old.transaction c → (IsReadable new → SameSlot new c) → IsAt new c goes_on set
   unchanged new c goes_on set lt begun_is set_is same slot = record {
     begun = ap (λ (t : Transaction). t.begun) same ∙ h.begun c lt ∙ sym begun_is;
@@ -120,7 +120,7 @@ module _ (old : SlotState) (w : World) (first : ℕ → List ℕ) (h : IsInStep 
         ap (λ (t : Transaction). undone t.undo new.reads (8192 + c)) same ∙ undone_at (old.transaction c).undo new.reads old.reads (8192 + c) x.1 ∙ h.back x.0 c lt ∙ x.2;
   }
 
-  -- one client's part becomes this, and nothing changes of the others
+  -- one client's part becomes this, and the other clients do not change
   becomes : (new : SlotState) (client : ℕ) (goes_on : Bool) (set : Option (List ℕ)) → IsAt new client goes_on set → ((c : ℕ) → c ≢ client → new.transaction c ≡ old.transaction c)
       → ((c : ℕ) → c < 16 → c ≢ client → IsReadable new → SameSlot new c) → (c : ℕ) → c < 16 → IsAt new c (with_at w.begun client goes_on c) (with_at w.own client set c)
   becomes new client goes_on set mine others slots c lt = elim (cases_eq c client) [
@@ -158,7 +158,7 @@ module _ (old : SlotState) (w : World) (first : ℕ → List ℕ) (h : IsInStep 
   apart : (c d : ℕ) → d ≢ c → (8192 + d) ≢ (8192 + c)
   apart c d ne is = ne (omega (arith, is))
 
-  -- a transaction begins, goes on or ends with nothing set
+  -- a transaction begins, continues or ends with nothing set
   cleared : (new : SlotState) (client : ℕ) (goes_on closed : Bool) → KeepsCommitted old new → (closed ≡ false → (new.failed ≡ false) × (w.closed ≡ false)) → ((c : ℕ) → c ≢ client → new.transaction c ≡ old.transaction c)
       → (new.transaction client).begun ≡ goes_on → (new.transaction client).undo ≡ [] → ((k : ℕ) → k ≢ 8192 + client → (new.transaction client).written k ≡ false) → ((c : ℕ) → c < 16 → c ≢ client → IsReadable new → SameSlot new c) → (IsReadable new → new.reads (8192 + client) ≡ new.committed (8192 + client))
       → IsInStep new (record w { own = with_at w.own client None; begun = with_at w.begun client goes_on; closed = closed }) first
@@ -193,7 +193,7 @@ module _ (old : SlotState) (w : World) (first : ℕ → List ℕ) (h : IsInStep 
       keeps_on new (with_at w.begun client true) (with_at w.own client (Some bytes)) w.closed b.keeps (still_open new same) (becomes new client true (Some bytes) mine b.transaction.others
       (λ c lt ne speaks. let s = before speaks in same_slot new c b.keeps s (ap (λ (f : ℕ → List ℕ). f (8192 + c)) (b.reads s) ∙ put_other old.reads slot bytes (8192 + c) (apart client c ne)))))
 
-  -- all of a client's writes are taken back, and the transaction goes on or ends
+  -- all of a client's writes are undone, and the transaction continues or ends
   pub taken_back : (new : SlotState) (client : ℕ) (goes_on : Bool) (v : World) → client < 16 → KeepsCommitted old new → new.failed ≡ old.failed
       → (IsReadable old → new.reads ≡ undone (old.transaction client).undo old.reads)
       → ((c : ℕ) → c ≢ client → new.transaction c ≡ old.transaction c) → (new.transaction client).begun ≡ goes_on → (new.transaction client).undo ≡ [] → ((k : ℕ) → k ≢ 8192 + client → (new.transaction client).written k ≡ false)
@@ -234,7 +234,7 @@ module _ (old : SlotState) (w : World) (first : ℕ → List ℕ) (h : IsInStep 
         ]
       ]
 
-  -- a commit that is answered Disk, the first of all
+  -- the first commit that is answered Disk
   pub fails : (new : SlotState) (client : ℕ) → client < 16 → Fails old new client → w.closed ≡ false → old.failed ≡ false → new.failed ≡ true → IsInStep new (step w (Closed client true)) first
   fails new client small f still was now = in_step new (step w (Closed client true)) first
       (λ observable. let t = told_back new f.observable observable in ap decoded (f.committed t) ∙ h.committed t)
@@ -302,7 +302,7 @@ survives_call old new before after first w v so_far h same committed time observ
         (λ (e : decoded new.doubt ≡ v.done). inl (at_end ∙ ap (λ (c : ℕ → List ℕ). Some c) (sym e)))
         (λ (e : decoded new.doubt ≡ x). inr (ap (λ (r : List (ℕ → List ℕ)). slice_get ((first ∷ v.lefts) ++ r) (length v.moments + 1)) is ∙ get_next (first ∷ v.lefts) l x (length v.moments + 1) (omega (arith, h.as_many)) ∙ ap (λ (c : ℕ → List ℕ). Some c) (sym e))) which)
 
--- and after a commit that is answered Ok
+-- the clause after a commit that is answered Ok
 pub survives_commit : (old new : SlotState) (before after : ℕ → (ℕ → List ℕ) → Type 0) (first : ℕ → List ℕ) (w : World) (client : ℕ) → Survives old before first w → IsInStep old w first → IsInStep new (step w (Committed client new.moment)) first
     → w.closed ≡ false → new.observable ≡ old.observable → Goes old new before after → ((m : ℕ) (x : ℕ → List ℕ) → after m x → IsTrue new.observable)
     → ((x : ℕ → List ℕ) → after new.moment x → x ≡ new.committed) → Survives new after first (step w (Committed client new.moment))

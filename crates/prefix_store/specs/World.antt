@@ -1,4 +1,4 @@
--- What a trace means, and what a stop at each moment may leave by it.
+-- What a trace means, and what a stop at each moment may leave according to it.
 use Rattle.std.specs.Prelude.{◌≡◌, ◌≢◌, ◌⊎◌, ℕ, ◌+◌, ◌<◌, ◌≤◌, ◌==◌, nat_le, nat_lt, Bool, true, false, if◌then◌else◌, List, [], ◌∷◌, ◌++◌, length, get_or, slice_get, Option, Some, None, IsTrue}
 use Rattle.abl_storage.specs.Slots.{SlotState, IsReadable, wrote, undone}
 use Rattle.prefix_store.specs.declared.Event.{Event}
@@ -53,7 +53,7 @@ abbrev pub acknowledged : List ℕ → ℕ → ℕ
 acknowledged [] m = 0
 acknowledged (moment ∷ moments) m = if nat_le moment m then acknowledged moments m + 1 else acknowledged moments m
 
--- after 0, after 1 and so on
+-- the contents after 0 commits, after 1 and so on
 abbrev pub afters : (ℕ → List ℕ) → World → List (ℕ → List ℕ)
 afters first w = (first ∷ w.lefts) ++ w.last
 
@@ -82,7 +82,7 @@ pub record Survives (s : SlotState) (stop : ℕ → (ℕ → List ℕ) → Type 
   pub stops : (m : ℕ) (slots : ℕ → List ℕ) → s.since ≤ m → m ≤ s.moment → stop m slots → IsNamed first w m (decoded slots)
   pub ascend : Ascend s.since w.moments s.moment
 
--- what is committed beside it, between two calls
+-- the invariant besides the clause, between two calls
 pub record IsInStep (s : SlotState) (w : World) (first : ℕ → List ℕ) : Type 0 where
   pub committed : IsTrue s.observable → decoded s.committed ≡ w.done
   -- the last of what the commits left
@@ -97,12 +97,12 @@ pub record IsInStep (s : SlotState) (w : World) (first : ℕ → List ℕ) : Typ
   pub alone : (c k : ℕ) → c < 16 → k ≢ 8192 + c → wrote (s.transaction c).undo k ≡ false
   pub apart : (c k : ℕ) → c < 16 → k ≢ 8192 + c → (s.transaction c).written k ≡ false
   pub idle : (c : ℕ) → c < 16 → w.begun c ≡ false → w.own c ≡ None
-  -- what it set is what is read, and taking it back gives what was committed
+  -- what it set is read, and undoing it restores what was committed
   pub own : IsReadable s → (c : ℕ) → c < 16 → (b : List ℕ) → w.own c ≡ Some b → (wrote (s.transaction c).undo (8192 + c) ≡ true) × (s.reads (8192 + c) ≡ b)
   pub none : IsReadable s → (c : ℕ) → c < 16 → w.own c ≡ None → (wrote (s.transaction c).undo (8192 + c) ≡ false) × (s.reads (8192 + c) ≡ s.committed (8192 + c))
   pub back : IsReadable s → (c : ℕ) → c < 16 → undone (s.transaction c).undo s.reads (8192 + c) ≡ s.committed (8192 + c)
 
--- slots with no transaction begun and no fault, of which each stop leaves what they keep
+-- slots with no transaction begun and no fault: the committed contents are `first`, and each stop leaves `first`
 pub record IsFresh (s : SlotState) (stop : ℕ → (ℕ → List ℕ) → Type 0) (first : ℕ → List ℕ) : Type 0 where
   pub past : s.since ≤ s.moment
   pub fine : s.failed ≡ false

@@ -17,8 +17,8 @@ pub enum Refusal {
     NoMemory,
 }
 
-/// One value for each client, in the slots from 8,192 on, with the trace of what was asked. Its type
-/// keeps that each observable stop leaves the values of a committed prefix.
+/// One value for each client, in the slots from 8,192 on, with the trace of the calls. The type's
+/// invariant: each observable stop leaves the values of a committed prefix.
 #[derive(Drop)]
 pub struct Db<S: Slots + Drop> {
     slots: S,
@@ -78,7 +78,7 @@ impl<S: Slots + Drop> Db<S> {
         }
     }
 
-    /// Takes back what the transaction set.
+    /// Undoes what the transaction set.
     pub fn undo(&mut self, client: u16) -> Result<(), Refusal>
         requires client { client < 16 }
         requires begun { (world_of self.old.opened.items self.old.trace.items).begun client ≡ true }
@@ -114,7 +114,7 @@ impl<S: Slots + Drop> Db<S> {
         }
     }
 
-    /// Takes back what the transaction set and ends it.
+    /// Undoes what the transaction set and ends it.
     pub fn abandon(&mut self, client: u16) -> Result<(), Refusal>
         requires client { client < 16 }
         requires begun { (world_of self.old.opened.items self.old.trace.items).begun client ≡ true }
@@ -134,7 +134,7 @@ impl<S: Slots + Drop> Db<S> {
         Ok(())
     }
 
-    /// What a stop leaves, of each moment that the slots tell.
+    /// Returns the slots, the opened values and the trace, which names what each observable stop leaves.
     pub fn close(self) -> (S, Vec<[u8; 256]>, Vec<Event>)
         ensures survives { Survives (S.Slots.state result.0) (S.Slots.stop result.0) (first_of result.1.items) (world_of result.1.items result.2.items) }
     {
@@ -148,7 +148,7 @@ impl<S: Slots + Drop> Db<S> {
     }
 }
 
-/// Whether a call may go on: the store has not closed, and the trace has room for an event.
+/// Whether a call may proceed: the store has not closed, and the trace has room for an event.
 fn ready(closed: bool, trace: &mut Vec<Event>) -> Result<(), Refusal>
     ensures same { trace.new.items ≡ trace.old.items }
     ensures fine { OnOk result (closed ≡ false) }

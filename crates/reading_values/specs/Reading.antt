@@ -1,4 +1,4 @@
--- What a call answers that evaluates a part of a reading.
+-- What a call returns that evaluates a part of a reading.
 use Rattle.std.specs.Prelude.{◌≡◌, ℕ, Bool, true, false, List, Option, Result, Ok, Err, map}
 use Rattle.abl_base.specs.declared.value.Value.{Value}
 use Rattle.client_database.specs.declared.row_order.Cursor.{Cursor}
@@ -13,8 +13,8 @@ use Rattle.block_meaning.specs.Values.{EvaluatedAll, GivesAll, FailsAll, values_
 use Rattle.block_flat.specs.Config.{Config, StackEntry, Execute, Looks}
 use Rattle.block_flat.specs.Steps.{config, fault, search_step, test_step}
 
--- the call judges WHERE of the record that buffer b shows: the reading goes on as with a good record, or as with a bad one
--- and an empty buffer, or it has a fault and the buffer is empty
+-- the call judges WHERE of the record in buffer b. The reading continues as with a good record, or as with a bad one
+-- and an empty buffer. After a fault the buffer is empty too.
 abbrev pub Tests : Result Bool EvalFault → Program → Option Expr → Bool → State → Type 0
 Tests (Ok true) p test retry s = (b : ℕ) (good bad : State → Config) (ks : List StackEntry) → test_step p test b retry good bad ks s ≡ good s
 Tests (Ok false) p test retry s = (b : ℕ) (good bad : State → Config) (ks : List StackEntry) → test_step p test b retry good bad ks s ≡ bad (emptied b s)

@@ -1,4 +1,4 @@
--- Ascending lists of the numbers of which a fact holds.
+-- Ascending lists of the numbers for which a fact holds.
 use Rattle.std.proofs.Common.{ℕ, suc, ◌+◌, ◌<◌, Bool, List, [], ◌∷◌, ◌++◌, length, inl, inr, refl, sym, subst, ◌∙◌, arith}
 use Rattle.std.specs.List.{Contains}
 use Rattle.std.proofs.lemmas.Bool.{cases_lt, cases_eq}
@@ -9,11 +9,11 @@ use Rattle.record_locks.specs.declared.locks.Client.{Client}
 use Rattle.record_locks.specs.Table.{ConflictsOnLock}
 use Rattle.record_locks.proofs.Tables.{lock_past}
 
--- an element stays when another comes to the end
+-- an element stays when another is appended
 pub Contains-more : {X : Type 0} (xs : List X) (y x : X) → Contains xs x → Contains (xs ++ y ∷ []) x
 Contains-more xs y x (k, within, is) = (k, omega (arith, length_push xs y), get_or_append_left xs (y ∷ []) x k within ∙ is)
 
--- the list has, ascending, the numbers below n of which the fact holds
+-- the list contains the numbers below n for which the fact holds, in ascending order
 pub record ListsBelow (n : ℕ) (P : ℕ → Type 0) (xs : List ℕ) : Type 0 where
   pub ascending : IsAscending xs
   pub below : (d : ℕ) → Contains xs d → d < n
@@ -36,7 +36,7 @@ ascending_push [] n up below = tt
 ascending_push (x ∷ []) n up below = (below x (0, omega arith, refl), tt)
 ascending_push (x ∷ y ∷ xs) n up below = (up.0, ascending_push (y ∷ xs) n up.1 (λ d has. below d (suc has.0, omega (arith, has.1), has.2)))
 
--- the next number, of which the fact holds
+-- the next number, if the fact holds for it
 pub listed_more : (n : ℕ) (P : ℕ → Type 0) (xs : List ℕ) → ListsBelow n P xs → P n → ListsBelow (n + 1) P (xs ++ n ∷ [])
 listed_more n P xs lists holds = record {
   ascending = ascending_push xs n lists.ascending lists.below;
@@ -48,7 +48,7 @@ listed_more n P xs lists holds = record {
   ];
 }
 
--- the next number, of which it does not hold
+-- the next number, if the fact does not hold for it
 pub skipped_more : (n : ℕ) (P : ℕ → Type 0) (xs : List ℕ) → ListsBelow n P xs → ¬ P n → ListsBelow (n + 1) P xs
 skipped_more n P xs lists not = record {
   ascending = lists.ascending;
@@ -57,7 +57,7 @@ skipped_more n P xs lists not = record {
   all = λ d below here. elim (cases_eq n d) [ inl is ↦ absurd (not (subst P (sym is) here)) | inr apart ↦ lists.all d (omega arith) here ];
 }
 
--- where the fact holds below n alone, the list has all numbers
+-- if the fact holds only below n, the list contains all numbers for which it holds
 pub all_listed : (n : ℕ) (P : ℕ → Type 0) (xs : List ℕ) → ((d : ℕ) → P d → d < n) → ListsBelow n P xs → ListsAll xs P
 all_listed n P xs within lists = (lists.ascending, (λ d. (lists.each d, (λ here. lists.all d (within d here) here))))
 

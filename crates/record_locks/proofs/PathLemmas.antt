@@ -1,4 +1,4 @@
--- Paths of a search, and why its end means that no cycle would close.
+-- Paths of a search, and why the end of the search means that no cycle would close.
 use Rattle.std.proofs.Common.{◌≡◌, ◌≢◌, ℕ, zero, suc, ◌+◌, ◌<◌, ◌≤◌, List, [], ◌∷◌, ◌++◌, length, get_or, inl, inr, refl, sym, ap, subst, ◌∙◌, arith}
 use Rattle.std.specs.List.{Contains}
 use Rattle.std.proofs.lemmas.Bool.{cases_lt, cases_eq}
@@ -44,7 +44,7 @@ path_more W c paths q path is = record {
   reached = λ m has. reached_more paths q m (is.reached m has);
 }
 
--- a path to a client that none reached yet, for which the end of a path waits
+-- a path to a client that no path reached yet and that the end of a path waits for
 longer_path : (W : ℕ → ℕ → Type 0) (c : ℕ) (paths : List Path) (path : Path) (b : ℕ) (q : Path) → IsPath W c paths path → ¬ IsReached paths b → W path.end b
     → q.end ≡ b → q.way.items ≡ path.way.items ++ b ∷ [] → IsPath W c (paths ++ q ∷ []) q
 longer_path W c paths path b q is new waits ends way = record {
@@ -93,7 +93,7 @@ extends_push old paths q ext = record {
 pub reached_later : (old new : List Path) (b : ℕ) → Extends old new → IsReached old b → IsReached new b
 reached_later old new b ext (k, path, within, is, ends) = (k, path, omega (arith, ext.longer), ext.kept k path within ∙ is, ends)
 
--- the next path was done too
+-- the next path is done too
 pub done_more : (W : ℕ → ℕ → Type 0) (c bound : ℕ) (old new : List Path) (n : ℕ) → n < length old → Extends old new → AreDone W c bound old n
     → ((d : Path) → (¬ W (get_or old n d).end c) × IsFollowed W bound new (get_or old n d).end) → AreDone W c bound new (n + 1)
 done_more W c bound old new n inside ext done here j d below within =
@@ -110,7 +110,7 @@ done_more W c bound old new n inside ext done here j d below within =
 
 -- ---- one path followed
 
--- the paths begin with the old ones, and lead on to each client below n for which the end waits
+-- the paths begin with the old ones, and reach each client below n that the end waits for
 pub record IsFollowing (W : ℕ → ℕ → Type 0) (c : ℕ) (old : List Path) (end n : ℕ) (paths : List Path) : Type 0 where
   pub are : ArePaths W c paths
   pub extends : Extends old paths
@@ -183,7 +183,7 @@ is_cycle W c paths path cycle is waits same =
 
 -- ---- the search
 
--- the paths found so far, of which the first n are done
+-- the paths found so far; the first n are done
 pub record IsSearching (W : ℕ → ℕ → Type 0) (c bound : ℕ) (paths : List Path) (n : ℕ) : Type 0 where
   pub are : ArePaths W c paths
   pub some : 0 < length paths
@@ -204,7 +204,7 @@ goes_on W c bound old new n end inside is are ext ends back followed = record {
   done = done_more W c bound old new n inside ext is.done (λ d. ((λ waits. back (subst (λ x. W x c) (sym (ends d)) waits)), followed d));
 }
 
--- a client that waits is below the bound, save the one that asks
+-- each waiting client except the one that asks is below the bound
 pub waits_below : (table : List Client) (key_waits : List KeyWait) (c : ℕ) (against : List ℕ) (bound : ℕ) → ((a b : ℕ) → Waits table key_waits a b → a < bound)
     → (a b : ℕ) → a ≢ c → WaitsAgainst table key_waits c against a b → a < bound
 waits_below table key_waits c against bound waiting a b apart waits = elim waits [ inl asks ↦ absurd (apart asks.0) | inr waits ↦ waiting a b waits.1 ]

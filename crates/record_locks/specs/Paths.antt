@@ -1,10 +1,10 @@
--- The paths that a search for a cycle has found: clients of which each waits for the next.
+-- The paths that a search for a cycle has found. In a path each client waits for the next.
 use Rattle.std.specs.Prelude.{◌≡◌, ℕ, ◌<◌, ◌≤◌, List, [], ◌∷◌, length, slice_index_or}
 use Rattle.std.specs.List.{All, Any, Contains}
 use Rattle.database_meaning.specs.Waiting.{IsDistinct}
 use Rattle.record_locks.specs.declared.search.Path.{Path}
 
--- from client a over the listed ones, of which the last is b, each waits for the next
+-- from client a over the listed ones each waits for the next, and the last is b
 abbrev pub Leads : (ℕ → ℕ → Type 0) → ℕ → List ℕ → ℕ → Type 0
 Leads Waits a [] b = a ≡ b
 Leads Waits a (x ∷ xs) b = Waits a x × Leads Waits x xs b
@@ -29,7 +29,7 @@ pub record Extends (old new : List Path) : Type 0 where
   pub longer : length old ≤ length new
   pub kept : (j : ℕ) (d : Path) → j < length old → slice_index_or new j d ≡ slice_index_or old j d
 
--- all for which the end of a path waits, of those below the bound, are reached
+-- each client below the bound that the end of a path waits for is reached
 abbrev pub IsFollowed : (ℕ → ℕ → Type 0) → ℕ → List Path → ℕ → Type 0
 IsFollowed Waits bound paths end = (b : ℕ) → b < bound → Waits end b → IsReached paths b
 

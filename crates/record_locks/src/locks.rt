@@ -39,7 +39,7 @@ pub struct KeyWait {
 /// What all other clients wait for by keys.
 pub type KeyWaits = Items<KeyWait>;
 
-/// What a request for a lock is answered.
+/// The answer to a request for a lock.
 #[derive(Drop)]
 pub enum LockAnswer {
     /// The client has the lock.
@@ -174,8 +174,8 @@ impl Locks {
         answer
     }
 
-    /// A cycle that would close if the client waited for these, None where there is none: different
-    /// clients of which each waits for the next and the last for the first, the client first. An
+    /// A cycle that would close if the client waited for these; None where there is none. It begins with
+    /// the client, and its clients all differ. Each waits for the next, and the last for the first. An
     /// error means out of memory.
     pub fn would_cycle(
         &self,
@@ -198,7 +198,7 @@ impl Locks {
         }
     }
 
-    /// What the request is answered. It changes nothing.
+    /// The answer to the request. It changes nothing.
     fn decide(
         &self,
         client: u16,
@@ -312,7 +312,7 @@ impl Locks {
     }
 }
 
-/// The lock after a grant: exclusive where it was asked so or was so before.
+/// The lock after a grant: exclusive if the request or the lock before it was exclusive.
 fn granted(before: Option<bool>, exclusive: bool) -> bool
     ensures { result ≡ granted before exclusive }
 {

@@ -175,7 +175,7 @@ fn longer_path(alloc: Global, path: &Path, client: u16) -> Result<Path, AllocErr
     Ok(Path { end: client, way })
 }
 
-/// Adds a path to each client for which the end of a path waits, and to which none led yet.
+/// Adds a path to each client that the end of a path waits for and that no path reached yet.
 fn follow(
     alloc: Global,
     search: Search<'_>,
@@ -201,9 +201,9 @@ fn follow(
     Ok(())
 }
 
-/// A cycle of different clients that begins with the one that asks, each of which waits for the
-/// next and the last for the first; None where there is no such cycle. An error means
-/// out of memory. Each client is looked at once.
+/// A cycle that begins with the client that asks; None where there is none. Its clients all differ.
+/// Each waits for the next, and the last for the first. An error means out of memory. Each client is
+/// visited once.
 pub(crate) fn find_cycle(alloc: Global, search: Search<'_>) -> Result<Option<Vec<u16>>, AllocError>
     requires { length search.table.now ≤ 65536 }
     ensures { IfOk result (λ found. MatchOption found ((others : List ℕ) → ¬ Chain (WaitsAgainst search.entry.table.now search.entry.key_waits.now search.entry.client search.entry.against.now) search.entry.client others search.entry.client)

@@ -1,4 +1,4 @@
--- How long the bytes of a row are.
+-- The number of bytes of a row.
 use Rattle.std.proofs.Common.{◌≡◌, ℕ, ◌+◌, ◌<◌, ◌≤◌, List, ◌∷◌, length, drop, get_or, true, false, ap, sym, ◌∙◌, length-append, arith, nat_lt}
 use Rattle.std.proofs.Math.ListN.{drop_of_length-le}
 use Rattle.std.proofs.lemmas.Bool.{lt-ltb, le-ltb}
@@ -8,7 +8,7 @@ use Rattle.abl_values.specs.Rows.{bytes_of_row, field_bytes, number_bytes}
 use Rattle.abl_values.proofs.Numbers.{length-number_bytes}
 use Rattle.record_rules.proofs.Rest.{rest_from}
 
--- a number has as many bytes as it is written with
+-- a number written in n bytes has length n
 pub number_lengths : (n x : ℕ) → length (number_bytes n x) ≡ n
 number_lengths n x = length-number_bytes n x
 

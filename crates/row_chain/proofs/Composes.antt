@@ -30,7 +30,7 @@ keeps_both a b c f s = record {
   doubt = λ h. s.doubt (subst (λ (v : Bool). IsTrue v) (sym f.observable) h) ∙ f.doubt h;
 }
 
--- time over two calls of which none commits
+-- time over two calls that do not commit
 pub goes_both : (a b c : SlotState) (at_a at_b at_c : ℕ → (ℕ → List ℕ) → Type 0) → KeepsCommitted a b → KeepsCommitted b c
     → ((m : ℕ) (slots : ℕ → List ℕ) → at_c m slots → IsStop c m) → Goes a b at_a at_b → Goes b c at_b at_c → Goes a c at_a at_c
 goes_both a b c at_a at_b at_c kf ks stop f s = record {
@@ -203,7 +203,7 @@ wrote_both a b c client xs ys zs seen apart parts whole long f s = record {
     clash : (k : ℕ) (bytes : List ℕ) → Covers s.more k bytes → wrote s.more k ≡ false → ⊥
     clash k bytes r none = let some = covers_wrote s.more k bytes r in cc (some, none)
 
--- memory is reserved first, and the writes come then
+-- memory is reserved first, and the writes follow
 pub wrote_after_grows : (a b c : SlotState) (client n : ℕ) (slots : List ℕ) → b.failed ≡ a.failed → Grows a b client n → Wrote b c client slots → Wrote a c client slots
 wrote_after_grows a b c client n slots same g w = record {
   failed = w.failed ∙ same;
@@ -222,7 +222,7 @@ wrote_after_grows a b c client n slots same g w = record {
     then : IsReadable a → IsReadable b
     then h = readable_on a b g.keeps.observable same h
 
--- the same of a result
+-- the same for a result
 pub written_one : {T : Type 0} (r : Result T SlotFault) (old new : SlotState) (client at : ℕ) (bytes : List ℕ) → 8192 ≤ at → HasCause old new r → OnOk r (Writes old new client at bytes) → OnOk r (Wrote old new client (at ∷ []))
 written_one (Ok v) old new client at bytes high cause w = one_wrote old new client at bytes high (cause.stays (λ e. cc e)) w
 written_one (Err e) old new client at bytes high cause w = tt

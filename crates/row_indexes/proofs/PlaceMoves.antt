@@ -1,4 +1,4 @@
--- One move in several indexes, observable of their places.
+-- One move in several indexes, in terms of their places.
 use Rattle.std.proofs.Common.{◌≡◌, ◌≢◌, ◌⊎◌, ℕ, ◌<◌, Bool, true, false, cond, ◌&&◌, List, length, slice_set, Option, Some, inl, inr, refl, sym, ap, ◌∙◌, eqb, eqb-true, eq-eqb, subst}
 use Rattle.std.specs.Prelude.{IsTrue}
 use Rattle.std.proofs.lemmas.Bool.{cases_eq, ne_eqb}

@@ -5,8 +5,8 @@ ghost use Rattle.std.specs.Prelude.{◌<◌};
 use abl_base::Value;
 use std::alloc::{AllocError, Global};
 
-/// The word of a value; of a text of more than 99 bytes its length. Out of memory is the only
-/// error.
+/// The word of a value. The word of a text of more than 99 bytes gives only its length. Out of memory
+/// is the only error.
 pub fn word_of(alloc: Global, value: &Value) -> Result<String, AllocError> {
     match value {
         Value::Text(text) => text_word(alloc, text.as_slice()),

@@ -1,4 +1,5 @@
--- After an answer that stops the client a part of a run is over at once. No part asks for End. What has completed stays so.
+-- A part of a run ends at once after an answer that stops the client. No part requests End.
+-- A part that has completed stays completed when more answers follow.
 use Rattle.std.proofs.Common.{◌≡◌, refl, sym, ap, ◌∙◌, subst, ℕ, zero, suc, List, [], ◌∷◌, ◌++◌, Bool, true, false}
 use Rattle.client_database.specs.declared.operation.Op.{Op}
 use Rattle.client_database.specs.declared.operation.Op.TheVariants as op
@@ -20,7 +21,7 @@ abbrev pub AsksNoEnd : NextStep → Type 0
 AsksNoEnd (Ask o) = IsNoEnd o
 AsksNoEnd (Ended e) = ⊥
 
--- where the first of these answers stops the client, the part is over, and the others are left
+-- if the first of these answers stops the client, the part ends, and the other answers are left
 abbrev pub IsOverAfter : Outcome → List Answer → Type 0
 IsOverAfter again [] = Unit {0}
 IsOverAfter again (a ∷ more) = IsStop a → (e : ClientEnd) × (s : State) × (again ≡ Done (Stops e) s more)

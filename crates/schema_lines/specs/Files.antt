@@ -20,7 +20,7 @@ line_before n (Says attribute) lot =
 line_before n (Begins head) lot =
     record { loose = []; items = record { line = n; head = head; attributes = lot.loose } ∷ lot.items }
 
--- the lines, of which the first has the number `n`. An attribute belongs to the last item that begins before it
+-- the lines; the first has the number `n`. An attribute belongs to the last item that begins before it
 abbrev pub gathered : ℕ → List Line → Lot
 gathered n [] = record { loose = []; items = [] }
 gathered n (line ∷ lines) = line_before n line (gathered (n + 1) lines)

@@ -16,12 +16,12 @@ use Rattle.schema_lines.specs.Numbers.{small_number, long_number}
 
 -- ---- the first line of an item: words and names in quotation marks, and nothing after them
 
--- the form goes on after a word
+-- the form continues after a word
 abbrev pub word_then : Option (List ℕ) → (List ℕ → Head) → Head
 word_then None form = Malformed
 word_then (Some rest) form = form rest
 
--- the form goes on after a name in quotation marks
+-- the form continues after a name in quotation marks
 abbrev pub name_then : Option Quote → (List ℕ → List ℕ → Head) → Head
 name_then None form = Malformed
 name_then (Some name) form = form name.text name.rest
@@ -42,7 +42,7 @@ kind_named name =
     else if same_bytes (folded name) (codes "date") then Some Date
     else None
 
--- a type: one word, which is not empty
+-- a type: one word that is not empty
 abbrev pub field_typed : List ℕ → List ℕ → List ℕ → Head
 field_typed name table rest =
     if length (word_of rest) == 0 then Malformed
@@ -81,7 +81,7 @@ added rest =
     else if begins (codes "SEQUENCE") rest then sequence_head (after_word rest)
     else Malformed
 
--- ---- attribute lines: a word, what the attribute wants, and then anything
+-- ---- attribute lines: a word, the value of the attribute, and then anything
 
 abbrev pub quoted_given : Option Quote → Option Given
 quoted_given None = None
@@ -111,7 +111,7 @@ abbrev pub component : Option Quote → Option Component
 component None = None
 component (Some q) = directed q
 
--- a line that gives no attribute of a field alone
+-- a line with an attribute of an index or a sequence; any other line is skipped
 abbrev pub index_or_sequence_line : List ℕ → Line
 index_or_sequence_line line =
     if begins (codes "UNIQUE") line then Says Unique

@@ -36,7 +36,7 @@ abbrev pub second_word : List ℕ → List ℕ
 second_word [] = []
 second_word (b ∷ bs) = bs
 
--- a word of the mask, in any case, before the words that denote yes and no without one
+-- a word of the mask, in any case; else a word that denotes yes or no without a mask
 abbrev pub logical_spelt : List ℕ → List ℕ → Option Value
 logical_spelt mask text =
     if same_name text (run is_mask_word_byte mask) then Some (Logical true)

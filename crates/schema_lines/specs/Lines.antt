@@ -26,21 +26,21 @@ pieces (b ∷ bs) = byte_before b (pieces bs)
 abbrev pub is_blank : ℕ → Bool
 is_blank b = (b == 32) || (b == 9)
 
--- what does not count at the ends of a line: a blank, a tab, a carriage return
+-- a byte that is trimmed at the ends of a line: a blank, a tab, a carriage return
 abbrev pub is_margin : ℕ → Bool
 is_margin b = is_blank b || (b == 13)
 
--- a byte before the kept rest of a line: it goes too where it does not count and nothing is kept after it
+-- adds a byte before the trimmed rest of a line; a margin byte before an empty rest is dropped
 abbrev pub kept_before : ℕ → List ℕ → List ℕ
 kept_before b [] = if is_margin b then [] else b ∷ []
 kept_before b (c ∷ cs) = b ∷ c ∷ cs
 
--- the bytes without those at their end that do not count
+-- the bytes without the margin bytes at their end
 abbrev pub without_end : List ℕ → List ℕ
 without_end [] = []
 without_end (b ∷ bs) = kept_before b (without_end bs)
 
--- a line without what does not count at its ends
+-- a line without the margin bytes at its ends
 abbrev pub trimmed : List ℕ → List ℕ
 trimmed line = without_end (after_run is_margin line)
 

@@ -83,7 +83,7 @@ fn second_word(mask: &[u8]) -> &[u8]
     }
 }
 
-/// The value of a word of the mask, in any case, else of one that denotes yes or no.
+/// The value of a word of the mask, in any case; else of a word that denotes yes or no.
 fn logical_spelt(mask: &[u8], text: &[u8]) -> Option<Value>
     ensures { result ≡ logical_spelt mask.now text.now }
 {

@@ -1,4 +1,4 @@
--- What is kept of each client's transaction.
+-- The data that is stored for each client's transaction.
 use Rattle.std.specs.Prelude.{ℕ, zero, suc, ◌+◌, List, [], ◌∷◌, ◌++◌, Option}
 use Rattle.database_meaning.specs.declared.state.StoredRow.{StoredRow}
 use Rattle.stored_rows.specs.declared.log.Undone.{Undone}
@@ -29,7 +29,7 @@ log_in opens c = (open_in opens c).log
 abbrev pub touched_in : List Open → ℕ → List ℕ
 touched_in opens c = (open_in opens c).touched
 
--- with one more change of the row
+-- with one more change of a row
 abbrev pub with_change : OpenView → ℕ → Option StoredRow → ℕ → ℕ → ℕ → OpenView
 with_change v row old mark drawn written = record {
   log = v.log ++ record { row = row; old = old; mark = mark } ∷ [];

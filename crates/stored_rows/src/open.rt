@@ -1,4 +1,4 @@
-//! What is kept of a client's transaction.
+//! The data that is stored for a client's transaction.
 
 ghost use Rattle.std.specs.Prelude.{◌≡◌, ◌≤◌, ◌<◌, ◌*◌, length, take, OnOk};
 ghost use Rattle.std.specs.Vec.{vec_capacity};
@@ -38,8 +38,8 @@ impl Open {
         }
     }
 
-    /// Reserves the memory for one more change. The error comes too where the transaction has 7,989
-    /// changes; nothing has changed then.
+    /// Reserves the memory for one more change. It also fails where the transaction has 7,989 changes.
+    /// After an error nothing has changed.
     pub fn reserve(&mut self) -> Result<(), AllocError>
         ensures same { view_of self.new ≡ view_of self.old }
         ensures few { OnOk result (length self.new.touched.items < 7989) }

@@ -1,4 +1,4 @@
--- The forms of values in texts that expressions and statements speak of, beside the plain text and the text of EXPORT.
+-- The forms of values in texts that expressions and statements use, besides the plain text and the text of EXPORT.
 use Rattle.std.specs.Prelude.{ℕ, List, Option, ℤ}
 use Rattle.abl_base.specs.declared.value.Value.{Value}
 use Rattle.abl_base.specs.declared.value.Kind.{Kind}
@@ -9,7 +9,7 @@ pub data Imported : Type 0 where
   AtInputEnd : Imported
   -- the element of this number, from 1, is the first that is no text of its kind. The next line begins at `next`
   BadElement : (number next : ℕ) → Imported
-  -- a value for each target, and none where its element is missing, a bare `-`, or not wanted
+  -- a value for each target; None where its element is missing, a bare `-`, or skipped
   Elements : (values : List (Option Value)) (next : ℕ) → Imported
 
 -- the forms of values in texts

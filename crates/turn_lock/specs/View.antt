@@ -12,19 +12,19 @@ module _ {E : Type 0} where
   queued (Waits t) = 1
   queued (Holds t l) = 1
 
-  -- the list of the value that is out with the seat
+  -- the list of the value that the seat has taken out
   abbrev pub list_out : Stage E → List E
   list_out Idle = []
   list_out (Waits t) = []
   list_out (Holds t l) = l
 
-  -- the same, but the value that is to be put back has this list
+  -- the same, but the value to put back has this list
   abbrev pub with_list_out : Stage E → List E → Stage E
   with_list_out Idle new = Idle
   with_list_out (Waits t) new = Waits t
   with_list_out (Holds t l) new = Holds t new
 
-  -- the first client of some, and its own entries
+  -- the first client of the list, and its own entries
   abbrev pub client_in : List (ℕ × List E) → ℕ
   client_in [] = 0
   client_in (p ∷ ps) = p.0
@@ -48,14 +48,14 @@ module _ {T E : Type 0} where
   abbrev pub with_stage : View T E → Stage E → View T E
   with_stage v stage = view v.key v.parts v.lists stage
 
-  -- a seat hands the clients that it has over to a new one, with one part
+  -- a seat hands its clients over to a new seat, with one part
   abbrev pub kept_part : View T E → View T E
   kept_part v = view v.key (v.parts - 1) [] v.stage
 
   abbrev pub handed_part : View T E → View T E
   handed_part v = view v.key 1 v.lists Idle
 
-  -- a seat takes another in, and that one is spent
+  -- a seat absorbs another, which is then spent
   abbrev pub joined_view : View T E → View T E → View T E
   joined_view v w = view v.key (v.parts + w.parts) (v.lists ++ w.lists) v.stage
 

@@ -31,19 +31,19 @@ const CLIENTS: usize = 3;
 
 const WORDS: usize = 20;
 
-// The other words are bells. Who waits sleeps on the bell of its ticket, so up to this many threads are woken one by one.
+// The other words are bells. A waiting thread sleeps on the bell of its ticket, so up to this many threads are woken one by one.
 const BELLS: u64 = 16;
 
 // The slot of the value.
 const VALUE: usize = 0;
 
-/// There was no memory.
+/// Out of memory.
 #[derive(Drop)]
 pub struct NoMemory;
 
 /// A lock over one value, for the clients that it was made with.
 ///
-/// Contracts see which lock it is, and of which value and clients it was made.
+/// Contracts see which lock it is, and the value and clients that it was made with.
 #[derive(Drop)]
 pub struct Shared<T: Journal> {
     table: Table<Option<T>, View<T, T::Entry>, Key<T>, TurnRule<T>, Global>,
@@ -71,7 +71,7 @@ impl<T: Journal> Shared<T> {
     /// A lock over the value, and a pass for each of the clients `first` to `first + seats - 1`, in this order, with no entry.
     ///
     /// There is one client at least, `first + seats` is 65,535 at most, and no entry of the value's list is of a client numbered `first` or above.
-    /// It is refused only where there is no memory, and the value then comes back.
+    /// Out of memory is the only error; it returns the value.
     pub fn new(
         alloc: Global,
         value: T,
@@ -138,7 +138,7 @@ impl<T: Journal> Shared<T> {
     /// Waits for the turn of the pass's client, and takes the value out.
     ///
     /// The client's entries in the value's list are exactly the pass's own, in order. The value has the origin of the one that the lock was made with, and its list begins with that one's.
-    /// A thread that waits is parked, and the `give` that serves its ticket wakes it. That its turn comes is not claimed.
+    /// A thread that waits is parked, and the `give` that serves its ticket wakes it. The contract does not claim that its turn comes.
     pub fn take<R: Wait>(&self, rt: &R, pass: Pass<T>) -> (T, Turn<T>)
         requires { pass.lock ≡ self.now }
         ensures own { own_entries T.client pass.client (T.entries result.0) ≡ pass.list }
@@ -159,7 +159,7 @@ impl<T: Journal> Shared<T> {
                 let count = value.entries();
                 return (value, Turn { place, count });
             }
-            // It sleeps only while the bell has not rung since before the look, so no wake is missed.
+            // It sleeps only while the bell has not rung since before the read, so no wake is missed.
             shared.park(rt, bell, (rung & 0xffff_ffff) as u32);
         }
         unreachable!()
@@ -167,7 +167,8 @@ impl<T: Journal> Shared<T> {
 
     /// Puts the value back, and ends the turn.
     ///
-    /// The value has the origin of the one that the lock was made with, as the one taken had. Its list is the one taken, and at most one more entry, of the turn's client. The pass then has the client's entries in it.
+    /// The value has the origin of the one that the lock was made with, as the one taken had.
+    /// Its list is the one taken, followed by at most one more entry, of the turn's client. The pass then has the client's entries in it.
     pub fn give(&self, turn: Turn<T>, value: T) -> Pass<T>
         requires lock { turn.lock ≡ self.now }
         requires origin { HasOrigin T.origin self.now value }
@@ -186,7 +187,7 @@ impl<T: Journal> Shared<T> {
         Pass { place }
     }
 
-    // Counts the entry that the value in the slot has more than the one taken, if it is longer.
+    // Counts the additional entry of the value in the slot, if its list is longer than the one taken.
     fn record(&self, place: &mut Place<T>, longer: bool)
         requires lock { lock_of place.old ≡ self.now }
         requires value { PutsBack T.entries T.client place.old longer }
@@ -207,7 +208,7 @@ impl<T: Journal> Shared<T> {
     {
         let shared = &self.table.shared;
         let served = shared.fetch_add::<Serve>(place, SERVED, 1);
-        // Who draws a ticket after this look finds its turn, and does not sleep.
+        // A thread that draws a ticket after this read finds its turn, and does not sleep.
         let next = served.wrapping_add(1);
         if shared.peek(TICKETS) != next {
             let bell = bell_of(next);
@@ -216,7 +217,7 @@ impl<T: Journal> Shared<T> {
         }
     }
 
-    /// Ends the lock, with every pass that was made, and gives the value.
+    /// Ends the lock and every pass that was made, and returns the value.
     ///
     /// The entries of each pass's client are exactly the pass's own, in order. The value has the origin of the one that the lock was made with, and its list begins with that one's.
     pub fn close(self, passes: Passes<T>) -> T

@@ -42,7 +42,7 @@ abbrev pub on_retry : Option OnPhrase → Bool
 on_retry None = false
 on_retry (Some on) = action_retry on.action
 
--- in WHERE, of which the values of the bracket are parts
+-- in WHERE; the values of the bracket are parts of it
 abbrev pub reading_retry : Reading → Bool
 reading_retry r = maybe_retry r.test
 

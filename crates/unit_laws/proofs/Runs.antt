@@ -19,13 +19,13 @@ mode_spends code p (Await op k) ks s is = absurd is
 pub step_spends : (code : Code) (p : Program) (c : Config) → IsRunning c.mode → Spends c.state.units (step code p c)
 step_spends code p c is = mode_spends code p c.mode c.stack c.state is
 
--- a running machine has the units that it has
+-- a running machine that keeps its units leaves no more than before
 stands : (m : Mode) (n : ℕ) → IsRunning m → LeavesIn m n n
 stands (Execute t) n is = same n
 stands (Unwind completion) n is = same n
 stands (Await op k) n is = absurd is
 
--- a step spends of what was there before
+-- a step spends only units that were there before
 step_of : (code : Code) (p : Program) (before : ℕ) (m : Mode) (ks : List StackEntry) (s : State) → LeavesIn m before s.units → Spends before (mode_step code p m ks s)
 step_of code p before (Execute t) ks s h = of_more s.units before (mode_step code p (Execute t) ks s) (task_spends code p t ks s) h
 step_of code p before (Unwind completion) ks s h = of_more s.units before (mode_step code p (Unwind completion) ks s) (over_spends p ks completion s) h

@@ -15,7 +15,7 @@ pub fn answer(alloc: Global, answer: Result<Value, ArithFault>) -> Result<String
     }
 }
 
-/// The place of the first of two values, seen from the second.
+/// The position of the first of two values relative to the second.
 pub fn order(order: Ordering) -> &'static str {
     match order {
         Ordering::Less => "below",

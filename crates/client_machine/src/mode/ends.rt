@@ -16,7 +16,7 @@ pub enum BufferList {
     These(Items<u32>),
 }
 
-/// A task of the end of an iteration. A list names its rest by the place of the next one in it.
+/// A task of the end of an iteration. `from` is the index of the next item of its list.
 #[derive(Drop)]
 pub enum EndTask {
     /// Inserts the record in a buffer, if it is pending.
@@ -55,7 +55,7 @@ pub enum EndTask {
         depth: u32,
         but: BufferList,
     },
-    /// Refreshes the buffer at a place, where so many CREATEs came before the copy.
+    /// Refreshes the buffer at a place; `made` CREATEs preceded the copy.
     UpdatesOne {
         made: u64,
         place: Place,
@@ -79,7 +79,7 @@ pub enum EndTask {
 /// An entry of the end of an iteration.
 #[derive(Drop)]
 pub enum EndEntry {
-    /// The iteration is closed, after which it completes so.
+    /// After the iteration is closed, it completes with this completion.
     AfterClosing {
         place: usize,
         iteration: IterationData,

@@ -4,7 +4,7 @@ use Rattle.key_index.specs.Places.{IsBelow}
 use Rattle.key_index.proofs.Beyond.{rows_below}
 use Rattle.key_index.proofs.rows.greatest_entry.Given as goal
 
--- the search goes on below the given row, and passed no entry
+-- each row below `from` is below the given row, and each entry below the given row is below `from`
 abbrev pub invariant-loop-row : goal.invariant-loop-row
 invariant-loop-row l =
     ((q : ℕ) → IsBelow l.from q → IsBelow l.fn.below q)

@@ -4,7 +4,7 @@ use Rattle.key_index.specs.Places.{IsAbove}
 use Rattle.key_index.proofs.Beyond.{rows_above}
 use Rattle.key_index.proofs.rows.least_entry.Given as goal
 
--- the search goes on above the given row, and passed no entry
+-- each row above `from` is above the given row, and each entry above the given row is above `from`
 abbrev pub invariant-loop-row : goal.invariant-loop-row
 invariant-loop-row l =
     ((q : ℕ) → IsAbove l.from q → IsAbove l.fn.above q)

@@ -8,7 +8,7 @@ use Rattle.block_vm.proofs.Resumes.{answered_call, failed_call, end_call}
 use Rattle.block_vm.proofs.Works.{at_end, awaiting_has, awaiting_not_ending, ended_fewer, gives_fewer, gives_shows, gives_ends}
 use Rattle.block_vm.proofs.client.Client.run_with.Goals as goal
 
--- ---- all is over
+-- ---- the run is over
 
 pub returns-then-not-is_awaiting-clause-refines : goal.returns-then-not-is_awaiting-clause-refines
 returns-then-not-is_awaiting-clause-refines c =
