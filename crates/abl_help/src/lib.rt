@@ -8,5 +8,5 @@ pub mod page;
 pub mod pages;
 
 pub use help::HELP;
-pub use page::{Page, page_named};
-pub use pages::PAGES;
+pub use page::place_of;
+pub use pages::{names, summaries, texts};

@@ -1,13 +1,147 @@
 //! The pages. Written by tools/explanations from tools/explanations.txt.
 
-use crate::page::Page;
+static NAMES: [&str; 62] = [
+    "L1",
+    "L2",
+    "L3",
+    "L4",
+    "L5",
+    "G1",
+    "G2",
+    "Y1",
+    "Y2",
+    "Y3",
+    "Y4",
+    "Y5",
+    "Y6",
+    "Y7",
+    "Y8",
+    "Y9",
+    "Y10",
+    "Y11",
+    "Y12",
+    "Y13",
+    "Y14",
+    "S1",
+    "S2",
+    "S3",
+    "S4",
+    "U1",
+    "U2",
+    "U3",
+    "U4",
+    "U5",
+    "U6",
+    "U7",
+    "N1",
+    "F1",
+    "F2",
+    "F3",
+    "F4",
+    "F5",
+    "F6",
+    "F7",
+    "F8",
+    "F9",
+    "F10",
+    "F11",
+    "F12",
+    "0",
+    "1",
+    "2",
+    "3",
+    "4",
+    "6",
+    "7",
+    "8",
+    "10",
+    "Statement",
+    "Budget",
+    "Depth",
+    "OutputFull",
+    "TraceFull",
+    "TxFull",
+    "Deadlock",
+    "Closed",
+];
 
-/// The pages in the order of rules, statuses and stops.
-pub static PAGES: [Page; 62] = [
-    Page {
-        name: "L1",
-        summary: "A byte begins no token",
-        text: "L1: A byte begins no token. Outside texts and comments a source has names,
+/// The names of the pages: rules, statuses and stops, in this order.
+pub fn names() -> &'static [&'static str] {
+    &NAMES
+}
+
+static SUMMARIES: [&str; 62] = [
+    "A byte begins no token",
+    "A comment is open at the end of the source",
+    "A text is open at the end of the source",
+    "A name, or one of the two parts of a name like Customer.Name, has more than 32 bytes",
+    "A number has more than 18 digits before its point or more than 10 after it, leading and trailing zeros counted",
+    "The grammar allows no program that begins so",
+    "The source nests too deep",
+    "A name means nothing at this place",
+    "A field is named alone, and two buffers of the procedure have a field of this name",
+    "A name is defined twice in one procedure, where variables, parameters, buffers and streams share their names",
+    "The operands do not fit the operator, or the branches of an IF in an expression do not fit each other",
+    "The kind of a value does not fit its target",
+    "A condition after IF, WHILE or WHERE is no LOGICAL",
+    "A function or a RUN has too few arguments (at its name), one too many (at that argument), one of a wrong kind, or one whose direction is not the parameter's",
+    "A buffer or a stream is where a value or a target is expected, or a loop variable is no variable of kind INTEGER or INT64",
+    "The field has a type that is not supported, or has an EXTENT above 0",
+    "USE-INDEX names no usable index of the buffer's table",
+    "A parameter is defined in the external procedure, or inside a block",
+    "A mask after FORMAT or in STRING is no mask for a value of this kind",
+    "The INITIAL value does not fit the kind of the variable or parameter, or is outside its range once it is rounded",
+    "A source has more of something than its limit",
+    "A FOR of a buffer is inside another FOR of the same buffer",
+    "A DO FOR or REPEAT FOR of a buffer is inside the block to which free references of the buffer are scoped",
+    "A DO FOR or REPEAT FOR of a buffer is inside a DO FOR, REPEAT FOR or FOR of it, or a FOR of a buffer inside a DO FOR or REPEAT FOR of it",
+    "A buffer is twice in the list of one DO FOR or REPEAT FOR",
+    "A label after UNDO, LEAVE, NEXT or RETRY names no block around the place",
+    "A block has the label of a block around it",
+    "UNDO names a block that cannot be undone",
+    "NEXT is of a block that does not iterate, or no block around the place iterates",
+    "The LEAVE or NEXT after an UNDO is of a block inside the one that is undone",
+    "A phrase or an option is given twice, as TRANSACTION, WHILE, NO-ERROR or FORMAT",
+    "The RETRY after an UNDO is of another block than the one that is undone",
+    "The source breaks no other rule, and does not run yet",
+    "A line begins with ADD, UPDATE, DROP or RENAME and is none of the four items",
+    "A name is not a letter and then letters, digits and `# $ % & - _`, or has more than 32 bytes",
+    "Two tables have one name",
+    "A field or an index is of a table that no earlier line adds",
+    "Two fields of a table have one name, in any case",
+    "Two indexes of a table have one name, in any case",
+    "INDEX-FIELD names no field of the table that comes before the index, or has not the form with ASCENDING or DESCENDING",
+    "An index has no INDEX-FIELD, or has a field twice",
+    "A second index of a table has PRIMARY",
+    "The value of INITIAL, ORDER or EXTENT does not fit",
+    "Two sequences have one name, in any case, or INCREMENT is 0 or no number of 64 bits",
+    "The schema has more of something than its limit",
+    "The command did its work",
+    "The arguments are no command",
+    "A file cannot be read",
+    "The schema file breaks one of the rules F1 to F12",
+    "The source breaks a rule",
+    "Standard output failed, as on a full device or a closed pipe",
+    "Memory ran out",
+    "The client ended in an error, by RETURN ERROR of the external procedure, or in a stop",
+    "A file is longer than 1,048,576 bytes",
+    "The client came to the statement STOP",
+    "No unit is left",
+    "A RUN would be the 33rd that is open",
+    "The output of the client, named outputs included, would pass 16 MiB (16,777,216 bytes)",
+    "The trace would pass 256 MiB, where an operation counts 64 bytes and what it carries",
+    "A transaction would write more than 7,989 slots",
+    "The client waits for others that wait for it, directly or not",
+    "The disk failed, and the database is closed",
+];
+
+/// The first sentence of each page, in the order of `names`.
+pub fn summaries() -> &'static [&'static str] {
+    &SUMMARIES
+}
+
+static TEXTS: [&str; 62] = [
+    "L1: A byte begins no token. Outside texts and comments a source has names,
 numbers, dates, texts, white space and the symbols `: , ( ) = <> < > <= >= + -
 * / ? ^` and the period, which is one only before white space, a comment or
 the end. At 1:1 the usual cause is a byte order mark, which some editors put
@@ -25,11 +159,7 @@ the file without a byte order mark.
     DEFINE VARIABLE i AS INTEGER.
     i = 1.
 ",
-    },
-    Page {
-        name: "L2",
-        summary: "A comment is open at the end of the source",
-        text: "L2: A comment is open at the end of the source. The place is where the
+    "L2: A comment is open at the end of the source. The place is where the
 outermost open one begins. Comments nest, so each `/*` needs its own `*/`.
 
 Refused at 1:1:
@@ -43,11 +173,7 @@ Close the comment. Look for a `/*` inside of it that has no `*/`.
     /* totals /* of each order */ */
     MESSAGE \"done\".
 ",
-    },
-    Page {
-        name: "L3",
-        summary: "A text is open at the end of the source",
-        text: "L3: A text is open at the end of the source. The place is its opening quote. A
+    "L3: A text is open at the end of the source. The place is its opening quote. A
 text may go over several lines, so one quote that is missing takes in all that
 follows up to the next quote.
 
@@ -60,11 +186,7 @@ Close the text with the quote that opens it. A quote inside a text is doubled.
 
     MESSAGE \"done\".
 ",
-    },
-    Page {
-        name: "L4",
-        summary: "A name, or one of the two parts of a name like Customer.Name, has more than 32 bytes",
-        text: "L4: A name, or one of the two parts of a name like Customer.Name, has more
+    "L4: A name, or one of the two parts of a name like Customer.Name, has more
 than 32 bytes.
 
 Refused at 1:17:
@@ -76,11 +198,7 @@ Shorten the name.
 
     DEFINE VARIABLE total-of-all-orders AS DECIMAL.
 ",
-    },
-    Page {
-        name: "L5",
-        summary: "A number has more than 18 digits before its point or more than 10 after it, leading and trailing zeros counted",
-        text: "L5: A number has more than 18 digits before its point or more than 10 after
+    "L5: A number has more than 18 digits before its point or more than 10 after
 it, leading and trailing zeros counted; or a date is no day of the years 1 to
 9999.
 
@@ -93,11 +211,7 @@ Write a date that there is, as month, day and year; shorten the number.
 
     MESSAGE 02/29/2024.
 ",
-    },
-    Page {
-        name: "G1",
-        summary: "The grammar allows no program that begins so",
-        text: "G1: The grammar allows no program that begins so: the tokens before the place
+    "G1: The grammar allows no program that begins so: the tokens before the place
 can begin one, with this token none does. The place is often one token after
 the mistake, as where a period or an END is missing. A keyword cannot be a
 name: a variable cannot be called `date` or `label`.
@@ -114,11 +228,7 @@ statements and options.
     DEFINE VARIABLE i AS INTEGER.
     i = 1.
 ",
-    },
-    Page {
-        name: "G2",
-        summary: "The source nests too deep",
-        text: "G2: The source nests too deep: this token opens a 65th statement inside 64
+    "G2: The source nests too deep: this token opens a 65th statement inside 64
 others, or a 65th of expressions, NOTs and signs inside 64 others. Each ELSE
 IF is a statement inside the IF before it, and each bracket opens an
 expression.
@@ -136,11 +246,7 @@ into a variable.
 {64*DO: } is `DO: ` 64 times; an @ in it is the number of the time, from 1,
 and a | is the end of a line.
 ",
-    },
-    Page {
-        name: "Y1",
-        summary: "A name means nothing at this place",
-        text: "Y1: A name means nothing at this place: no variable, buffer, field, stream,
+    "Y1: A name means nothing at this place: no variable, buffer, field, stream,
 table, sequence or procedure of this name is known here. A definition holds
 from its place on. A field is known alone, without `buffer.` before it, only
 where the procedure names a buffer that has it, in FIND, FOR, CREATE or
@@ -157,11 +263,7 @@ Define the name before this place, or write it as it is spelt there; write
     DEFINE VARIABLE total AS DECIMAL.
     MESSAGE total.
 ",
-    },
-    Page {
-        name: "Y2",
-        summary: "A field is named alone, and two buffers of the procedure have a field of this name",
-        text: "Y2: A field is named alone, and two buffers of the procedure have a field of
+    "Y2: A field is named alone, and two buffers of the procedure have a field of
 this name. All buffers count that the procedure names, also those named after
 the place.
 
@@ -178,11 +280,7 @@ Write the buffer before the field.
     FIND FIRST Item.
     MESSAGE Item.Name.
 ",
-    },
-    Page {
-        name: "Y3",
-        summary: "A name is defined twice in one procedure, where variables, parameters, buffers and streams share their names",
-        text: "Y3: A name is defined twice in one procedure, where variables, parameters,
+    "Y3: A name is defined twice in one procedure, where variables, parameters,
 buffers and streams share their names; or a buffer has the name of a table; or
 two internal procedures have one name. The place is the name in the later
 definition.
@@ -198,11 +296,7 @@ Give one of them another name.
     DEFINE VARIABLE i AS INTEGER.
     DEFINE VARIABLE amount AS DECIMAL.
 ",
-    },
-    Page {
-        name: "Y4",
-        summary: "The operands do not fit the operator, or the branches of an IF in an expression do not fit each other",
-        text: "Y4: The operands do not fit the operator, or the branches of an IF in an
+    "Y4: The operands do not fit the operator, or the branches of an IF in an
 expression do not fit each other. The place is the operator, the sign, NOT or
 IF. `+` takes two texts, two numbers, or a date and then a whole number.
 
@@ -216,11 +310,7 @@ DECIMAL make a number of a text.
 
     MESSAGE \"total \" + STRING(1).
 ",
-    },
-    Page {
-        name: "Y5",
-        summary: "The kind of a value does not fit its target",
-        text: "Y5: The kind of a value does not fit its target. Any number fits a target that
+    "Y5: The kind of a value does not fit its target. Any number fits a target that
 is a number; else the kinds must be the same. A counting loop takes numbers,
 and RETURN takes a text. The place is the first token of the value.
 
@@ -235,11 +325,7 @@ Convert the value, or give the target the other kind.
     DEFINE VARIABLE i AS INTEGER.
     i = INTEGER(\"12\").
 ",
-    },
-    Page {
-        name: "Y6",
-        summary: "A condition after IF, WHILE or WHERE is no LOGICAL",
-        text: "Y6: A condition after IF, WHILE or WHERE is no LOGICAL. The place is the first
+    "Y6: A condition after IF, WHILE or WHERE is no LOGICAL. The place is the first
 token of the condition.
 
 Refused at 2:4:
@@ -253,11 +339,7 @@ Compare the value.
     DEFINE VARIABLE i AS INTEGER.
     IF i <> 0 THEN MESSAGE \"some\".
 ",
-    },
-    Page {
-        name: "Y7",
-        summary: "A function or a RUN has too few arguments (at its name), one too many (at that argument), one of a wrong kind, or one whose direction is not the parameter's",
-        text: "Y7: A function or a RUN has too few arguments (at its name), one too many (at
+    "Y7: A function or a RUN has too few arguments (at its name), one too many (at
 that argument), one of a wrong kind, or one whose direction is not the
 parameter's. An OUTPUT or INPUT-OUTPUT argument must be a variable of exactly
 the parameter's kind. A count after SKIP or SPACE is outside 1 to 99.
@@ -272,11 +354,7 @@ Give the arguments that the function or the procedure takes. docs/language.md
 
     MESSAGE SUBSTRING(\"total\", 2).
 ",
-    },
-    Page {
-        name: "Y8",
-        summary: "A buffer or a stream is where a value or a target is expected, or a loop variable is no variable of kind INTEGER or INT64",
-        text: "Y8: A buffer or a stream is where a value or a target is expected, or a loop
+    "Y8: A buffer or a stream is where a value or a target is expected, or a loop
 variable is no variable of kind INTEGER or INT64.
 
 Refused at 3:5:
@@ -292,11 +370,7 @@ Name a field of the buffer.
     FIND FIRST Customer.
     i = Customer.CustNum.
 ",
-    },
-    Page {
-        name: "Y9",
-        summary: "The field has a type that is not supported, or has an EXTENT above 0",
-        text: "Y9: The field has a type that is not supported, or has an EXTENT above 0. It
+    "Y9: The field has a type that is not supported, or has an EXTENT above 0. It
 always holds `?` and cannot be named. IMPORT and EXPORT of the whole buffer
 pass over it.
 
@@ -311,11 +385,7 @@ Use other fields. docs/formats.md ('Items') says which types are supported.
     FIND FIRST Item.
     PUT UNFORMATTED Item.Name.
 ",
-    },
-    Page {
-        name: "Y10",
-        summary: "USE-INDEX names no usable index of the buffer's table",
-        text: "Y10: USE-INDEX names no usable index of the buffer's table. A word index and
+    "Y10: USE-INDEX names no usable index of the buffer's table. A word index and
 an index on an unsupported field are not usable.
 
 Refused at 1:31:
@@ -328,11 +398,7 @@ the primary index is then used.
 
     FIND FIRST Customer USE-INDEX CustNum.
 ",
-    },
-    Page {
-        name: "Y11",
-        summary: "A parameter is defined in the external procedure, or inside a block",
-        text: "Y11: A parameter is defined in the external procedure, or inside a block. The
+    "Y11: A parameter is defined in the external procedure, or inside a block. The
 place is the word PARAMETER.
 
 Refused at 1:14:
@@ -349,11 +415,7 @@ procedure has none here: it reads its input by IMPORT.
     END.
     RUN show(1).
 ",
-    },
-    Page {
-        name: "Y12",
-        summary: "A mask after FORMAT or in STRING is no mask for a value of this kind",
-        text: "Y12: A mask after FORMAT or in STRING is no mask for a value of this kind.
+    "Y12: A mask after FORMAT or in STRING is no mask for a value of this kind.
 docs/formats.md ('Masks') has the masks of each kind.
 
 Refused at 1:20:
@@ -365,11 +427,7 @@ Use a mask of the value's kind.
 
     MESSAGE STRING(12, \">>9\").
 ",
-    },
-    Page {
-        name: "Y13",
-        summary: "The INITIAL value does not fit the kind of the variable or parameter, or is outside its range once it is rounded",
-        text: "Y13: The INITIAL value does not fit the kind of the variable or parameter, or
+    "Y13: The INITIAL value does not fit the kind of the variable or parameter, or
 is outside its range once it is rounded.
 
 Refused at 1:38:
@@ -381,11 +439,7 @@ Write a literal of the kind, or `?`.
 
     DEFINE VARIABLE i AS INTEGER INITIAL 1.
 ",
-    },
-    Page {
-        name: "Y14",
-        summary: "A source has more of something than its limit",
-        text: "Y14: A source has more of something than its limit: 1,024 variables and
+    "Y14: A source has more of something than its limit: 1,024 variables and
 parameters, 64 buffers, 16 streams, or 16 different names of files after INPUT
 FROM. The place is the first one too many.
 
@@ -401,11 +455,7 @@ Split the source, or use one variable for several purposes.
 {64*DO: } is `DO: ` 64 times; an @ in it is the number of the time, from 1,
 and a | is the end of a line.
 ",
-    },
-    Page {
-        name: "S1",
-        summary: "A FOR of a buffer is inside another FOR of the same buffer",
-        text: "S1: A FOR of a buffer is inside another FOR of the same buffer. Both would
+    "S1: A FOR of a buffer is inside another FOR of the same buffer. Both would
 move the one record of the buffer.
 
 Refused at 2:3:
@@ -422,11 +472,7 @@ Give the inner FOR a buffer of its own.
       FOR EACH other: END.
     END.
 ",
-    },
-    Page {
-        name: "S2",
-        summary: "A DO FOR or REPEAT FOR of a buffer is inside the block to which free references of the buffer are scoped",
-        text: "S2: A DO FOR or REPEAT FOR of a buffer is inside the block to which free
+    "S2: A DO FOR or REPEAT FOR of a buffer is inside the block to which free
 references of the buffer are scoped. Here FIND is a free reference, and its
 scope is the whole procedure.
 
@@ -444,11 +490,7 @@ another buffer.
       FIND FIRST Customer.
     END.
 ",
-    },
-    Page {
-        name: "S3",
-        summary: "A DO FOR or REPEAT FOR of a buffer is inside a DO FOR, REPEAT FOR or FOR of it, or a FOR of a buffer inside a DO FOR or REPEAT FOR of it",
-        text: "S3: A DO FOR or REPEAT FOR of a buffer is inside a DO FOR, REPEAT FOR or FOR
+    "S3: A DO FOR or REPEAT FOR of a buffer is inside a DO FOR, REPEAT FOR or FOR
 of it, or a FOR of a buffer inside a DO FOR or REPEAT FOR of it. The place is
 the inner block.
 
@@ -466,11 +508,7 @@ own.
       FOR EACH Customer: END.
     END.
 ",
-    },
-    Page {
-        name: "S4",
-        summary: "A buffer is twice in the list of one DO FOR or REPEAT FOR",
-        text: "S4: A buffer is twice in the list of one DO FOR or REPEAT FOR. The place is
+    "S4: A buffer is twice in the list of one DO FOR or REPEAT FOR. The place is
 the second name.
 
 Refused at 1:18:
@@ -484,11 +522,7 @@ Name it once.
     DO FOR Customer:
     END.
 ",
-    },
-    Page {
-        name: "U1",
-        summary: "A label after UNDO, LEAVE, NEXT or RETRY names no block around the place",
-        text: "U1: A label after UNDO, LEAVE, NEXT or RETRY names no block around the place.
+    "U1: A label after UNDO, LEAVE, NEXT or RETRY names no block around the place.
 The place is the label. An ON phrase may name its own block.
 
 Refused at 2:8:
@@ -505,11 +539,7 @@ that can be undone.
       UNDO order, LEAVE.
     END.
 ",
-    },
-    Page {
-        name: "U2",
-        summary: "A block has the label of a block around it",
-        text: "U2: A block has the label of a block around it. The place is the inner label.
+    "U2: A block has the label of a block around it. The place is the inner label.
 Two blocks that are not one in the other may have one label.
 
 Refused at 2:3:
@@ -525,11 +555,7 @@ Give one of them another label.
       line: DO: END.
     END.
 ",
-    },
-    Page {
-        name: "U3",
-        summary: "UNDO names a block that cannot be undone",
-        text: "U3: UNDO names a block that cannot be undone. A procedure, a REPEAT, a FOR,
+    "U3: UNDO names a block that cannot be undone. A procedure, a REPEAT, a FOR,
 and a DO with TRANSACTION, ON ERROR or ON ENDKEY can be undone, and no other
 DO.
 
@@ -546,11 +572,7 @@ Write TRANSACTION, ON ERROR or ON ENDKEY in the header of the DO.
       UNDO order, LEAVE.
     END.
 ",
-    },
-    Page {
-        name: "U4",
-        summary: "NEXT is of a block that does not iterate, or no block around the place iterates",
-        text: "U4: NEXT is of a block that does not iterate, or no block around the place
+    "U4: NEXT is of a block that does not iterate, or no block around the place
 iterates. REPEAT, FOR, and a DO with TO or WHILE iterate.
 
 Refused at 1:1:
@@ -565,11 +587,7 @@ Use LEAVE, or let the block iterate.
       NEXT.
     END.
 ",
-    },
-    Page {
-        name: "U5",
-        summary: "The LEAVE or NEXT after an UNDO is of a block inside the one that is undone",
-        text: "U5: The LEAVE or NEXT after an UNDO is of a block inside the one that is
+    "U5: The LEAVE or NEXT after an UNDO is of a block inside the one that is
 undone. That block has been left by then.
 
 Refused at 3:23:
@@ -589,11 +607,7 @@ Name the block that is undone, or one around it.
       END.
     END.
 ",
-    },
-    Page {
-        name: "U6",
-        summary: "A phrase or an option is given twice, as TRANSACTION, WHILE, NO-ERROR or FORMAT",
-        text: "U6: A phrase or an option is given twice, as TRANSACTION, WHILE, NO-ERROR or
+    "U6: A phrase or an option is given twice, as TRANSACTION, WHILE, NO-ERROR or
 FORMAT; two lock options are given; or FIND CURRENT has WHERE or USE-INDEX.
 The place is the first word of the later one.
 
@@ -608,11 +622,7 @@ Remove one of them.
     DO TRANSACTION:
     END.
 ",
-    },
-    Page {
-        name: "U7",
-        summary: "The RETRY after an UNDO is of another block than the one that is undone",
-        text: "U7: The RETRY after an UNDO is of another block than the one that is undone.
+    "U7: The RETRY after an UNDO is of another block than the one that is undone.
 The place is the label after RETRY.
 
 Refused at 3:22:
@@ -633,11 +643,7 @@ Undo the block that is to be tried again.
       END.
     END.
 ",
-    },
-    Page {
-        name: "N1",
-        summary: "The source breaks no other rule, and does not run yet",
-        text: "N1: The source breaks no other rule, and does not run yet: it names a record
+    "N1: The source breaks no other rule, and does not run yet: it names a record
 or a sequence. The place is always 1:1. A source names a record by a table or
 buffer in FIND, FOR, CREATE, DELETE, RELEASE, DO FOR, DEFINE BUFFER, IMPORT,
 EXPORT, AVAILABLE or LOCKED, or by `buffer.field`; and a sequence by NEXT-
@@ -655,11 +661,7 @@ Read the values from a file by IMPORT into variables.
     IMPORT name.
     MESSAGE name.
 ",
-    },
-    Page {
-        name: "F1",
-        summary: "A line begins with ADD, UPDATE, DROP or RENAME and is none of the four items",
-        text: "F1: A line begins with ADD, UPDATE, DROP or RENAME and is none of the four
+    "F1: A line begins with ADD, UPDATE, DROP or RENAME and is none of the four
 items: ADD TABLE, ADD FIELD, ADD INDEX, ADD SEQUENCE. Nothing may follow the
 form on its line. So an incremental dump is refused.
 
@@ -673,11 +675,7 @@ Dump the whole definitions, and remove views.
 
     ADD TABLE \"Item\"
 ",
-    },
-    Page {
-        name: "F2",
-        summary: "A name is not a letter and then letters, digits and `# $ % & - _`, or has more than 32 bytes",
-        text: "F2: A name is not a letter and then letters, digits and `# $ % & - _`, or has
+    "F2: A name is not a letter and then letters, digits and `# $ % & - _`, or has
 more than 32 bytes.
 
 Refused at line 1:
@@ -689,11 +687,7 @@ Give the table, field, index or sequence another name.
 
     ADD TABLE \"First\"
 ",
-    },
-    Page {
-        name: "F3",
-        summary: "Two tables have one name",
-        text: "F3: Two tables have one name; letters of either case are the same in a name.
+    "F3: Two tables have one name; letters of either case are the same in a name.
 The line is that of the later one.
 
 Refused at line 2:
@@ -706,11 +700,7 @@ Remove one of the tables, or give it another name.
 
     ADD TABLE \"Item\"
 ",
-    },
-    Page {
-        name: "F4",
-        summary: "A field or an index is of a table that no earlier line adds",
-        text: "F4: A field or an index is of a table that no earlier line adds. Where the
+    "F4: A field or an index is of a table that no earlier line adds. Where the
 table's own line is the first of the file, the usual cause is a byte order
 mark before it, which makes it a line that is skipped.
 
@@ -724,11 +714,7 @@ Put ADD TABLE before the line. Save the file without a byte order mark.
     ADD TABLE \"Item\"
     ADD FIELD \"ItemNum\" OF \"Item\" AS integer
 ",
-    },
-    Page {
-        name: "F5",
-        summary: "Two fields of a table have one name, in any case",
-        text: "F5: Two fields of a table have one name, in any case. Fields of unsupported
+    "F5: Two fields of a table have one name, in any case. Fields of unsupported
 types count too. The line is that of the later one.
 
 Refused at line 3:
@@ -743,11 +729,7 @@ Remove one of the fields, or give it another name.
     ADD TABLE \"Item\"
     ADD FIELD \"ItemNum\" OF \"Item\" AS integer
 ",
-    },
-    Page {
-        name: "F6",
-        summary: "Two indexes of a table have one name, in any case",
-        text: "F6: Two indexes of a table have one name, in any case. Indexes that are
+    "F6: Two indexes of a table have one name, in any case. Indexes that are
 skipped count too. The line is that of the later one.
 
 Refused at line 5:
@@ -767,11 +749,7 @@ Remove one of the indexes, or give it another name.
     ADD INDEX \"ByNum\" ON \"Item\"
       INDEX-FIELD \"ItemNum\" ASCENDING
 ",
-    },
-    Page {
-        name: "F7",
-        summary: "INDEX-FIELD names no field of the table that comes before the index, or has not the form with ASCENDING or DESCENDING",
-        text: "F7: INDEX-FIELD names no field of the table that comes before the index, or
+    "F7: INDEX-FIELD names no field of the table that comes before the index, or
 has not the form with ASCENDING or DESCENDING.
 
 Refused at line 4:
@@ -789,11 +767,7 @@ Add the field before the index, and the direction after the field.
     ADD INDEX \"ByNum\" ON \"Item\"
       INDEX-FIELD \"ItemNum\" ASCENDING
 ",
-    },
-    Page {
-        name: "F8",
-        summary: "An index has no INDEX-FIELD, or has a field twice",
-        text: "F8: An index has no INDEX-FIELD, or has a field twice. The line is the first
+    "F8: An index has no INDEX-FIELD, or has a field twice. The line is the first
 one of the index.
 
 Refused at line 3:
@@ -810,11 +784,7 @@ Give the index its fields, each once.
     ADD INDEX \"ByNum\" ON \"Item\"
       INDEX-FIELD \"ItemNum\" ASCENDING
 ",
-    },
-    Page {
-        name: "F9",
-        summary: "A second index of a table has PRIMARY",
-        text: "F9: A second index of a table has PRIMARY. Indexes that are skipped count too.
+    "F9: A second index of a table has PRIMARY. Indexes that are skipped count too.
 The line is that of the second PRIMARY.
 
 Refused at line 7:
@@ -839,11 +809,7 @@ Keep PRIMARY at one index of each table.
     ADD INDEX \"ByNumDown\" ON \"Item\"
       INDEX-FIELD \"ItemNum\" DESCENDING
 ",
-    },
-    Page {
-        name: "F10",
-        summary: "The value of INITIAL, ORDER or EXTENT does not fit",
-        text: "F10: The value of INITIAL, ORDER or EXTENT does not fit: INITIAL is no value
+    "F10: The value of INITIAL, ORDER or EXTENT does not fit: INITIAL is no value
 of the field's type or of a sequence, ORDER or EXTENT no number up to
 2147483647.
 
@@ -861,11 +827,7 @@ forms.
     ADD FIELD \"ItemNum\" OF \"Item\" AS integer
       INITIAL \"0\"
 ",
-    },
-    Page {
-        name: "F11",
-        summary: "Two sequences have one name, in any case, or INCREMENT is 0 or no number of 64 bits",
-        text: "F11: Two sequences have one name, in any case, or INCREMENT is 0 or no number
+    "F11: Two sequences have one name, in any case, or INCREMENT is 0 or no number
 of 64 bits. The line is that of the later sequence, or of INCREMENT.
 
 Refused at line 2:
@@ -879,11 +841,7 @@ Give the sequence another name, or an increment other than 0.
     ADD SEQUENCE \"NextOrder\"
       INCREMENT 1
 ",
-    },
-    Page {
-        name: "F12",
-        summary: "The schema has more of something than its limit",
-        text: "F12: The schema has more of something than its limit: 256 tables, 256 fields
+    "F12: The schema has more of something than its limit: 256 tables, 256 fields
 of a table, 256 sequences, 32 indexes of a table, 16 fields of an index, or
 1,048,576 bytes of canonical text. The line is the first one of the item that
 is too many.
@@ -900,11 +858,7 @@ Leave out tables that no source names.
 {64*DO: } is `DO: ` 64 times; an @ in it is the number of the time, from 1,
 and a | is the end of a line.
 ",
-    },
-    Page {
-        name: "0",
-        summary: "The command did its work",
-        text: "status 0: The command did its work: every client ended normally or by RETURN,
+    "status 0: The command did its work: every client ended normally or by RETURN,
 and standard output took the whole report.
 
     abl shop run orders.df 10 quiet a=a.p
@@ -915,11 +869,7 @@ where a.p is
 
 It prints nothing on standard error.
 ",
-    },
-    Page {
-        name: "1",
-        summary: "The arguments are no command",
-        text: "status 1: The arguments are no command. `usage at word N` names the first
+    "status 1: The arguments are no command. `usage at word N` names the first
 argument that is wrong, counted from 0 after DATABASE; where arguments are
 missing, N is the number of those that are there.
 
@@ -936,11 +886,7 @@ It prints on standard error
 Here word 2, the number of units, must be 1 to 999999999. `abl --help` shows
 the form.
 ",
-    },
-    Page {
-        name: "2",
-        summary: "A file cannot be read",
-        text: "status 2: A file cannot be read: it is not there, it is a directory, or
+    "status 2: A file cannot be read: it is not there, it is a directory, or
 reading failed. The files are read in this order: the schema file, the source,
 the client's input, and then those that the source names after INPUT FROM.
 
@@ -956,11 +902,7 @@ It prints on standard error
 
 Give the name of a file, from the folder in which the command runs.
 ",
-    },
-    Page {
-        name: "3",
-        summary: "The schema file breaks one of the rules F1 to F12",
-        text: "status 3: The schema file breaks one of the rules F1 to F12; the line says
+    "status 3: The schema file breaks one of the rules F1 to F12; the line says
 which, and at which line of the file.
 
     abl shop run bad.df 10 quiet a=a.p
@@ -980,11 +922,7 @@ It prints on standard error
 
 See the page of the rule.
 ",
-    },
-    Page {
-        name: "4",
-        summary: "The source breaks a rule",
-        text: "status 4: The source breaks a rule: the first of L1 to L5, else of G1 and G2,
+    "status 4: The source breaks a rule: the first of L1 to L5, else of G1 and G2,
 else of Y1 to Y14, else of S1 to S4, else of U1 to U7, else N1. The line has
 the client's name, the rule, and the line and column, which count from 1,
 columns in bytes.
@@ -1001,11 +939,7 @@ It prints on standard error
 
 See the page of the rule. Nothing was run.
 ",
-    },
-    Page {
-        name: "6",
-        summary: "Standard output failed, as on a full device or a closed pipe",
-        text: "status 6: Standard output failed, as on a full device or a closed pipe. What
+    "status 6: Standard output failed, as on a full device or a closed pipe. What
 is there is a beginning of the report; the run itself was done.
 
     abl shop run orders.df 10 quiet a=a.p
@@ -1022,20 +956,12 @@ It prints on standard error
 
 Make room, and run the command again.
 ",
-    },
-    Page {
-        name: "7",
-        summary: "Memory ran out",
-        text: "status 7: Memory ran out. What is on standard output is a beginning of the
+    "status 7: Memory ran out. What is on standard output is a beginning of the
 report, or nothing. It may come at any command; with ample memory it does not.
 
 Give the process more memory, or run a smaller source.
 ",
-    },
-    Page {
-        name: "8",
-        summary: "The client ended in an error, by RETURN ERROR of the external procedure, or in a stop",
-        text: "status 8: The client ended in an error, by RETURN ERROR of the external
+    "status 8: The client ended in an error, by RETURN ERROR of the external
 procedure, or in a stop. Its report is printed; the line on standard error
 says which it was. A stop has one of the names Statement, Budget, Depth,
 OutputFull, TraceFull, TxFull, Deadlock and Closed.
@@ -1052,11 +978,7 @@ It prints on standard error
 
 What was not committed was undone. See the page of the stop.
 ",
-    },
-    Page {
-        name: "10",
-        summary: "A file is longer than 1,048,576 bytes",
-        text: "status 10: A file is longer than 1,048,576 bytes: the schema file, the source,
+    "status 10: A file is longer than 1,048,576 bytes: the schema file, the source,
 the client's input, or a file after INPUT FROM. The line names it.
 
     abl shop run orders.df 10 quiet a=a.p
@@ -1074,11 +996,7 @@ Split the file.
 {64*DO: } is `DO: ` 64 times; an @ in it is the number of the time, from 1,
 and a | is the end of a line.
 ",
-    },
-    Page {
-        name: "Statement",
-        summary: "The client came to the statement STOP",
-        text: "stop Statement: The client came to the statement STOP. What was not committed
+    "stop Statement: The client came to the statement STOP. What was not committed
 was undone, and the report has what was written before.
 
 Stops at 2:1:
@@ -1089,11 +1007,7 @@ Stops at 2:1:
 
 Use RETURN where the procedure is to end without a stop.
 ",
-    },
-    Page {
-        name: "Budget",
-        summary: "No unit is left",
-        text: "stop Budget: No unit is left. Each statement, each iteration of a block and
+    "stop Budget: No unit is left. Each statement, each iteration of a block and
 each operation on the database but the last takes one; docs/language.md ('What
 a client does', Units) has the rule. The number of units is an argument of the
 command.
@@ -1108,11 +1022,7 @@ Stops at 2:3:
 Give more units, or look for a loop that does not end: RETRY in a block that
 does not name RETRY is NEXT.
 ",
-    },
-    Page {
-        name: "Depth",
-        summary: "A RUN would be the 33rd that is open",
-        text: "stop Depth: A RUN would be the 33rd that is open: 32 internal procedures have
+    "stop Depth: A RUN would be the 33rd that is open: 32 internal procedures have
 begun and have not ended. The external procedure does not count.
 
 Stops at 2:3:
@@ -1125,11 +1035,7 @@ Stops at 2:3:
 
 End the recursion earlier, or write a loop.
 ",
-    },
-    Page {
-        name: "OutputFull",
-        summary: "The output of the client, named outputs included, would pass 16 MiB (16,777,216 bytes)",
-        text: "stop OutputFull: The output of the client, named outputs included, would pass
+    "stop OutputFull: The output of the client, named outputs included, would pass
 16 MiB (16,777,216 bytes). The piece that does not fit is not written.
 
 Stops at 7:3:
@@ -1146,39 +1052,27 @@ Stops at 7:3:
 
 Write less, or split the work over several commands.
 ",
-    },
-    Page {
-        name: "TraceFull",
-        summary: "The trace would pass 256 MiB, where an operation counts 64 bytes and what it carries",
-        text: "stop TraceFull: The trace would pass 256 MiB, where an operation counts 64
+    "stop TraceFull: The trace would pass 256 MiB, where an operation counts 64
 bytes and what it carries. It is counted in mode `quiet` too.
 
 Split the work over several commands.
 ",
-    },
-    Page {
-        name: "TxFull",
-        summary: "A transaction would write more than 7,989 slots",
-        text: "stop TxFull: A transaction would write more than 7,989 slots. No source that
+    "stop TxFull: A transaction would write more than 7,989 slots. No source that
 runs today writes one.
 
 Use smaller transactions.
 ",
-    },
-    Page {
-        name: "Deadlock",
-        summary: "The client waits for others that wait for it, directly or not",
-        text: "stop Deadlock: The client waits for others that wait for it, directly or not.
+    "stop Deadlock: The client waits for others that wait for it, directly or not.
 No source that runs today takes a lock.
 
 Lock records in the same order in every source.
 ",
-    },
-    Page {
-        name: "Closed",
-        summary: "The disk failed, and the database is closed",
-        text: "stop Closed: The disk failed, and the database is closed. No source that runs
+    "stop Closed: The disk failed, and the database is closed. No source that runs
 today uses a disk.
 ",
-    },
 ];
+
+/// The text of each page, its last line ended, in the order of `names`.
+pub fn texts() -> &'static [&'static str] {
+    &TEXTS
+}

@@ -1,6 +1,6 @@
 //! What the program says about itself, without a command.
 
-use abl_help::{PAGES, page_named};
+use abl_help::{names, place_of, summaries, texts};
 use std::io;
 
 /// The line on standard error where standard output does not take the text.
@@ -19,8 +19,8 @@ pub fn print(output: &mut impl Print, diagnostics: &mut impl Print, text: &str) 
 
 /// Writes the page of that name; the status that the program then ends with.
 pub fn explain(output: &mut impl Print, diagnostics: &mut impl Print, name: &[u8]) -> u8 {
-    match page_named(&PAGES, str::from_utf8(name).unwrap_or("")) {
-        Some(page) => print(output, diagnostics, page.text),
+    match page(name) {
+        Some(text) => print(output, diagnostics, text),
         None => {
             let _ = diagnostics.write_all(NO_PAGE.as_bytes());
             1
@@ -28,11 +28,18 @@ pub fn explain(output: &mut impl Print, diagnostics: &mut impl Print, name: &[u8
     }
 }
 
+/// The page of that name, if there is one.
+fn page(name: &[u8]) -> Option<&'static str> {
+    let name = str::from_utf8(name).ok()?;
+    let place = place_of(names(), name)?;
+    texts().get(place).copied()
+}
+
 /// Writes a line for each page; the status that the program then ends with.
 pub fn list_pages(output: &mut impl Print, diagnostics: &mut impl Print) -> u8 {
-    for page in &PAGES {
-        let blanks = BLANKS.get(page.name.len()..).unwrap_or(" ");
-        for part in [page.name, blanks, page.summary, "\n"] {
+    for (name, summary) in names().iter().zip(summaries()) {
+        let blanks = BLANKS.get(name.len()..).unwrap_or(" ");
+        for part in [*name, blanks, *summary, "\n"] {
             if let Err(error) = output.write_all(part.as_bytes()) {
                 return status(diagnostics, Err(error));
             }
