@@ -3,6 +3,7 @@ use Rattle.std.proofs.Common.{◌≡◌, ◌≢◌, inl, inr, ℕ, zero, suc, �
 use Rattle.std.proofs.lemmas.Bool.{cases_eq, cases_lt}
 use Rattle.std.proofs.lemmas.List.{get_or_append_left, get_or_push, get_or-take, length-take}
 use Rattle.std.proofs.lemmas.List.Sums.{sum_by-set, sum_by-cons}
+use Rattle.std.specs.HashMap.{HashMap}
 use Rattle.abl_storage.specs.Slots.{Transaction, Becomes}
 use Rattle.abl_storage.specs.declared.slots.Undo.{Undo}
 use Rattle.mem_slots.specs.declared.slot.Slot.{Slot}
@@ -58,7 +59,7 @@ becomes cs k x goes_on writes touched many few more lt begun undo written counte
     }
 
 -- each write has its place after a client has changed, where no place went
-pub held_set : (ss new : List Slot) (cs : List Client) (k : ℕ) (x : Client) → k < length cs → ((j : ℕ) → holds ss j ≡ true → holds new j ≡ true)
+pub held_set : {S : Type 0} (ss new : HashMap ℕ Slot S) (cs : List Client) (k : ℕ) (x : Client) → k < length cs → ((j : ℕ) → holds ss j ≡ true → holds new j ≡ true)
     → ((j : ℕ) → AllHeld ss (transaction_in cs j).undo) → AllHeld new x.undo.items → (j : ℕ) → AllHeld new (transaction_in (slice_set cs k x) j).undo
 held_set ss new cs k x lt more held here j = elim (cases_eq j k) [
   | inl e ↦ subst (λ (n : ℕ). AllHeld new (transaction_in (slice_set cs k x) n).undo) (sym e) (subst (λ (t : Transaction). AllHeld new t.undo) (sym (transaction_set_same cs k x lt)) here)
@@ -98,7 +99,7 @@ idle_more (c ∷ cs) x is all zero = all 0
 idle_more (c ∷ cs) x is all (suc k) = idle_more cs x is (λ j. all (suc j)) k
 
 -- one write more that has its place
-pub held_push : (ss : List Slot) (us : List Undo) (u : Undo) → AllHeld ss us → holds ss u.slot ≡ true → AllHeld ss (us ++ u ∷ [])
+pub held_push : {S : Type 0} (ss : HashMap ℕ Slot S) (us : List Undo) (u : Undo) → AllHeld ss us → holds ss u.slot ≡ true → AllHeld ss (us ++ u ∷ [])
 held_push ss us u all here i il = elim (cases_lt i (length us)) [
   | inl lt ↦ subst (λ (w : Undo). holds ss w.slot ≡ true) (sym (get_or_append_left us (u ∷ []) no_undo i lt)) (all i lt)
   | inr le ↦
@@ -107,7 +108,7 @@ held_push ss us u all here i il = elim (cases_lt i (length us)) [
 ]
 
 -- the writes of a front of the list have their places
-pub held_take : (ss : List Slot) (us : List Undo) (n : ℕ) → AllHeld ss us → AllHeld ss (take n us)
+pub held_take : {S : Type 0} (ss : HashMap ℕ Slot S) (us : List Undo) (n : ℕ) → AllHeld ss us → AllHeld ss (take n us)
 held_take ss us n all i il =
     let front : i < n = (let l = length-take n us in omega (arith, l)) in
     let whole : i < length us = (let l = length-take n us in omega (arith, l)) in
@@ -124,7 +125,7 @@ written_push (s ∷ slots) slot k = ap (λ (b : Bool). (k == s) || b) (written_p
     swapped false b c = refl
 
 -- the client has no write
-pub held_none : (ss : List Slot) → AllHeld ss []
+pub held_none : {S : Type 0} (ss : HashMap ℕ Slot S) → AllHeld ss []
 held_none ss i il = absurd (omega arith)
 
 pub either_way : {P : Type 0} (b : Bool) → (b ≡ true → P) → (b ≡ false → P) → P

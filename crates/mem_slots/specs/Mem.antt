@@ -1,5 +1,6 @@
 -- What the slots in memory mean.
 use Rattle.std.specs.Prelude.{ℕ, zero, suc, true, false, List, [], ◌∷◌}
+use Rattle.std.specs.HashMap.{HashMap}
 use Rattle.abl_storage.specs.Slots.{Transaction, SlotState}
 use Rattle.mem_slots.specs.declared.slot.Slot.{Slot}
 use Rattle.mem_slots.specs.declared.client.Client.{Client}
@@ -20,7 +21,7 @@ transaction_in (c ∷ cs) zero = transaction_of c
 transaction_in (c ∷ cs) (suc k) = transaction_in cs k
 
 -- the state of the array
-abbrev pub state_of : List Slot → List Client → SlotState
+abbrev pub state_of : {S : Type 0} → HashMap ℕ Slot S → List Client → SlotState
 state_of slots clients = record {
   observable = true;
   reads = slot_in slots;

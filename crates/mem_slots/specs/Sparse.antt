@@ -1,5 +1,6 @@
 -- What the slots that were written mean; each other slot has zeros.
-use Rattle.std.specs.Prelude.{◌≡◌, ℕ, ◌<◌, ◌==◌, ◌||◌, Bool, true, false, if◌then◌else◌, List, [], ◌∷◌, length, get_or, replicate}
+use Rattle.std.specs.Prelude.{◌≡◌, ℕ, ◌<◌, ◌==◌, ◌||◌, Bool, true, false, List, [], ◌∷◌, Option, Some, None, length, get_or, replicate, nat_eq, is_some}
+use Rattle.std.specs.HashMap.{HashMap, get}
 use Rattle.abl_storage.specs.declared.slots.Undo.{Undo}
 use Rattle.mem_slots.specs.declared.slot.Slot.{Slot}
 
@@ -7,23 +8,10 @@ use Rattle.mem_slots.specs.declared.slot.Slot.{Slot}
 unfoldable pub zeros : List ℕ
 zeros = replicate 256 0
 
--- a part of the slot of that number
-abbrev pub part_in : (Slot → List ℕ) → List Slot → ℕ → List ℕ
-part_in part [] k = zeros
-part_in part (s ∷ ss) k = if s.number == k then part s else part_in part ss k
-
--- what reads give
-abbrev pub slot_in : List Slot → ℕ → List ℕ
-slot_in slots = part_in (λ s. s.now) slots
-
--- what the committed transactions left
-abbrev pub committed_in : List Slot → ℕ → List ℕ
-committed_in slots = part_in (λ s. s.committed) slots
-
--- the slot has a place
-abbrev pub holds : List Slot → ℕ → Bool
-holds [] k = false
-holds (s ∷ ss) k = (s.number == k) || holds ss k
+-- a part of a slot, or zeros where it was never written
+abbrev pub part_of : (Slot → List ℕ) → Option Slot → List ℕ
+part_of part None = zeros
+part_of part (Some s) = part s
 
 -- whether the slot is among these
 abbrev pub has_written : List ℕ → ℕ → Bool
@@ -33,6 +21,19 @@ has_written (slot ∷ slots) k = (k == slot) || has_written slots k
 abbrev pub no_undo : Undo
 no_undo = record { slot = 0; old = [] }
 
--- the slot of each of these writes has a place
-abbrev pub AllHeld : List Slot → List Undo → Type 0
-AllHeld slots writes = (i : ℕ) → i < length writes → holds slots (get_or writes i no_undo).slot ≡ true
+module _ {S : Type 0} where
+  -- what reads give
+  abbrev pub slot_in : HashMap ℕ Slot S → ℕ → List ℕ
+  slot_in slots k = part_of (λ s. s.now) (get nat_eq slots k)
+
+  -- what the committed transactions left
+  abbrev pub committed_in : HashMap ℕ Slot S → ℕ → List ℕ
+  committed_in slots k = part_of (λ s. s.committed) (get nat_eq slots k)
+
+  -- the slot has a place
+  abbrev pub holds : HashMap ℕ Slot S → ℕ → Bool
+  holds slots k = is_some (get nat_eq slots k)
+
+  -- the slot of each of these writes has a place
+  abbrev pub AllHeld : HashMap ℕ Slot S → List Undo → Type 0
+  AllHeld slots writes = (i : ℕ) → i < length writes → holds slots (get_or writes i no_undo).slot ≡ true

@@ -1,11 +1,13 @@
 //! A client's transaction.
 
 ghost use Rattle.std.specs.Prelude.{◌≡◌, ◌<◌, ◌≤◌, ◌+◌, ◌-◌, ◌++◌, ◌∷◌, [], ℕ, if◌then◌else◌, length, take, drop, true, false, vec_capacity};
+ghost use Rattle.std.specs.HashMap.{spare};
 ghost use Rattle.abl_storage.specs.Slots.{is_low, undone};
 ghost use Rattle.mem_slots.specs.Sparse.{slot_in, committed_in, holds, AllHeld};
 
 use crate::slot::{Slot, take_back};
 use abl_storage::Undo;
+use std::collections::HashMap;
 
 /// One client. A client without a transaction has no write and nothing promised.
 #[derive(Drop)]
@@ -108,7 +110,7 @@ impl Client {
     }
 
     /// Undoes writes until `stand` of them are left.
-    pub fn go_back(&mut self, slots: &mut [Slot], stand: usize)
+    pub fn go_back(&mut self, slots: &mut HashMap<u32, Slot>, stand: usize)
         requires stand { stand ≤ length self.old.undo.items }
         requires held { AllHeld slots.old self.old.undo.items }
         ensures transaction { transaction_of self.new ≡ record (transaction_of self.old) { undo = take stand self.old.undo.items } }
@@ -116,6 +118,7 @@ impl Client {
         ensures reads { (k : ℕ) → slot_in slots.new k ≡ undone (drop stand self.old.undo.items) (slot_in slots.old) k }
         ensures committed { (k : ℕ) → committed_in slots.new k ≡ committed_in slots.old k }
         ensures same { (k : ℕ) → holds slots.new k ≡ holds slots.old k }
+        ensures spare { spare slots.new ≡ spare slots.old }
     {
         take_back(slots, &mut self.undo, stand);
     }

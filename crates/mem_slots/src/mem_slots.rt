@@ -1,7 +1,7 @@
 //! The slots in memory.
 
-ghost use Rattle.std.specs.Prelude.{◌≡◌, ◌^◌, ◌<◌, ◌≤◌, ◌+◌, ℕ, List, [], length, true, false, refl, IfOk, OnErr};
-ghost use Rattle.std.specs.Vec.{vec_capacity};
+ghost use Rattle.std.specs.Prelude.{◌≡◌, ◌^◌, ◌<◌, ◌≤◌, ℕ, List, [], length, true, false, refl, IfOk, OnErr};
+ghost use Rattle.std.specs.HashMap.{spare};
 ghost use Rattle.abl_storage.specs.Slots.{is_low, Grows, Rests, Writes};
 ghost use Rattle.mem_slots.specs.Sparse.{AllHeld, has_written};
 ghost use Rattle.mem_slots.specs.Promised.{promised, promised_to};
@@ -12,6 +12,7 @@ use crate::client::{Client, has_low_number};
 use crate::slot::{Slot, bytes_of, keep, put_bytes, reach};
 use abl_storage::{Mark, SlotFault, Slots};
 use std::alloc::{AllocError, Global};
+use std::collections::HashMap;
 
 /// The most slots that a transaction may write, those of low numbers aside.
 const MAX_SLOT_WRITES: u32 = 7989;
@@ -19,11 +20,11 @@ const MAX_SLOT_WRITES: u32 = 7989;
 /// Slots in memory. Only those that were written take any.
 #[derive(Drop)]
 pub struct MemSlots {
-    slots: Vec<Slot>,
+    slots: HashMap<u32, Slot>,
     clients: Vec<Client>,
     ghost sixteen: { length clients.items ≡ 16 },
-    ghost has_room: { length slots.items + promised clients.items ≤ vec_capacity slots },
-    ghost held: { (k : ℕ) → AllHeld slots.items (transaction_in clients.items k).undo },
+    ghost has_room: { promised clients.items ≤ spare slots },
+    ghost held: { (k : ℕ) → AllHeld slots (transaction_in clients.items k).undo },
 }
 
 /// A client without a transaction.
@@ -73,7 +74,7 @@ impl MemSlots {
         ensures { IfOk result (λ s. ⟦<MemSlots as Slots>⟧.state s ≡ at_rest) }
     {
         Ok(MemSlots {
-            slots: Vec::new(alloc),
+            slots: HashMap::new(alloc),
             clients: idle_clients(alloc)?,
         })
     }
@@ -83,8 +84,8 @@ impl MemSlots {
         requires client { client < 16 }
         requires begun { (transaction_in self.old.clients.items client).begun ≡ true }
         requires few { writes ≤ 7989 }
-        ensures yes { result ≡ true → Grows (state_of self.old.slots.items self.old.clients.items) (state_of self.new.slots.items self.new.clients.items) client writes }
-        ensures no { result ≡ false → Rests (state_of self.old.slots.items self.old.clients.items) (state_of self.new.slots.items self.new.clients.items) }
+        ensures yes { result ≡ true → Grows (state_of self.old.slots self.old.clients.items) (state_of self.new.slots self.new.clients.items) client writes }
+        ensures no { result ≡ false → Rests (state_of self.old.slots self.old.clients.items) (state_of self.new.slots self.new.clients.items) }
     {
         let total = all_promised(&self.clients);
         match self.slots.reserve((total + writes) as usize) {
@@ -103,7 +104,7 @@ impl MemSlots {
         requires room { is_low slot ≡ false → 0 < (transaction_in self.old.clients.items client).room }
         requires counted { is_low slot ≡ false → (transaction_in self.old.clients.items client).counted < 7989 }
         requires low { is_low slot ≡ true → (transaction_in self.old.clients.items client).low < 10 }
-        ensures { Writes (state_of self.old.slots.items self.old.clients.items) (state_of self.new.slots.items self.new.clients.items) client slot bytes.now }
+        ensures { Writes (state_of self.old.slots self.old.clients.items) (state_of self.new.slots self.new.clients.items) client slot bytes.now }
     {
         reach(&mut self.slots, slot);
         let before = put_bytes(&mut self.slots, slot, bytes);
@@ -113,7 +114,7 @@ impl MemSlots {
 }
 
 impl Slots for MemSlots {
-    ghost state = { λ s. state_of s.slots.items s.clients.items };
+    ghost state = { λ s. state_of s.slots s.clients.items };
 
     ghost stop = { λ s m slots. ⊥ };
 

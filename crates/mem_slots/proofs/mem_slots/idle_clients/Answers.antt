@@ -2,7 +2,6 @@ use Rattle.std.proofs.Common.{◌+◌, List, [], ◌∷◌, length, ap, ◌∙�
 use Rattle.std.proofs.lemmas.List.Sums.{sum_by-append}
 use Rattle.mem_slots.specs.declared.client.Client.{Client}
 use Rattle.mem_slots.specs.Mem.{transaction_in}
-use Rattle.mem_slots.specs.Sparse.{has_written}
 use Rattle.mem_slots.specs.Promised.{promised_to, promised}
 use Rattle.mem_slots.proofs.Clients.{idle_more}
 use Rattle.mem_slots.proofs.mem_slots.idle_clients.Goals as goal

@@ -26,4 +26,5 @@ loop-write-preserved c =
           ∙ ap (λ (v : List ℕ). put (joined (take i us) r committed) u.slot v k) (inv.reads u.slot)
           ∙ sym (ap (λ (l : List Undo). joined l r committed k) (take_more us i no_undo c.loop-write-test.true) ∙ joined_more (take i us) u r committed k);
       same = λ k. c.keep_bytes.ensures.held k ∙ inv.same k;
+      spare = c.keep_bytes.ensures.spare ∙ inv.spare;
     }

@@ -1,29 +1,26 @@
-use Rattle.std.proofs.Common.{◌≡◌, ◌++◌, ◌∷◌, [], List, true, false, refl, sym, ap, subst, ◌∙◌, arith}
+use Rattle.std.proofs.Common.{◌≡◌, None, Some, nat_eq, sym, ◌∙◌}
+use Rattle.std.specs.HashMap.{get, Updates}
 use Rattle.mem_slots.specs.declared.slot.Slot.{Slot}
-use Rattle.mem_slots.specs.Sparse.{slot_in, committed_in, holds, zeros}
-use Rattle.mem_slots.proofs.Places.{is_first, holds_first, holds_none, part_more, holds_more, holds_last}
+use Rattle.mem_slots.specs.Sparse.{zeros}
+use Rattle.mem_slots.proofs.Places.{is_none, part_none, part_same}
 use Rattle.mem_slots.proofs.slot.reach.Goals as goal
 
-pub returns-in-Some-clause-here : goal.returns-in-Some-clause-here
-returns-in-Some-clause-here c = subst (λ (l : List Slot). holds l c.args.number ≡ true) c.deref.ensures.value (holds_first c.deref.result.now _ c.args.number (is_first (sym c.find.ensures ∙ c.in-Some.is)))
-
-pub unwrap-requires : goal.unwrap-requires
-unwrap-requires c =
-    let none = subst (λ (l : List Slot). holds l c.args.number ≡ false) c.deref.ensures.value (holds_none _ c.args.number (sym c.find.ensures ∙ c.in-None.is)) in
-    let room = c.requires none in
-    c.push.ensures.succeeds (omega (arith, room))
-
-pub returns-in-None : goal.returns-in-None
+pub returns-then-not-contains_key-clause-reads : goal.returns-then-not-contains_key-clause-reads
 unfolding zeros
-returns-in-None c =
-    let ss = c.args.slots.now.items in
-    let x : Slot = record { number = c.args.number; now = zeros; committed = zeros } in
-    let pushed : c.push.new.self.items ≡ ss ++ x ∷ [] = rw c.unwrap.ensures at c.push.ensures.items in
-    record {
-      reads = λ k. ap (λ (l : List Slot). slot_in l k) pushed ∙ part_more (λ (s : Slot). s.now) ss x refl k;
-      committed = λ k. ap (λ (l : List Slot). committed_in l k) pushed ∙ part_more (λ (s : Slot). s.committed) ss x refl k;
-      here = ap (λ (l : List Slot). holds l c.args.number) pushed ∙ holds_last ss x;
-      held = λ k h. ap (λ (l : List Slot). holds l k) pushed ∙ holds_more ss x k h;
-      len = omega (arith, c.push.ensures.len);
-      capacity = c.push.ensures.capacity;
-    }
+returns-then-not-contains_key-clause-reads c =
+    let old = c.args.slots.now in
+    let new = c.insert-inserted.new.self in
+    let x : Slot = record { now = zeros; committed = zeros } in
+    let added : Updates nat_eq old new c.args.number (Some x) = rw c.unwrap.ensures at c.insert-inserted.ensures.updates in
+    let none : get nat_eq old c.args.number ≡ None = is_none _ (sym c.contains_key.ensures ∙ c.if-not-contains_key.true) in
+    part_same (λ (s : Slot). s.now) (get nat_eq old) (get nat_eq new) c.args.number x added.0 (part_none (λ (s : Slot). s.now) _ none)
+
+pub returns-then-not-contains_key-clause-committed : goal.returns-then-not-contains_key-clause-committed
+unfolding zeros
+returns-then-not-contains_key-clause-committed c =
+    let old = c.args.slots.now in
+    let new = c.insert-inserted.new.self in
+    let x : Slot = record { now = zeros; committed = zeros } in
+    let added : Updates nat_eq old new c.args.number (Some x) = rw c.unwrap.ensures at c.insert-inserted.ensures.updates in
+    let none : get nat_eq old c.args.number ≡ None = is_none _ (sym c.contains_key.ensures ∙ c.if-not-contains_key.true) in
+    part_same (λ (s : Slot). s.committed) (get nat_eq old) (get nat_eq new) c.args.number x added.0 (part_none (λ (s : Slot). s.committed) _ none)

@@ -43,5 +43,6 @@ loop-undo-preserved-in-Some c =
           ∙ sym (undone_pop U (length T) u no_undo r k less last);
       committed = λ k. c.put_bytes-written_over.ensures.committed k ∙ inv.committed k;
       same = λ k. c.put_bytes-written_over.ensures.held k ∙ inv.same k;
+      spare = c.put_bytes-written_over.ensures.spare ∙ inv.spare;
       capacity = c.in-Some.ensures.capacity ∙ inv.capacity;
     }

@@ -1,4 +1,5 @@
 use Rattle.std.proofs.Common.{◌≡◌, ◌≤◌, ℕ, length, take, drop, vec_capacity}
+use Rattle.std.specs.HashMap.{spare}
 use Rattle.abl_storage.specs.Slots.{undone}
 use Rattle.mem_slots.specs.Sparse.{slot_in, committed_in, holds}
 use Rattle.mem_slots.proofs.slot.take_back.Given as goal
@@ -11,6 +12,7 @@ invariant-loop-undo l = record {
   reads : (k : ℕ) → slot_in l.slots k ≡ undone (drop (length l.undo.items) l.initial.undo.items) (slot_in l.initial.slots) k;
   committed : (k : ℕ) → committed_in l.slots k ≡ committed_in l.initial.slots k;
   same : (k : ℕ) → holds l.slots k ≡ holds l.initial.slots k;
+  spare : spare l.slots ≡ spare l.initial.slots;
   capacity : vec_capacity l.undo ≡ vec_capacity l.initial.undo;
 }
 

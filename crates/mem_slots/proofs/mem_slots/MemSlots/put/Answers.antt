@@ -1,15 +1,13 @@
-use Rattle.std.proofs.Common.{◌≡◌, ◌≤◌, ◌<◌, ◌∙◌, ◌+◌, ◌-◌, ◌==◌, ◌||◌, if◌then◌else◌, ℕ, List, Bool, true, false, [], ◌∷◌, ◌++◌, length, slice_set, sym, ap, subst, refl, arith}
-use Rattle.std.specs.Vec.{vec_capacity}
-use Rattle.abl_storage.specs.Slots.{Transaction, is_low, put}
+use Rattle.std.proofs.Common.{◌≡◌, ◌≤◌, ◌<◌, ◌∙◌, ◌+◌, ◌-◌, ◌==◌, ◌||◌, if◌then◌else◌, ℕ, List, Bool, true, false, [], ◌∷◌, ◌++◌, sym, ap, subst, refl, arith}
+use Rattle.abl_storage.specs.Slots.{Transaction, is_low}
 use Rattle.abl_storage.specs.declared.slots.Undo.{Undo}
-use Rattle.mem_slots.specs.declared.slot.Slot.{Slot}
 use Rattle.mem_slots.specs.declared.client.Client.{Client}
 use Rattle.mem_slots.specs.Mem.{transaction_in}
 use Rattle.mem_slots.specs.Promised.{promised}
-use Rattle.mem_slots.specs.Sparse.{slot_in, committed_in, holds, has_written, AllHeld}
+use Rattle.mem_slots.specs.Sparse.{slot_in, holds, has_written, AllHeld}
 use Rattle.mem_slots.proofs.Places.{put_at}
 use Rattle.mem_slots.proofs.Clients.{becomes, written_push, held_push, room_within, low_within}
-use Rattle.mem_slots.proofs.Changes.{Stands, here, stands, sliced, part_of}
+use Rattle.mem_slots.proofs.Changes.{as_one, here, stands, keeps}
 use Rattle.mem_slots.proofs.mem_slots.MemSlots.put.Goals as goal
 
 pub add-requires-clause-begun : goal.add-requires-clause-begun
@@ -46,30 +44,25 @@ pub invariant_of-self : goal.invariant_of-self
 invariant_of-self c =
     let s = c.args.self.now in
     let old = c.index_mut-client.result.now in
-    let X = c.put_bytes-before.new.slots in
-    let mid = c.reach.new.slots in
-    let slice = c.deref_mut.ensures in
-    let held_mid : (j : ℕ) → holds mid.items j ≡ true → holds X j ≡ true = λ j h. c.put_bytes-before.ensures.held j ∙ ap (λ (l : List Slot). holds l j) slice.value ∙ h in
-    subst (λ (l : List Slot). Stands l (slice_set s.clients.items c.args.client c.add.new.self) (vec_capacity mid)) (sym (sliced mid slice.value slice.len c.put_bytes-before.new.slots c.put_bytes-before.auto.slots))
-    (stands s c.requires.client c.index_mut-client.ensures.value c.add.new.self X (vec_capacity mid)
-    (λ j h. held_mid j (c.reach.ensures.held j h))
-    (λ held. subst (λ (l : List Undo). AllHeld X l) (sym c.add.ensures.undo) (held_push X old.undo.items (record { slot = c.args.slot; old = c.put_bytes-before.result }) held (held_mid c.args.slot c.reach.ensures.here)))
-    (let was = ap length slice.value in omega (arith, was, c.put_bytes-before.auto.slots, c.add.ensures.promised, c.reach.ensures.len, c.reach.ensures.capacity, s.has_room)))
+    let new = c.put_bytes-before.new.slots in
+    let more : (j : ℕ) → holds c.reach.new.slots j ≡ true → holds new j ≡ true = λ j h. c.put_bytes-before.ensures.held j ∙ h in
+    stands s c.requires.client c.index_mut-client.ensures.value new c.add.new.self
+    (λ j h. more j (c.reach.ensures.held j h))
+    (λ held. subst (λ (l : List Undo). AllHeld new l) (sym c.add.ensures.undo) (held_push new old.undo.items (record { slot = c.args.slot; old = c.put_bytes-before.result }) held (more c.args.slot c.reach.ensures.here)))
+    (omega (arith, c.add.ensures.promised, c.reach.ensures.spare, c.put_bytes-before.ensures.spare, s.has_room))
 
 pub returns : goal.returns
 returns c =
     let s = c.args.self.now in
-    let ss = s.slots.items in
     let old = c.index_mut-client.result.now in
-    let at = here s c.requires.client c.index_mut-client.ensures.value in
-    let mid = c.reach.new.slots in
-    let was : c.deref_mut.result.now ≡ mid.items = c.deref_mut.ensures.value in
-    let committed = part_of mid was c.deref_mut.ensures.len c.put_bytes-before.new.slots c.put_bytes-before.auto.slots committed_in c.put_bytes-before.ensures.committed ∙ (λ i k. c.reach.ensures.committed k i) in
+    let client = c.index_mut-client.ensures.value in
+    let at = here s c.requires.client client in
+    let new = c.put_bytes-before.new.slots in
     record {
-      keeps = record { observable = refl; committed = λ _. committed; doubt = λ _. committed };
-      reads = λ _. ap slot_in (sliced mid was c.deref_mut.ensures.len c.put_bytes-before.new.slots c.put_bytes-before.auto.slots) ∙ (λ i k. (c.put_bytes-before.ensures.reads k ∙ ap (λ (l : List Slot). put (slot_in l) c.args.slot c.args.bytes.now k) was ∙ put_at (slot_in mid.items) (slot_in ss) c.args.slot c.args.bytes.now k (c.reach.ensures.reads k)) i);
+      keeps = keeps s c.requires.client client new _ (λ j. c.put_bytes-before.ensures.committed j ∙ c.reach.ensures.committed j);
+      reads = λ _. as_one (λ k. c.put_bytes-before.ensures.reads k ∙ put_at (slot_in c.reach.new.slots) (slot_in s.slots) c.args.slot c.args.bytes.now k (c.reach.ensures.reads k));
       before = c.put_bytes-before.result;
-      before_is = λ _. c.put_bytes-before.ensures.before ∙ ap (λ (l : List Slot). slot_in l c.args.slot) was ∙ c.reach.ensures.reads c.args.slot;
+      before_is = λ _. c.put_bytes-before.ensures.before ∙ c.reach.ensures.reads c.args.slot;
       transaction = becomes s.clients.items c.args.client c.add.new.self true _ _ _ _ _ (omega (arith, s.sixteen, c.requires.client)) c.add.ensures.begun
           (c.add.ensures.undo ∙ ap (λ (l : List Undo). l ++ record { slot = c.args.slot; old = c.put_bytes-before.result } ∷ []) (sym (ap (λ (x : Transaction). x.undo) at)))
           (λ j. ap (λ (l : List ℕ). has_written l j) c.add.ensures.written ∙ written_push old.written.items c.args.slot j ∙ ap (λ (x : Transaction). (j == c.args.slot) || x.written j) (sym at))

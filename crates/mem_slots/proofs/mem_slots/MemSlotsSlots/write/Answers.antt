@@ -52,7 +52,7 @@ returns-clause-ok c =
     let new = c.put-2.new.self in
     let at = transaction_at old.clients.items c.args.client c.index-2.result.now (omega (arith, old.sixteen)) c.index-2.ensures in
     let none : (transaction_in old.clients.items c.args.client).room ≡ 0 = (let room = ap (λ (t : Transaction). t.room) at in omega (arith, room, c.if-index-gt0.false)) in
-    writes_after_grows (state_of old.slots.items old.clients.items) (state_of mid.slots.items mid.clients.items) (state_of new.slots.items new.clients.items) c.args.client c.args.slot 1 c.args.bytes.now refl none (c.make_room.ensures.yes c.if-not-make_room.false) c.put-2.ensures
+    writes_after_grows (state_of old.slots old.clients.items) (state_of mid.slots mid.clients.items) (state_of new.slots new.clients.items) c.args.client c.args.slot 1 c.args.bytes.now refl none (c.make_room.ensures.yes c.if-not-make_room.false) c.put-2.ensures
 
 pub returns-clause-full : goal.returns-clause-full
 returns-clause-full c =
