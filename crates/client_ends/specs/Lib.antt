@@ -1,0 +1,5 @@
+pub mod Insertions
+pub mod Refreshes
+pub mod Drops
+pub mod Emptied
+pub mod Closings
