@@ -1,0 +1,11 @@
+pub mod OneByOne
+pub mod Once
+pub mod Backwards
+pub mod Kept
+pub mod Lent
+pub mod Asked
+pub mod Pushed
+pub mod Counted
+pub mod Assigned
+pub mod Pairs
+pub mod Befores

@@ -1,0 +1,39 @@
+use Rattle.std.proofs.Common.{◌≡◌, ℕ, ◌-◌, ◌+◌, ◌∷◌, [], List, drop, get_or, sym, ap, ◌∙◌, arith}
+use Rattle.std.proofs.Math.Seq.{drop-length}
+use Rattle.std.specs.Prelude.{reverse}
+use Rattle.block_flat.specs.Flat as flat
+use Rattle.client_machine.specs.Config.{stack_of}
+use Rattle.client_records.specs.Entries.{lock_entries}
+use Rattle.client_records.proofs.Backwards.{one_more}
+use Rattle.client_records.proofs.entries.push_locks.Goals as goal
+
+pub loop-left-init : goal.loop-left-init
+loop-left-init c = record {
+  within = omega arith;
+  pushed = λ code cs. sym (ap (λ (bs : List ℕ). lock_entries bs (stack_of code cs (reverse c.args.stack.now.items))) (drop-length c.args.buffers.now));
+  order = λ n o. o;
+}
+
+pub loop-left-preserved : goal.loop-left-preserved
+loop-left-preserved c =
+    let bs = c.args.buffers.now in
+    let left = c.loop-left.left in
+    let b = get_or bs (left - 1) 0 in
+    let next : left ≡ (left - 1) + 1 = omega arith in
+    record {
+      within = omega arith;
+      pushed = λ code cs.
+          let base = stack_of code cs (reverse c.args.stack.now.items) in
+          c.in_ok-push_lock.ensures.pushed code cs
+          ∙ ap (λ (ks : List flat.StackEntry). lock_entries (b ∷ []) ks) (c.loop-left.invariant.pushed code cs)
+          ∙ sym (ap (λ (xs : List ℕ). lock_entries xs base) (one_more bs (left - 1) left 0 next c.loop-left.invariant.within));
+      order = λ n o. c.in_ok-push_lock.ensures.order n (c.loop-left.invariant.order n o);
+    }
+
+pub returns-clause-pushed : goal.returns-clause-pushed
+returns-clause-pushed c = λ code cs.
+    let none : c.loop-left.left ≡ 0 = omega arith in
+    c.loop-left.invariant.pushed code cs ∙ ap (λ (k : ℕ). lock_entries (drop k c.args.buffers.now) (stack_of code cs (reverse c.args.stack.now.items))) none
+
+pub returns-clause-order : goal.returns-clause-order
+returns-clause-order c = λ n o. c.loop-left.invariant.order n o

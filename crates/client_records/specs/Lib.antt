@@ -1,0 +1,4 @@
+pub mod Entries
+pub mod Reads
+pub mod Locks
+pub mod Rights
