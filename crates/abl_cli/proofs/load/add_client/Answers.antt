@@ -6,4 +6,4 @@ use Rattle.abl_cli.proofs.load.add_client.Goals as goal
 pub returns-clause-begun : goal.returns-clause-begun
 returns-clause-begun g c =
     let task = c.in_ok-task.task in
-    (task, (c.push_reserved.ensures.items ∙ ap (λ (ts : List ClientTask). ts ++ task ∷ []) c.reserve.ensures.items, c.in_ok-task.ensures.begun))
+    (task, c.push_reserved.ensures.items ∙ ap (λ (ts : List ClientTask). ts ++ task ∷ []) c.reserve.ensures.items, c.in_ok-task.ensures.begun)
