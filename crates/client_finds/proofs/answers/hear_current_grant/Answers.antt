@@ -1,0 +1,20 @@
+use Rattle.std.proofs.Common.{Option, List, ap, sym, subst}
+use Rattle.abl_base.specs.declared.value.Value.{Value}
+use Rattle.block_meaning.specs.Views as views
+use Rattle.block_flat.specs.Flat as flat
+use Rattle.client_machine.specs.declared.mode.OnAnswer.TheVariants as on_answer
+use Rattle.client_machine.specs.declared.mode.reads.ReadAnswer.TheVariants as read_answer
+use Rattle.client_machine.specs.Config.{reading_at, search_of}
+use Rattle.client_machine.specs.KeepsFrom.{KeepsFrom}
+use Rattle.client_machine.specs.Machine.{stack_in}
+use Rattle.client_memory.specs.Buffers.{denoted_held}
+use Rattle.client_finds.specs.Steps.{instrs_in}
+use Rattle.client_finds.proofs.Kept.{answer_from, on_ok}
+use Rattle.client_finds.proofs.answers.hear_current_grant.Goals as goal
+
+pub returns-clause-ok : goal.returns-clause-ok
+returns-clause-ok c =
+    let old = c.args.machine.now in
+    on_ok c.current_granted.result (λ keeps.
+    answer_from c.args.op (on_answer.Read (read_answer.CurrentGranted c.args.place c.args.row c.args.made)) c.args.answer old c.current_granted.new.machine c.requires (λ o. o)
+    (subst (λ (x : views.Grant). KeepsFrom (λ p s. flat.current_grant_answered x (reading_at (instrs_in old) c.args.place) c.args.row c.args.made (stack_in old) s) old c.current_granted.new.machine) c.grant_in-grant.ensures keeps)) c.current_granted.ensures.ok

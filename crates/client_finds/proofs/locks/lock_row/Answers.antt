@@ -1,0 +1,13 @@
+use Rattle.block_meaning.specs.Frames.{table_of}
+use Rattle.block_meaning.specs.Reads.{is_exclusive}
+use Rattle.block_flat.specs.Flat as flat
+use Rattle.client_database.specs.declared.operation.Op.TheVariants as op
+use Rattle.client_machine.specs.Config.{reading_at}
+use Rattle.client_finds.proofs.Kept.{asked_kept}
+use Rattle.client_finds.proofs.locks.lock_row.Goals as goal
+
+pub returns-clause-ok : goal.returns-clause-ok
+returns-clause-ok c =
+    let old = c.args.machine.now in
+    let r = reading_at old.code.instrs.items c.args.place in
+    asked_kept old c.ask.new.machine c.in-Some.op (flat.WasGranted r c.args.retry c.args.row) (λ s. op.Lock (table_of r.buffer s) c.args.row (is_exclusive r.lock) c.args.wait) c.in-Some.ensures.op c.ask.ensures

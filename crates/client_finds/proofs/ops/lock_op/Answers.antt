@@ -1,0 +1,14 @@
+use Rattle.std.proofs.Common.{ap, ◌∙◌}
+use Rattle.bound_tree.specs.Tree.{Reading}
+use Rattle.block_meaning.specs.Frames.{table_of}
+use Rattle.client_database.specs.declared.operation.Op.TheVariants as op
+use Rattle.block_meaning.specs.Reads.{is_exclusive}
+use Rattle.client_machine.specs.Config.{reading_at}
+use Rattle.client_finds.specs.Stays.{state_under}
+use Rattle.client_finds.specs.Steps.{instrs_in}
+use Rattle.client_finds.proofs.ops.lock_op.Goals as goal
+
+pub returns-clause-op : goal.returns-clause-op
+returns-clause-op c = λ p rest reads.
+    ap (λ t. op.Lock t c.args.row c.is_exclusive.result c.args.wait) (c.table_in-table.ensures p rest reads ∙ ap (λ (r : Reading). table_of r.buffer (state_under rest c.args.machine.now)) c.in_ok-reading.ensures)
+    ∙ ap (λ x. op.Lock (table_of (reading_at (instrs_in c.args.machine.now) c.args.place).buffer (state_under rest c.args.machine.now)) c.args.row x c.args.wait) (c.is_exclusive.ensures ∙ ap (λ (r : Reading). is_exclusive r.lock) c.in_ok-reading.ensures)

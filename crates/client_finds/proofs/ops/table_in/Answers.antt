@@ -1,0 +1,10 @@
+use Rattle.std.proofs.Common.{ap}
+use Rattle.block_meaning.specs.State.{Buffer}
+use Rattle.client_buffers.proofs.Own.{own_is, own_none}
+use Rattle.client_finds.proofs.ops.table_in.Goals as goal
+
+pub returns-in-Some : goal.returns-in-Some
+returns-in-Some c = λ p rest fits. ap (λ (x : Buffer). x.table) (own_is rest c.args.machine.now.procedures.items c.args.machine.now.memory c.own.result c.args.buffer c.in-Some.buffer.now fits.even c.own.ensures c.in-Some.ensures)
+
+pub returns-in-None : goal.returns-in-None
+returns-in-None c = λ p rest fits. ap (λ (x : Buffer). x.table) (own_none rest c.args.machine.now.procedures.items c.args.machine.now.memory c.own.result c.args.buffer fits.even c.own.ensures c.in-None.ensures)
