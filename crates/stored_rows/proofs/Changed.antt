@@ -6,6 +6,7 @@ use Rattle.std.proofs.lemmas.Bool.{cases_eq}
 use Rattle.abl_storage.specs.Slots.{SlotState, Transaction, IsReadable, KeepsCommitted, wrote}
 use Rattle.abl_values.specs.Schema.{SchemaData}
 use Rattle.database_meaning.specs.declared.state.Key.{Key}
+use Rattle.database_meaning.specs.declared.state.StoredRow.{StoredRow}
 use Rattle.database_meaning.specs.Setting.{fragments}
 use Rattle.row_chain.specs.Fragments.{StoredBytes, ends}
 use Rattle.row_chain.proofs.Composes.{readable_on}
@@ -115,7 +116,7 @@ module _ (schema : SchemaData) (s t : SlotState) (was now : List Open) (client r
     (stored : IsStored schema s (log_in was) (touched_in was)) (fine : s.failed ≡ false) (begun : (s.transaction client).begun ≡ true) (still_begun : (t.transaction client).begun ≡ true)
     (keeps : KeepsCommitted s t) (others : (c : ℕ) → c ≢ client → t.transaction c ≡ s.transaction c)
     (change : ChangesSlots s t client row slots to) (mark : u.mark ≡ length (s.transaction client).undo) (row_is : u.row ≡ row) (old : IsReadable s → u.old ≡ decoded schema s.reads row)
-    (read : is_some (row_of schema to) ≡ is_some to)
+    (read : IsReadable s → is_some (row_of schema to) ≡ is_some to)
     (own : open_in now client ≡ with_change (open_in was client) u.row u.old u.mark drawn written) (same : (c : ℕ) → c ≢ client → open_in now c ≡ open_in was c) where
   still_fine : t.failed ≡ false
   still_fine = change.wrote.failed ∙ fine
@@ -188,14 +189,15 @@ module _ (schema : SchemaData) (s t : SlotState) (was now : List Open) (client r
       others_are : (k : ℕ) → k ≢ row → decoded schema t.reads k ≡ decoded schema s.reads k
       others_are = row_others schema s t (log_in was) (log_in now) (touched_in was) client row slots to u stored added sound.past apart_s apart_t (row_in left_places) (tied_of t left_places kept (readable_on s t keeps.observable change.wrote.failed readable)) readable
 
-  pub changed_state : drawn ≡ fragments (row_of schema to) - fragments u.old → written ≡ max (fragments (row_of schema to)) (fragments u.old)
-      → (before after : Reserved) (sequences : List ℤ) → ReservesMoved schema before after client u.old (row_of schema to)
-      → ChangesRow (state_of schema before sequences s was) (state_of schema after sequences t now) client row (row_of schema to)
-  changed_state drawn_is written_is before after sequences moved = record {
+  pub changed_state : (value : Option StoredRow) → (IsReadable s → value ≡ row_of schema to) → drawn ≡ fragments value - fragments u.old → written ≡ max (fragments value) (fragments u.old)
+      → (before after : Reserved) (sequences : List ℤ) → ReservesMoved schema before after client u.old value
+      → ChangesRow (state_of schema before sequences s was) (state_of schema after sequences t now) client row value
+  changed_state value value_is drawn_is written_is before after sequences moved = record {
     base = base_same schema before after sequences s t was now keeps change.wrote.failed;
     rows = λ readable.
         rows_known t (decoded schema t.reads) (readable_on s t keeps.observable change.wrote.failed readable)
-        ∙ (changed_rows readable ∙ ap (λ (f : RowsById). with_row f row (row_of schema to)) (sym (rows_known s (decoded schema s.reads) readable)));
+        ∙ (changed_rows readable
+        ∙ (ap (with_row (decoded schema s.reads) row) (sym (value_is readable)) ∙ ap (λ (f : RowsById). with_row f row value) (sym (rows_known s (decoded schema s.reads) readable))));
     before = u.old;
     before_is = λ readable. old readable ∙ ap (λ (f : RowsById). f row) (sym (rows_known s (decoded schema s.reads) readable));
     transaction = record {
@@ -205,17 +207,17 @@ module _ (schema : SchemaData) (s t : SlotState) (was now : List Open) (client r
       own =
           ap (λ (b : Bool). transaction_of b (after client) (open_in now client)) still_begun
           ∙ (ap (λ (f : Key → Bool). transaction_of true f (open_in now client)) moved.own
-          ∙ (ap (transaction_of true (λ key. is_moved schema u.old (row_of schema to) key || before client key)) own
+          ∙ (ap (transaction_of true (λ key. is_moved schema u.old value key || before client key)) own
           ∙ own_is));
     };
   }
     where
-      own_is : transaction_of true (λ key. is_moved schema u.old (row_of schema to) key || before client key) (with_change (open_in was client) u.row u.old u.mark drawn written)
-          ≡ rows.with_change schema (transaction_of (s.transaction client).begun (before client) (open_in was client)) row u.old (row_of schema to)
+      own_is : transaction_of true (λ key. is_moved schema u.old value key || before client key) (with_change (open_in was client) u.row u.old u.mark drawn written)
+          ≡ rows.with_change schema (transaction_of (s.transaction client).begun (before client) (open_in was client)) row u.old value
       own_is =
-          ap (λ (cs : List RowChange). made cs (has (touched_in was client ++ u.row ∷ [])) (λ key. is_moved schema u.old (row_of schema to) key || before client key) ((open_in was client).drawn + drawn) ((open_in was client).written + written))
+          ap (λ (cs : List RowChange). made cs (has (touched_in was client ++ u.row ∷ [])) (λ key. is_moved schema u.old value key || before client key) ((open_in was client).drawn + drawn) ((open_in was client).written + written))
           (changes_added (log_in was client) u ∙ ap (λ (r : ℕ). changes_of (log_in was client) ++ record { row = r; old = u.old } ∷ []) row_is)
-          ∙ (ap (λ (f : ℕ → Bool). made (changes_of (log_in was client) ++ record { row = row; old = u.old } ∷ []) f (λ key. is_moved schema u.old (row_of schema to) key || before client key) ((open_in was client).drawn + drawn) ((open_in was client).written + written))
+          ∙ (ap (λ (f : ℕ → Bool). made (changes_of (log_in was client) ++ record { row = row; old = u.old } ∷ []) f (λ key. is_moved schema u.old value key || before client key) ((open_in was client).drawn + drawn) ((open_in was client).written + written))
           (fun_ext (λ k. has_push (touched_in was client) u.row k ∙ ap (λ (r : ℕ). eqb k r || has (touched_in was client) k) row_is))
-          ∙ (ap (λ (n : ℕ). made (changes_of (log_in was client) ++ record { row = row; old = u.old } ∷ []) (λ k. eqb k row || has (touched_in was client) k) (λ key. is_moved schema u.old (row_of schema to) key || before client key) ((open_in was client).drawn + n) ((open_in was client).written + written)) drawn_is
-          ∙ ap (λ (n : ℕ). made (changes_of (log_in was client) ++ record { row = row; old = u.old } ∷ []) (λ k. eqb k row || has (touched_in was client) k) (λ key. is_moved schema u.old (row_of schema to) key || before client key) ((open_in was client).drawn + (fragments (row_of schema to) - fragments u.old)) ((open_in was client).written + n)) written_is))
+          ∙ (ap (λ (n : ℕ). made (changes_of (log_in was client) ++ record { row = row; old = u.old } ∷ []) (λ k. eqb k row || has (touched_in was client) k) (λ key. is_moved schema u.old value key || before client key) ((open_in was client).drawn + n) ((open_in was client).written + written)) drawn_is
+          ∙ ap (λ (n : ℕ). made (changes_of (log_in was client) ++ record { row = row; old = u.old } ∷ []) (λ k. eqb k row || has (touched_in was client) k) (λ key. is_moved schema u.old value key || before client key) ((open_in was client).drawn + (fragments value - fragments u.old)) ((open_in was client).written + n)) written_is))

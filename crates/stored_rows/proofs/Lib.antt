@@ -14,3 +14,5 @@ pub mod Closed
 pub mod Committed
 pub mod Opening
 pub mod Looked
+pub mod Decodes
+pub mod Replaced

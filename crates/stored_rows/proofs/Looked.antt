@@ -1,12 +1,12 @@
 -- A call that reads changes nothing.
-use Rattle.std.proofs.Common.{◌≡◌, ℕ, List, Option, Some, None, MatchOption, Result, Ok, Err, refl, sym, ap, ◌∙◌}
-use Rattle.abl_storage.specs.Slots.{SlotState, IsReadable}
+use Rattle.std.proofs.Common.{◌≡◌, ℕ, List, Option, Some, None, MatchOption, Result, Ok, Err, refl, ap, ◌∙◌}
+use Rattle.abl_storage.specs.Slots.{SlotState}
 use Rattle.abl_values.specs.Schema.{SchemaData}
 use Rattle.database_meaning.specs.declared.state.StoredRow.{StoredRow}
 use Rattle.row_chain.specs.Calls.{Looked}
 use Rattle.chain_store.specs.declared.fault.ChainFault.{ChainFault}
 use Rattle.chain_store.specs.Rows.{of_slots}
-use Rattle.abl_rows.specs.Changes.{RowsById}
+use Rattle.stored_rows.specs.declared.decode.OldRow.{OldRow}
 use Rattle.stored_rows.specs.declared.open.Open.{Open}
 use Rattle.stored_rows.specs.Opens.{log_in, touched_in}
 use Rattle.stored_rows.specs.Stored.{IsStored}
@@ -18,6 +18,13 @@ pub looked_stored : {T : Type 0} (schema : SchemaData) (s t : SlotState) (at_s a
 looked_stored schema s t at_s at_t os stored (Ok v) l = stored_rests schema s t (log_in os) (touched_in os) l.rests (l.cause.stays (λ e. cc e)) stored
 looked_stored schema s t at_s at_t os stored (Err fault) l = refused_stored schema s t os os (λ c. refl) stored fault (λ e. l.rests) l.cause (begun_rests s t l.rests)
 
-pub found_is : (found row : Option StoredRow) → MatchOption found (row ≡ None) (λ one. row ≡ Some one) → found ≡ row
-found_is None row h = sym h
-found_is (Some one) row h = sym h
+pub found_some : (found : Option OldRow) (one : OldRow) (row : Option StoredRow) → found ≡ Some one → MatchOption found (row ≡ None) (λ other. row ≡ Some other.row) → row ≡ Some one.row
+found_some None one row is h = absurd (cc is)
+found_some (Some other) one row is h = h ∙ ap (λ (o : OldRow). Some o.row) (same other one is)
+  where
+    same : (a b : OldRow) → Some a ≡ Some b → a ≡ b
+    same a b e = cc
+
+pub found_none : (found : Option OldRow) (row : Option StoredRow) → found ≡ None → MatchOption found (row ≡ None) (λ other. row ≡ Some other.row) → row ≡ None
+found_none None row is h = h
+found_none (Some other) row is h = absurd (cc is)

@@ -196,19 +196,16 @@ module _ (schema : SchemaData) (s t : SlotState) (was : List Open) (client : ℕ
 
       pub insert_stored : IsStored schema t (log_in now) (touched_in now)
       insert_stored = changed_stored schema s t was (slice_set was client x) client row.0 ok.0 to u many_fragments many_fragments places free clients failed sound left_places left_free left_clients left_failed still_sound stored fine begun (still ∙ begun)
-          keeps touched ok.1 refl refl (λ readable. vacant_none schema s row.0 (vacant readable)) read_is (noted_now row ok.2) rest_now
+          keeps touched ok.1 refl refl (λ readable. vacant_none schema s row.0 (vacant readable)) (λ readable. read_is) (noted_now row ok.2) rest_now
 
-      fragments_are : many_fragments ≡ fragments (row_of schema to)
-      fragments_are = ap (λ (b : List ℕ). fragments_of (length b)) is ∙ sym (ap fragments to_is)
+      fragments_are : many_fragments ≡ fragments (Some (record { table = table; values = values }))
+      fragments_are = ap (λ (b : List ℕ). fragments_of (length b)) is
 
       pub insert_says : (before after : Reserved) (sequences : List ℤ) → ReservesMoved schema before after client None (Some (record { table = table; values = values }))
           → rows.ChangesRow (state_of schema before sequences s was) (state_of schema after sequences t now) client row.0 (Some (record { table = table; values = values }))
-      insert_says before after sequences moved =
-          subst (rows.ChangesRow (state_of schema before sequences s was) (state_of schema after sequences t (slice_set was client x)) client row.0) to_is
-          (changed_state schema s t was (slice_set was client x) client row.0 ok.0 to u many_fragments many_fragments places free clients failed sound left_places left_free left_clients left_failed still_sound stored fine begun (still ∙ begun)
-          keeps touched ok.1 refl refl (λ readable. vacant_none schema s row.0 (vacant readable)) read_is (noted_now row ok.2) rest_now
-          (omega (arith, fragments_are)) (omega (arith, fragments_are))
-          before after sequences (subst (ReservesMoved schema before after client None) (sym to_is) moved))
+      insert_says = changed_state schema s t was (slice_set was client x) client row.0 ok.0 to u many_fragments many_fragments places free clients failed sound left_places left_free left_clients left_failed still_sound stored fine begun (still ∙ begun)
+          keeps touched ok.1 refl refl (λ readable. vacant_none schema s row.0 (vacant readable)) (λ readable. read_is) (noted_now row ok.2) rest_now
+          (Some (record { table = table; values = values })) (λ readable. sym to_is) (omega (arith, fragments_are)) (omega (arith, fragments_are))
 
     pub insert_keeps : (r : Result RowId ChainFault) → IfOk r Inserts → IfOk r (λ row. IsReadable s → IsVacant s row.0) → Touched s t at_s at_t client (of_slots r)
         → ((IsErrOf r (Slot SlotDisk) → ⊥) → OnErr r (Rests s t)) → OnErr r (view_of x ≡ view_of old) → IsStored schema t (log_in now) (touched_in now)

@@ -32,7 +32,7 @@ pub record Added (schema : SchemaData) (s t : SlotState) (log left : ℕ → Lis
   pub mark : u.mark ≡ length (s.transaction client).undo
   pub row_is : u.row ≡ row
   pub old : IsReadable s → u.old ≡ decoded schema s.reads row
-  pub read : is_some (row_of schema to) ≡ is_some to
+  pub read : IsReadable s → is_some (row_of schema to) ≡ is_some to
   pub alone : (c : ℕ) → c ≢ client → has_change (changes_of (log c)) row ≡ false
   pub log_own : left client ≡ log client ++ u ∷ []
   pub log_others : (c : ℕ) → c ≢ client → left c ≡ log c
@@ -255,7 +255,7 @@ module _ (schema : SchemaData) (s t : SlotState) (log left : ℕ → List Undone
       read_mixed k = elim (cases_eq k row) [
         | inl e ↦
             let is : row_at mixed k ≡ to = ap (row_at mixed) e ∙ row_mixed in
-            ap (λ (r : Option StoredBytes). is_some (row_of schema r)) is ∙ (a.read ∙ sym (ap (λ (r : Option StoredBytes). is_some r) is))
+            ap (λ (r : Option StoredBytes). is_some (row_of schema r)) is ∙ (a.read readable ∙ sym (ap (λ (r : Option StoredBytes). is_some r) is))
         | inr ne ↦
             let is : row_at mixed k ≡ row_at before k = others_mixed k ne in
             ap (λ (r : Option StoredBytes). is_some (row_of schema r)) is ∙ (all_before.1 k ∙ sym (ap (λ (r : Option StoredBytes). is_some r) is))

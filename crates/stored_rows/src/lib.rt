@@ -5,6 +5,7 @@
 
 pub mod begins;
 pub mod commits;
+pub mod decode;
 pub mod fault;
 pub mod inserts;
 pub mod log;
@@ -12,7 +13,9 @@ pub mod noted;
 pub mod open;
 pub mod opened;
 pub mod reads;
+pub mod replaces;
 pub mod returns;
 pub mod rows;
 
+pub use decode::OldRow;
 pub use rows::StoredRows;

@@ -1,10 +1,10 @@
 //! Changing a row in chains, and noting what undoes that.
 
-ghost use Rattle.std.specs.Prelude.{◌≡◌, ◌≤◌, ◌<◌, ℕ, List, length, take, true, false, Some, None, IfOk, OnOk, OnErr, IsErrOf};
+ghost use Rattle.std.specs.Prelude.{◌≡◌, ◌≤◌, ◌<◌, ◌-◌, ℕ, List, length, max, take, true, false, Some, None, IfOk, OnOk, OnErr, IsErrOf};
 ghost use Rattle.abl_storage.specs.Slots.{Begins, Commits, Ends, Fails, Goes, GoesBack, HasCause, IsReadable, OnlyDisk, Rests};
 ghost use Rattle.abl_values.specs.Rows.{fragments_of};
 ghost use Rattle.row_chain.specs.Calls.{Touched};
-ghost use Rattle.row_chain.specs.Fragments.{begins};
+ghost use Rattle.row_chain.specs.Fragments.{begins, table_in};
 ghost use Rattle.chain_store.specs.Exact.{IsVacant};
 ghost use Rattle.chain_store.specs.Rows.{ChangesRow, of_slots};
 ghost use Rattle.stored_rows.specs.Opens.{no_open, view_of, with_change};
@@ -83,6 +83,43 @@ pub fn insert<S: Slots + Drop>(
         Ok(row) => {
             transaction.note(row.0, None, mark, many, many);
             Ok(row)
+        }
+        Err(fault) => Err(fault),
+    }
+}
+
+/// Replaces the bytes of the row, whose value is `old`, of `had` fragments.
+pub fn put<S: Slots + Drop>(
+    chains: &mut Chains<S>,
+    transaction: &mut Open,
+    client: u16,
+    row: RowId,
+    bytes: &[u8],
+    old: Option<StoredRow>,
+    had: u32,
+) -> Result<(), ChainFault>
+    requires client { client < 16 }
+    requires begun { ((S.Slots.state chains.old.slots).transaction client).begun ≡ true }
+    requires size { length bytes.now ≤ 30000 }
+    requires there { IsReadable (S.Slots.state chains.old.slots) → begins (S.Slots.state chains.old.slots).reads row.0 ≡ true }
+    requires few { had ≤ 125 }
+    ensures ok { OnOk result ((slots : List ℕ)
+        × ChangesRow (S.Slots.state chains.old.slots) (S.Slots.state chains.new.slots) client row.0 slots (Some (record { table = table_in ((S.Slots.state chains.old.slots).reads row.0); bytes = bytes.now }))
+        × (view_of transaction.new ≡ with_change (view_of transaction.old) row.0 old (length ((S.Slots.state chains.old.slots).transaction client).undo) (fragments_of (length bytes.now) - had) (max (fragments_of (length bytes.now)) had))) }
+    ensures touched { Touched (S.Slots.state chains.old.slots) (S.Slots.state chains.new.slots) (S.Slots.stop chains.old.slots) (S.Slots.stop chains.new.slots) client (of_slots result) }
+    ensures refused { (IsErrOf result (ChainFault.Slot SlotFault.Disk) → ⊥) → OnErr result (Rests (S.Slots.state chains.old.slots) (S.Slots.state chains.new.slots)) }
+    ensures same { OnErr result (view_of transaction.new ≡ view_of transaction.old) }
+{
+    match transaction.reserve() {
+        Ok(()) => {}
+        Err(_) => return Err(ChainFault::Slot(SlotFault::NoMemory)),
+    }
+    let mark = chains.mark(client).at;
+    let many = fragments(bytes.len());
+    match chains.put(client, row, bytes) {
+        Ok(()) => {
+            transaction.note(row.0, old, mark, many.saturating_sub(had), many.max(had));
+            Ok(())
         }
         Err(fault) => Err(fault),
     }

@@ -7,7 +7,7 @@ use Rattle.stored_rows.specs.Decoded.{decoded}
 use Rattle.stored_rows.specs.State.{state_of}
 use Rattle.stored_rows.proofs.Changed.{rows_known}
 use Rattle.stored_rows.proofs.Errors.{after_refusal, state_rests}
-use Rattle.stored_rows.proofs.Looked.{found_is, looked_stored}
+use Rattle.stored_rows.proofs.Looked.{found_none, found_some, looked_stored}
 use Rattle.stored_rows.proofs.Methods.{begun_rests}
 use Rattle.stored_rows.proofs.rows.StoredRows.get.Goals as goal
 
@@ -18,17 +18,30 @@ invariant_of-self-clause-stored g c =
     let new = c.find.new.chains in
     looked_stored rows.schema (g.S.Slots.state old.slots) (g.S.Slots.state new.slots) (g.S.Slots.stop old.slots) (g.S.Slots.stop new.slots) rows.opens.items rows.stored c.find.result c.find.ensures.looked
 
-pub returns-in-Ok-clause-same : goal.returns-in-Ok-clause-same
-returns-in-Ok-clause-same g c = λ reserved sequences.
+pub returns-in-Ok-Some-clause-same : goal.returns-in-Ok-Some-clause-same
+returns-in-Ok-Some-clause-same g c = λ reserved sequences.
     let rows = c.args.self.now in
-    let l = c.in-Ok.ensures.looked in
+    let l = c.in-Ok-Some.ensures.looked in
     state_rests rows.schema reserved sequences (g.S.Slots.state rows.chains.slots) (g.S.Slots.state c.find.new.chains.slots) rows.opens.items rows.opens.items (λ d. refl) l.rests (l.cause.stays (λ e. cc e))
 
-pub returns-in-Ok-clause-found : goal.returns-in-Ok-clause-found
-returns-in-Ok-clause-found g c = λ reserved sequences readable.
+pub returns-in-Ok-None-clause-same : goal.returns-in-Ok-None-clause-same
+returns-in-Ok-None-clause-same g c = λ reserved sequences.
+    let rows = c.args.self.now in
+    let l = c.in-Ok-None.ensures.looked in
+    state_rests rows.schema reserved sequences (g.S.Slots.state rows.chains.slots) (g.S.Slots.state c.find.new.chains.slots) rows.opens.items rows.opens.items (λ d. refl) l.rests (l.cause.stays (λ e. cc e))
+
+pub returns-in-Ok-Some-clause-found : goal.returns-in-Ok-Some-clause-found
+returns-in-Ok-Some-clause-found g c = λ reserved sequences readable.
     let rows = c.args.self.now in
     let s = g.S.Slots.state rows.chains.slots in
-    found_is c.in-Ok.found (decoded rows.schema s.reads c.args.row.0) (c.in-Ok.ensures.found readable)
+    sym (found_some c.in-Ok-Some.field-0 c.in-Ok-Some.found (decoded rows.schema s.reads c.args.row.0) (cc c.in-Ok-Some.is) (c.in-Ok-Some.ensures.found readable))
+    ∙ ap (λ (f : RowsById). f c.args.row.0) (sym (rows_known s (decoded rows.schema s.reads) readable))
+
+pub returns-in-Ok-None-clause-found : goal.returns-in-Ok-None-clause-found
+returns-in-Ok-None-clause-found g c = λ reserved sequences readable.
+    let rows = c.args.self.now in
+    let s = g.S.Slots.state rows.chains.slots in
+    sym (found_none c.in-Ok-None.field-0 (decoded rows.schema s.reads c.args.row.0) (cc c.in-Ok-None.is) (c.in-Ok-None.ensures.found readable))
     ∙ ap (λ (f : RowsById). f c.args.row.0) (sym (rows_known s (decoded rows.schema s.reads) readable))
 
 pub returns-in-Err-clause-err : goal.returns-in-Err-clause-err

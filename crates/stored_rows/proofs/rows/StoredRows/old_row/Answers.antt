@@ -1,0 +1,31 @@
+use Rattle.std.proofs.Common.{Option, Err, refl, sym, subst}
+use Rattle.abl_rows.specs.Rows.{AfterError}
+use Rattle.abl_rows.specs.declared.store.RowError.{RowError}
+use Rattle.stored_rows.specs.declared.decode.OldRow.{OldRow}
+use Rattle.stored_rows.specs.State.{state_of}
+use Rattle.stored_rows.proofs.Errors.{after_refusal, state_rests}
+use Rattle.stored_rows.proofs.Looked.{looked_stored}
+use Rattle.stored_rows.proofs.Methods.{begun_rests}
+use Rattle.stored_rows.proofs.rows.StoredRows.old_row.Goals as goal
+
+pub invariant_of-self-clause-stored : goal.invariant_of-self-clause-stored
+invariant_of-self-clause-stored g c =
+    let rows = c.args.self.now in
+    let old = rows.chains in
+    let new = c.find.new.chains in
+    looked_stored rows.schema (g.S.Slots.state old.slots) (g.S.Slots.state new.slots) (g.S.Slots.stop old.slots) (g.S.Slots.stop new.slots) rows.opens.items rows.stored c.find.result c.find.ensures.looked
+
+pub returns-in-Ok-clause-same : goal.returns-in-Ok-clause-same
+returns-in-Ok-clause-same g c = λ reserved sequences.
+    let rows = c.args.self.now in
+    let l = c.in-Ok.ensures.looked in
+    state_rests rows.schema reserved sequences (g.S.Slots.state rows.chains.slots) (g.S.Slots.state c.find.new.chains.slots) rows.opens.items rows.opens.items (λ d. refl) l.rests (l.cause.stays (λ e. cc e))
+
+pub returns-in-Err-clause-err : goal.returns-in-Err-clause-err
+returns-in-Err-clause-err g c = λ reserved sequences.
+    let rows = c.args.self.now in
+    let s = g.S.Slots.state rows.chains.slots in
+    let t = g.S.Slots.state c.find.new.chains.slots in
+    let l = c.in-Err.ensures.looked in
+    subst (λ (x : RowError). AfterError {T = Option OldRow} (state_of rows.schema reserved sequences s rows.opens.items) (state_of rows.schema reserved sequences t rows.opens.items) (Err x)) (sym c.error_of.ensures)
+    (after_refusal rows.schema reserved sequences s t rows.opens.items rows.opens.items (λ d. refl) c.in-Err.fault l.rests.keeps (begun_rests s t l.rests) (λ q. l.rests) l.cause)
