@@ -1,0 +1,14 @@
+pub mod Kept
+pub mod States
+pub mod Buffers
+pub mod Calls
+pub mod Parts
+pub mod Iterations
+pub mod Loops
+pub mod Statements
+pub mod Tasks
+pub mod Answers
+pub mod Completions
+pub mod Runs
+pub mod Evaluated
+pub mod Inferred

@@ -1,0 +1,41 @@
+//! The laws. Each is the contract of a function with an empty body.
+
+ghost use Rattle.std.specs.Prelude.{◌≡◌, Bool, IfSome, true, ℕ};
+ghost use Rattle.std.specs.List.{list_all};
+ghost use Rattle.abl_base.specs.declared.value.Kind.{Kind};
+ghost use Rattle.bound_tree.specs.declared.expression.Variable.{Variable};
+ghost use Rattle.bound_tree.specs.Tree.{Expr};
+ghost use Rattle.bind_names.specs.declared.sort.Sort.{Sort};
+ghost use Rattle.bind_expressions.specs.WellKinded.{sort_of};
+ghost use Rattle.bound_kinds.specs.Values.{Has, Keeps};
+ghost use Rattle.bound_kinds.specs.WellKinded.{is_field, is_good, is_of_kind, is_value, is_variable};
+ghost use Rattle.abl_expr.specs.Evaluate.{evaluate};
+ghost use Rattle.block_meaning.specs.Frames.{content_of, value_of};
+ghost use Rattle.block_meaning.specs.Values.{env_of, field_in};
+ghost use Rattle.block_flat.specs.Config.{Config};
+ghost use Rattle.kind_laws.specs.Evaluated.{expressions_of};
+ghost use Rattle.kind_laws.specs.Reached.{Ground, IsGround, Reached, running};
+
+/// In every state that a run reaches, each variable of the running procedure, and each of the external
+/// procedure that it uses, has a value of its kind, or `?`.
+pub fn variables_have_values_of_their_kinds()
+    ensures { (g : Ground) → IsGround g → (units : ℕ) (c : Config) → Reached g units c → (v : Variable) → is_variable (running g c.state) v ≡ true → is_of_kind v.kind (value_of v c.state) ≡ true }
+{}
+
+/// Each field of a record in a buffer of the running procedure has a value of the field's kind, or `?`.
+pub fn fields_have_values_of_their_kinds()
+    ensures { (g : Ground) → IsGround g → (units : ℕ) (c : Config) → Reached g units c → (buffer field : ℕ) (kind : Kind) → is_field (running g c.state) buffer field kind ≡ true → IfSome (field_in field (content_of buffer c.state)) (λ v. is_of_kind kind v ≡ true) }
+{}
+
+/// So an expression that is good at a place of the running procedure has a value of its sort there, or
+/// a fault.
+pub fn expressions_have_values_of_their_sorts()
+    ensures keeps { (g : Ground) → IsGround g → (units : ℕ) (c : Config) → Reached g units c → (test : Sort → Bool) (e : Expr) (retry : Bool) → is_good (running g c.state) test e ≡ true → Keeps (env_of retry c.state) e }
+    ensures has { (g : Ground) → IsGround g → (units : ℕ) (c : Config) → Reached g units c → (test : Sort → Bool) (e : Expr) (retry : Bool) → is_good (running g c.state) test e ≡ true → Has (sort_of e) (evaluate g.program.forms (env_of retry c.state) e) }
+{}
+
+/// The expressions that a step of a run, or an answer, evaluates are good at places of the running
+/// procedure: so the laws above are about each of them.
+pub fn evaluated_expressions_are_good()
+    ensures { (g : Ground) → IsGround g → (units : ℕ) (c : Config) → Reached g units c → list_all (is_value (running g c.state)) (expressions_of g.code c.mode) ≡ true }
+{}
