@@ -32,7 +32,7 @@ class Index:
 
 
 def unquoted(text):
-    """A text between quotes, in which two stand for one."""
+    """A text between quotes, in which a doubled quote denotes one."""
     return text[1:-1].replace('""', '"') if text.startswith('"') else text
 
 
