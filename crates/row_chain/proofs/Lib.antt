@@ -1,6 +1,7 @@
 pub mod Within
 pub mod Composes
 pub mod ChainReads
+pub mod Lengths
 pub mod Encoded
 pub mod Chained
 pub mod Laid

@@ -3,3 +3,4 @@ pub mod Calls
 pub mod Tied
 pub mod Stops
 pub mod Kinds
+pub mod Measures

@@ -8,6 +8,7 @@
 pub mod chain;
 pub mod fragment;
 pub mod laws;
+pub mod measure;
 pub mod read;
 pub mod rows;
 pub mod write;
