@@ -1,11 +1,15 @@
 -- A store is opened: what was found of the slots is noted.
-use Rattle.std.proofs.Common.{◌≡◌, ◌≢◌, ◌⊎◌, ⊎_elim, ℕ, ◌<◌, ◌≤◌, false, List, length, refl, sym, ◌∙◌, ap, arith}
+use Rattle.std.proofs.Common.{◌≡◌, ◌≢◌, ◌⊎◌, inl, inr, ⊎_elim, ℕ, ◌<◌, ◌≤◌, cond, eqb, true, false, List, [], drop, length, refl, sym, ◌∙◌, ap, subst, arith}
 use Rattle.std.proofs.lemmas.Bool.{cases_lt}
 use Rattle.std.proofs.lemmas.List.{get_or_past}
-use Rattle.abl_storage.specs.Slots.{SlotState, Transaction, IsReadable, Rests}
+use Rattle.abl_storage.specs.Slots.{SlotState, Transaction, IsReadable, Rests, wrote}
+use Rattle.abl_storage.specs.declared.slots.Undo.{Undo}
+use Rattle.abl_values.specs.Rows.{number_at_head}
 use Rattle.free_slots.specs.Free.{free_in}
 use Rattle.free_slots.proofs.Popped.{far}
-use Rattle.row_chain.specs.Fragments.{ends, kind_in}
+use Rattle.row_chain.specs.Calls.{Covers}
+use Rattle.row_chain.specs.Fragments.{ends, kind_in, next_in}
+use Rattle.row_chain.specs.Tied.{IsValue}
 use Rattle.row_chain.proofs.Composes.{readable_on}
 use Rattle.chain_store.specs.declared.client.Client.{Client}
 use Rattle.chain_store.specs.declared.places.Place.{Place}
@@ -13,7 +17,7 @@ use Rattle.chain_store.specs.Clients.{ClientView, client_in, no_client}
 use Rattle.chain_store.specs.Exact.{IsExact}
 use Rattle.chain_store.specs.Freed.{IsFreed, has}
 use Rattle.chain_store.specs.Noted.{IsSound}
-use Rattle.chain_store.specs.Places.{IsKept, no_place, owner_in, row_in}
+use Rattle.chain_store.specs.Places.{Fits, HoldNothing, IsKept, no_place, owner_in, row_in}
 use Rattle.chain_store.proofs.Kept.{not_both}
 use Rattle.chain_store.proofs.Rewrites.{high_bound, low_bound}
 
@@ -73,3 +77,40 @@ free_found places back last end rest high above low held given = record {
       (λ (le : end ≤ k). above k le (high_bound k inside))
       (cases_lt k end);
 }
+
+-- ---- slots that hold nothing
+
+-- a slot that holds nothing has no next one
+no_next : (bytes : List ℕ) → kind_in bytes ≡ 0 → ends (next_in bytes) ≡ true
+no_next bytes none =
+    let is : next_in bytes ≡ 0 = ap (λ (kind : ℕ). cond (eqb kind 0) 0 (number_at_head 4 (drop 4 bytes))) none in
+    ap ends is
+
+fits_empty : (k : ℕ) (bytes : List ℕ) → kind_in bytes ≡ 0 → Fits [] k bytes
+fits_empty k bytes none = record {
+  first = λ one. absurd (omega (arith, none, one));
+  next = λ more. absurd (not_both (ends (next_in bytes)) (no_next bytes none) more);
+  after = λ more. absurd (not_both (ends (next_in bytes)) (no_next bytes none) more);
+  free = λ _. none;
+}
+
+module _ (s : SlotState) (idle : (c : ℕ) → (s.transaction c).begun ≡ false) (clean : (c : ℕ) → (s.transaction c).undo ≡ []) (empty : IsReadable s → HoldNothing s.reads) where
+  value_empty : IsReadable s → (k : ℕ) (bytes : List ℕ) → ends k ≡ false → IsValue s k bytes → kind_in bytes ≡ 0
+  value_empty readable k bytes inside (inl now) = ap kind_in now ∙ empty readable k inside
+  value_empty readable k bytes inside (inr (c, covers)) = absurd (subst (λ (us : List Undo). Covers us k bytes) (clean c) covers)
+
+  empty_kept : IsKept s []
+  empty_kept = record {
+    owned = λ c k inside begun w. absurd (not_both (s.transaction c).begun begun (idle c));
+    noted = λ c k inside w. absurd (not_both (wrote (s.transaction c).undo k) w (ap (λ (us : List Undo). wrote us k) (clean c)));
+    idle = λ c is. clean c;
+    fits = λ readable k bytes inside value. fits_empty k bytes (value_empty readable k bytes inside value);
+  }
+
+  pub new_sound : (places : List Place) (free : ℕ → ℕ) (cs : List Client) → s.failed ≡ false → places ≡ [] → IsFreed free places → length cs ≡ 16 → ((k : ℕ) → client_in cs k ≡ no_client) → IsSound s places free cs false
+  new_sound places free cs fine none freed many idle_all =
+      subst (λ (ps : List Place). IsSound s ps free cs false) (sym none)
+      (opened_sound s s [] idle still refl (λ readable k inside is. refl) (λ k inside. refl) free cs fine empty_kept (subst (IsFreed free) none freed) many idle_all)
+    where
+      still : Rests s s
+      still = record { keeps = record { observable = refl; committed = λ is. refl; doubt = λ is. refl }; reads = λ is. refl; transaction = refl }

@@ -1,7 +1,8 @@
 -- The free slots are the vacant ones, once each ended transaction is settled.
-use Rattle.std.proofs.Common.{◌≡◌, ◌≢◌, inl, inr, ℕ, zero, suc, ◌+◌, ◌<◌, Bool, true, false, List, [], ◌∷◌, refl, sym, ap, ◌∙◌, subst, arith}
+use Rattle.std.proofs.Common.{◌≡◌, ◌≢◌, inl, inr, ℕ, zero, suc, ◌+◌, ◌<◌, ◌≤◌, Bool, true, false, List, [], ◌∷◌, length, refl, sym, ap, ◌∙◌, subst, arith}
 use Rattle.std.specs.List.{Contains}
-use Rattle.std.proofs.lemmas.Bool.{cases_eq}
+use Rattle.std.proofs.lemmas.Bool.{cases_eq, cases_lt}
+use Rattle.std.proofs.lemmas.Bool.Decides.{nat_tests}
 use Rattle.std.proofs.lemmas.List.Sums.{sum_by-cons}
 use Rattle.abl_storage.specs.Slots.{SlotState, Transaction, IsReadable, Rests}
 use Rattle.free_slots.specs.Free.{AreDifferent, Takes, times, without}
@@ -10,7 +11,7 @@ use Rattle.row_chain.specs.Fragments.{AreDistinct, ends, first_or_zero, kind_in}
 use Rattle.row_chain.proofs.Within.{head_in, none_in, tail_in}
 use Rattle.chain_store.specs.declared.places.Place.{Place}
 use Rattle.chain_store.specs.Exact.{AreVacant, IsExact, IsVacant}
-use Rattle.chain_store.specs.Freed.{IsFreed}
+use Rattle.chain_store.specs.Freed.{IsFreed, IsLowest}
 use Rattle.chain_store.specs.Places.{IsKept, owner_in, row_in}
 use Rattle.chain_store.proofs.Drawn.{without_here}
 use Rattle.chain_store.proofs.Kept.{not_both, not_here}
@@ -114,10 +115,34 @@ vacant_was s t r readable slots v = record {
       };
 }
 
--- each slot below the first that was drawn was not free
-pub takes_lowest : (free : ℕ → ℕ) (drawn : List ℕ) (left : ℕ → ℕ) → Takes free drawn left → (k : ℕ) → k < first_or_zero drawn → free k ≡ 0
-takes_lowest free [] left takes k lt = absurd (omega (arith, lt))
-takes_lowest free (slot ∷ later) left takes k lt = takes.1 k lt
+-- the first slot that was drawn was the lowest free one
+pub takes_lowest : (free : ℕ → ℕ) (drawn : List ℕ) (left : ℕ → ℕ) → Takes free drawn left → 0 < length drawn → IsLowest free (first_or_zero drawn)
+takes_lowest free [] left takes some = absurd (omega (arith, some))
+takes_lowest free (slot ∷ later) left takes some = (takes.0, takes.1)
+
+-- there is one lowest free slot
+pub one_lowest : (free : ℕ → ℕ) (a b : ℕ) → IsLowest free a → IsLowest free b → a ≡ b
+one_lowest free a b x y = elim (cases_lt a b) [
+  | inl lt ↦ let none = y.1 a lt in let one = x.0 in absurd (omega (arith, none, one))
+  | inr le ↦ elim (cases_lt b a) [
+    | inl lt ↦ let none = x.1 b lt in let one = y.0 in absurd (omega (arith, none, one))
+    | inr ge ↦ omega (arith, le, ge)
+  ]
+]
+
+-- no open transaction wrote a free slot
+pub free_unwritten : (s : SlotState) (places : List Place) (free : ℕ → ℕ) → IsKept s places → IsFreed free places → IsExact s places → (k : ℕ) → ends k ≡ false → free k ≡ 1
+    → (c : ℕ) → (s.transaction c).begun ≡ true → (s.transaction c).written k ≡ false
+free_unwritten s places free kept freed exact k inside is c begun = not_true ((s.transaction c).written k) (λ w.
+    let own = kept.owned c k inside begun w in
+    let no = exact.free k inside (slot_free free places freed k is) in
+    omega (arith, own, no))
+  where
+    slot_free : (free : ℕ → ℕ) (places : List Place) → IsFreed free places → (k : ℕ) → free k ≡ 1 → row_in places k ≡ 0
+    slot_free free places freed k is = elim (cases_eq (row_in places k) 0) [
+      | inl e ↦ e
+      | inr ne ↦ let taken = freed.taken k ne in absurd (omega (arith, taken, is))
+    ]
 
 pub vacant_one : (s t : SlotState) → Rests s t → IsReadable s → (k : ℕ) → IsVacant s k → IsVacant t k
 vacant_one s t r readable k e = record {
@@ -125,3 +150,18 @@ vacant_one s t r readable k e = record {
   empty = ap (λ (f : ℕ → List ℕ). kind_in (f k)) (r.reads readable) ∙ e.empty;
   apart = λ c begun. ap (λ (f : ℕ → Transaction). (f c).written k) r.transaction ∙ e.apart c (ap (λ (f : ℕ → Transaction). (f c).begun) (sym r.transaction) ∙ begun);
 }
+
+pub vacant_back : (s t : SlotState) → Rests s t → IsReadable s → (k : ℕ) → IsVacant t k → IsVacant s k
+vacant_back s t r readable k e = record {
+  inside = e.inside;
+  empty = ap (λ (f : ℕ → List ℕ). kind_in (f k)) (sym (r.reads readable)) ∙ e.empty;
+  apart = λ c begun. ap (λ (f : ℕ → Transaction). (f c).written k) (sym r.transaction) ∙ e.apart c (ap (λ (f : ℕ → Transaction). (f c).begun) r.transaction ∙ begun);
+}
+
+-- the lowest free slot, where the free slots are the same
+pub least_on : (free left : ℕ → ℕ) (slot : ℕ) → ((k : ℕ) → left k ≡ free k) → IsLowest free slot → IsLowest left slot
+least_on free left slot same is = (same slot ∙ is.0, λ k lt. same k ∙ is.1 k lt)
+
+-- a slot for rows
+pub inside_of : (slot : ℕ) → 8192 ≤ slot → slot < 1048576 → ends slot ≡ false
+inside_of slot low high = grind (arith, nat_tests)

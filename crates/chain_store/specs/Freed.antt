@@ -1,5 +1,5 @@
 -- Which slots are free for rows.
-use Rattle.std.specs.Prelude.{◌≡◌, ◌≢◌, ℕ, ◌==◌, ◌||◌, Bool, false, List, [], ◌∷◌}
+use Rattle.std.specs.Prelude.{◌≡◌, ◌≢◌, ℕ, ◌<◌, ◌==◌, ◌||◌, Bool, false, List, [], ◌∷◌}
 use Rattle.row_chain.specs.Fragments.{ends}
 use Rattle.chain_store.specs.declared.places.Place.{Place}
 use Rattle.chain_store.specs.Places.{row_in}
@@ -8,6 +8,10 @@ use Rattle.chain_store.specs.Places.{row_in}
 pub record IsFreed (free : ℕ → ℕ) (places : List Place) : Type 0 where
   pub taken : (k : ℕ) → row_in places k ≢ 0 → free k ≡ 0
   pub every : (k : ℕ) → ends k ≡ false → row_in places k ≡ 0 → free k ≡ 1
+
+-- the slot is free, and no lower one is
+abbrev pub IsLowest : (ℕ → ℕ) → ℕ → Type 0
+IsLowest free slot = (free slot ≡ 1) × ((k : ℕ) → k < slot → free k ≡ 0)
 
 -- whether the slot is among these
 abbrev pub has : List ℕ → ℕ → Bool

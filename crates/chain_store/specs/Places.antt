@@ -49,6 +49,10 @@ pub record Fits (places : List Place) (slot : ℕ) (bytes : List ℕ) : Type 0 w
   pub after : ends (next_in bytes) ≡ false → previous_in places (next_in bytes) ≡ slot
   pub free : row_in places slot ≡ 0 → kind_in bytes ≡ 0
 
+-- no slot for rows holds anything
+abbrev pub HoldNothing : (ℕ → List ℕ) → Type 0
+HoldNothing slots = (k : ℕ) → ends k ≡ false → kind_in (slots k) ≡ 0
+
 -- The invariant of the slots for rows. A slot that a begun transaction wrote, or that an undo would restore, is recorded as its client's. A
 -- transaction that is not begun has nothing to undo. Each value that a slot has, or may have again after an undo, fits.
 pub record IsKept (s : SlotState) (places : List Place) : Type 0 where

@@ -1,14 +1,16 @@
 //! Rows in slots: `Chains`, opened and closed, with its transactions.
 
-ghost use Rattle.std.specs.Prelude.{◌≡◌, ◌≢◌, ◌<◌, ◌≤◌, ◌+◌, ◌^◌, ℕ, List, [], length, true, false, Some, None, Ok, Err, IfOk, IfErr, OnOk, OnErr, IsErrOf, MatchOption};
+ghost use Rattle.std.specs.Prelude.{◌≡◌, ◌≢◌, ◌<◌, ◌≤◌, ◌+◌, ◌^◌, ℕ, List, [], length, true, false, Some, None, Ok, Err, IfOk, IfErr, IfSome, OnOk, OnErr, IsErrOf, MatchOption};
 ghost use Rattle.std.specs.BinaryHeap.{heap_items};
 ghost use Rattle.abl_storage.specs.Slots.{Begins, Commits, Ends, Fails, Goes, GoesBack, HasCause, IsReadable, NeverFull, OnlyDisk, Rests, Writes, IsAlone};
+ghost use Rattle.abl_values.specs.Keys.{AreBytes};
 ghost use Rattle.free_slots.specs.Free.{free_in};
 ghost use Rattle.row_chain.specs.Calls.{Looked};
 ghost use Rattle.row_chain.specs.Fragments.{begins, ends, row_at};
+ghost use Rattle.row_chain.specs.Measures.{length_of, table_of};
 ghost use Rattle.chain_store.specs.Clients.{client_in, no_client};
 ghost use Rattle.chain_store.specs.Noted.{AreSameClients, IsSound};
-ghost use Rattle.chain_store.specs.Places.{owner_in};
+ghost use Rattle.chain_store.specs.Places.{HoldNothing, owner_in};
 ghost use Rattle.chain_store.specs.Rows.{of_slots};
 ghost use Rattle.chain_store.specs.Still.{Still};
 ghost use Rattle.std.proofs.Props.{props};
@@ -23,8 +25,9 @@ use abl_base::RowId;
 use abl_storage::{Mark, SlotFault, Slots};
 use free_slots::FreeSlots;
 use row_chain::StoredRow;
+use row_chain::measure::{row_length, row_table};
 use row_chain::read::{begins, read_row};
-use std::alloc::Global;
+use std::alloc::{AllocError, Global};
 
 /// Rows as chains of fragments in slots. A row has up to 30,000 bytes; its identity is its first slot,
 /// a number from 8,192 to 1,048,575. Slots that a transaction drew or freed stay taken until it ends.
@@ -70,6 +73,29 @@ impl<S: Slots + Drop> Chains<S> {
             }),
             Err(_) => Err((SlotFault::NoMemory, slots)),
         }
+    }
+
+    /// The rows of slots that hold nothing: there is none. It reads no slot. The error is out of
+    /// memory.
+    pub fn new(alloc: Global, slots: S) -> Result<Chains<S>, AllocError>
+        requires idle { (c : ℕ) → ((S.Slots.state slots).transaction c).begun ≡ false }
+        requires clean { (c : ℕ) → ((S.Slots.state slots).transaction c).undo ≡ [] }
+        requires fine { (S.Slots.state slots).failed ≡ false }
+        requires empty { IsReadable (S.Slots.state slots) → HoldNothing (S.Slots.state slots).reads }
+        ensures same { IfOk result (λ chains. chains.slots ≡ slots) }
+        ensures counts { IfOk result (λ chains. (c : ℕ) → client_in chains.clients.items c ≡ no_client) }
+    {
+        let clients = idle_clients(alloc)?;
+        let places = Vec::new(alloc);
+        let free = free_of(alloc, &places)?;
+        Ok(Chains {
+            alloc,
+            slots,
+            places,
+            free,
+            clients,
+            failed: false,
+        })
     }
 
     /// Returns the slots. If no transaction is begun, they can be opened again.
@@ -125,6 +151,40 @@ impl<S: Slots + Drop> Chains<S> {
         ensures only { (IsErrOf result ChainFault.Full → ⊥) × NeverFull (of_slots result) }
     {
         match read_row(self.alloc, &mut self.slots, row.0) {
+            Ok(found) => Ok(found),
+            Err(fault) => {
+                self.failed = failed_after(self.failed, fault);
+                Err(ChainFault::Slot(fault))
+            }
+        }
+    }
+
+    /// The table of the row, if there is one. It takes no memory; Disk is its only refusal.
+    pub fn table(&mut self, row: RowId) -> Result<Option<u16>, ChainFault>
+        ensures table { IfOk result (λ found. IsReadable (S.Slots.state self.old.slots) → found ≡ table_of (row_at (S.Slots.state self.old.slots).reads row.0)) }
+        ensures looked { Looked (S.Slots.state self.old.slots) (S.Slots.state self.new.slots) (S.Slots.stop self.old.slots) (S.Slots.stop self.new.slots) (of_slots result) }
+        ensures counts { self.new.clients ≡ self.old.clients }
+        ensures only { (IsErrOf result ChainFault.Full → ⊥) × OnlyDisk (of_slots result) }
+    {
+        match row_table(&mut self.slots, row.0) {
+            Ok(found) => Ok(found),
+            Err(fault) => {
+                self.failed = failed_after(self.failed, fault);
+                Err(ChainFault::Slot(fault))
+            }
+        }
+    }
+
+    /// The number of the row's bytes, if there is one. It takes no memory; Disk is its only refusal.
+    pub fn length(&mut self, row: RowId) -> Result<Option<u32>, ChainFault>
+        ensures length { IfOk result (λ found. IsReadable (S.Slots.state self.old.slots) → found ≡ length_of (row_at (S.Slots.state self.old.slots).reads row.0)) }
+        ensures bytes { OnOk result (IsReadable (S.Slots.state self.old.slots) → IfSome (row_at (S.Slots.state self.old.slots).reads row.0) (λ stored. AreBytes stored.bytes)) }
+        ensures few { IfOk result (λ found. IfSome found (λ many. many ≤ 30000)) }
+        ensures looked { Looked (S.Slots.state self.old.slots) (S.Slots.state self.new.slots) (S.Slots.stop self.old.slots) (S.Slots.stop self.new.slots) (of_slots result) }
+        ensures counts { self.new.clients ≡ self.old.clients }
+        ensures only { (IsErrOf result ChainFault.Full → ⊥) × OnlyDisk (of_slots result) }
+    {
+        match row_length(&mut self.slots, row.0) {
             Ok(found) => Ok(found),
             Err(fault) => {
                 self.failed = failed_after(self.failed, fault);

@@ -10,6 +10,7 @@ pub mod client;
 pub mod clients;
 pub mod fault;
 pub mod found;
+pub mod fresh;
 pub mod laws;
 pub mod noted;
 pub mod opened;

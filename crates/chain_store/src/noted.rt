@@ -9,6 +9,7 @@ ghost use Rattle.row_chain.specs.Calls.{Touched, Wrote};
 ghost use Rattle.row_chain.specs.Fragments.{ends, first_or_zero, row_at};
 ghost use Rattle.chain_store.specs.Clients.{client_in};
 ghost use Rattle.chain_store.specs.Exact.{AreVacant};
+ghost use Rattle.chain_store.specs.Freed.{IsLowest};
 ghost use Rattle.chain_store.specs.Noted.{AreSameClients, IsNoted};
 ghost use Rattle.chain_store.specs.Rows.{AreApart, HoldsRow};
 
@@ -48,7 +49,7 @@ pub fn write_noted<S: Slots>(
     ensures noted { (IsErrOf result SlotFault.Disk → ⊥) → IsNoted (S.Slots.state slots.new) places.new.items (free_in (heap_items free.new.back) free.new.end) clients.new }
     ensures many { length clients.new ≡ length clients.old }
     ensures drawn { OnOk result ((drawn : List ℕ) × (chain.new.items ≡ chain.old.items ++ drawn) × (length drawn ≡ more) × (IsReadable (S.Slots.state slots.old) → AreVacant (S.Slots.state slots.old) drawn)) }
-    ensures lowest { OnOk result (length chain.old.items ≡ 0 → (k : ℕ) → k < first_or_zero chain.new.items → free_in (heap_items free.old.back) free.old.end k ≡ 0) }
+    ensures lowest { OnOk result (length chain.old.items ≡ 0 → IsLowest (free_in (heap_items free.old.back) free.old.end) (first_or_zero chain.new.items)) }
     ensures first { OnOk result (0 < first_or_zero chain.new.items) }
     ensures begins { OnOk result (Contains chain.new.items (first_or_zero chain.new.items)) }
     ensures inside { OnOk result ((k : ℕ) → Contains chain.new.items k → ends k ≡ false) }

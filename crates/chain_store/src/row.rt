@@ -1,13 +1,13 @@
 //! Changing a row: its own slots are written, and free ones are drawn if it grows.
 
-ghost use Rattle.std.specs.Prelude.{◌≡◌, ◌≢◌, ◌≤◌, ◌<◌, ◌+◌, ◌-◌, ◌*◌, ◌^◌, ◌++◌, ℕ, List, length, drop, true, false, None, Some, OnOk, OnErr, IsErrOf, vec_capacity};
+ghost use Rattle.std.specs.Prelude.{◌≡◌, ◌≢◌, ◌≤◌, ◌<◌, ◌+◌, ◌-◌, ◌*◌, ◌^◌, ◌++◌, ℕ, List, length, drop, true, false, None, Some, IfOk, IfSome, IfNone, OnOk, OnErr, IsErrOf, vec_capacity};
 ghost use Rattle.std.specs.List.{Contains};
 ghost use Rattle.std.specs.BinaryHeap.{heap_capacity, heap_items, heap_len};
 ghost use Rattle.abl_storage.specs.Slots.{IsReadable, NeverFull, Rests};
 ghost use Rattle.free_slots.specs.Free.{AreSlots, Takes, free_in};
 ghost use Rattle.row_chain.specs.Calls.{Touched, Wrote};
 ghost use Rattle.row_chain.specs.Fragments.{ends, first_or_zero, row_at};
-ghost use Rattle.chain_store.specs.Freed.{IsFreed};
+ghost use Rattle.chain_store.specs.Freed.{IsFreed, IsLowest};
 ghost use Rattle.chain_store.specs.Places.{AreLaid, IsKept, place_in, row_in};
 ghost use Rattle.chain_store.specs.Rows.{HoldsRow};
 
@@ -15,6 +15,7 @@ use crate::change::change;
 use crate::places::{Place, place_of};
 use abl_storage::{SlotFault, Slots};
 use free_slots::FreeSlots;
+use std::alloc::AllocError;
 
 /// The number of fragments of a row of `length` bytes: the least that holds it, and at least one. A
 /// row of 30,000 bytes, the longest, has 125.
@@ -74,6 +75,27 @@ fn draw_after(free: &mut FreeSlots, more: u32, slots: &mut Vec<u32>) -> Result<(
     }
     free.take(more, slots);
     Ok(())
+}
+
+/// The lowest free slot, if there is one. The free slots stay as they are. An error means out of
+/// memory.
+pub(crate) fn lowest(free: &mut FreeSlots) -> Result<Option<u32>, AllocError>
+    ensures lowest { IfOk result (λ slot. IfSome slot (IsLowest (free_in (heap_items free.old.back) free.old.end))) }
+    ensures inside { IfOk result (λ slot. IfSome slot (λ s. (8192 ≤ s) × (s < 1048576))) }
+    ensures none { IfOk result (λ slot. IfNone slot (heap_len free.old.back + (1048576 - free.old.end) ≡ 0)) }
+    ensures same { (k : ℕ) → free_in (heap_items free.new.back) free.new.end k ≡ free_in (heap_items free.old.back) free.old.end k }
+{
+    if free.count() == 0 {
+        return Ok(None);
+    }
+    free.reserve(1)?;
+    match free.draw() {
+        None => unreachable!(),
+        Some(slot) => {
+            free.give(slot);
+            Ok(Some(slot))
+        }
+    }
 }
 
 /// Changes the row that is read from the slots `chain`, or inserts one if `chain` is empty. The

@@ -2,11 +2,14 @@
 
 ghost use Rattle.std.specs.Prelude.{◌≡◌, ◌≢◌, ◌<◌, ◌≤◌, ◌+◌, ◌-◌, ◌*◌, ◌^◌, ◌++◌, ℕ, List, length, max, true, false, Some, None, Ok, Err, IfOk, IfErr, OnOk, OnErr, IsErrOf};
 ghost use Rattle.std.specs.List.{Contains};
+ghost use Rattle.std.specs.BinaryHeap.{heap_items};
 ghost use Rattle.abl_storage.specs.Slots.{IsReadable, NeverFull, Rests};
+ghost use Rattle.free_slots.specs.Free.{free_in};
 ghost use Rattle.row_chain.specs.Calls.{Looked, Touched};
 ghost use Rattle.row_chain.specs.Fragments.{begins, chain_of, ends, first_or_zero, table_in};
 ghost use Rattle.chain_store.specs.Clients.{client_in};
 ghost use Rattle.chain_store.specs.Exact.{AreVacant, IsVacant};
+ghost use Rattle.chain_store.specs.Freed.{IsLowest};
 ghost use Rattle.chain_store.specs.Noted.{AreSameClients};
 ghost use Rattle.chain_store.specs.Places.{owner_in};
 ghost use Rattle.chain_store.specs.Rows.{ChangesRow, IsLeastFor, of_slots};
@@ -22,7 +25,7 @@ use abl_storage::{SlotFault, Slots};
 impl<S: Slots + Drop> Chains<S> {
     /// Changes the row that is read from the slots `chain`, or inserts one where there are none; the
     /// first `keep` slots hold the bytes then. Other clients' slots are settled.
-    fn change(
+    pub(crate) fn change(
         &mut self,
         client: u16,
         chain: &mut Vec<u32>,
@@ -42,6 +45,7 @@ impl<S: Slots + Drop> Chains<S> {
         ensures touched { Touched (S.Slots.state self.old.slots) (S.Slots.state self.new.slots) (S.Slots.stop self.old.slots) (S.Slots.stop self.new.slots) client (of_slots result) }
         ensures drawn { OnOk result ((drawn : List ℕ) × (chain.new.items ≡ chain.old.items ++ drawn) × (length drawn ≡ keep - length chain.old.items) × (IsReadable (S.Slots.state self.old.slots) → AreVacant (S.Slots.state self.old.slots) drawn)) }
         ensures lowest { OnOk result (length chain.old.items ≡ 0 → IsReadable (S.Slots.state self.old.slots) → (k : ℕ) → IsVacant (S.Slots.state self.old.slots) k → first_or_zero chain.new.items ≤ k) }
+        ensures taken { OnOk result (length chain.old.items ≡ 0 → IsLowest (free_in (heap_items self.old.free.back) self.old.free.end) (first_or_zero chain.new.items)) }
         ensures inside { OnOk result (ends (first_or_zero chain.new.items) ≡ false) }
         ensures put { OnOk result (0 < keep → ChangesRow (S.Slots.state self.old.slots) (S.Slots.state self.new.slots) client (first_or_zero chain.new.items) chain.new.items (Some (record { table = table; bytes = bytes.now }))) }
         ensures gone { OnOk result (keep ≡ 0 → ChangesRow (S.Slots.state self.old.slots) (S.Slots.state self.new.slots) client (first_or_zero chain.new.items) chain.new.items None) }

@@ -7,6 +7,7 @@ use Rattle.row_chain.proofs.Composes.{readable_on}
 use Rattle.row_chain.proofs.Within.{right_in}
 use Rattle.chain_store.specs.declared.client.Client.{Client}
 use Rattle.chain_store.specs.Clients.{ClientView}
+use Rattle.chain_store.specs.Freed.{IsLowest}
 use Rattle.chain_store.proofs.ClientLists.{client_at, client_set_other, client_set_same, part_set, same_set}
 use Rattle.chain_store.proofs.Joins.{first_in, first_of_none}
 use Rattle.chain_store.proofs.NotedSteps.{noted_places, noted_rests, noted_turned, noted_written}
@@ -226,10 +227,12 @@ returns-in-Ok-write_row-clause-apart g c = λ d ne.
     client_set_other cs c.args.client d c.note.new.self ne
 
 pub returns-in-Ok-write_row-clause-lowest : goal.returns-in-Ok-write_row-clause-lowest
-returns-in-Ok-write_row-clause-lowest g c = λ none k lt.
+returns-in-Ok-write_row-clause-lowest g c = λ none.
     let d = c.in-Ok-write_row.ensures.drawn in
-    takes_lowest (free_in (heap_items c.args.free.now.back) c.args.free.now.end) d.0 (free_in (heap_items c.write_row.new.free.back) c.write_row.new.free.end) d.4 k
-    (subst (λ (n : ℕ). k < n) (first_of_none c.args.chain.now.items d.0 c.write_row.new.chain.items d.1 none) lt)
+    let some = c.requires.some in
+    let long = d.2 in
+    subst (IsLowest (free_in (heap_items c.args.free.now.back) c.args.free.now.end)) (sym (first_of_none c.args.chain.now.items d.0 c.write_row.new.chain.items d.1 none))
+    (takes_lowest (free_in (heap_items c.args.free.now.back) c.args.free.now.end) d.0 (free_in (heap_items c.write_row.new.free.back) c.write_row.new.free.end) d.4 (omega (arith, some, long, none)))
 
 pub returns-in-Ok-write_row-clause-own : goal.returns-in-Ok-write_row-clause-own
 returns-in-Ok-write_row-clause-own g c = λ readable.

@@ -50,7 +50,7 @@ returns-in-Ok-clause-lowest g c = λ none readable k v.
     let n = chains.sound.noted c.requires.fine in
     elim (cases_lt k (first_or_zero c.write_noted.new.chain.items)) [
       | inl lt ↦
-          let taken = c.in-Ok.ensures.lowest none k lt in
+          let taken = (c.in-Ok.ensures.lowest none).1 k lt in
           let free = vacant_free s chains.places.items (free_in (heap_items chains.free.back) chains.free.end) n.kept n.freed n.exact readable c.requires.settled k v in
           absurd (omega (arith, taken, free))
       | inr le ↦ le
