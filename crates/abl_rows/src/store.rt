@@ -249,12 +249,13 @@ pub trait RowStore {
         ensures only { OnlyDisk result }
         ensures time { Rests (state self.old) (left self.old) (left self.new) (times self.old) (times self.new) };
 
-    /// Commits the transaction with these sequence values, and returns the moment from which on each
-    /// stop leaves it. It takes no memory.
+    /// Commits the transaction with these values of the schema's sequences, and returns the moment from
+    /// which on each stop leaves it. It takes no memory.
     fn commit(&mut self, client: u16, sequences: &[i64]) -> Result<u64, RowError>
         requires client { client < 16 }
         requires fine { (state self.old).failed ≡ false }
         requires begun { ((state self.old).transaction client).begun ≡ true }
+        requires sequences { length sequences.now ≡ length (state self.old).schema.sequences }
         ensures ok { OnOk result (Commits (state self.old) (state self.new) client sequences.now) }
         ensures moment { IfOk result (λ moment. moment ≡ (times self.new).moment) }
         ensures acknowledged { OnOk result ((durable : Durable) → left self.new (times self.new).moment durable → durable ≡ durable_of (state self.new)) }

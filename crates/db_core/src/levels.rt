@@ -159,6 +159,7 @@ pub fn commit<R: RowStore>(
     requires fine { (R.RowStore.state rows.old).failed ≡ false }
     requires sound { IsSound (R.RowStore.state rows.old) control.old }
     requires begun { ((R.RowStore.state rows.old).transaction client).begun ≡ true }
+    requires sequences { length control.old.sequences.items ≡ length (R.RowStore.state rows.old).schema.sequences }
     requires frees { control.old.frees + 1 < 2 ^ 64 }
     ensures represents { OnOk result ((f : Setting) (s : State) (keep : List Kept) (moment : ℕ) → Represents f (R.RowStore.state rows.old) control.old s →
         is_outermost s client ≡ true → AreStaying s client keep staying.now →
