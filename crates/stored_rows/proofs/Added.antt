@@ -1,5 +1,5 @@
 -- What holds between two calls holds after a row was changed, and after a client went back.
-use Rattle.std.proofs.Common.{◌≡◌, ◌≢◌, ◌⊎◌, inl, inr, ⊎_elim, ℕ, ◌≤◌, min, ◌||◌, Bool, true, false, eqb, eqb-true, List, [], ◌∷◌, ◌++◌, length, take, Option, refl, sym, ap, ◌∙◌, subst, arith, length-append}
+use Rattle.std.proofs.Common.{◌≡◌, ◌≢◌, ◌⊎◌, inl, inr, ⊎_elim, ℕ, ◌≤◌, min, ◌||◌, Bool, true, false, eqb, eqb-true, List, [], ◌∷◌, ◌++◌, length, take, drop, Option, refl, sym, ap, ◌∙◌, subst, arith, length-append}
 use Rattle.std.specs.List.{Contains}
 use Rattle.std.proofs.lemmas.Bool.{cases_eq}
 use Rattle.abl_storage.specs.Slots.{SlotState, Transaction, IsReadable, wrote}
@@ -8,18 +8,21 @@ use Rattle.abl_values.specs.Schema.{SchemaData}
 use Rattle.row_chain.specs.Fragments.{StoredBytes, ends}
 use Rattle.row_chain.specs.Tied.{IsTied, IsValue}
 use Rattle.row_chain.proofs.Composes.{readable_on, wrote_append}
+use Rattle.database_meaning.specs.Setting.{fragments}
 use Rattle.chain_store.proofs.Kept.{among}
+use Rattle.chain_store.proofs.Rewrites.{high_bound}
 use Rattle.abl_rows.specs.declared.store.RowChange.{RowChange}
 use Rattle.abl_rows.specs.Changes.{has_change}
 use Rattle.stored_rows.specs.declared.log.Undone.{Undone}
-use Rattle.stored_rows.specs.Decoded.{decoded}
+use Rattle.stored_rows.specs.Decoded.{decoded, row_of}
 use Rattle.stored_rows.specs.Mixes.{slots_of}
-use Rattle.stored_rows.specs.Stored.{AreMarks, IsStored, changes_of, has, mark_or}
+use Rattle.stored_rows.specs.Stored.{AreMarks, AreWeighed, IsStored, changes_of, has, mark_or}
 use Rattle.stored_rows.proofs.Histories.{IsApart, clash, not_true}
-use Rattle.stored_rows.proofs.Keeps.{WentBack, base_back, length_is, mixes_back, rows_apart_by}
-use Rattle.stored_rows.proofs.Lists.{or_cases, or_right, wrote_take}
+use Rattle.stored_rows.proofs.Keeps.{WentBack, base_back, length_is, mixes_back, rows_apart_by, rows_back}
+use Rattle.stored_rows.proofs.Lists.{changed_drop, or_cases, or_right, rows_rest, wrote_take}
 use Rattle.stored_rows.proofs.Marks.{changes_added, eqb_here, mark_added, mark_bound, mark_taken, marks_added, marks_taken}
-use Rattle.stored_rows.proofs.Writes.{Added, base_added, mixes_added}
+use Rattle.stored_rows.proofs.Weights.{weighed_added, weighed_on, weighed_taken}
+use Rattle.stored_rows.proofs.Writes.{Added, base_added, mixes_added, not_row, one_undone, row_now, row_others}
 
 has_added : (rows : List ℕ) (row k : ℕ) → has (rows ++ row ∷ []) k ≡ true → (has rows k ≡ true) ⊎ (k ≡ row)
 has_added [] row k e = or_cases (eqb k row) false e (λ here. inr (eqb-true k row here)) (λ later. absurd (cc later))
@@ -143,6 +146,24 @@ module _ (schema : SchemaData) (s t : SlotState) (log left : ℕ → List Undone
         (a.log_others c ne ∙ old.0, reached_others c ne ∙ old.1)
   ]
 
+  weighed_now : IsReadable s → (past : (c : ℕ) → 16 ≤ c → (s.transaction c).begun ≡ false) → IsApart (slots_of s) → IsApart (slots_of t) → (row_of_slot : ℕ → ℕ) → IsTied (IsValue t) row_of_slot
+      → (c : ℕ) → AreWeighed (left c) (decoded schema t.reads)
+  weighed_now was past apart_s apart_t row_of_slot tied c = elim (cases_eq c client) [
+    | inl is ↦
+        let now : decoded schema t.reads row ≡ row_of schema to = row_now schema s t log left touched client row slots to u stored a past apart_s apart_t row_of_slot tied was in
+        let after : u.after ≡ fragments (decoded schema t.reads u.row) = a.after was ∙ ap fragments (sym now ∙ ap (decoded schema t.reads) (sym a.row_is)) in
+        let inside = high_bound row (a.change.inside row a.change.first) in
+        let same = a.row_is in
+        subst (λ (d : ℕ). AreWeighed (left d) (decoded schema t.reads)) (sym is)
+        (subst (λ (l : List Undone). AreWeighed l (decoded schema t.reads)) (sym a.log_own)
+        (weighed_added (log client) u (decoded schema s.reads) (decoded schema t.reads) (one_undone schema s t log left touched client row slots to u stored a past apart_s apart_t row_of_slot tied was)
+        a.before after a.few (omega (arith, inside, same)) (stored.weighed was client)))
+    | inr ne ↦ subst (λ (l : List Undone). AreWeighed l (decoded schema t.reads)) (sym (a.log_others c ne))
+        (weighed_on (log c) (decoded schema s.reads) (decoded schema t.reads)
+        (λ k e. row_others schema s t log left touched client row slots to u stored a past apart_s apart_t row_of_slot tied was k (not_row schema s t log left touched client row slots to u stored a past apart_s apart_t row_of_slot tied was c k ne e))
+        (stored.weighed was c))
+  ]
+
   pub stored_added : (past : (c : ℕ) → 16 ≤ c → (s.transaction c).begun ≡ false) (past_now : (c : ℕ) → 16 ≤ c → (t.transaction c).begun ≡ false) → IsApart (slots_of s) → IsApart (slots_of t)
       → (row_of_slot : ℕ → ℕ) → (IsReadable s → IsTied (IsValue t) row_of_slot) → IsStored schema t left reached
   stored_added past past_now apart_s apart_t row_of_slot tied = record {
@@ -157,6 +178,7 @@ module _ (schema : SchemaData) (s t : SlotState) (log left : ℕ → List Undone
         let was = before readable in
         mixes_added schema s t log left touched client row slots to u stored a past apart_s apart_t row_of_slot (tied was) was
         (rows_apart_by schema t left reached (decoded schema t.reads) added_kept added_apart added_idle past_now) at mixed m;
+    weighed = λ readable. let was = before readable in weighed_now was past apart_s apart_t row_of_slot (tied was);
     base = λ readable.
         let was = before readable in
         base_added schema s t log left touched client row slots to u stored a past apart_s apart_t row_of_slot (tied was) was;
@@ -213,6 +235,21 @@ module _ (schema : SchemaData) (s t : SlotState) (log left : ℕ → List Undone
   back_apart : (c d k : ℕ) → c ≢ d → has (reached c) k ≡ true → has (reached d) k ≡ false
   back_apart c d k ne e = not_true (has (reached d) k) (λ is. not_both (has (touched d) k) (fewer d k is) (stored.apart c d k ne (fewer c k e)))
 
+  weighed_back : (past : (c : ℕ) → 16 ≤ c → (s.transaction c).begun ≡ false) → IsApart (slots_of s) → IsApart (slots_of t) → IsReadable s → (c : ℕ) → AreWeighed (left c) (decoded schema t.reads)
+  weighed_back past apart_s apart_t was c = elim (cases_eq c client) [
+    | inl is ↦ subst (λ (d : ℕ). AreWeighed (left d) (decoded schema t.reads)) (sym is)
+        (subst (λ (l : List Undone). AreWeighed l (decoded schema t.reads)) (sym back.log_own)
+        (weighed_taken n (log client) (decoded schema s.reads) (decoded schema t.reads) (rows_back schema s t log left touched client n stored back past apart_s apart_t was) (stored.weighed was client)))
+    | inr ne ↦ subst (λ (l : List Undone). AreWeighed l (decoded schema t.reads)) (sym (back.log_others c ne))
+        (weighed_on (log c) (decoded schema s.reads) (decoded schema t.reads)
+        (λ k e. rows_back schema s t log left touched client n stored back past apart_s apart_t was k
+        ∙ rows_rest (drop n (changes_of (log client))) (decoded schema s.reads) k (changed_drop n (changes_of (log client)) k (none_own c k ne e)))
+        (stored.weighed was c))
+  ]
+    where
+      none_own : (c k : ℕ) → c ≢ client → has_change (changes_of (log c)) k ≡ true → has_change (changes_of (log client)) k ≡ false
+      none_own c k ne e = not_true (has_change (changes_of (log client)) k) (λ is. not_both (has (touched client) k) (stored.kept client k is) (stored.apart c client k ne (stored.kept c k e)))
+
   pub stored_back : (past : (c : ℕ) → 16 ≤ c → (s.transaction c).begun ≡ false) (past_now : (c : ℕ) → 16 ≤ c → (t.transaction c).begun ≡ false) → IsApart (slots_of s) → IsApart (slots_of t) → IsStored schema t left reached
   stored_back past past_now apart_s apart_t = record {
     marks = λ f c. back_marks c;
@@ -225,6 +262,7 @@ module _ (schema : SchemaData) (s t : SlotState) (log left : ℕ → List Undone
     mixes = λ readable at mixed m.
         let was = before readable in
         mixes_back schema s t log left touched client n stored back past apart_s apart_t was (rows_apart_by schema t left reached (decoded schema t.reads) kept back_apart idle past_now) at mixed m;
+    weighed = λ readable. weighed_back past apart_s apart_t (before readable);
     base = λ readable.
         let was = before readable in
         base_back schema s t log left touched client n stored back past apart_s apart_t was;

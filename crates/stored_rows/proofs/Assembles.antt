@@ -6,7 +6,7 @@ use Rattle.row_chain.proofs.Composes.{readable_on}
 use Rattle.stored_rows.specs.declared.log.Undone.{Undone}
 use Rattle.stored_rows.specs.Decoded.{AreRead, decoded}
 use Rattle.stored_rows.specs.Mixes.{IsMixed, rows_of, slots_of, writes_of}
-use Rattle.stored_rows.specs.Stored.{AreMarks, IsStored, changes_of, mark_in, mark_or}
+use Rattle.stored_rows.specs.Stored.{AreMarks, AreWeighed, IsStored, changes_of, mark_in, mark_or}
 
 -- nothing has changed
 pub stored_rests : (schema : SchemaData) (s t : SlotState) (log : ℕ → List Undone) (touched : ℕ → List ℕ) → Rests s t → t.failed ≡ s.failed → IsStored schema s log touched → IsStored schema t log touched
@@ -23,6 +23,7 @@ stored_rests schema s t log touched r same stored = record {
       subst (λ (f : ℕ → List ℕ). IsMixed (rows_of (λ c. changes_of (log c)) (decoded schema f)) at (decoded schema mixed) × AreRead schema mixed) (sym (r.reads was))
       (stored.mixes was at mixed (subst (λ (f : ℕ → Transaction). IsMixed (writes_of f s.reads) (λ c. mark_or (log c) (at c) (length (f c).undo)) mixed) r.transaction
       (subst (λ (f : ℕ → List ℕ). IsMixed (writes_of t.transaction f) (mark_in t log at) mixed) (r.reads was) m)));
+  weighed = λ readable c. let was = before readable in subst (λ (f : ℕ → List ℕ). AreWeighed (log c) (decoded schema f)) (sym (r.reads was)) (stored.weighed was c);
   base = λ readable.
       let was = before readable in
       subst (λ (f : ℕ → List ℕ). IsMixed (slots_of t) (λ c. 0) f) (sym (r.keeps.committed was.0))
@@ -44,6 +45,7 @@ stored_failed schema s t log touched failed begun stored = record {
   apart = stored.apart;
   idle = λ c e. stored.idle c (sym (begun c) ∙ e);
   mixes = λ readable at mixed m. no readable.1;
+  weighed = λ readable c. no readable.1;
   base = λ readable. no readable.1;
 }
   where

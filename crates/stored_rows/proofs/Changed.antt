@@ -110,14 +110,15 @@ has_push (r ∷ rows) row k = ap (λ (b : Bool). eqb k r || b) (has_push rows ro
 
 -- ---- the change
 
-module _ (schema : SchemaData) (s t : SlotState) (was now : List Open) (client row : ℕ) (slots : List ℕ) (to : Option StoredBytes) (u : Undone) (drawn written : ℕ)
+module _ (schema : SchemaData) (s t : SlotState) (was now : List Open) (client row : ℕ) (slots : List ℕ) (to : Option StoredBytes) (u : Undone)
     (places : List SlotPlace) (free : ℕ → ℕ) (clients : List Client) (failed : Bool) (sound : IsSound s places free clients failed)
     (left_places : List SlotPlace) (left_free : ℕ → ℕ) (left_clients : List Client) (left_failed : Bool) (still_sound : IsSound t left_places left_free left_clients left_failed)
     (stored : IsStored schema s (log_in was) (touched_in was)) (fine : s.failed ≡ false) (begun : (s.transaction client).begun ≡ true) (still_begun : (t.transaction client).begun ≡ true)
     (keeps : KeepsCommitted s t) (others : (c : ℕ) → c ≢ client → t.transaction c ≡ s.transaction c)
     (change : ChangesSlots s t client row slots to) (mark : u.mark ≡ length (s.transaction client).undo) (row_is : u.row ≡ row) (old : IsReadable s → u.old ≡ decoded schema s.reads row)
+    (weighs : u.before ≡ fragments u.old) (weighs_now : IsReadable s → u.after ≡ fragments (row_of schema to)) (few : u.after ≤ 125)
     (read : IsReadable s → is_some (row_of schema to) ≡ is_some to)
-    (own : open_in now client ≡ with_change (open_in was client) u.row u.old u.mark drawn written) (same : (c : ℕ) → c ≢ client → open_in now c ≡ open_in was c) where
+    (own : open_in now client ≡ with_change (open_in was client) u) (same : (c : ℕ) → c ≢ client → open_in now c ≡ open_in was c) where
   still_fine : t.failed ≡ false
   still_fine = change.wrote.failed ∙ fine
 
@@ -155,6 +156,9 @@ module _ (schema : SchemaData) (s t : SlotState) (was now : List Open) (client r
     mark = mark;
     row_is = row_is;
     old = old;
+    before = weighs;
+    after = weighs_now;
+    few = few;
     read = read;
     alone = λ c ne. not_true _ (λ is. clash (has (touched_in was c) row) (stored.kept c row is) (alone c ne));
     log_own = ap (λ (v : OpenView). v.log) own;
@@ -189,10 +193,10 @@ module _ (schema : SchemaData) (s t : SlotState) (was now : List Open) (client r
       others_are : (k : ℕ) → k ≢ row → decoded schema t.reads k ≡ decoded schema s.reads k
       others_are = row_others schema s t (log_in was) (log_in now) (touched_in was) client row slots to u stored added sound.past apart_s apart_t (row_in left_places) (tied_of t left_places kept (readable_on s t keeps.observable change.wrote.failed readable)) readable
 
-  pub changed_state : (value : Option StoredRow) → (IsReadable s → value ≡ row_of schema to) → drawn ≡ fragments value - fragments u.old → written ≡ max (fragments value) (fragments u.old)
+  pub changed_state : (value : Option StoredRow) → (IsReadable s → value ≡ row_of schema to) → u.after ≡ fragments value
       → (before after : Reserved) (sequences : List ℤ) → ReservesMoved schema before after client u.old value
       → ChangesRow (state_of schema before sequences s was) (state_of schema after sequences t now) client row value
-  changed_state value value_is drawn_is written_is before after sequences moved = record {
+  changed_state value value_is weighs_value before after sequences moved = record {
     base = base_same schema before after sequences s t was now keeps change.wrote.failed;
     rows = λ readable.
         rows_known t (decoded schema t.reads) (readable_on s t keeps.observable change.wrote.failed readable)
@@ -212,12 +216,18 @@ module _ (schema : SchemaData) (s t : SlotState) (was now : List Open) (client r
     };
   }
     where
-      own_is : transaction_of true (λ key. is_moved schema u.old value key || before client key) (with_change (open_in was client) u.row u.old u.mark drawn written)
+      drawn_is : u.after - u.before ≡ fragments value - fragments u.old
+      drawn_is = ap (λ (n : ℕ). n - u.before) weighs_value ∙ ap (λ (n : ℕ). fragments value - n) weighs
+
+      written_is : max u.after u.before ≡ max (fragments value) (fragments u.old)
+      written_is = ap (λ (n : ℕ). max n u.before) weighs_value ∙ ap (max (fragments value)) weighs
+
+      own_is : transaction_of true (λ key. is_moved schema u.old value key || before client key) (with_change (open_in was client) u)
           ≡ rows.with_change schema (transaction_of (s.transaction client).begun (before client) (open_in was client)) row u.old value
       own_is =
-          ap (λ (cs : List RowChange). made cs (has (touched_in was client ++ u.row ∷ [])) (λ key. is_moved schema u.old value key || before client key) ((open_in was client).drawn + drawn) ((open_in was client).written + written))
+          ap (λ (cs : List RowChange). made cs (has (touched_in was client ++ u.row ∷ [])) (λ key. is_moved schema u.old value key || before client key) ((open_in was client).drawn + (u.after - u.before)) ((open_in was client).written + max u.after u.before))
           (changes_added (log_in was client) u ∙ ap (λ (r : ℕ). changes_of (log_in was client) ++ record { row = r; old = u.old } ∷ []) row_is)
-          ∙ (ap (λ (f : ℕ → Bool). made (changes_of (log_in was client) ++ record { row = row; old = u.old } ∷ []) f (λ key. is_moved schema u.old value key || before client key) ((open_in was client).drawn + drawn) ((open_in was client).written + written))
+          ∙ (ap (λ (f : ℕ → Bool). made (changes_of (log_in was client) ++ record { row = row; old = u.old } ∷ []) f (λ key. is_moved schema u.old value key || before client key) ((open_in was client).drawn + (u.after - u.before)) ((open_in was client).written + max u.after u.before))
           (fun_ext (λ k. has_push (touched_in was client) u.row k ∙ ap (λ (r : ℕ). eqb k r || has (touched_in was client) k) row_is))
-          ∙ (ap (λ (n : ℕ). made (changes_of (log_in was client) ++ record { row = row; old = u.old } ∷ []) (λ k. eqb k row || has (touched_in was client) k) (λ key. is_moved schema u.old value key || before client key) ((open_in was client).drawn + n) ((open_in was client).written + written)) drawn_is
+          ∙ (ap (λ (n : ℕ). made (changes_of (log_in was client) ++ record { row = row; old = u.old } ∷ []) (λ k. eqb k row || has (touched_in was client) k) (λ key. is_moved schema u.old value key || before client key) ((open_in was client).drawn + n) ((open_in was client).written + max u.after u.before)) drawn_is
           ∙ ap (λ (n : ℕ). made (changes_of (log_in was client) ++ record { row = row; old = u.old } ∷ []) (λ k. eqb k row || has (touched_in was client) k) (λ key. is_moved schema u.old value key || before client key) ((open_in was client).drawn + (fragments value - fragments u.old)) ((open_in was client).written + n)) written_is))

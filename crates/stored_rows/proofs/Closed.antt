@@ -12,7 +12,7 @@ use Rattle.abl_rows.specs.Rows.{joined}
 use Rattle.stored_rows.specs.declared.log.Undone.{Undone}
 use Rattle.stored_rows.specs.Decoded.{AreRead, decoded}
 use Rattle.stored_rows.specs.Mixes.{IsMixed, rows_of, slots_of}
-use Rattle.stored_rows.specs.Stored.{AreMarks, IsStored, changes_of, has, mark_in, mark_or}
+use Rattle.stored_rows.specs.Stored.{AreMarks, AreWeighed, IsStored, changes_of, has, mark_in, mark_or}
 use Rattle.stored_rows.proofs.Histories.{Closes, IsApart, Place, clash, closed_after, mixed_of, not_true, open_before, others_none, place_of}
 use Rattle.stored_rows.proofs.Keeps.{rows_apart_by}
 use Rattle.stored_rows.proofs.Lists.{dropped, rows_at}
@@ -221,6 +221,13 @@ module _ (schema : SchemaData) (s t : SlotState) (log left : ℕ → List Undone
     apart = apart_now;
     idle = idle_now;
     mixes = λ readable. mixes_closed (before readable) apart_t;
+    weighed = λ readable c. elim (cases_eq c client) [
+      | inl is ↦ subst (λ (d : ℕ). AreWeighed (left d) (decoded schema t.reads)) (sym is) (subst (λ (l : List Undone). AreWeighed l (decoded schema t.reads)) (sym log_own) tt)
+      | inr ne ↦
+          let was = before readable in
+          subst (λ (l : List Undone). AreWeighed l (decoded schema t.reads)) (sym (log_others c ne))
+          (subst (λ (f : ℕ → List ℕ). AreWeighed (log c) (decoded schema f)) (sym (commits.reads was)) (stored.weighed was c))
+    ];
     base = λ readable. base_closed (before readable) apart_t;
   }
     where

@@ -1,8 +1,9 @@
 -- A commit, said of the state of a store.
-use Rattle.std.proofs.Common.{◌≡◌, ◌≢◌, inl, inr, ℕ, ◌<◌, ◌&&◌, not, Bool, true, false, List, length, slice_index_or, slice_set, Result, Ok, Err, OnOk, OnErr, IsErrOf, IsTrue, ℤ, refl, sym, ap, ◌∙◌, subst, arith}
+use Rattle.std.proofs.Common.{◌≡◌, ◌≢◌, inl, inr, ℕ, ◌+◌, ◌-◌, ◌^◌, ◌<◌, ◌≤◌, ◌&&◌, not, Bool, true, false, List, length, drop, slice_index_or, slice_set, Result, Ok, Err, OnOk, OnErr, IsErrOf, IsTrue, ℤ, refl, sym, ap, ◌∙◌, subst, arith}
 use Rattle.std.proofs.Math.Path.{fun_ext}
 use Rattle.std.proofs.lemmas.Bool.{cases_eq}
-use Rattle.abl_storage.specs.Slots.{SlotState, Transaction, Commits, Fails, HasCause, wrote}
+use Rattle.abl_storage.specs.Slots as storage
+use Rattle.abl_storage.specs.Slots.{SlotState, Transaction, Commits, Fails, HasCause, IsReadable, wrote}
 use Rattle.abl_storage.specs.declared.slots.Undo.{Undo}
 use Rattle.abl_storage.specs.declared.slots.SlotFault.TheVariants.{Disk as SlotDisk, TxFull, NoMemory as SlotMemory}
 use Rattle.abl_values.specs.Schema.{SchemaData}
@@ -14,22 +15,25 @@ use Rattle.chain_store.specs.declared.fault.ChainFault.{ChainFault}
 use Rattle.chain_store.specs.declared.fault.ChainFault.TheVariants.{Full, Slot}
 use Rattle.chain_store.specs.Noted.{IsSound}
 use Rattle.chain_store.specs.Rows.{of_slots}
-use Rattle.abl_rows.specs.Changes.{RowsById}
+use Rattle.abl_rows.specs.Changes.{RowsById, has_change, undone}
 use Rattle.abl_rows.specs.Rows.{Durable, joined}
 use Rattle.abl_rows.specs.Rows as rows
+use Rattle.stored_rows.specs.declared.log.Undone.{Undone}
 use Rattle.stored_rows.specs.declared.open.Open.{Open}
+use Rattle.stored_rows.specs.Counted.{AreCounted, after_all, before_all}
 use Rattle.stored_rows.specs.Decoded.{decoded}
-use Rattle.stored_rows.specs.Mixes.{slots_of}
+use Rattle.stored_rows.specs.Mixes.{IsMixed, slots_of}
 use Rattle.stored_rows.specs.Opens.{OpenView, log_in, no_open, open_in, touched_in, view_of}
 use Rattle.stored_rows.specs.State.{Reserved, rows_if, state_of, transaction_of}
-use Rattle.stored_rows.specs.Stored.{IsStored, changes_of}
+use Rattle.stored_rows.specs.Stored.{IsStored, changes_of, mark_in}
 use Rattle.stored_rows.proofs.Assembles.{stored_failed}
 use Rattle.stored_rows.proofs.Changed.{open_set_other, open_set_same, rows_known, sound_apart, stored_same}
 use Rattle.stored_rows.proofs.Closed.{committed_rows, stored_closed}
 use Rattle.stored_rows.proofs.Errors.{rows_rest}
 use Rattle.stored_rows.proofs.Histories.{IsApart}
 use Rattle.stored_rows.proofs.Keeps.{slots_apart}
-use Rattle.stored_rows.proofs.Methods.{same_all}
+use Rattle.stored_rows.proofs.Methods.{old_view, same_all}
+use Rattle.stored_rows.proofs.Weights.{counted_joined}
 
 known : (b : Bool) (x : RowsById) → IsTrue b → rows_if b x ≡ x
 known b x is = ap (λ (v : Bool). rows_if v x) is
@@ -91,6 +95,29 @@ module _ (schema : SchemaData) (s t : SlotState) (was : List Open) (client : ℕ
             ∙ (ap (λ (f : Key → Bool). transaction_of false f (open_in (slice_set was client x) client)) no_key ∙ ap (transaction_of false (λ key. false)) own_none);
       };
     }
+
+    base_mixed : IsReadable s → IsMixed (slots_of s) (mark_in s (log_in was) (λ c. 0)) s.committed
+    base_mixed readable = record {
+      of = λ c k w. (stored.base readable).of c k w ∙ ap (λ (n : ℕ). storage.undone (drop n (s.transaction c).undo) s.reads k) (sym (stored.first readable.1 c));
+      rest = (stored.base readable).rest;
+    }
+
+    base_of : IsReadable s → (k : ℕ) → has_change (changes_of (log_in was client)) k ≡ true → decoded schema s.committed k ≡ undone (changes_of (log_in was client)) (decoded schema s.reads) k
+    base_of readable k e = (stored.mixes readable (λ c. 0) s.committed (base_mixed readable)).0.of client k e
+
+    -- the fragments of the committed rows
+    pub commit_counts : (used now : ℕ) → (IsReadable s → AreCounted (decoded schema s.committed) used) → length old.log.items ≤ 7989
+        → (used + after_all old.log.items < 2 ^ 64 → now ≡ (used + after_all old.log.items) - before_all old.log.items) → IsReadable t → AreCounted (decoded schema t.committed) now
+    commit_counts used now counted short is readable =
+        let seen : IsReadable s = (subst (λ (b : Bool). IsTrue b) commits.observable readable.0, fine) in
+        let log : log_in was client ≡ old.log.items = ap (λ (v : OpenView). v.log) (old_view was client old x many lt old_is) in
+        subst (λ (f : RowsById). AreCounted f now)
+        (sym (fun_ext (committed_rows schema s t (log_in was) (log_in (slice_set was client x)) (touched_in was) (touched_in (slice_set was client x)) client stored commits same
+        (ap (λ (v : OpenView). v.log) own_none) (λ c ne. ap (λ (v : OpenView). v.log) (rest_now c ne)) (ap (λ (v : OpenView). v.touched) own_none) (λ c ne. ap (λ (v : OpenView). v.touched) (rest_now c ne))
+        sound.past still_sound.past apart_s seen)))
+        (counted_joined (log_in was client) (decoded schema s.reads) (decoded schema s.committed) (stored.weighed seen client) (base_of seen) used now
+        (subst (λ (l : List Undone). length l ≤ 7989) (sym log) short) (counted seen)
+        (subst (λ (l : List Undone). used + after_all l < 2 ^ 64 → now ≡ (used + after_all l) - before_all l) (sym log) is))
 
   pub commit_keeps : (r : Result ℕ ChainFault) → OnOk r (Commits s t client) → OnOk r (view_of x ≡ no_open) → OnErr r (Fails s t client) → OnErr r (view_of x ≡ view_of old) → HasCause s t (of_slots r) → (IsErrOf r Full → ⊥) × ((IsErrOf (of_slots r) SlotMemory → ⊥) × (IsErrOf (of_slots r) TxFull → ⊥))
       → IsStored schema t (log_in (slice_set was client x)) (touched_in (slice_set was client x))

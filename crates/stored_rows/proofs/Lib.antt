@@ -1,6 +1,7 @@
 pub mod Histories
 pub mod Lists
 pub mod Marks
+pub mod Weights
 pub mod Keeps
 pub mod Writes
 pub mod Assembles
@@ -16,3 +17,7 @@ pub mod Opening
 pub mod Looked
 pub mod Decodes
 pub mod Replaced
+pub mod Known
+pub mod Consistent
+pub mod Counting
+pub mod Sends

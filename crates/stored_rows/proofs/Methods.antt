@@ -1,20 +1,18 @@
 -- What holds between two calls holds after each call of `StoredRows`.
-use Rattle.std.proofs.Common.{◌≡◌, ◌≢◌, inl, inr, ℕ, ◌<◌, ◌≤◌, ◌&&◌, not, nat_lt, Bool, true, false, cond, eqb, List, length, slice_index_or, slice_set, take, Option, Some, None, is_some, Result, Ok, Err, IfOk, OnOk, OnErr, IsErrOf, ℤ, refl, sym, ap, ◌∙◌, subst, arith}
+use Rattle.std.proofs.Common.{◌≡◌, ◌≢◌, inl, inr, ℕ, ◌<◌, ◌≤◌, ◌&&◌, not, nat_lt, Bool, true, false, cond, eqb, List, length, slice_index_or, slice_set, take, Some, None, Result, Ok, Err, OnOk, OnErr, ℤ, refl, sym, ap, ◌∙◌, subst, arith}
 use Rattle.std.proofs.lemmas.Bool.{cases_eq}
 use Rattle.std.proofs.lemmas.Bool.Decides.{nat_tests}
 use Rattle.abl_base.specs.declared.value.Value.{Value}
-use Rattle.abl_base.specs.declared.row.RowId.{RowId}
-use Rattle.abl_storage.specs.Slots.{SlotState, Transaction, Begins, Ends, GoesBack, HasCause, IsReadable, KeepsCommitted, Rests}
+use Rattle.abl_storage.specs.Slots.{SlotState, Transaction, Begins, Ends, GoesBack, HasCause, Rests}
 use Rattle.abl_storage.specs.declared.slots.SlotFault.{SlotFault}
 use Rattle.abl_storage.specs.declared.slots.SlotFault.TheVariants.{Disk as SlotDisk, TxFull, NoMemory as SlotMemory}
 use Rattle.abl_values.specs.Schema.{SchemaData}
 use Rattle.abl_values.specs.Rows.{bytes_of_row, fragments_of}
 use Rattle.abl_values.specs.Rows as bytes
 use Rattle.abl_values.proofs.RowLaws.{row_in-bytes}
-use Rattle.database_meaning.specs.declared.state.StoredRow.{StoredRow}
-use Rattle.database_meaning.specs.Setting.{FitsTable, HasTable, fragments, kinds_of}
+use Rattle.database_meaning.specs.Setting.{FitsTable, HasTable, kinds_of}
 use Rattle.row_chain.specs.Calls.{Touched}
-use Rattle.row_chain.specs.Fragments.{StoredBytes, begins, ends, kind_in}
+use Rattle.row_chain.specs.Fragments.{begins, ends, kind_in}
 use Rattle.row_chain.proofs.Chained.{no_row_at}
 use Rattle.chain_store.specs.declared.places.Place.{Place as SlotPlace}
 use Rattle.chain_store.specs.declared.client.Client.{Client}
@@ -22,17 +20,16 @@ use Rattle.chain_store.specs.declared.fault.ChainFault.{ChainFault}
 use Rattle.chain_store.specs.declared.fault.ChainFault.TheVariants.{Full, Slot}
 use Rattle.chain_store.specs.Exact.{IsVacant}
 use Rattle.chain_store.specs.Noted.{IsSound}
-use Rattle.chain_store.specs.Rows.{ChangesRow as ChangesSlots, of_slots}
+use Rattle.chain_store.specs.Rows.{of_slots}
 use Rattle.abl_rows.specs.Rows as rows
-use Rattle.stored_rows.specs.declared.log.Undone.{Undone}
 use Rattle.stored_rows.specs.declared.open.Open.{Open}
 use Rattle.stored_rows.specs.Decoded.{decoded, of_table, row_of}
-use Rattle.stored_rows.specs.Opens.{OpenView, log_in, no_open, open_in, touched_in, view_of, with_change}
-use Rattle.stored_rows.specs.State.{Reserved, ReservesMoved, state_of}
+use Rattle.stored_rows.specs.Opens.{OpenView, log_in, no_open, open_in, touched_in, view_of}
+use Rattle.stored_rows.specs.State.{Reserved, state_of}
 use Rattle.stored_rows.specs.Stored.{IsStored, mark_or}
 use Rattle.stored_rows.proofs.Assembles.{stored_failed, stored_rests}
 use Rattle.stored_rows.proofs.Begun.{begun_state, begun_stored}
-use Rattle.stored_rows.proofs.Changed.{changed_state, changed_stored, open_at, open_set_other, open_set_same, stored_same}
+use Rattle.stored_rows.proofs.Changed.{open_at, open_set_other, open_set_same, stored_same}
 use Rattle.stored_rows.proofs.Marks.{mark_bound}
 use Rattle.stored_rows.proofs.Returned.{abandoned_failed, abandoned_rows, abandoned_state, abandoned_stored, back_state, back_stored}
 
@@ -163,52 +160,3 @@ module _ (schema : SchemaData) (s t : SlotState) (was : List Open) (client : ℕ
         → rows.Abandons (state_of schema before sequences s was) (state_of schema after sequences t now) client
     abandon_says = abandoned_state schema s t was (slice_set was client x) client stored ended (own_now ∙ none) rest_now
         (λ readable. abandoned_rows schema s t was (slice_set was client x) client places free clients failed sound left_places left_free left_clients left_failed still_sound stored readable.1 ended (own_now ∙ none) rest_now readable)
-
-  -- ---- inserting
-
-  module _ (table : ℕ) (values : List Value) (encoded : List ℕ) (fine : s.failed ≡ false) (begun : (s.transaction client).begun ≡ true) (has_table : HasTable schema table) (fits : FitsTable schema table values) (is : encoded ≡ bytes_of_row values)
-      (at_s at_t : ℕ → (ℕ → List ℕ) → Type 0) where
-    abbrev to : Option StoredBytes
-    to = Some (record { table = table; bytes = encoded })
-
-    abbrev many_fragments : ℕ
-    many_fragments = fragments_of (length encoded)
-
-    to_is : row_of schema to ≡ Some (record { table = table; values = values })
-    to_is = encoded_is schema table values encoded has_table fits is
-
-    -- what an insert says of slots and of the client's transaction
-    abbrev pub Inserts : RowId → Type 0
-    Inserts row = (slots : List ℕ) × ChangesSlots s t client row.0 slots (Some (record { table = table; bytes = encoded }))
-        × (view_of x ≡ with_change (view_of old) row.0 None (length (s.transaction client).undo) (fragments_of (length encoded)) (fragments_of (length encoded)))
-
-    noted_now : (row : RowId) → view_of x ≡ with_change (view_of old) row.0 None (length (s.transaction client).undo) (fragments_of (length encoded)) (fragments_of (length encoded))
-        → open_in (slice_set was client x) client ≡ with_change (open_in was client) row.0 None (length (s.transaction client).undo) (fragments_of (length encoded)) (fragments_of (length encoded))
-    noted_now row e = own_now ∙ (e ∙ ap (λ (v : OpenView). with_change v row.0 None (length (s.transaction client).undo) (fragments_of (length encoded)) (fragments_of (length encoded))) (sym was_view))
-
-    read_is : is_some (row_of schema to) ≡ is_some to
-    read_is = ap (λ (r : Option StoredRow). is_some r) to_is
-
-    module _ (touched : (c : ℕ) → c ≢ client → t.transaction c ≡ s.transaction c) (still : (t.transaction client).begun ≡ (s.transaction client).begun) (keeps : KeepsCommitted s t)
-        (row : RowId) (ok : Inserts row) (vacant : IsReadable s → IsVacant s row.0) where
-      abbrev u : Undone
-      u = record { row = row.0; old = None; mark = length (s.transaction client).undo }
-
-      pub insert_stored : IsStored schema t (log_in now) (touched_in now)
-      insert_stored = changed_stored schema s t was (slice_set was client x) client row.0 ok.0 to u many_fragments many_fragments places free clients failed sound left_places left_free left_clients left_failed still_sound stored fine begun (still ∙ begun)
-          keeps touched ok.1 refl refl (λ readable. vacant_none schema s row.0 (vacant readable)) (λ readable. read_is) (noted_now row ok.2) rest_now
-
-      fragments_are : many_fragments ≡ fragments (Some (record { table = table; values = values }))
-      fragments_are = ap (λ (b : List ℕ). fragments_of (length b)) is
-
-      pub insert_says : (before after : Reserved) (sequences : List ℤ) → ReservesMoved schema before after client None (Some (record { table = table; values = values }))
-          → rows.ChangesRow (state_of schema before sequences s was) (state_of schema after sequences t now) client row.0 (Some (record { table = table; values = values }))
-      insert_says = changed_state schema s t was (slice_set was client x) client row.0 ok.0 to u many_fragments many_fragments places free clients failed sound left_places left_free left_clients left_failed still_sound stored fine begun (still ∙ begun)
-          keeps touched ok.1 refl refl (λ readable. vacant_none schema s row.0 (vacant readable)) (λ readable. read_is) (noted_now row ok.2) rest_now
-          (Some (record { table = table; values = values })) (λ readable. sym to_is) (omega (arith, fragments_are)) (omega (arith, fragments_are))
-
-    pub insert_keeps : (r : Result RowId ChainFault) → IfOk r Inserts → IfOk r (λ row. IsReadable s → IsVacant s row.0) → Touched s t at_s at_t client (of_slots r)
-        → ((IsErrOf r (Slot SlotDisk) → ⊥) → OnErr r (Rests s t)) → OnErr r (view_of x ≡ view_of old) → IsStored schema t (log_in now) (touched_in now)
-    insert_keeps (Ok row) ok vacant touched refused same = insert_stored touched.others touched.begun touched.keeps row ok vacant
-    insert_keeps (Err fault) ok vacant touched refused same =
-        refused_stored schema s t was (slice_set was client x) (same_all was client old x many lt old_is same) stored fault (λ never. refused (λ e. never (cc e))) touched.cause (begun_touched s t at_s at_t client (of_slots {T = RowId} (Err fault)) touched)

@@ -4,8 +4,9 @@ use Rattle.std.proofs.Math.Path.{fun_ext}
 use Rattle.abl_storage.specs.Slots.{SlotState, IsReadable, wrote}
 use Rattle.abl_storage.specs.declared.slots.Undo.{Undo}
 use Rattle.abl_values.specs.Schema.{SchemaData}
-use Rattle.row_chain.specs.Fragments.{StoredBytes, ends, kind_in, row_at}
+use Rattle.row_chain.specs.Fragments.{StoredBytes, begins, ends, kind_in, row_at}
 use Rattle.row_chain.proofs.Chained.{no_row_at}
+use Rattle.chain_store.specs.Places.{HoldNothing}
 use Rattle.chain_store.proofs.Rewrites.{high_bound, low_bound}
 use Rattle.stored_rows.specs.declared.open.Open.{Open}
 use Rattle.stored_rows.specs.Opens.{OpenView, log_in, no_open, open_in, touched_in}
@@ -29,6 +30,7 @@ opened_stored schema s clean settled read = record {
         record { of = λ c k e. absurd (cc e); rest = λ k e. ap (λ (f : ℕ → List ℕ). decoded schema f k) same },
         subst (AreRead schema) (sym same) (read readable),
       );
+  weighed = λ readable c. tt;
   base = λ readable. record { of = λ c k e. clash (wrote (s.transaction c).undo k) e (none c k); rest = λ k e. settled readable k };
 }
   where
@@ -38,7 +40,7 @@ opened_stored schema s clean settled read = record {
 pub stored_nowhere : (schema : SchemaData) (s : SlotState) (os : List Open) → ((c : ℕ) → open_in os c ≡ no_open) → IsStored schema s (λ c. []) (λ c. []) → IsStored schema s (log_in os) (touched_in os)
 stored_nowhere schema s os none stored = subst (λ (f : ℕ → OpenView). IsStored schema s (λ c. (f c).log) (λ c. (f c).touched)) (sym (fun_ext none)) stored
 
-not_begins : (a b : Bool) → a ≡ true → (not a && b) ≡ false
+pub not_begins : (a b : Bool) → a ≡ true → (not a && b) ≡ false
 not_begins true b e = refl
 not_begins false b e = absurd (cc e)
 
@@ -51,3 +53,20 @@ all_read schema slots within k = by_end (ends k) refl
         let none : row_at slots k ≡ None = no_row_at slots k (not_begins (ends k) (eqb (kind_in (slots k)) 1) e) in
         ap (λ (r : Option StoredBytes). is_some (row_of schema r)) none ∙ sym (ap (λ (r : Option StoredBytes). is_some r) none)
     by_end false e = within k (low_bound k e) (high_bound k e)
+
+-- ---- slots that hold nothing
+
+none_begins : (slots : ℕ → List ℕ) → HoldNothing slots → (k : ℕ) → begins slots k ≡ false
+none_begins slots empty k = by_end (ends k) refl
+  where
+    by_end : (b : Bool) → ends k ≡ b → begins slots k ≡ false
+    by_end true e = not_begins (ends k) (eqb (kind_in (slots k)) 1) e
+    by_end false e = ap (λ (b : Bool). not b && eqb (kind_in (slots k)) 1) e ∙ ap (λ (kind : ℕ). eqb kind 1) (empty k e)
+
+pub holds_no_row : (schema : SchemaData) (slots : ℕ → List ℕ) → HoldNothing slots → (k : ℕ) → decoded schema slots k ≡ None
+holds_no_row schema slots empty k = ap (row_of schema) (no_row_at slots k (none_begins slots empty k))
+
+pub no_row_read : (schema : SchemaData) (slots : ℕ → List ℕ) → HoldNothing slots → AreRead schema slots
+no_row_read schema slots empty k =
+    let none : row_at slots k ≡ None = no_row_at slots k (none_begins slots empty k) in
+    ap (λ (r : Option StoredBytes). is_some (row_of schema r)) none ∙ sym (ap (λ (r : Option StoredBytes). is_some r) none)

@@ -1,5 +1,5 @@
 -- What holds between two calls holds after a row was given other values, or was deleted.
-use Rattle.std.proofs.Common.{◌≡◌, ◌≢◌, ℕ, ◌-◌, ◌<◌, max, Bool, true, false, cond, nat_lt, List, length, slice_index_or, slice_set, Option, Some, None, is_some, Result, Ok, Err, OnOk, OnErr, IsErrOf, ℤ, refl, sym, ap, ◌∙◌}
+use Rattle.std.proofs.Common.{◌≡◌, ◌≢◌, ℕ, ◌<◌, ◌≤◌, Bool, true, false, cond, nat_lt, List, length, slice_index_or, slice_set, Option, Some, None, is_some, Result, Ok, Err, OnOk, OnErr, IsErrOf, ℤ, refl, sym, ap, ◌∙◌, arith}
 use Rattle.abl_base.specs.declared.value.Value.{Value}
 use Rattle.abl_storage.specs.Slots.{SlotState, IsReadable, KeepsCommitted, Rests}
 use Rattle.abl_values.specs.Schema.{SchemaData}
@@ -14,7 +14,7 @@ use Rattle.chain_store.specs.declared.fault.ChainFault.TheVariants.{Slot}
 use Rattle.abl_storage.specs.declared.slots.SlotFault.TheVariants.{Disk as SlotDisk}
 use Rattle.chain_store.specs.Noted.{IsSound}
 use Rattle.chain_store.specs.Rows.{ChangesRow as ChangesSlots, of_slots}
-use Rattle.abl_values.specs.Rows.{bytes_of_row}
+use Rattle.abl_values.specs.Rows.{bytes_of_row, fragments_of}
 use Rattle.abl_rows.specs.Rows as rows
 use Rattle.stored_rows.specs.declared.log.Undone.{Undone}
 use Rattle.stored_rows.specs.declared.open.Open.{Open}
@@ -45,39 +45,41 @@ row_there schema reads row before e = row_begins schema (begins reads row) _ bef
 
 -- ---- the change
 
-module _ (schema : SchemaData) (s t : SlotState) (was : List Open) (client : ℕ) (old x : Open) (many : length was ≡ 16) (lt : client < 16) (old_is : old ≡ slice_index_or was client old)
+module _ (schema : SchemaData) (s t : SlotState) (was : List Open) (client : ℕ) (old x : Open) (sixteen : length was ≡ 16) (lt : client < 16) (old_is : old ≡ slice_index_or was client old)
     (places : List SlotPlace) (free : ℕ → ℕ) (clients : List Client) (failed : Bool) (sound : IsSound s places free clients failed)
     (left_places : List SlotPlace) (left_free : ℕ → ℕ) (left_clients : List Client) (left_failed : Bool) (still_sound : IsSound t left_places left_free left_clients left_failed)
     (stored : IsStored schema s (log_in was) (touched_in was)) (fine : s.failed ≡ false) (begun : (s.transaction client).begun ≡ true)
-    (row : ℕ) (before : Option StoredRow) (to : Option StoredBytes) (value : Option StoredRow) (drawn written : ℕ)
-    (there : IsReadable s → decoded schema s.reads row ≡ before) (value_is : IsReadable s → value ≡ row_of schema to) (read : IsReadable s → is_some (row_of schema to) ≡ is_some to) where
+    (row : ℕ) (before : Option StoredRow) (to : Option StoredBytes) (value : Option StoredRow) (had many : ℕ)
+    (there : IsReadable s → decoded schema s.reads row ≡ before) (value_is : IsReadable s → value ≡ row_of schema to) (read : IsReadable s → is_some (row_of schema to) ≡ is_some to)
+    (had_is : had ≡ fragments before) (many_is : many ≡ fragments value) (few : many ≤ 125) where
+  abbrev u : Undone
+  u = record { row = row; old = before; mark = length (s.transaction client).undo; before = had; after = many }
+
   -- what the change says of slots and of the client's transaction
   abbrev pub Replaces : Type 0
-  Replaces = (slots : List ℕ) × ChangesSlots s t client row slots to × (view_of x ≡ with_change (view_of old) row before (length (s.transaction client).undo) drawn written)
+  Replaces = (slots : List ℕ) × ChangesSlots s t client row slots to × (view_of x ≡ with_change (view_of old) u)
 
-  abbrev u : Undone
-  u = record { row = row; old = before; mark = length (s.transaction client).undo }
+  noted_now : view_of x ≡ with_change (view_of old) u → open_in (slice_set was client x) client ≡ with_change (open_in was client) u
+  noted_now e = own_is was client old x sixteen lt old_is ∙ (e ∙ ap (λ (v : OpenView). with_change v u) (sym (old_view was client old x sixteen lt old_is)))
 
-  noted_now : view_of x ≡ with_change (view_of old) row before (length (s.transaction client).undo) drawn written
-      → open_in (slice_set was client x) client ≡ with_change (open_in was client) row before (length (s.transaction client).undo) drawn written
-  noted_now e = own_is was client old x many lt old_is ∙ (e ∙ ap (λ (v : OpenView). with_change v row before (length (s.transaction client).undo) drawn written) (sym (old_view was client old x many lt old_is)))
+  many_of : IsReadable s → many ≡ fragments (row_of schema to)
+  many_of readable = many_is ∙ ap fragments (value_is readable)
 
   module _ (touched : (c : ℕ) → c ≢ client → t.transaction c ≡ s.transaction c) (still : (t.transaction client).begun ≡ (s.transaction client).begun) (keeps : KeepsCommitted s t) (ok : Replaces) where
     replaced_stored : IsStored schema t (log_in (slice_set was client x)) (touched_in (slice_set was client x))
-    replaced_stored = changed_stored schema s t was (slice_set was client x) client row ok.0 to u drawn written places free clients failed sound left_places left_free left_clients left_failed still_sound stored fine begun (still ∙ begun)
-        keeps touched ok.1 refl refl (λ readable. sym (there readable)) read (noted_now ok.2) (others_are was client old x many lt old_is)
+    replaced_stored = changed_stored schema s t was (slice_set was client x) client row ok.0 to u places free clients failed sound left_places left_free left_clients left_failed still_sound stored fine begun (still ∙ begun)
+        keeps touched ok.1 refl refl (λ readable. sym (there readable)) had_is many_of few read (noted_now ok.2) (others_are was client old x sixteen lt old_is)
 
-    pub replace_says : drawn ≡ fragments value - fragments before → written ≡ max (fragments value) (fragments before)
-        → (reserved after : Reserved) (sequences : List ℤ) → ReservesMoved schema reserved after client before value
+    pub replace_says : (reserved after : Reserved) (sequences : List ℤ) → ReservesMoved schema reserved after client before value
         → rows.ChangesRow (state_of schema reserved sequences s was) (state_of schema after sequences t (slice_set was client x)) client row value
-    replace_says = changed_state schema s t was (slice_set was client x) client row ok.0 to u drawn written places free clients failed sound left_places left_free left_clients left_failed still_sound stored fine begun (still ∙ begun)
-        keeps touched ok.1 refl refl (λ readable. sym (there readable)) read (noted_now ok.2) (others_are was client old x many lt old_is) value value_is
+    replace_says = changed_state schema s t was (slice_set was client x) client row ok.0 to u places free clients failed sound left_places left_free left_clients left_failed still_sound stored fine begun (still ∙ begun)
+        keeps touched ok.1 refl refl (λ readable. sym (there readable)) had_is many_of few read (noted_now ok.2) (others_are was client old x sixteen lt old_is) value value_is many_is
 
   pub replace_keeps : (at_s at_t : ℕ → (ℕ → List ℕ) → Type 0) (r : Result Unit ChainFault) → OnOk r Replaces → Touched s t at_s at_t client (of_slots r)
       → ((IsErrOf r (Slot SlotDisk) → ⊥) → OnErr r (Rests s t)) → OnErr r (view_of x ≡ view_of old) → IsStored schema t (log_in (slice_set was client x)) (touched_in (slice_set was client x))
   replace_keeps at_s at_t (Ok v) ok touched refused same = replaced_stored touched.others touched.begun touched.keeps ok
   replace_keeps at_s at_t (Err fault) ok touched refused same =
-      refused_stored schema s t was (slice_set was client x) (same_all was client old x many lt old_is same) stored fault (λ never. refused (λ e. never (cc e))) touched.cause
+      refused_stored schema s t was (slice_set was client x) (same_all was client old x sixteen lt old_is same) stored fault (λ never. refused (λ e. never (cc e))) touched.cause
       (begun_touched s t at_s at_t client (of_slots {T = Unit {0}} (Err fault)) touched)
 
 -- ---- what a put leaves is read back
@@ -91,3 +93,7 @@ put_is schema reads row before values encoded there has_table fits is =
 
 pub put_reads : (schema : SchemaData) (stored : StoredBytes) (row : StoredRow) → row_of schema (Some stored) ≡ Some row → is_some (row_of schema (Some stored)) ≡ is_some (Some stored)
 put_reads schema stored row e = ap (λ (r : Option StoredRow). is_some r) e
+
+-- a row of 30,000 bytes at most has at most 125 fragments
+pub few_fragments : (bytes : ℕ) → bytes ≤ 30000 → fragments_of bytes ≤ 125
+few_fragments bytes le = omega (arith, le)

@@ -193,6 +193,7 @@ module _ (schema : SchemaData) (s t : SlotState) (was now : List Open) (client :
       | inr ne ↦ subst (λ (v : OpenView). (v.log ≡ []) × (v.touched ≡ [])) (sym (same c ne)) (stored.idle c (sym (ap (λ (x : Transaction). x.begun) (ended.transaction.others c ne)) ∙ e))
     ];
     mixes = λ readable at mixed m. no readable.1;
+    weighed = λ readable c. no readable.1;
     base = λ readable. no readable.1;
   }
     where

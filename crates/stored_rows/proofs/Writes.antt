@@ -6,6 +6,7 @@ use Rattle.abl_storage.specs.Slots as storage
 use Rattle.abl_storage.specs.Slots.{SlotState, Transaction, IsReadable, wrote}
 use Rattle.abl_storage.specs.declared.slots.Undo.{Undo}
 use Rattle.abl_values.specs.Schema.{SchemaData}
+use Rattle.database_meaning.specs.Setting.{fragments}
 use Rattle.row_chain.specs.Calls.{Covers, Wrote}
 use Rattle.row_chain.specs.Fragments.{StoredBytes, row_at}
 use Rattle.row_chain.specs.Tied.{IsTied, IsValue}
@@ -32,6 +33,9 @@ pub record Added (schema : SchemaData) (s t : SlotState) (log left : ℕ → Lis
   pub mark : u.mark ≡ length (s.transaction client).undo
   pub row_is : u.row ≡ row
   pub old : IsReadable s → u.old ≡ decoded schema s.reads row
+  pub before : u.before ≡ fragments u.old
+  pub after : IsReadable s → u.after ≡ fragments (row_of schema to)
+  pub few : u.after ≤ 125
   pub read : IsReadable s → is_some (row_of schema to) ≡ is_some to
   pub alone : (c : ℕ) → c ≢ client → has_change (changes_of (log c)) row ≡ false
   pub log_own : left client ≡ log client ++ u ∷ []
@@ -92,10 +96,10 @@ module _ (schema : SchemaData) (s t : SlotState) (log left : ℕ → List Undone
   now_others : (c : ℕ) → c ≢ client → now c ≡ was c
   now_others c ne = ap changes_of (a.log_others c ne)
 
-  not_row : (c k : ℕ) → c ≢ client → has_change (was c) k ≡ true → k ≢ row
+  pub not_row : (c k : ℕ) → c ≢ client → has_change (was c) k ≡ true → k ≢ row
   not_row c k ne is e = clash (has_change (was c) row) (sym (ap (has_change (was c)) e) ∙ is) (a.alone c ne)
 
-  one_undone : (k : ℕ) → undone (record { row = u.row; old = u.old } ∷ []) after k ≡ rows k
+  pub one_undone : (k : ℕ) → undone (record { row = u.row; old = u.old } ∷ []) after k ≡ rows k
   one_undone k = elim (cases_eq k u.row) [
     | inl e ↦
         let is : k ≡ row = e ∙ a.row_is in

@@ -1,6 +1,5 @@
 -- The data that is stored for each client's transaction.
-use Rattle.std.specs.Prelude.{ℕ, zero, suc, ◌+◌, List, [], ◌∷◌, ◌++◌, Option}
-use Rattle.database_meaning.specs.declared.state.StoredRow.{StoredRow}
+use Rattle.std.specs.Prelude.{ℕ, zero, suc, ◌+◌, ◌-◌, max, List, [], ◌∷◌, ◌++◌}
 use Rattle.stored_rows.specs.declared.log.Undone.{Undone}
 use Rattle.stored_rows.specs.declared.open.Open.{Open}
 
@@ -30,10 +29,10 @@ abbrev pub touched_in : List Open → ℕ → List ℕ
 touched_in opens c = (open_in opens c).touched
 
 -- with one more change of a row
-abbrev pub with_change : OpenView → ℕ → Option StoredRow → ℕ → ℕ → ℕ → OpenView
-with_change v row old mark drawn written = record {
-  log = v.log ++ record { row = row; old = old; mark = mark } ∷ [];
-  touched = v.touched ++ row ∷ [];
-  drawn = v.drawn + drawn;
-  written = v.written + written;
+abbrev pub with_change : OpenView → Undone → OpenView
+with_change v u = record {
+  log = v.log ++ u ∷ [];
+  touched = v.touched ++ u.row ∷ [];
+  drawn = v.drawn + (u.after - u.before);
+  written = v.written + max u.after u.before;
 }

@@ -1,11 +1,12 @@
 -- What holds between two calls of rows in slots, and of the changes that can be undone.
 use Rattle.std.specs.Prelude.{◌≡◌, ◌≢◌, ℕ, zero, suc, ◌≤◌, ◌==◌, ◌||◌, Bool, true, false, List, [], ◌∷◌, length}
-use Rattle.std.specs.Coded.{×_prop, le_prop}
+use Rattle.std.specs.Coded.{×_prop, Unit-prop, le_prop, coded_ℕ, Coded-set}
 use Rattle.abl_storage.specs.Slots.{SlotState, IsReadable, wrote}
 use Rattle.row_chain.specs.Fragments.{ends}
 use Rattle.abl_values.specs.Schema.{SchemaData}
+use Rattle.database_meaning.specs.Setting.{fragments}
 use Rattle.abl_rows.specs.declared.store.RowChange.{RowChange}
-use Rattle.abl_rows.specs.Changes.{has_change}
+use Rattle.abl_rows.specs.Changes.{RowsById, has_change, undone}
 use Rattle.stored_rows.specs.declared.log.Undone.{Undone}
 use Rattle.stored_rows.specs.Decoded.{AreRead, decoded}
 use Rattle.stored_rows.specs.Mixes.{IsMixed, rows_of, slots_of}
@@ -14,6 +15,21 @@ use Rattle.stored_rows.specs.Mixes.{IsMixed, rows_of, slots_of}
 abbrev pub changes_of : List Undone → List RowChange
 changes_of [] = []
 changes_of (u ∷ later) = record { row = u.row; old = u.old } ∷ changes_of later
+
+-- each change notes the fragments of its row before it and, with the later changes undone, after it; no row has more than 125
+abbrev pub AreWeighed : List Undone → RowsById → Type 0
+AreWeighed [] rows = Unit {0}
+AreWeighed (u ∷ later) rows = (u.before ≡ fragments u.old) × (u.after ≡ fragments (undone (changes_of later) rows u.row)) × (u.after ≤ 125) × (u.row ≤ 1048575) × AreWeighed later rows
+
+pub AreWeighed-prop : (log : List Undone) (rows : RowsById) → IsProp (AreWeighed log rows)
+AreWeighed-prop [] rows = Unit-prop
+AreWeighed-prop (u ∷ later) rows = λ x y i. (
+  Coded-set coded_ℕ u.before (fragments u.old) x.0 y.0 i,
+  Coded-set coded_ℕ u.after (fragments (undone (changes_of later) rows u.row)) x.1 y.1 i,
+  le_prop x.2 y.2 i,
+  le_prop x.3 y.3 i,
+  AreWeighed-prop later rows x.4 y.4 i,
+)
 
 -- how many writes of slots came before the change with this number; all of them where there is no such change
 abbrev pub mark_or : List Undone → ℕ → ℕ → ℕ
@@ -52,5 +68,6 @@ pub record IsStored (schema : SchemaData) (s : SlotState) (log : ℕ → List Un
   -- wherever clients go back to, the rows are those with their later changes undone
   pub mixes : IsReadable s → (at : ℕ → ℕ) (slots : ℕ → List ℕ) → IsMixed (slots_of s) (mark_in s log at) slots
       → IsMixed (rows_of (λ c. changes_of (log c)) (decoded schema s.reads)) at (decoded schema slots) × AreRead schema slots
+  pub weighed : IsReadable s → (c : ℕ) → AreWeighed (log c) (decoded schema s.reads)
   -- with all writes undone the slots are those that are committed
   pub base : IsReadable s → IsMixed (slots_of s) (λ c. 0) s.committed

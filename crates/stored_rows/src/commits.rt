@@ -1,15 +1,23 @@
 //! Committing a transaction.
 
-ghost use Rattle.std.specs.Prelude.{◌≡◌, ◌≢◌, ◌<◌, ℕ, ℤ, List, true, false, IfOk, OnOk, OnErr};
+ghost use Rattle.std.specs.Prelude.{◌≡◌, ◌≢◌, ◌<◌, ◌+◌, ◌-◌, ◌^◌, ℕ, ℤ, List, true, false, IfOk, OnOk, OnErr};
 ghost use Rattle.abl_storage.specs.Slots.{Fails, Goes};
 ghost use Rattle.abl_rows.specs.Rows.{AfterError, Commits, HasCause, OnlyDisk};
 ghost use Rattle.stored_rows.specs.State.{Reserved, state_of};
 
 use crate::fault::error_of;
+use crate::log::{after_all, before_all};
 use crate::noted::commit;
 use crate::rows::StoredRows;
 use abl_rows::RowError;
 use abl_storage::Slots;
+
+/// The number, `before` less and `after` more.
+pub(crate) fn moved(number: u64, before: u64, after: u64) -> u64
+    ensures { number + after < 2 ^ 64 → result ≡ (number + after) - before }
+{
+    number.saturating_add(after).saturating_sub(before)
+}
 
 impl<S: Slots + Drop> StoredRows<S> {
     /// Commits the transaction, and returns the moment from which on each stop leaves its rows. After
@@ -36,8 +44,13 @@ impl<S: Slots + Drop> StoredRows<S> {
         ensures time { Goes (S.Slots.state self.old.chains.slots) (S.Slots.state self.new.chains.slots) (S.Slots.stop self.old.chains.slots) (S.Slots.stop self.new.chains.slots) }
     {
         let transaction = &mut self.opens[client as usize];
+        let before = before_all(transaction.log.as_slice());
+        let after = after_all(transaction.log.as_slice());
         match commit(&mut self.chains, transaction, client) {
-            Ok(moment) => Ok(moment),
+            Ok(moment) => {
+                self.used = moved(self.used, before, after);
+                Ok(moment)
+            }
             Err(fault) => Err(error_of(fault)),
         }
     }

@@ -1,11 +1,12 @@
 //! Inserting rows.
 
-ghost use Rattle.std.specs.Prelude.{◌≡◌, ◌≤◌, ◌<◌, ℤ, List, true, false, None, IfOk};
+ghost use Rattle.std.specs.Prelude.{◌≡◌, ◌≤◌, ◌<◌, ℤ, List, true, false, None, OnOk};
 ghost use Rattle.abl_base.specs.declared.limits.TheConstants.{MAX_ROW_BYTES};
 ghost use Rattle.abl_storage.specs.Slots.{Goes, IsReadable};
 ghost use Rattle.database_meaning.specs.Setting.{FitsTable, HasTable, row_size};
 ghost use Rattle.database_meaning.specs.Waiting.{row_in};
-ghost use Rattle.abl_rows.specs.Rows.{AfterError, ChangesRow, HasCause, IsFree};
+ghost use Rattle.abl_rows.specs.Rows.{AfterError, ChangesRow, HasCause};
+ghost use Rattle.stored_rows.specs.Decoded.{decoded};
 ghost use Rattle.stored_rows.specs.State.{Reserved, ReservesMoved, state_of};
 
 use crate::fault::error_of;
@@ -17,21 +18,27 @@ use abl_storage::Slots;
 use abl_values::stored::row_bytes;
 
 impl<S: Slots + Drop> StoredRows<S> {
-    /// Inserts a row of the table, at an identity that had none and that no transaction touched. The
-    /// caller has asked for room before: the errors are those of memory and the disk alone.
-    pub fn insert(&mut self, client: u16, table: u16, values: &Row) -> Result<RowId, RowError>
+    /// Inserts a row of the table at the identity that `fresh` gives; at another one the answer is out
+    /// of memory. The caller has asked for room before: the errors are those of memory and the disk
+    /// alone.
+    pub fn insert(
+        &mut self,
+        client: u16,
+        row: RowId,
+        table: u16,
+        values: &Row,
+    ) -> Result<(), RowError>
         requires client { client < 16 }
         requires fine { (S.Slots.state self.old.chains.slots).failed ≡ false }
         requires begun { ((S.Slots.state self.old.chains.slots).transaction client).begun ≡ true }
+        requires empty { IsReadable (S.Slots.state self.old.chains.slots) → decoded self.old.schema (S.Slots.state self.old.chains.slots).reads row.0 ≡ None }
         requires table { HasTable self.old.schema table }
         requires fits { FitsTable self.old.schema table values.now }
         requires size { row_size values.now ≤ MAX_ROW_BYTES }
         ensures schema { self.new.schema ≡ self.old.schema }
-        ensures ok { IfOk result (λ row. (before after : Reserved) (sequences : List ℤ) → ReservesMoved self.old.schema before after client None (row_in table values.now) →
+        ensures ok { OnOk result ((before after : Reserved) (sequences : List ℤ) → ReservesMoved self.old.schema before after client None (row_in table values.now) →
             ChangesRow (state_of self.old.schema before sequences (S.Slots.state self.old.chains.slots) self.old.opens.items)
             (state_of self.old.schema after sequences (S.Slots.state self.new.chains.slots) self.new.opens.items) client row.0 (row_in table values.now)) }
-        ensures free { IfOk result (λ row. IsReadable (S.Slots.state self.old.chains.slots) → (reserved : Reserved) (sequences : List ℤ) →
-            IsFree (state_of self.old.schema reserved sequences (S.Slots.state self.old.chains.slots) self.old.opens.items) row.0) }
         ensures err { (reserved : Reserved) (sequences : List ℤ) →
             AfterError (state_of self.old.schema reserved sequences (S.Slots.state self.old.chains.slots) self.old.opens.items)
             (state_of self.old.schema reserved sequences (S.Slots.state self.new.chains.slots) self.new.opens.items) result }
@@ -49,10 +56,11 @@ impl<S: Slots + Drop> StoredRows<S> {
             &mut self.chains,
             transaction,
             client,
+            row,
             table,
             bytes.as_slice(),
         ) {
-            Ok(row) => Ok(row),
+            Ok(()) => Ok(()),
             Err(fault) => Err(error_of(fault)),
         }
     }

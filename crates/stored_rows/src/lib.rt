@@ -3,11 +3,13 @@
 //! `chain_store` and on the definitions of `abl_rows`; a store with indexes depends on its clauses.
 #![tactic(auto)]
 
+pub mod asks;
 pub mod begins;
 pub mod commits;
 pub mod decode;
 pub mod fault;
 pub mod inserts;
+pub mod laws;
 pub mod log;
 pub mod noted;
 pub mod open;

@@ -1,16 +1,15 @@
 //! Changing a row in chains, and noting what undoes that.
 
-ghost use Rattle.std.specs.Prelude.{◌≡◌, ◌≤◌, ◌<◌, ◌-◌, ℕ, List, length, max, take, true, false, Some, None, IfOk, OnOk, OnErr, IsErrOf};
+ghost use Rattle.std.specs.Prelude.{◌≡◌, ◌≤◌, ◌<◌, ℕ, List, length, take, true, false, Some, None, IfOk, OnOk, OnErr, IsErrOf};
 ghost use Rattle.abl_storage.specs.Slots.{Begins, Commits, Ends, Fails, Goes, GoesBack, HasCause, IsReadable, OnlyDisk, Rests};
 ghost use Rattle.abl_values.specs.Rows.{fragments_of};
 ghost use Rattle.row_chain.specs.Calls.{Touched};
 ghost use Rattle.row_chain.specs.Fragments.{begins, table_in};
-ghost use Rattle.chain_store.specs.Exact.{IsVacant};
 ghost use Rattle.chain_store.specs.Rows.{ChangesRow, of_slots};
 ghost use Rattle.stored_rows.specs.Opens.{no_open, view_of, with_change};
 ghost use Rattle.stored_rows.specs.Stored.{mark_or};
 
-use crate::log::mark_at;
+use crate::log::{Undone, mark_at};
 use crate::open::Open;
 use abl_base::RowId;
 use abl_storage::{Mark, SlotFault, Slots};
@@ -54,21 +53,21 @@ pub fn begin<S: Slots + Drop>(
     }
 }
 
-/// Inserts a row of these bytes.
+/// Inserts a row of these bytes at the identity that `fresh` of the chains gives.
 pub fn insert<S: Slots + Drop>(
     chains: &mut Chains<S>,
     transaction: &mut Open,
     client: u16,
+    row: RowId,
     table: u16,
     bytes: &[u8],
-) -> Result<RowId, ChainFault>
+) -> Result<(), ChainFault>
     requires client { client < 16 }
     requires begun { ((S.Slots.state chains.old.slots).transaction client).begun ≡ true }
     requires size { length bytes.now ≤ 30000 }
-    ensures ok { IfOk result (λ row. (slots : List ℕ)
+    ensures ok { OnOk result ((slots : List ℕ)
         × ChangesRow (S.Slots.state chains.old.slots) (S.Slots.state chains.new.slots) client row.0 slots (Some (record { table = table; bytes = bytes.now }))
-        × (view_of transaction.new ≡ with_change (view_of transaction.old) row.0 None (length ((S.Slots.state chains.old.slots).transaction client).undo) (fragments_of (length bytes.now)) (fragments_of (length bytes.now)))) }
-    ensures vacant { IfOk result (λ row. IsReadable (S.Slots.state chains.old.slots) → IsVacant (S.Slots.state chains.old.slots) row.0) }
+        × (view_of transaction.new ≡ with_change (view_of transaction.old) (record { row = row.0; old = None; mark = length ((S.Slots.state chains.old.slots).transaction client).undo; before = 0; after = fragments_of (length bytes.now) }))) }
     ensures touched { Touched (S.Slots.state chains.old.slots) (S.Slots.state chains.new.slots) (S.Slots.stop chains.old.slots) (S.Slots.stop chains.new.slots) client (of_slots result) }
     ensures refused { (IsErrOf result (ChainFault.Slot SlotFault.Disk) → ⊥) → OnErr result (Rests (S.Slots.state chains.old.slots) (S.Slots.state chains.new.slots)) }
     ensures same { OnErr result (view_of transaction.new ≡ view_of transaction.old) }
@@ -79,10 +78,16 @@ pub fn insert<S: Slots + Drop>(
     }
     let mark = chains.mark(client).at;
     let many = fragments(bytes.len());
-    match chains.insert(client, table, bytes) {
-        Ok(row) => {
-            transaction.note(row.0, None, mark, many, many);
-            Ok(row)
+    match chains.insert_at(client, row, table, bytes) {
+        Ok(()) => {
+            transaction.note(Undone {
+                row: row.0,
+                old: None,
+                mark,
+                before: 0,
+                after: many,
+            });
+            Ok(())
         }
         Err(fault) => Err(fault),
     }
@@ -105,7 +110,7 @@ pub fn put<S: Slots + Drop>(
     requires few { had ≤ 125 }
     ensures ok { OnOk result ((slots : List ℕ)
         × ChangesRow (S.Slots.state chains.old.slots) (S.Slots.state chains.new.slots) client row.0 slots (Some (record { table = table_in ((S.Slots.state chains.old.slots).reads row.0); bytes = bytes.now }))
-        × (view_of transaction.new ≡ with_change (view_of transaction.old) row.0 old (length ((S.Slots.state chains.old.slots).transaction client).undo) (fragments_of (length bytes.now) - had) (max (fragments_of (length bytes.now)) had))) }
+        × (view_of transaction.new ≡ with_change (view_of transaction.old) (record { row = row.0; old = old; mark = length ((S.Slots.state chains.old.slots).transaction client).undo; before = had; after = fragments_of (length bytes.now) }))) }
     ensures touched { Touched (S.Slots.state chains.old.slots) (S.Slots.state chains.new.slots) (S.Slots.stop chains.old.slots) (S.Slots.stop chains.new.slots) client (of_slots result) }
     ensures refused { (IsErrOf result (ChainFault.Slot SlotFault.Disk) → ⊥) → OnErr result (Rests (S.Slots.state chains.old.slots) (S.Slots.state chains.new.slots)) }
     ensures same { OnErr result (view_of transaction.new ≡ view_of transaction.old) }
@@ -118,7 +123,13 @@ pub fn put<S: Slots + Drop>(
     let many = fragments(bytes.len());
     match chains.put(client, row, bytes) {
         Ok(()) => {
-            transaction.note(row.0, old, mark, many.saturating_sub(had), many.max(had));
+            transaction.note(Undone {
+                row: row.0,
+                old,
+                mark,
+                before: had,
+                after: many,
+            });
             Ok(())
         }
         Err(fault) => Err(fault),
@@ -140,7 +151,7 @@ pub fn delete<S: Slots + Drop>(
     requires few { had ≤ 125 }
     ensures ok { OnOk result ((slots : List ℕ)
         × ChangesRow (S.Slots.state chains.old.slots) (S.Slots.state chains.new.slots) client row.0 slots None
-        × (view_of transaction.new ≡ with_change (view_of transaction.old) row.0 old (length ((S.Slots.state chains.old.slots).transaction client).undo) 0 had)) }
+        × (view_of transaction.new ≡ with_change (view_of transaction.old) (record { row = row.0; old = old; mark = length ((S.Slots.state chains.old.slots).transaction client).undo; before = had; after = 0 }))) }
     ensures touched { Touched (S.Slots.state chains.old.slots) (S.Slots.state chains.new.slots) (S.Slots.stop chains.old.slots) (S.Slots.stop chains.new.slots) client (of_slots result) }
     ensures refused { (IsErrOf result (ChainFault.Slot SlotFault.Disk) → ⊥) → OnErr result (Rests (S.Slots.state chains.old.slots) (S.Slots.state chains.new.slots)) }
     ensures same { OnErr result (view_of transaction.new ≡ view_of transaction.old) }
@@ -152,7 +163,13 @@ pub fn delete<S: Slots + Drop>(
     let mark = chains.mark(client).at;
     match chains.delete(client, row) {
         Ok(()) => {
-            transaction.note(row.0, old, mark, 0, had);
+            transaction.note(Undone {
+                row: row.0,
+                old,
+                mark,
+                before: had,
+                after: 0,
+            });
             Ok(())
         }
         Err(fault) => Err(fault),

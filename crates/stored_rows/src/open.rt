@@ -4,7 +4,6 @@ ghost use Rattle.std.specs.Prelude.{◌≡◌, ◌≤◌, ◌<◌, ◌*◌, leng
 ghost use Rattle.std.specs.Vec.{vec_capacity};
 
 use crate::log::Undone;
-use database_meaning::StoredRow;
 use std::alloc::{AllocError, Global};
 
 /// A client's transaction. Without one all is empty. A transaction has at most 7,989 changes, since
@@ -19,6 +18,7 @@ pub struct Open {
     pub drawn: u64,
     pub written: u64,
     ghost most: { length touched.items ≤ 7989 },
+    ghost logged: { length log.items ≤ length touched.items },
     ghost few: { drawn ≤ 125 * length touched.items },
     ghost writes: { written ≤ 125 * length touched.items },
 }
@@ -55,15 +55,18 @@ impl Open {
     }
 
     /// Notes a change, for which there is memory.
-    pub fn note(&mut self, row: u32, old: Option<StoredRow>, mark: usize, drawn: u32, written: u32)
+    pub fn note(&mut self, change: Undone)
         requires few { length self.old.touched.items < 7989 }
         requires log { length self.old.log.items < vec_capacity self.old.log }
         requires touched { length self.old.touched.items < vec_capacity self.old.touched }
-        requires drawn { drawn ≤ 125 }
-        requires written { written ≤ 125 }
-        ensures { view_of self.new ≡ with_change (view_of self.old) row old mark drawn written }
+        requires before { change.before ≤ 125 }
+        requires after { change.after ≤ 125 }
+        ensures { view_of self.new ≡ with_change (view_of self.old) change }
     {
-        self.log.push(Undone { row, old, mark }).unwrap();
+        let row = change.row;
+        let drawn = change.after.saturating_sub(change.before);
+        let written = change.after.max(change.before);
+        self.log.push(change).unwrap();
         self.touched.push(row).unwrap();
         self.drawn += u64::from(drawn);
         self.written += u64::from(written);

@@ -1,19 +1,22 @@
 //! Opening and closing a store of rows.
 
-ghost use Rattle.std.specs.Prelude.{◌≡◌, ◌<◌, ◌≤◌, ℕ, [], length, true, false, Some, Err, is_some, IfErr, IfOk};
+ghost use Rattle.std.specs.Prelude.{◌≡◌, ◌<◌, ◌≤◌, ℕ, [], length, true, false, Some, None, Err, is_some, IfErr, IfOk, OnOk};
 ghost use Rattle.abl_storage.specs.Slots.{IsReadable};
+ghost use Rattle.database_meaning.specs.Setting.{fragments};
 ghost use Rattle.row_chain.specs.Calls.{Looked};
+ghost use Rattle.chain_store.specs.Places.{HoldNothing};
 ghost use Rattle.chain_store.specs.Still.{Still};
 ghost use Rattle.row_chain.specs.Fragments.{row_at};
+ghost use Rattle.stored_rows.specs.Counted.{AreCounted};
 ghost use Rattle.stored_rows.specs.Decoded.{decoded, row_of as row_in_bytes};
 ghost use Rattle.stored_rows.specs.Opens.{no_open, open_in};
 
+use crate::decode::decode;
 use crate::open::Open;
 use crate::rows::StoredRows;
 use abl_base::RowId;
 use abl_storage::{SlotFault, Slots};
 use abl_values::Schema;
-use abl_values::stored_read::row_of;
 use chain_store::{ChainFault, Chains};
 use row_chain::StoredRow;
 use std::alloc::{AllocError, Global};
@@ -35,42 +38,62 @@ fn idle_opens(alloc: Global) -> Result<Vec<Open>, AllocError>
     Ok(opens)
 }
 
-/// Whether the bytes are those of a row of their table.
-fn is_row(alloc: Global, schema: &Schema, stored: &StoredRow) -> Result<bool, AllocError>
-    ensures { IfOk result (λ read. read ≡ true → is_some (row_in_bytes schema.now (Some (record { table = stored.now.table; bytes = stored.now.bytes.items }))) ≡ true) }
+/// The number of fragments of the row that the bytes are. An error comes too where they are no row of
+/// their table.
+fn row_fragments(alloc: Global, schema: &Schema, stored: &StoredRow) -> Result<u32, AllocError>
+    ensures read { OnOk result (is_some (row_in_bytes schema.now (Some (record { table = stored.now.table; bytes = stored.now.bytes.items }))) ≡ true) }
+    ensures weighs { IfOk result (λ many. many ≡ fragments (row_in_bytes schema.now (Some (record { table = stored.now.table; bytes = stored.now.bytes.items })))) }
+    ensures few { IfOk result (λ many. many ≤ 125) }
 {
-    if schema.tables() <= stored.table {
-        return Ok(false);
-    }
-    match row_of(alloc, schema.fields(stored.table), stored.bytes.as_slice())? {
-        Some(_) => Ok(true),
-        None => Ok(false),
+    match decode(alloc, schema, stored.table, stored.bytes.as_slice())? {
+        Some(found) => Ok(found.fragments),
+        None => Err(AllocError),
     }
 }
 
-/// Whether each row that begins is a row of its table.
-fn are_rows<S: Slots + Drop>(
+/// The number of fragments of the row with this identity, 0 where none begins. NoMemory comes too
+/// where what begins is no row of its table.
+fn weigh_row<S: Slots + Drop>(
     alloc: Global,
     chains: &mut Chains<S>,
     schema: &Schema,
-) -> Result<bool, SlotFault>
-    ensures read { IfOk result (λ read. read ≡ true → IsReadable (S.Slots.state chains.old.slots) → (k : ℕ) → 8192 ≤ k → k < 1048576 →
-        is_some (decoded schema.now (S.Slots.state chains.old.slots).reads k) ≡ is_some (row_at (S.Slots.state chains.old.slots).reads k)) }
+    row: RowId,
+) -> Result<u32, SlotFault>
+    ensures read { OnOk result (IsReadable (S.Slots.state chains.old.slots) →
+        is_some (decoded schema.now (S.Slots.state chains.old.slots).reads row.0) ≡ is_some (row_at (S.Slots.state chains.old.slots).reads row.0)) }
+    ensures weighs { IfOk result (λ many. IsReadable (S.Slots.state chains.old.slots) → many ≡ fragments (decoded schema.now (S.Slots.state chains.old.slots).reads row.0)) }
+    ensures few { IfOk result (λ many. many ≤ 125) }
     ensures looked { Looked (S.Slots.state chains.old.slots) (S.Slots.state chains.new.slots) (S.Slots.stop chains.old.slots) (S.Slots.stop chains.new.slots) result }
 {
-    for at in FIRST_ROW..ROW_LIMIT {
-        match chains.get(RowId(at)) {
-            Ok(None) => {}
-            Ok(Some(stored)) => match is_row(alloc, schema, &stored) {
-                Ok(true) => {}
-                Ok(false) => return Ok(false),
-                Err(_) => return Err(SlotFault::NoMemory),
-            },
-            Err(ChainFault::Full) => return Err(SlotFault::NoMemory),
-            Err(ChainFault::Slot(fault)) => return Err(fault),
-        }
+    match chains.get(row) {
+        Ok(None) => Ok(0),
+        Ok(Some(stored)) => match row_fragments(alloc, schema, &stored) {
+            Ok(many) => Ok(many),
+            Err(_) => Err(SlotFault::NoMemory),
+        },
+        Err(ChainFault::Full) => Err(SlotFault::NoMemory),
+        Err(ChainFault::Slot(fault)) => Err(fault),
     }
-    Ok(true)
+}
+
+/// The number of fragments of all rows. NoMemory comes too where one that begins is no row of its
+/// table.
+fn count_rows<S: Slots + Drop>(
+    alloc: Global,
+    chains: &mut Chains<S>,
+    schema: &Schema,
+) -> Result<u64, SlotFault>
+    ensures read { OnOk result (IsReadable (S.Slots.state chains.old.slots) → (k : ℕ) → 8192 ≤ k → k < 1048576 →
+        is_some (decoded schema.now (S.Slots.state chains.old.slots).reads k) ≡ is_some (row_at (S.Slots.state chains.old.slots).reads k)) }
+    ensures counted { IfOk result (λ used. IsReadable (S.Slots.state chains.old.slots) → AreCounted (decoded schema.now (S.Slots.state chains.old.slots).reads) used) }
+    ensures looked { Looked (S.Slots.state chains.old.slots) (S.Slots.state chains.new.slots) (S.Slots.stop chains.old.slots) (S.Slots.stop chains.new.slots) result }
+{
+    let mut used = 0u64;
+    for at in FIRST_ROW..ROW_LIMIT {
+        let many = weigh_row(alloc, chains, schema, RowId(at))?;
+        used += u64::from(many);
+    }
+    Ok(used)
 }
 
 impl<S: Slots + Drop> StoredRows<S> {
@@ -94,16 +117,41 @@ impl<S: Slots + Drop> StoredRows<S> {
             Ok(chains) => chains,
             Err(refusal) => return Err(refusal),
         };
-        match are_rows(alloc, &mut chains, &schema) {
-            Ok(true) => Ok(StoredRows {
+        match count_rows(alloc, &mut chains, &schema) {
+            Ok(used) => Ok(StoredRows {
                 alloc,
                 chains,
                 schema,
                 opens,
+                used,
             }),
-            Ok(false) => Err((SlotFault::NoMemory, chains.close())),
             Err(fault) => Err((fault, chains.close())),
         }
+    }
+
+    /// The rows of slots that hold nothing: none, and no transaction. It reads no slot. The error is
+    /// out of memory.
+    pub fn new(alloc: Global, slots: S, schema: Schema) -> Result<StoredRows<S>, AllocError>
+        requires idle { (c : ℕ) → ((S.Slots.state slots).transaction c).begun ≡ false }
+        requires clean { (c : ℕ) → ((S.Slots.state slots).transaction c).undo ≡ [] }
+        requires fine { (S.Slots.state slots).failed ≡ false }
+        requires empty { IsReadable (S.Slots.state slots) → HoldNothing (S.Slots.state slots).reads }
+        requires settled { IsReadable (S.Slots.state slots) → (k : ℕ) → (S.Slots.state slots).committed k ≡ (S.Slots.state slots).reads k }
+        ensures same { IfOk result (λ rows. rows.chains.slots ≡ slots) }
+        ensures schema { IfOk result (λ rows. rows.schema ≡ schema) }
+        ensures none { IfOk result (λ rows. (c : ℕ) → open_in rows.opens.items c ≡ no_open) }
+        ensures rows { IfOk result (λ rows. (k : ℕ) → IsReadable (S.Slots.state slots) → decoded schema (S.Slots.state slots).reads k ≡ None) }
+        ensures committed { IfOk result (λ rows. (k : ℕ) → IsReadable (S.Slots.state slots) → decoded schema (S.Slots.state slots).committed k ≡ None) }
+    {
+        let opens = idle_opens(alloc)?;
+        let chains = Chains::new(alloc, slots)?;
+        Ok(StoredRows {
+            alloc,
+            chains,
+            schema,
+            opens,
+            used: 0,
+        })
     }
 
     /// The slots again. Where no transaction is begun, they can be opened once more.
@@ -117,6 +165,7 @@ impl<S: Slots + Drop> StoredRows<S> {
             chains,
             schema: _,
             opens: _,
+            used: _,
         } = self;
         chains.close()
     }

@@ -51,6 +51,8 @@ impl<S: Slots + Drop> StoredRows<S> {
         ensures schema { self.new.schema ≡ self.old.schema }
         ensures found { IfOk result (λ found. (reserved : Reserved) (sequences : List ℤ) → IsReadable (S.Slots.state self.old.chains.slots) →
             found ≡ (state_of self.old.schema reserved sequences (S.Slots.state self.old.chains.slots) self.old.opens.items).rows row.0) }
+        ensures table { IfOk result (λ found. MatchOption found ⊤ (λ one. HasTable self.old.schema one.table)) }
+        ensures fits { IfOk result (λ found. MatchOption found ⊤ (λ one. FitsTable self.old.schema one.table one.values)) }
         ensures same { OnOk result ((reserved : Reserved) (sequences : List ℤ) →
             state_of self.old.schema reserved sequences (S.Slots.state self.new.chains.slots) self.new.opens.items
             ≡ state_of self.old.schema reserved sequences (S.Slots.state self.old.chains.slots) self.old.opens.items) }

@@ -1,8 +1,11 @@
 //! Rows of values in slots: `StoredRows`.
 
 ghost use Rattle.std.specs.Prelude.{◌≡◌, length};
+ghost use Rattle.abl_storage.specs.Slots.{IsReadable};
 ghost use Rattle.stored_rows.specs.Opens.{log_in, touched_in};
-ghost use Rattle.stored_rows.specs.Stored.{AreMarks-prop, IsStored};
+ghost use Rattle.stored_rows.specs.Counted.{AreCounted};
+ghost use Rattle.stored_rows.specs.Decoded.{decoded};
+ghost use Rattle.stored_rows.specs.Stored.{AreMarks-prop, AreWeighed-prop, IsStored};
 ghost use Rattle.std.proofs.Props.{props};
 
 use crate::open::Open;
@@ -20,6 +23,9 @@ pub struct StoredRows<S: Slots + Drop> {
     pub(crate) schema: Schema,
     /// The transactions of the clients.
     pub(crate) opens: Vec<Open>,
+    /// The number of fragments of the committed rows.
+    pub(crate) used: u64,
     ghost sixteen: { length opens.items ≡ 16 },
-    ghost stored: { IsStored schema (S.Slots.state chains.slots) (log_in opens.items) (touched_in opens.items) } by { Prim.hlevel (props, AreMarks-prop) },
+    ghost stored: { IsStored schema (S.Slots.state chains.slots) (log_in opens.items) (touched_in opens.items) } by { Prim.hlevel (props, AreMarks-prop, AreWeighed-prop) },
+    ghost counted: { IsReadable (S.Slots.state chains.slots) → AreCounted (decoded schema (S.Slots.state chains.slots).committed) used } by { Prim.hlevel props },
 }

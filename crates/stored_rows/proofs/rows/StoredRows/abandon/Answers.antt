@@ -1,6 +1,8 @@
+use Rattle.std.proofs.Common.{sym, ◌∙◌}
 use Rattle.std.specs.BinaryHeap.{heap_items}
 use Rattle.free_slots.specs.Free.{free_in}
 use Rattle.stored_rows.proofs.Methods.{abandon_keeps, abandon_says}
+use Rattle.stored_rows.proofs.Counting.{counted_keeps}
 use Rattle.stored_rows.proofs.rows.StoredRows.abandon.Goals as goal
 
 pub invariant_of-self-clause-stored : goal.invariant_of-self-clause-stored
@@ -20,3 +22,9 @@ returns-clause-abandoned g c =
     abandon_says rows.schema (g.S.Slots.state old.slots) (g.S.Slots.state new.slots) rows.opens.items c.args.client c.index_mut-transaction.result.now c.abandon.new.transaction rows.sixteen c.requires.client c.index_mut-transaction.ensures.value
     old.places.items (free_in (heap_items old.free.back) old.free.end) old.clients.items old.failed old.sound
     new.places.items (free_in (heap_items new.free.back) new.free.end) new.clients.items new.failed new.sound rows.stored c.abandon.ensures.ended c.abandon.ensures.none
+
+pub invariant_of-self-clause-counted : goal.invariant_of-self-clause-counted
+invariant_of-self-clause-counted g c =
+    let rows = c.args.self.now in
+    let ended = c.abandon.ensures.ended in
+    counted_keeps rows.schema (g.S.Slots.state rows.chains.slots) (g.S.Slots.state c.abandon.new.chains.slots) rows.used ended.keeps (λ fine. sym ended.failed ∙ fine) rows.counted

@@ -6,6 +6,7 @@ use Rattle.abl_rows.specs.declared.store.RowError.{RowError}
 use Rattle.stored_rows.specs.State.{state_of}
 use Rattle.stored_rows.proofs.Errors.{after_refusal}
 use Rattle.stored_rows.proofs.Methods.{back_keeps, back_says, begun_rests, mark_within, same_all}
+use Rattle.stored_rows.proofs.Counting.{back_keeps as back_committed, counted_keeps}
 use Rattle.stored_rows.proofs.rows.StoredRows.back.Goals as goal
 
 pub back-requires-clause-mark : goal.back-requires-clause-mark
@@ -51,3 +52,11 @@ returns-in-Err-clause-err g c = λ reserved sequences.
     let same = same_all rows.opens.items c.args.client c.index_mut-transaction.result.now now rows.sixteen c.requires.client c.index_mut-transaction.ensures.value e.same in
     subst (λ (x : RowError). AfterError {T = Unit {0}} (state_of rows.schema reserved sequences s rows.opens.items) (state_of rows.schema reserved sequences t (slice_set rows.opens.items c.args.client now)) (Err x)) (sym c.error_of.ensures)
     (after_refusal rows.schema reserved sequences s t rows.opens.items (slice_set rows.opens.items c.args.client now) same c.in-Err.fault e.err.keeps (begun_rests s t e.err) (λ q. e.err) e.cause)
+
+pub invariant_of-self-clause-counted : goal.invariant_of-self-clause-counted
+invariant_of-self-clause-counted g c =
+    let rows = c.args.self.now in
+    let s = g.S.Slots.state rows.chains.slots in
+    let t = g.S.Slots.state c.back.new.chains.slots in
+    let e = c.back.ensures in
+    counted_keeps rows.schema s t rows.used (back_committed s t c.args.client _ c.back.result e.ok e.err) (λ _. c.requires.fine) rows.counted

@@ -1,13 +1,13 @@
-use Rattle.std.proofs.Common.{◌≡◌, Some, None, Err, slice_set, refl, sym, subst, arith}
+use Rattle.std.proofs.Common.{Some, None, Err, slice_set, refl, sym, subst, arith}
 use Rattle.std.specs.BinaryHeap.{heap_items}
 use Rattle.free_slots.specs.Free.{free_in}
-use Rattle.database_meaning.specs.Setting.{fragments}
 use Rattle.abl_rows.specs.Rows.{AfterError}
 use Rattle.abl_rows.specs.declared.store.RowError.{RowError}
 use Rattle.stored_rows.specs.State.{state_of}
 use Rattle.stored_rows.proofs.Errors.{after_refusal}
 use Rattle.stored_rows.proofs.Methods.{begun_touched, same_all}
 use Rattle.stored_rows.proofs.Replaced.{replace_keeps, replace_says, row_there}
+use Rattle.stored_rows.proofs.Counting.{counted_keeps}
 use Rattle.stored_rows.proofs.rows.StoredRows.delete.Goals as goal
 
 pub delete-requires-clause-there : goal.delete-requires-clause-there
@@ -24,7 +24,7 @@ invariant_of-self-clause-stored g c =
     replace_keeps rows.schema (g.S.Slots.state old.slots) (g.S.Slots.state new.slots) rows.opens.items c.args.client c.index_mut-transaction.result.now c.delete.new.transaction rows.sixteen c.requires.client c.index_mut-transaction.ensures.value
     old.places.items (free_in (heap_items old.free.back) old.free.end) old.clients.items old.failed old.sound
     new.places.items (free_in (heap_items new.free.back) new.free.end) new.clients.items new.failed new.sound rows.stored c.requires.fine c.requires.begun
-    c.args.row.0 (Some c.args.old.row) None None 0 c.args.old.fragments c.requires.there (λ readable. refl) (λ readable. refl)
+    c.args.row.0 (Some c.args.old.row) None None c.args.old.fragments 0 c.requires.there (λ readable. refl) (λ readable. refl) c.args.old.counted refl (omega arith)
     (g.S.Slots.stop old.slots) (g.S.Slots.stop new.slots) c.delete.result e.ok e.touched e.refused e.same
 
 pub returns-in-Ok-clause-ok : goal.returns-in-Ok-clause-ok
@@ -33,12 +33,11 @@ returns-in-Ok-clause-ok g c =
     let old = rows.chains in
     let new = c.delete.new.chains in
     let e = c.in-Ok.ensures in
-    let had : c.args.old.fragments ≡ fragments (Some c.args.old.row) = c.args.old.counted in
     replace_says rows.schema (g.S.Slots.state old.slots) (g.S.Slots.state new.slots) rows.opens.items c.args.client c.index_mut-transaction.result.now c.delete.new.transaction rows.sixteen c.requires.client c.index_mut-transaction.ensures.value
     old.places.items (free_in (heap_items old.free.back) old.free.end) old.clients.items old.failed old.sound
     new.places.items (free_in (heap_items new.free.back) new.free.end) new.clients.items new.failed new.sound rows.stored c.requires.fine c.requires.begun
-    c.args.row.0 (Some c.args.old.row) None None 0 c.args.old.fragments c.requires.there (λ readable. refl) (λ readable. refl)
-    e.touched.others e.touched.begun e.touched.keeps e.ok (omega arith) (omega (arith, had))
+    c.args.row.0 (Some c.args.old.row) None None c.args.old.fragments 0 c.requires.there (λ readable. refl) (λ readable. refl) c.args.old.counted refl (omega arith)
+    e.touched.others e.touched.begun e.touched.keeps e.ok
 
 pub returns-in-Err-clause-err : goal.returns-in-Err-clause-err
 returns-in-Err-clause-err g c = λ reserved sequences.
@@ -53,3 +52,8 @@ returns-in-Err-clause-err g c = λ reserved sequences.
     subst (λ (x : RowError). AfterError {T = Unit {0}} (state_of rows.schema reserved sequences s rows.opens.items) (state_of rows.schema reserved sequences t (slice_set rows.opens.items c.args.client now)) (Err x)) (sym c.error_of.ensures)
     (after_refusal rows.schema reserved sequences s t rows.opens.items (slice_set rows.opens.items c.args.client now) same c.in-Err.fault e.touched.keeps
     (begun_touched s t (g.S.Slots.stop old.slots) (g.S.Slots.stop new.slots) c.args.client _ e.touched) (λ never. e.refused (λ q. never (cc q))) e.touched.cause)
+
+pub invariant_of-self-clause-counted : goal.invariant_of-self-clause-counted
+invariant_of-self-clause-counted g c =
+    let rows = c.args.self.now in
+    counted_keeps rows.schema (g.S.Slots.state rows.chains.slots) (g.S.Slots.state c.delete.new.chains.slots) rows.used c.delete.ensures.touched.keeps (λ _. c.requires.fine) rows.counted

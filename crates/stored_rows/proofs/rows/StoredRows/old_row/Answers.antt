@@ -6,6 +6,7 @@ use Rattle.stored_rows.specs.State.{state_of}
 use Rattle.stored_rows.proofs.Errors.{after_refusal, state_rests}
 use Rattle.stored_rows.proofs.Looked.{looked_stored}
 use Rattle.stored_rows.proofs.Methods.{begun_rests}
+use Rattle.stored_rows.proofs.Counting.{counted_keeps, failed_before}
 use Rattle.stored_rows.proofs.rows.StoredRows.old_row.Goals as goal
 
 pub invariant_of-self-clause-stored : goal.invariant_of-self-clause-stored
@@ -29,3 +30,11 @@ returns-in-Err-clause-err g c = λ reserved sequences.
     let l = c.in-Err.ensures.looked in
     subst (λ (x : RowError). AfterError {T = Option OldRow} (state_of rows.schema reserved sequences s rows.opens.items) (state_of rows.schema reserved sequences t rows.opens.items) (Err x)) (sym c.error_of.ensures)
     (after_refusal rows.schema reserved sequences s t rows.opens.items rows.opens.items (λ d. refl) c.in-Err.fault l.rests.keeps (begun_rests s t l.rests) (λ q. l.rests) l.cause)
+
+pub invariant_of-self-clause-counted : goal.invariant_of-self-clause-counted
+invariant_of-self-clause-counted g c =
+    let rows = c.args.self.now in
+    let s = g.S.Slots.state rows.chains.slots in
+    let t = g.S.Slots.state c.find.new.chains.slots in
+    let l = c.find.ensures.looked in
+    counted_keeps rows.schema s t rows.used l.rests.keeps (failed_before s t _ l.cause) rows.counted

@@ -1,27 +1,28 @@
-use Rattle.std.proofs.Common.{◌≡◌, ℕ, Bool, List, Ok, Err, sym, ap, ◌∙◌, subst}
+use Rattle.std.proofs.Common.{◌≡◌, ℕ, List, Err, sym, ap, ◌∙◌, subst}
+use Rattle.std.proofs.Math.Path.{fun_ext}
 use Rattle.abl_storage.specs.Slots.{IsReadable, Transaction}
-use Rattle.abl_storage.specs.declared.slots.SlotFault.TheVariants.{NoMemory}
 use Rattle.row_chain.proofs.Composes.{looked_as, readable_on}
 use Rattle.chain_store.proofs.Reading.{still_both, still_looked}
-use Rattle.stored_rows.specs.Decoded.{AreRead}
+use Rattle.stored_rows.specs.Counted.{AreCounted}
+use Rattle.stored_rows.specs.Decoded.{AreRead, decoded}
 use Rattle.stored_rows.proofs.Opening.{all_read, opened_stored, stored_nowhere}
 use Rattle.stored_rows.proofs.rows.StoredRows.open.Goals as goal
 
-pub returns-in-Ok-true-clause-same : goal.returns-in-Ok-true-clause-same
-returns-in-Ok-true-clause-same g c =
+pub returns-in-Ok-count_rows-clause-same : goal.returns-in-Ok-count_rows-clause-same
+returns-in-Ok-count_rows-clause-same g c =
     let r = g.S.Slots.state c.args.slots in
     let s = g.S.Slots.state c.in-Ok-open.chains.slots in
-    let t = g.S.Slots.state c.are_rows.new.chains.slots in
-    let l = c.in-Ok-true.ensures.looked in
-    still_both r s t (g.S.Slots.stop c.args.slots) (g.S.Slots.stop c.in-Ok-open.chains.slots) (g.S.Slots.stop c.are_rows.new.chains.slots) (g.met.S.Slots.stop_known c.are_rows.new.chains.slots)
+    let t = g.S.Slots.state c.count_rows.new.chains.slots in
+    let l = c.in-Ok-count_rows.ensures.looked in
+    still_both r s t (g.S.Slots.stop c.args.slots) (g.S.Slots.stop c.in-Ok-open.chains.slots) (g.S.Slots.stop c.count_rows.new.chains.slots) (g.met.S.Slots.stop_known c.count_rows.new.chains.slots)
     c.in-Ok-open.ensures.same (record { rests = l.rests; time = l.time; later = l.cause.later; failed = l.cause.stays (λ e. cc e) })
 
 pub invariant_of-result-clause-stored : goal.invariant_of-result-clause-stored
 invariant_of-result-clause-stored g c =
     let r = g.S.Slots.state c.args.slots in
     let s = g.S.Slots.state c.in-Ok-open.chains.slots in
-    let t = g.S.Slots.state c.are_rows.new.chains.slots in
-    let l = c.in-Ok-true.ensures.looked in
+    let t = g.S.Slots.state c.count_rows.new.chains.slots in
+    let l = c.in-Ok-count_rows.ensures.looked in
     let first = c.in-Ok-open.ensures.same in
     let same : t.failed ≡ s.failed = l.cause.stays (λ e. cc e) in
     let back : IsReadable t → IsReadable s = λ h. readable_on t s (sym l.rests.keeps.observable) (sym same) h in
@@ -34,29 +35,32 @@ invariant_of-result-clause-stored g c =
     ∙ (ap (λ (f : ℕ → List ℕ). f k) (first.rests.keeps.committed (start h).0)
     ∙ (c.requires.settled (start h) k
     ∙ (sym (ap (λ (f : ℕ → List ℕ). f k) (first.rests.reads (start h))) ∙ sym (ap (λ (f : ℕ → List ℕ). f k) (l.rests.reads (back h)))))))
-    (λ h. subst (AreRead c.args.schema) (sym (l.rests.reads (back h))) (all_read c.args.schema s.reads (c.in-Ok-true.ensures.read c.in-Ok-true.field-0-test (back h)))))
+    (λ h. subst (AreRead c.args.schema) (sym (l.rests.reads (back h))) (all_read c.args.schema s.reads (c.in-Ok-count_rows.ensures.read (back h)))))
 
-pub returns-in-Ok-false-clause-err : goal.returns-in-Ok-false-clause-err
-returns-in-Ok-false-clause-err g c =
+pub returns-in-Err-count_rows-clause-err : goal.returns-in-Err-count_rows-clause-err
+returns-in-Err-count_rows-clause-err g c =
     let r = g.S.Slots.state c.args.slots in
     let s = g.S.Slots.state c.in-Ok-open.chains.slots in
-    let t = g.S.Slots.state c.are_rows.new.chains.slots in
+    let t = g.S.Slots.state c.count_rows.new.chains.slots in
     let at_r = g.S.Slots.stop c.args.slots in
     let at_s = g.S.Slots.stop c.in-Ok-open.chains.slots in
-    let at_t = g.S.Slots.stop c.are_rows.new.chains.slots in
+    let at_t = g.S.Slots.stop c.count_rows.new.chains.slots in
+    let fault = c.in-Err-count_rows.fault in
     rw c.close.ensures.same
-    (still_looked r s t at_r at_s at_t (g.met.S.Slots.stop_known c.are_rows.new.chains.slots) c.in-Ok-open.ensures.same {T = ℕ} (Err NoMemory)
-    (looked_as {T = Bool} {U = ℕ} s t at_s at_t (Ok c.in-Ok-false.field-0) (Err NoMemory) (λ e. absurd (cc e)) (λ e. absurd (cc e)) c.in-Ok-false.ensures.looked))
+    (still_looked r s t at_r at_s at_t (g.met.S.Slots.stop_known c.count_rows.new.chains.slots) c.in-Ok-open.ensures.same {T = ℕ} (Err fault)
+    (looked_as {T = ℕ} {U = ℕ} s t at_s at_t (Err fault) (Err fault) (λ e. cc e) (λ e. cc e) c.in-Err-count_rows.ensures.looked))
 
-pub returns-in-Err-are_rows-clause-err : goal.returns-in-Err-are_rows-clause-err
-returns-in-Err-are_rows-clause-err g c =
+pub invariant_of-result-clause-counted : goal.invariant_of-result-clause-counted
+invariant_of-result-clause-counted g c = λ h.
     let r = g.S.Slots.state c.args.slots in
     let s = g.S.Slots.state c.in-Ok-open.chains.slots in
-    let t = g.S.Slots.state c.are_rows.new.chains.slots in
-    let at_r = g.S.Slots.stop c.args.slots in
-    let at_s = g.S.Slots.stop c.in-Ok-open.chains.slots in
-    let at_t = g.S.Slots.stop c.are_rows.new.chains.slots in
-    let fault = c.in-Err-are_rows.fault in
-    rw c.close-in-Err-are_rows.ensures.same
-    (still_looked r s t at_r at_s at_t (g.met.S.Slots.stop_known c.are_rows.new.chains.slots) c.in-Ok-open.ensures.same {T = ℕ} (Err fault)
-    (looked_as {T = Bool} {U = ℕ} s t at_s at_t (Err fault) (Err fault) (λ e. cc e) (λ e. cc e) c.in-Err-are_rows.ensures.looked))
+    let t = g.S.Slots.state c.count_rows.new.chains.slots in
+    let l = c.in-Ok-count_rows.ensures.looked in
+    let first = c.in-Ok-open.ensures.same in
+    let same : t.failed ≡ s.failed = l.cause.stays (λ e. cc e) in
+    let back : IsReadable s = readable_on t s (sym l.rests.keeps.observable) (sym same) h in
+    let start : IsReadable r = readable_on s r (sym first.rests.keeps.observable) (sym first.failed) back in
+    let settled : (k : ℕ) → t.committed k ≡ s.reads k = λ k.
+    ap (λ (f : ℕ → List ℕ). f k) (l.rests.keeps.committed back.0)
+    ∙ (ap (λ (f : ℕ → List ℕ). f k) (first.rests.keeps.committed start.0) ∙ (c.requires.settled start k ∙ sym (ap (λ (f : ℕ → List ℕ). f k) (first.rests.reads start)))) in
+    subst (λ (f : ℕ → List ℕ). AreCounted (decoded c.args.schema f) c.in-Ok-count_rows.used) (sym (fun_ext settled)) (c.in-Ok-count_rows.ensures.counted back)

@@ -1,4 +1,4 @@
-use Rattle.std.proofs.Common.{◌≡◌, ℕ, ◌-◌, max, List, Some, Err, length, slice_set, sym, ap, ◌∙◌, subst}
+use Rattle.std.proofs.Common.{◌≡◌, ◌≤◌, ℕ, List, Some, Err, length, slice_set, sym, ap, ◌∙◌, subst, arith}
 use Rattle.std.specs.BinaryHeap.{heap_items}
 use Rattle.free_slots.specs.Free.{free_in}
 use Rattle.abl_storage.specs.Slots.{IsReadable}
@@ -11,7 +11,8 @@ use Rattle.stored_rows.specs.Decoded.{row_of}
 use Rattle.stored_rows.specs.State.{state_of}
 use Rattle.stored_rows.proofs.Errors.{after_refusal}
 use Rattle.stored_rows.proofs.Methods.{begun_touched, same_all}
-use Rattle.stored_rows.proofs.Replaced.{put_is, put_reads, replace_keeps, replace_says, row_there}
+use Rattle.stored_rows.proofs.Replaced.{few_fragments, put_is, put_reads, replace_keeps, replace_says, row_there}
+use Rattle.stored_rows.proofs.Counting.{counted_keeps}
 use Rattle.stored_rows.proofs.rows.StoredRows.put.Goals as goal
 
 pub put-requires-clause-there : goal.put-requires-clause-there
@@ -29,12 +30,16 @@ invariant_of-self-2-clause-stored g c =
     let before = c.args.old.row in
     let encoded : c.as_slice.result.now ≡ bytes_of_row c.args.values.now = c.as_slice.ensures ∙ c.in-Ok.ensures in
     let is : IsReadable s → row_of rows.schema (Some (record { table = table_in (s.reads c.args.row.0); bytes = c.as_slice.result.now })) ≡ Some (record { table = before.table; values = c.args.values.now }) = λ readable. put_is rows.schema s.reads c.args.row.0 before c.args.values.now c.as_slice.result.now (c.requires.there readable) c.requires.table c.requires.fits encoded in
+    let many : fragments_of (length c.as_slice.result.now) ≡ fragments (Some (record { table = before.table; values = c.args.values.now })) = ap (λ (b : List ℕ). fragments_of (length b)) encoded in
+    let size = c.requires.size in
+    let long = ap length encoded in
+    let few : fragments_of (length c.as_slice.result.now) ≤ 125 = few_fragments (length c.as_slice.result.now) (omega (arith, size, long)) in
     replace_keeps rows.schema s (g.S.Slots.state new.slots) rows.opens.items c.args.client c.index_mut-transaction.result.now c.put.new.transaction rows.sixteen c.requires.client c.index_mut-transaction.ensures.value
     old.places.items (free_in (heap_items old.free.back) old.free.end) old.clients.items old.failed old.sound
     new.places.items (free_in (heap_items new.free.back) new.free.end) new.clients.items new.failed new.sound rows.stored c.requires.fine c.requires.begun
     c.args.row.0 (Some before) (Some (record { table = table_in (s.reads c.args.row.0); bytes = c.as_slice.result.now })) (Some (record { table = before.table; values = c.args.values.now }))
-    (fragments_of (length c.as_slice.result.now) - c.args.old.fragments) (max (fragments_of (length c.as_slice.result.now)) c.args.old.fragments)
-    c.requires.there (λ readable. sym (is readable)) (λ readable. put_reads rows.schema _ _ (is readable))
+    c.args.old.fragments (fragments_of (length c.as_slice.result.now))
+    c.requires.there (λ readable. sym (is readable)) (λ readable. put_reads rows.schema _ _ (is readable)) c.args.old.counted many few
     (g.S.Slots.stop old.slots) (g.S.Slots.stop new.slots) c.put.result e.ok e.touched e.refused e.same
 
 pub returns-in-Ok-put-clause-ok : goal.returns-in-Ok-put-clause-ok
@@ -47,17 +52,17 @@ returns-in-Ok-put-clause-ok g c =
     let before = c.args.old.row in
     let encoded : c.as_slice.result.now ≡ bytes_of_row c.args.values.now = c.as_slice.ensures ∙ c.in-Ok.ensures in
     let is : IsReadable s → row_of rows.schema (Some (record { table = table_in (s.reads c.args.row.0); bytes = c.as_slice.result.now })) ≡ Some (record { table = before.table; values = c.args.values.now }) = λ readable. put_is rows.schema s.reads c.args.row.0 before c.args.values.now c.as_slice.result.now (c.requires.there readable) c.requires.table c.requires.fits encoded in
-    let had : c.args.old.fragments ≡ fragments (Some before) = c.args.old.counted in
     let many : fragments_of (length c.as_slice.result.now) ≡ fragments (Some (record { table = before.table; values = c.args.values.now })) = ap (λ (b : List ℕ). fragments_of (length b)) encoded in
+    let size = c.requires.size in
+    let long = ap length encoded in
+    let few : fragments_of (length c.as_slice.result.now) ≤ 125 = few_fragments (length c.as_slice.result.now) (omega (arith, size, long)) in
     replace_says rows.schema s (g.S.Slots.state new.slots) rows.opens.items c.args.client c.index_mut-transaction.result.now c.put.new.transaction rows.sixteen c.requires.client c.index_mut-transaction.ensures.value
     old.places.items (free_in (heap_items old.free.back) old.free.end) old.clients.items old.failed old.sound
     new.places.items (free_in (heap_items new.free.back) new.free.end) new.clients.items new.failed new.sound rows.stored c.requires.fine c.requires.begun
     c.args.row.0 (Some before) (Some (record { table = table_in (s.reads c.args.row.0); bytes = c.as_slice.result.now })) (Some (record { table = before.table; values = c.args.values.now }))
-    (fragments_of (length c.as_slice.result.now) - c.args.old.fragments) (max (fragments_of (length c.as_slice.result.now)) c.args.old.fragments)
-    c.requires.there (λ readable. sym (is readable)) (λ readable. put_reads rows.schema _ _ (is readable))
+    c.args.old.fragments (fragments_of (length c.as_slice.result.now))
+    c.requires.there (λ readable. sym (is readable)) (λ readable. put_reads rows.schema _ _ (is readable)) c.args.old.counted many few
     e.touched.others e.touched.begun e.touched.keeps e.ok
-    (ap (λ (n : ℕ). n - c.args.old.fragments) many ∙ ap (λ (n : ℕ). fragments (Some (record { table = before.table; values = c.args.values.now })) - n) had)
-    (ap (λ (n : ℕ). max n c.args.old.fragments) many ∙ ap (λ (n : ℕ). max (fragments (Some (record { table = before.table; values = c.args.values.now }))) n) had)
 
 pub returns-clause-err : goal.returns-clause-err
 returns-clause-err g c = λ reserved sequences.
@@ -72,3 +77,8 @@ returns-clause-err g c = λ reserved sequences.
     subst (λ (x : RowError). AfterError {T = Unit {0}} (state_of rows.schema reserved sequences s rows.opens.items) (state_of rows.schema reserved sequences t (slice_set rows.opens.items c.args.client now)) (Err x)) (sym c.error_of.ensures)
     (after_refusal rows.schema reserved sequences s t rows.opens.items (slice_set rows.opens.items c.args.client now) same c.in-Err-put.fault e.touched.keeps
     (begun_touched s t (g.S.Slots.stop old.slots) (g.S.Slots.stop new.slots) c.args.client _ e.touched) (λ never. e.refused (λ q. never (cc q))) e.touched.cause)
+
+pub invariant_of-self-2-clause-counted : goal.invariant_of-self-2-clause-counted
+invariant_of-self-2-clause-counted g c =
+    let rows = c.args.self.now in
+    counted_keeps rows.schema (g.S.Slots.state rows.chains.slots) (g.S.Slots.state c.put.new.chains.slots) rows.used c.put.ensures.touched.keeps (λ _. c.requires.fine) rows.counted

@@ -1,0 +1,30 @@
+use Rattle.std.proofs.Common.{ℕ, List, sym, ap, ◌∙◌, subst}
+use Rattle.std.proofs.Math.Path.{fun_ext}
+use Rattle.stored_rows.specs.Counted.{AreCounted}
+use Rattle.stored_rows.specs.Decoded.{decoded}
+use Rattle.stored_rows.proofs.Counting.{counted_none}
+use Rattle.stored_rows.proofs.Opening.{holds_no_row, no_row_read, opened_stored, stored_nowhere}
+use Rattle.stored_rows.proofs.rows.StoredRows.new.Goals as goal
+
+pub invariant_of-result-clause-stored : goal.invariant_of-result-clause-stored
+invariant_of-result-clause-stored g c =
+    let s = g.S.Slots.state c.args.slots in
+    let same = c.in_ok-chains.ensures.same in
+    rw same
+    (stored_nowhere c.args.schema s c.in_ok-opens.opens.items c.in_ok-opens.ensures.idle
+    (opened_stored c.args.schema s c.requires.clean c.requires.settled (λ readable. no_row_read c.args.schema s.reads (c.requires.empty readable))))
+
+pub invariant_of-result-clause-counted : goal.invariant_of-result-clause-counted
+invariant_of-result-clause-counted g c =
+    let s = g.S.Slots.state c.args.slots in
+    let same = c.in_ok-chains.ensures.same in
+    rw same
+    (λ readable. subst (λ (f : ℕ → List ℕ). AreCounted (decoded c.args.schema f) 0) (sym (fun_ext (c.requires.settled readable))) (counted_none c.args.schema s.reads (holds_no_row c.args.schema s.reads (c.requires.empty readable))))
+
+pub returns-clause-rows : goal.returns-clause-rows
+returns-clause-rows g c = λ k readable. holds_no_row c.args.schema (g.S.Slots.state c.args.slots).reads (c.requires.empty readable) k
+
+pub returns-clause-committed : goal.returns-clause-committed
+returns-clause-committed g c = λ k readable.
+    let s = g.S.Slots.state c.args.slots in
+    ap (λ (f : ℕ → List ℕ). decoded c.args.schema f k) (fun_ext (c.requires.settled readable)) ∙ holds_no_row c.args.schema s.reads (c.requires.empty readable) k
