@@ -1,0 +1,12 @@
+pub mod Counted
+pub mod Placed
+pub mod Kept
+pub mod Delimited
+pub mod Listing
+pub mod UniqueMoves
+pub mod Blank
+pub mod FieldKinds
+pub mod Found
+pub mod Others
+pub mod Reserving
+pub mod Ascending

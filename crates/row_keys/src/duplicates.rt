@@ -1,0 +1,142 @@
+//! Rows that have a unique key already.
+
+ghost use Rattle.std.specs.Prelude.{◌≡◌, ◌↔◌, ℕ, true, None, Some, length, IfOk, IsTrue, MatchOption};
+ghost use Rattle.abl_base.specs.declared.row.RowId.{RowId as Identity};
+ghost use Rattle.database_meaning.specs.Setting.{FitsTable, HasTable};
+ghost use Rattle.database_meaning.specs.Waiting.{row_in};
+ghost use Rattle.abl_rows.specs.Changes.{RowsById};
+ghost use Rattle.row_indexes.specs.Places.{places_of};
+ghost use Rattle.row_keys.specs.Numbers.{index_count};
+ghost use Rattle.row_keys.specs.Entries.{AreEntries, AreFitting};
+ghost use Rattle.row_keys.specs.Questions.{HasNoneWith, HasOther, IsLeastDuplicateIn, IsOther};
+ghost use Rattle.std.specs.Option.{option_copied};
+ghost use Rattle.abl_values.specs.Masks.{same_bytes};
+ghost use Rattle.key_index.specs.Search.{IsNext};
+
+use crate::indexes::index_at;
+use crate::keys::unique_key_of;
+use crate::numbers::{def_at, first_of_table, numbered};
+use abl_base::{Bytes, Row, RowId};
+use abl_rows::Duplicate;
+use abl_values::{IndexDef, Schema, same_bytes};
+use client_database::Cursor;
+use key_index::Index;
+use std::alloc::AllocError;
+
+/// The least index of the table in which another row than the replaced one has a unique key of these
+/// values, with that row. An error means out of memory.
+pub fn duplicate(
+    schema: &Schema,
+    indexes: &[Index],
+    table: u16,
+    row: Option<RowId>,
+    values: &Row,
+) -> Result<Option<Duplicate>, AllocError>
+    requires table { HasTable schema.now table }
+    requires fits { FitsTable schema.now table values.now }
+    requires count { length indexes.now ≡ index_count schema.now }
+    ensures { IfOk result (λ found. (rows : RowsById) → AreEntries schema.now rows (places_of indexes.now) → AreFitting schema.now rows →
+        MatchOption found ((index : ℕ) (other : Identity) → ¬ IsLeastDuplicateIn schema.now rows row (row_in table values.now) index other)
+        (λ d. IsLeastDuplicateIn schema.now rows row (row_in table values.now) d.index d.row)) }
+{
+    let _count = indexes.len();
+    let first = first_of_table(schema, table);
+    for index in 0..schema.indexes(table).len() {
+        let def = def_at(schema, table, index);
+        match other_row(index_at(indexes, first + index), def, row, values)? {
+            None => {}
+            Some(other) => {
+                return Ok(Some(Duplicate {
+                    index: numbered(index)?,
+                    row: other,
+                }));
+            }
+        }
+    }
+    Ok(None)
+}
+
+/// Another row than the replaced one with the unique key of these values in the index.
+fn other_row(
+    index: &Index,
+    def: &IndexDef,
+    row: Option<RowId>,
+    values: &Row,
+) -> Result<Option<RowId>, AllocError>
+    ensures { IfOk result (λ found. MatchOption found ((other : Identity) → ¬ HasOther index.now def.now row values.now other)
+        (λ other. HasOther index.now def.now row values.now other)) }
+{
+    match unique_key_of(def, values)? {
+        None => Ok(None),
+        Some(key) => other_with_key(index, &key, row),
+    }
+}
+
+/// Another row than the replaced one with this key in the index.
+fn other_with_key(
+    index: &Index,
+    key: &Bytes,
+    row: Option<RowId>,
+) -> Result<Option<RowId>, AllocError>
+    ensures { IfOk result (λ found. MatchOption found ((other : Identity) → ¬ IsOther index.now key.now row other)
+        (λ other. IsOther index.now key.now row other)) }
+{
+    match row_with_key(index, None, key)? {
+        None => Ok(None),
+        Some(first) => {
+            if !is_row(row, first.row) {
+                return Ok(Some(first.row));
+            }
+            let second = row_with_key(index, Some(&first), key)?;
+            Ok(row_of(second))
+        }
+    }
+}
+
+/// The row of the place, if there is one.
+fn row_of(place: Option<Cursor>) -> Option<RowId>
+    ensures { MatchOption place (result ≡ None) (λ place. result ≡ Some place.row) }
+{
+    match place {
+        None => None,
+        Some(place) => Some(place.row),
+    }
+}
+
+/// The first row after the cursor with this very key.
+fn row_with_key(
+    index: &Index,
+    cursor: Option<&Cursor>,
+    key: &Bytes,
+) -> Result<Option<Cursor>, AllocError>
+    ensures { IfOk result (λ found. MatchOption found (HasNoneWith index.now (option_copied cursor.entry) key.now)
+        (λ f. (f.key ≡ key.now) × IsNext index.now (option_copied cursor.entry) key.now true f)) }
+{
+    match index.next(cursor, key, true)? {
+        None => Ok(None),
+        Some(found) => {
+            if has_key(&found, key) {
+                Ok(Some(found))
+            } else {
+                Ok(None)
+            }
+        }
+    }
+}
+
+/// Whether the place is under this key.
+fn has_key(place: &Cursor, key: &Bytes) -> bool
+    ensures { result ≡ same_bytes place.now.key key.now }
+{
+    same_bytes(place.key.as_slice(), key.as_slice())
+}
+
+/// Whether it is this row.
+fn is_row(row: Option<RowId>, other: RowId) -> bool
+    ensures { IsTrue result ↔ (row ≡ Some other) }
+{
+    match row {
+        None => false,
+        Some(row) => row.0 == other.0,
+    }
+}
