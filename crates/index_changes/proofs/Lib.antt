@@ -1,0 +1,4 @@
+pub mod Ended
+pub mod AfterEnd
+pub mod Leaves
+pub mod Restored
