@@ -1,0 +1,11 @@
+pub mod Clients
+pub mod Same
+pub mod Parts
+pub mod Fitting
+pub mod Keepers
+pub mod Changed
+pub mod Returned
+pub mod Ended
+pub mod Kept
+pub mod Starts
+pub mod Props
