@@ -1,0 +1,2 @@
+use Rattle.std.proofs.Common.{◌≡◌}
+use Rattle.record_store.proofs.reads.values_in.Goals as goal

@@ -1,0 +1,15 @@
+//! Rows with their indexes over slots: `RecordStore`, which implements the trait `RowStore` of
+//! `abl_rows`. It joins the rows of `stored_rows` to the indexes of all tables, the moves that undo
+//! each change in them, and the sequence values. The database machine depends on the clauses of the
+//! trait alone; `specs/State.antt` says which state a store has and what a new one is.
+#![tactic(auto)]
+
+pub mod changes;
+pub mod opened;
+pub mod questions;
+pub mod reads;
+pub mod row_store;
+pub mod sequences;
+pub mod store;
+
+pub use store::RecordStore;

@@ -1,0 +1,31 @@
+//! The store.
+
+ghost use Rattle.std.specs.Prelude.{◌≡◌, length};
+ghost use Rattle.indexed_rows.specs.Indexed.{IsIndexed};
+ghost use Rattle.indexed_rows.proofs.Props.{IsIndexed-prop};
+ghost use Rattle.indexed_rows.specs.Moved.{moved_in};
+ghost use Rattle.record_store.specs.State.{store_state};
+ghost use Rattle.std.proofs.Props.{props};
+
+use abl_storage::Slots;
+use indexed_rows::ClientMoves;
+use key_index::Index;
+use std::alloc::Global;
+use stored_rows::StoredRows;
+
+/// Rows in slots with the indexes of their tables, the sequence values, and at most one transaction
+/// of each of the clients 0 to 15.
+#[derive(Drop)]
+pub struct RecordStore<S: Slots + Drop> {
+    pub(crate) alloc: Global,
+    pub(crate) rows: StoredRows<S>,
+    /// The indexes of all tables, one table after the other.
+    pub(crate) indexes: Vec<Index>,
+    /// The moves of each client's changes.
+    pub(crate) clients: Vec<ClientMoves>,
+    /// The sequence values that the last commit stored.
+    pub(crate) sequences: Vec<i64>,
+    ghost sixteen: { length clients.items ≡ 16 },
+    ghost values: { length sequences.items ≡ length rows.schema.sequences },
+    ghost indexed: { IsIndexed (store_state rows.schema indexes.items sequences.items (S.Slots.state rows.chains.slots) rows.opens.items) (moved_in clients.items) indexes.items } by { Prim.hlevel (props, IsIndexed-prop) },
+}
