@@ -1,6 +1,6 @@
 //! The database.
 
-ghost use Rattle.std.specs.Prelude.{◌≡◌, ◌≢◌, ◌⊎◌, ◌<◌, ◌≤◌, ◌+◌, ◌||◌, ◌++◌, ◌∷◌, [], ℕ, None, IfOk, IfSome, IsTrue, false, length, slice_get, vec_capacity, vec_len};
+ghost use Rattle.std.specs.Prelude.{◌≡◌, ◌≢◌, ◌⊎◌, ◌<◌, ◌≤◌, ◌+◌, ◌↔◌, ◌||◌, ◌++◌, ◌∷◌, [], ℕ, None, IfOk, IfSome, IsTrue, false, length, slice_get, vec_capacity, vec_len};
 ghost use Rattle.client_database.specs.declared.answer.Answer.TheVariants.{Closed};
 ghost use Rattle.database_interface.specs.Step.{IsRefusedRightly, event_of};
 ghost use Rattle.database_meaning.specs.declared.contents.Contents.{Contents};
@@ -97,6 +97,13 @@ impl<R: RowStore + Drop> Db<R> {
             running,
             trace,
         })
+    }
+
+    /// Whether this is a client of the database that has not ended: then its operations are answered.
+    pub fn is_active(&self, client: u16) -> bool
+        ensures { IsTrue result ↔ IsActive self.now client }
+    {
+        (client as usize) < self.control.sessions.len() && self.running.has(client)
     }
 
     /// Answers the operation of a client that has not ended, and adds one event to the trace. None

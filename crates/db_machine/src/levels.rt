@@ -140,6 +140,7 @@ pub(crate) fn answer_commit<R: RowStore>(
     requires fine { (R.RowStore.state rows.old).failed ≡ false }
     requires some { IsSome (R.RowStore.state rows.old) control.old }
     requires size { size ≤ MOST + 1 }
+    requires sequences { length control.old.sequences.items ≡ length (R.RowStore.state rows.old).schema.sequences }
     requires outermost { length (marks_at control.old client) ≡ 1 }
     requires frees { control.old.frees + 1 < 2 ^ 64 }
     requires op { op.now ≡ Op.Leave keep.now }

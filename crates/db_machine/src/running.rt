@@ -1,6 +1,6 @@
 //! Which clients have not ended.
 
-ghost use Rattle.std.specs.Prelude.{◌≡◌, ◌≢◌, ◌+◌, IfOk, length, replicate, true, false, slice_set};
+ghost use Rattle.std.specs.Prelude.{◌≡◌, ◌≢◌, ◌+◌, ◌↔◌, IfOk, IsTrue, length, replicate, true, false, slice_set};
 ghost use Rattle.client_database.specs.declared.operation.Op.{Op as Asked};
 ghost use Rattle.db_machine.specs.Running.{EndsAtEnd, IsRunning, running_in};
 
@@ -43,6 +43,14 @@ impl Running {
         ensures { result ≡ running_in self.now }
     {
         self.count
+    }
+
+    /// Whether this is a client that has not ended.
+    pub fn has(&self, client: u16) -> bool
+        ensures { IsTrue result ↔ IsRunning self.now client }
+    {
+        let client = client as usize;
+        client < self.clients.len() && self.clients[client]
     }
 
     /// The client has ended.
