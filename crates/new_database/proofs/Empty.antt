@@ -1,0 +1,41 @@
+-- The contents of a new database are sound, and a store without rows was opened with them.
+use Rattle.std.proofs.Common.{◌≡◌, ◌∙◌, ℕ, [], refl, sym, subst}
+use Rattle.std.specs.Prelude.{None, Option, false}
+use Rattle.std.specs.FinMap.{get, get-empty}
+use Rattle.std.specs.Ordering.{nat_cmp}
+use Rattle.std.proofs.lemmas.List.{length-map}
+use Rattle.abl_values.specs.Schema.{SchemaData}
+use Rattle.abl_values.specs.declared.schema.SequenceDef.{SequenceDef}
+use Rattle.database_meaning.specs.declared.state.Key.{Key}
+use Rattle.database_meaning.specs.declared.state.StoredRow.{StoredRow}
+use Rattle.database_meaning.specs.Setting.{has_key, unique_keys}
+use Rattle.database_meaning.specs.Traces.{IsSoundContents, rows_of}
+use Rattle.abl_rows.specs.Rows.{RowState, no_transaction}
+use Rattle.db_core.specs.Opening.{IsOpened}
+use Rattle.mem_slots.specs.Mem.{at_rest}
+use Rattle.mem_slots.specs.Sparse.{zeros}
+use Rattle.chain_store.specs.Places.{HoldNothing}
+use Rattle.new_database.specs.Contents.{new_contents}
+
+-- no row has no key
+no_key : (schema : SchemaData) (k : Key) → has_key (unique_keys schema None) k ≡ false
+unfolding unique_keys
+no_key schema k = refl
+
+pub sound : (schema : SchemaData) (clients : ℕ) → IsSoundContents (record { schema = schema; clients = clients }) (new_contents schema)
+sound schema clients =
+    record {
+      ascending = tt;
+      rows = tt;
+      unique = λ r q k has also.
+          let none = subst (λ (row : Option StoredRow). has_key (unique_keys schema row) k ≡ false) (sym (get-empty nat_cmp r)) (no_key schema k) in absurd (cc (none, has));
+      sequences = length-map schema.sequences (λ (s : SequenceDef). s.initial);
+    }
+
+pub is_opened : (rows : RowState) (schema : SchemaData) → ((c : ℕ) → rows.transaction c ≡ no_transaction) → ((k : ℕ) → rows.committed k ≡ None) → IsOpened rows (new_contents schema)
+is_opened rows schema idle empty = record { idle = idle; committed = λ observable k. empty k ∙ sym (get-empty nat_cmp k) }
+
+-- slots of zeros hold no row
+pub hold_nothing : HoldNothing at_rest.reads
+unfolding zeros
+hold_nothing = λ k here. refl
