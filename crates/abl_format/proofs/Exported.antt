@@ -190,59 +190,59 @@ Stands kind (Logical b) = WordOf kind (Logical b) (export_text (Logical b))
 Stands kind (Date d) = WordOf kind (Date d) (export_text (Date d))
 Stands kind Unknown = WordOf kind Unknown (export_text Unknown)
 
-stands_unknown : (kind : Kind) → WordOf kind Unknown (export_text Unknown)
+word_of_unknown : (kind : Kind) → WordOf kind Unknown (export_text Unknown)
 unfolding export_text plain_text
-stands_unknown kind = record { is_one = refl; gives = refl }
+word_of_unknown kind = record { is_one = refl; gives = refl }
 
-stands_logical : (b : Bool) → WordOf Truth (Logical b) (export_text (Logical b))
+word_of_logical : (b : Bool) → WordOf Truth (Logical b) (export_text (Logical b))
 unfolding export_text plain_text value_in
-stands_logical true = record { is_one = refl; gives = refl }
-stands_logical false = record { is_one = refl; gives = refl }
+word_of_logical true = record { is_one = refl; gives = refl }
+word_of_logical false = record { is_one = refl; gives = refl }
 
-stands_text : (t : List ℕ) → length t ≤ MAX_TEXT_BYTES → taken (Some Character) (Quoted t) ≡ Some (Some (Text t))
+word_of_text : (t : List ℕ) → length t ≤ MAX_TEXT_BYTES → taken (Some Character) (Quoted t) ≡ Some (Some (Text t))
 unfolding value_in
-stands_text t h = ap (λ (x : Bool). option_map (λ v. Some v) (if x then Some (Text t) else None)) (le-leb (length t) MAX_TEXT_BYTES h)
+word_of_text t h = ap (λ (x : Bool). option_map (λ v. Some v) (if x then Some (Text t) else None)) (le-leb (length t) MAX_TEXT_BYTES h)
 
-stands_int : (n : ℤ) → fits_bits 31 n ≡ true → WordOf Integer (Int n) (export_text (Int n))
+word_of_int : (n : ℤ) → fits_bits 31 n ≡ true → WordOf Integer (Int n) (export_text (Int n))
 unfolding export_text plain_text value_in
-stands_int n h =
+word_of_int n h =
     let room : 2 ^ 31 ≤ 2 ^ 127 = lit≤ tt in
     word_of Integer (Int n) (signed_decimal n) (plain_whole n (wider 31 n room h)) (ap (option_map Int) (whole_back 31 n room h))
 
-stands_int64 : (n : ℤ) → fits_bits 63 n ≡ true → WordOf Whole64 (Int64 n) (export_text (Int64 n))
+word_of_int64 : (n : ℤ) → fits_bits 63 n ≡ true → WordOf Whole64 (Int64 n) (export_text (Int64 n))
 unfolding export_text plain_text value_in
-stands_int64 n h =
+word_of_int64 n h =
     let room : 2 ^ 63 ≤ 2 ^ 127 = lit≤ tt in
     word_of Whole64 (Int64 n) (signed_decimal n) (plain_whole n (wider 63 n room h)) (ap (option_map Int64) (whole_back 63 n room h))
 
-stands_decimal : (n : ℤ) → fits_bits 127 n ≡ true → WordOf Decimal (Dec n) (export_text (Dec n))
+word_of_decimal : (n : ℤ) → fits_bits 127 n ≡ true → WordOf Decimal (Dec n) (export_text (Dec n))
 unfolding export_text plain_text value_in
-stands_decimal n h = word_of Decimal (Dec n) (decimal_text n) (plain_decimal n h) (ap (option_map Dec) (decimal_back n h))
+word_of_decimal n h = word_of Decimal (Dec n) (decimal_text n) (plain_decimal n h) (ap (option_map Dec) (decimal_back n h))
 
-stands_date : (d : ℤ) → is_day d ≡ true → WordOf Day (Date d) (export_text (Date d))
+word_of_date : (d : ℤ) → is_day d ≡ true → WordOf Day (Date d) (export_text (Date d))
 unfolding export_text plain_text value_in
-stands_date d h =
+word_of_date d h =
     let date = date_of_day d in
     word_of Day (Date d) (date_text date) (plain_date date.year date.month date.day) (ap (option_map Date) (day_back d h))
 
 stands : (kind : Kind) (v : Value) → IsOfKind kind v → Stands kind v
-stands kind Unknown h = stands_unknown kind
-stands Character (Text t) h = stands_text t h
-stands Integer (Int n) h = stands_int n h
-stands Whole64 (Int64 n) h = stands_int64 n h
-stands Decimal (Dec n) h = stands_decimal n h
-stands Truth (Logical b) h = stands_logical b
-stands Day (Date d) h = stands_date d h
+stands kind Unknown h = word_of_unknown kind
+stands Character (Text t) h = word_of_text t h
+stands Integer (Int n) h = word_of_int n h
+stands Whole64 (Int64 n) h = word_of_int64 n h
+stands Decimal (Dec n) h = word_of_decimal n h
+stands Truth (Logical b) h = word_of_logical b
+stands Day (Date d) h = word_of_date d h
 stands kind v h = absurd h
 
-stands_taken : (kind : Kind) (v : Value) → Stands kind v → taken (Some kind) (element_of v) ≡ Some (Some v)
-stands_taken kind (Text t) s = s
-stands_taken kind (Int n) s = s.gives
-stands_taken kind (Int64 n) s = s.gives
-stands_taken kind (Dec n) s = s.gives
-stands_taken kind (Logical b) s = s.gives
-stands_taken kind (Date d) s = s.gives
-stands_taken kind Unknown s = s.gives
+word_of_taken : (kind : Kind) (v : Value) → Stands kind v → taken (Some kind) (element_of v) ≡ Some (Some v)
+word_of_taken kind (Text t) s = s
+word_of_taken kind (Int n) s = s.gives
+word_of_taken kind (Int64 n) s = s.gives
+word_of_taken kind (Dec n) s = s.gives
+word_of_taken kind (Logical b) s = s.gives
+word_of_taken kind (Date d) s = s.gives
+word_of_taken kind Unknown s = s.gives
 
 -- ---- the line's elements
 
@@ -299,7 +299,7 @@ row_taken : (kinds : List Kind) (row : List Value) → AreOfKinds kinds row → 
 row_taken [] [] h = tt
 row_taken [] (v ∷ vs) h = absurd h
 row_taken (k ∷ ks) [] h = absurd h
-row_taken (k ∷ ks) (v ∷ vs) h = (stands_taken k v (stands k v h.0), row_taken ks vs h.1)
+row_taken (k ∷ ks) (v ∷ vs) h = (word_of_taken k v (stands k v h.0), row_taken ks vs h.1)
 
 -- ---- the line's end
 

@@ -22,7 +22,7 @@ use Rattle.client_machine.specs.declared.mode.ends.EndTask.{EndTask}
 use Rattle.client_machine.specs.declared.mode.ends.EndTask.TheVariants as end_task
 use Rattle.client_machine.specs.declared.mode.ends.EndEntry.TheVariants as end_entry
 use Rattle.client_machine.specs.declared.mode.reads.ReadEntry.TheVariants as read_entry
-use Rattle.client_machine.specs.Config.{header_at, body_at, no_copy, copy_in, turn_of, turn_read, iteration_of, iteration_without, after_undo_of, buffers_of, fetch_at, passed_of, completion_of, end_task_of, task_of, entry_of, stack_of, state_of, IsBelow, WayBelow, EndTaskBelow, TaskBelow, OpenBelow, AllBelow, AreEven}
+use Rattle.client_machine.specs.Config.{header_at, body_at, no_copy, copy_in, turn_of, turn_read, iteration_of, iteration_without, after_undo_of, buffers_of, fetch_at, passed_of, completion_of, end_task_of, task_of, entry_of, stack_of, state_of, IsBelow, CompletionBelow, EndTaskBelow, TaskBelow, OpenBelow, AllBelow, AreEven}
 
 -- ---- one more copy
 
@@ -33,23 +33,23 @@ copy_same cs c (Some d) below = ap (λ (x : Copy). Some x) (get_or_append_left c
 iteration_same : (cs : List Copy) (c : Copy) (o : IterationData) → IsBelow (length cs) o.depth → iteration_of (cs ++ c ∷ []) o ≡ iteration_of cs o
 iteration_same cs c o below = ap (λ (x : Option Copy). let i : blocks.Iteration = record { copy = x; turn = turn_of o.turn } in i) (copy_same cs c o.depth below)
 
-behind_same : (code : List Instr) (cs : List Copy) (c : Copy) (x : PassedLevels) → IsBelow (length cs) x.first → passed_of code (cs ++ c ∷ []) x ≡ passed_of code cs x
-behind_same code cs c x below = ap (λ (k : Option Copy). let b : state.Passed = record { first = k; buffers = buffers_of code x.buffers } in b) (copy_same cs c x.first below)
+passed_same : (code : List Instr) (cs : List Copy) (c : Copy) (x : PassedLevels) → IsBelow (length cs) x.first → passed_of code (cs ++ c ∷ []) x ≡ passed_of code cs x
+passed_same code cs c x below = ap (λ (k : Option Copy). let b : state.Passed = record { first = k; buffers = buffers_of code x.buffers } in b) (copy_same cs c x.first below)
 
-way_same : (code : List Instr) (cs : List Copy) (c : Copy) (w : Completion) → WayBelow (length cs) w → completion_of code (cs ++ c ∷ []) w ≡ completion_of code cs w
-way_same code cs c (completion.Undoes block a retry x) below = ap (state.Undoes block (after_undo_of code a) retry) (behind_same code cs c x below)
-way_same code cs c (completion.Raises x) below = ap state.Raises (behind_same code cs c x below)
-way_same code cs c (completion.EndKeys x) below = ap state.EndKeys (behind_same code cs c x below)
-way_same code cs c completion.Normal below = refl
-way_same code cs c (completion.Again t) below = refl
-way_same code cs c (completion.Leaves l) below = refl
-way_same code cs c (completion.Nexts l) below = refl
-way_same code cs c (completion.Faults f) below = refl
-way_same code cs c (completion.Returns error) below = refl
-way_same code cs c (completion.Found k) below = refl
-way_same code cs c completion.Lost below = refl
-way_same code cs c completion.NotFound below = refl
-way_same code cs c (completion.Stops why) below = refl
+completion_same : (code : List Instr) (cs : List Copy) (c : Copy) (w : Completion) → CompletionBelow (length cs) w → completion_of code (cs ++ c ∷ []) w ≡ completion_of code cs w
+completion_same code cs c (completion.Undoes block a retry x) below = ap (state.Undoes block (after_undo_of code a) retry) (passed_same code cs c x below)
+completion_same code cs c (completion.Raises x) below = ap state.Raises (passed_same code cs c x below)
+completion_same code cs c (completion.EndKeys x) below = ap state.EndKeys (passed_same code cs c x below)
+completion_same code cs c completion.Normal below = refl
+completion_same code cs c (completion.Again t) below = refl
+completion_same code cs c (completion.Leaves l) below = refl
+completion_same code cs c (completion.Nexts l) below = refl
+completion_same code cs c (completion.Faults f) below = refl
+completion_same code cs c (completion.Returns error) below = refl
+completion_same code cs c (completion.Found k) below = refl
+completion_same code cs c completion.Lost below = refl
+completion_same code cs c completion.NotFound below = refl
+completion_same code cs c (completion.Stops why) below = refl
 
 end_task_same : (code : List Instr) (cs : List Copy) (c : Copy) (t : EndTask) → EndTaskBelow (length cs) t → end_task_of code (cs ++ c ∷ []) t ≡ end_task_of code cs t
 end_task_same code cs c (end_task.EntersOne at) below = refl
@@ -65,7 +65,7 @@ end_task_same code cs c (end_task.AfterBack depth but) below = ap (λ x. flat.Af
 end_task_same code cs c (end_task.UpdatesOne made at) below = refl
 end_task_same code cs c (end_task.Updates made but places from) below = refl
 end_task_same code cs c (end_task.Empties but) below = refl
-end_task_same code cs c (end_task.Closes k t w) below = ap (flat.Closes (header_at code k) (iteration_without t)) (way_same code cs c w below)
+end_task_same code cs c (end_task.Closes k t w) below = ap (flat.Closes (header_at code k) (iteration_without t)) (completion_same code cs c w below)
 
 task_same : (code : List Instr) (cs : List Copy) (c : Copy) (t : Task) → TaskBelow (length cs) t → task_of code (cs ++ c ∷ []) t ≡ task_of code cs t
 task_same code cs c (task.RunsFrom k d retry) below = refl
@@ -76,7 +76,7 @@ task_same code cs c (task.Begins k depth t retry d) below = ap (λ x. flat.Begin
 task_same code cs c (task.Iterates k outer d t) below = refl
 task_same code cs c (task.UndoComes k o block a retry x) below =
     ap (λ i. flat.UndoComes (header_at code k) i block (after_undo_of code a) retry (passed_of code (cs ++ c ∷ []) x)) (iteration_same cs c o below.0)
-    ∙ ap (λ b. flat.UndoComes (header_at code k) (iteration_of cs o) block (after_undo_of code a) retry b) (behind_same code cs c x below.1)
+    ∙ ap (λ b. flat.UndoComes (header_at code k) (iteration_of cs o) block (after_undo_of code a) retry b) (passed_same code cs c x below.1)
 task_same code cs c (task.GoesBack depth) below = ap (λ x. flat.GoesBack x []) (copy_same cs c depth below)
 task_same code cs c (task.Acts k t a retry) below = refl
 task_same code cs c task.LeavesNow below = refl
@@ -84,10 +84,10 @@ task_same code cs c (task.Calls k d vs) below = refl
 task_same code cs c (task.End t) below = end_task_same code cs c t below
 task_same code cs c (task.Read t) below = refl
 task_same code cs c (task.Change t) below = refl
-task_same code cs c (task.Completes w) below = ap flat.Completes (way_same code cs c w below)
+task_same code cs c (task.Completes w) below = ap flat.Completes (completion_same code cs c w below)
 task_same code cs c (task.EndsWith k o w) below =
     ap (λ i. flat.EndsWith (header_at code k) i (completion_of code (cs ++ c ∷ []) w)) (iteration_same cs c o below.0)
-    ∙ ap (λ x. flat.EndsWith (header_at code k) (iteration_of cs o) x) (way_same code cs c w below.1)
+    ∙ ap (λ x. flat.EndsWith (header_at code k) (iteration_of cs o) x) (completion_same code cs c w below.1)
 
 open_same : (code : List Instr) (cs : List Copy) (c : Copy) (k : StackEntry) → OpenBelow (length cs) k → entry_of code (cs ++ c ∷ []) k ≡ entry_of code cs k
 open_same code cs c (stack.Then t) below = ap flat.ThenDo (task_same code cs c t below)
@@ -97,7 +97,7 @@ open_same code cs c (stack.AndAgain n k outer d) below = refl
 open_same code cs c (stack.Called k) below = refl
 open_same code cs c (stack.End (end_entry.AfterClosing k o w)) below =
     ap (λ i. flat.AfterClosing (header_at code k) i (completion_of code (cs ++ c ∷ []) w)) (iteration_same cs c o below.0)
-    ∙ ap (flat.AfterClosing (header_at code k) (iteration_of cs o)) (way_same code cs c w below.1)
+    ∙ ap (flat.AfterClosing (header_at code k) (iteration_of cs o)) (completion_same code cs c w below.1)
 open_same code cs c (stack.Read (read_entry.OrDo t)) below = refl
 open_same code cs c (stack.Read (read_entry.FoundAs k)) below = refl
 open_same code cs c (stack.Read (read_entry.FetchedAs k depth t retry d)) below =

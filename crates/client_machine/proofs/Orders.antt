@@ -13,7 +13,7 @@ use Rattle.client_machine.specs.declared.mode.ends.EndTask.TheVariants as end_ta
 use Rattle.client_machine.specs.declared.mode.ends.EndEntry.TheVariants as end_entry
 use Rattle.client_machine.specs.declared.mode.reads.ReadEntry.TheVariants as read_entry
 use Rattle.client_database.specs.declared.operation.Op.{Op}
-use Rattle.client_machine.specs.Config.{IsBelow, WayBelow, EndTaskBelow, TaskBelow, AllBelow}
+use Rattle.client_machine.specs.Config.{IsBelow, CompletionBelow, EndTaskBelow, TaskBelow, AllBelow}
 use Rattle.client_machine.specs.declared.mode.OnAnswer.{OnAnswer}
 use Rattle.client_machine.specs.declared.mode.Mode.{Mode}
 use Rattle.client_machine.specs.declared.mode.Mode.TheVariants as mode
@@ -50,7 +50,7 @@ under_less m n (Some d) le = let le' = take_shorter (d - 1) n.levels in omega (a
 none_below : (n : ℕ) (x : Option ℕ) → x ≡ None → IsBelow n x
 none_below n x e = subst (IsBelow n) (sym e) tt
 
-way_below : (n : ℕ) (w : Completion) → first_in w ≡ None → WayBelow n w
+way_below : (n : ℕ) (w : Completion) → first_in w ≡ None → CompletionBelow n w
 way_below n (completion.Undoes block a retry x) e = none_below n x.first e
 way_below n (completion.Raises x) e = none_below n x.first e
 way_below n (completion.EndKeys x) e = none_below n x.first e
@@ -65,7 +65,7 @@ way_below n completion.Lost e = tt
 way_below n completion.NotFound e = tt
 way_below n (completion.Stops why) e = tt
 
-closing_below : (n : ℕ) (w : Completion) → ClosesIteration w → WayBelow n w
+closing_below : (n : ℕ) (w : Completion) → ClosesIteration w → CompletionBelow n w
 closing_below n completion.Normal x = tt
 closing_below n (completion.Again t) x = tt
 closing_below n (completion.Leaves l) x = tt

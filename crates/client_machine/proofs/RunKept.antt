@@ -37,7 +37,7 @@ use Rattle.block_code.specs.Code.{instr_of, header_in, body_in}
 use Rattle.client_machine.specs.Machine.{config_of, stack_in, state_in}
 use Rattle.client_machine.specs.Order.{Nesting, nesting_of, InOrder, HaveDepths, IsNotOnLevels, IsLeave, IsAskedFor, AskingInOrder, ModeInOrder, TaskInOrder, CompletesInOrder}
 use Rattle.client_machine.proofs.Fits.{refits, refit, same_code, has_same}
-use Rattle.client_machine.specs.Step.{code_in, FitsIn, RunKept, KeepsRun, KeepsTask, KeepsCompletion, Wants, IsOfOpenLevels, AsksOpenLevels}
+use Rattle.client_machine.specs.Step.{code_in, FitsIn, RunKept, KeepsRun, KeepsTask, KeepsCompletion, NextStepIs, IsOfOpenLevels, AsksOpenLevels}
 
 pub on_ok : {A E : Type 0} {P Q : Type 0} (r : Result A E) → (P → Q) → OnOk r P → OnOk r Q
 on_ok (Ok x) f p = f p
@@ -82,7 +82,7 @@ shows_by op k m x e tree p rest =
     ap (λ x. finished (flat.means tree p (flat.config (mode_of m.code.instrs.items m.memory.copies x) (stack_in m) (state_in rest m)) [])) e
     ∙ ap finished (asks_means tree p op (on_answer_of m.code.instrs.items m.memory.copies op k) (stack_in m) (state_in rest m))
 
-pub shows_asked : (op : Op) (k : OnAnswer) (m : Machine) → m.mode ≡ mode.Await op k → Wants (Ask op) m
+pub shows_asked : (op : Op) (k : OnAnswer) (m : Machine) → m.mode ≡ mode.Await op k → NextStepIs (Ask op) m
 shows_asked op k m e = λ tree p rest f. shows_by op k m m.mode e tree p rest
 
 -- an operation that is not on levels fits any number of open levels

@@ -311,11 +311,11 @@ abbrev pub IsBelow : ℕ → Option ℕ → Type 0
 IsBelow n None = Unit {0}
 IsBelow n (Some d) = (0 < d) × (d ≤ n)
 
-abbrev pub WayBelow : ℕ → Completion → Type 0
-WayBelow n (completion.Undoes block a retry x) = IsBelow n x.first
-WayBelow n (completion.Raises x) = IsBelow n x.first
-WayBelow n (completion.EndKeys x) = IsBelow n x.first
-WayBelow n other = Unit {0}
+abbrev pub CompletionBelow : ℕ → Completion → Type 0
+CompletionBelow n (completion.Undoes block a retry x) = IsBelow n x.first
+CompletionBelow n (completion.Raises x) = IsBelow n x.first
+CompletionBelow n (completion.EndKeys x) = IsBelow n x.first
+CompletionBelow n other = Unit {0}
 
 abbrev pub EndTaskBelow : ℕ → EndTask → Type 0
 EndTaskBelow n (end_task.EntersRest depth) = IsBelow n depth
@@ -323,15 +323,15 @@ EndTaskBelow n (end_task.LeavesIf depth k) = IsBelow n depth
 EndTaskBelow n (end_task.Closing k depth) = IsBelow n depth
 EndTaskBelow n (end_task.GoesBack depth but) = IsBelow n depth
 EndTaskBelow n (end_task.AfterBack depth but) = IsBelow n (Some depth)
-EndTaskBelow n (end_task.Closes k t w) = WayBelow n w
+EndTaskBelow n (end_task.Closes k t w) = CompletionBelow n w
 EndTaskBelow n other = Unit {0}
 
 abbrev pub TaskBelow : ℕ → Task → Type 0
 TaskBelow n (task.Begins k depth t retry d) = IsBelow n depth
 TaskBelow n (task.UndoComes k o block a retry x) = IsBelow n o.depth × IsBelow n x.first
 TaskBelow n (task.GoesBack depth) = IsBelow n depth
-TaskBelow n (task.Completes w) = WayBelow n w
-TaskBelow n (task.EndsWith k o w) = IsBelow n o.depth × WayBelow n w
+TaskBelow n (task.Completes w) = CompletionBelow n w
+TaskBelow n (task.EndsWith k o w) = IsBelow n o.depth × CompletionBelow n w
 TaskBelow n (task.End t) = EndTaskBelow n t
 TaskBelow n other = Unit {0}
 
@@ -345,7 +345,7 @@ OpenBelow n (stack.Handles quiet) = Unit {0}
 OpenBelow n (stack.In k o) = IsBelow n o.depth
 OpenBelow n (stack.AndAgain fuel k outer d) = Unit {0}
 OpenBelow n (stack.Called k) = Unit {0}
-OpenBelow n (stack.End (end_entry.AfterClosing k o w)) = IsBelow n o.depth × WayBelow n w
+OpenBelow n (stack.End (end_entry.AfterClosing k o w)) = IsBelow n o.depth × CompletionBelow n w
 OpenBelow n (stack.Read e) = ReadEntryBelow n e
 OpenBelow n (stack.Change e) = Unit {0}
 

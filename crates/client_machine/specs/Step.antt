@@ -75,8 +75,8 @@ abbrev pub KeepsTask : Task → Machine → Machine → Type 0
 KeepsTask task old new = (tree : ℕ → Body) (p : Program) (rest : State) → IsCodeOf (code_in old) p tree → FitsIn p rest (mode.Execute task) old → RunKept tree p (config (Execute (task_of old.code.instrs.items old.memory.copies task)) (stack_in old) (state_in rest old)) [] rest.written old new
 
 -- it asks for this
-abbrev pub Wants : NextStep → Machine → Type 0
-Wants wants m = (tree : ℕ → Body) (p : Program) (rest : State) → Fits p rest m → finished (means tree p (config_of rest m) []) ≡ record { written = rest.written; wants = wants }
+abbrev pub NextStepIs : NextStep → Machine → Type 0
+NextStepIs wants m = (tree : ℕ → Body) (p : Program) (rest : State) → Fits p rest m → finished (means tree p (config_of rest m) []) ≡ record { written = rest.written; wants = wants }
 
 -- the step of a completion
 abbrev pub KeepsCompletion : Completion → Machine → Machine → Type 0

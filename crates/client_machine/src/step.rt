@@ -25,7 +25,7 @@ ghost use Rattle.client_machine.specs.AnswerClass.{IsOfAnswerClass, KeepsAnswer}
 ghost use Rattle.client_machine.specs.declared.answers.AnswerClass.{AnswerClass};
 ghost use Rattle.client_machine.specs.declared.mode.OnAnswer.{OnAnswer};
 ghost use Rattle.client_machine.specs.Shows.{Shows};
-ghost use Rattle.client_machine.specs.Step.{Fits, KeepsRun, KeepsTask, KeepsCompletion, Wants, AsksOpenLevels, IsAwaiting, IsAtEnd};
+ghost use Rattle.client_machine.specs.Step.{Fits, KeepsRun, KeepsTask, KeepsCompletion, NextStepIs, AsksOpenLevels, IsAwaiting, IsAtEnd};
 ghost use Rattle.client_machine.specs.declared.mode.Mode.{Mode};
 ghost use Rattle.client_machine.specs.declared.mode.Task.{Task};
 ghost use Rattle.client_machine.specs.declared.mode.Completion.{Completion};
@@ -44,7 +44,7 @@ use std::mem;
 impl Machine {
     /// What it asks for, where it does not run by itself. Out of memory is the only error.
     pub fn next_step(&self) -> Result<Option<NextStep>, AllocError>
-        ensures some { IfOk result (λ step. IfSome step (λ wants. Wants wants self.now)) }
+        ensures some { IfOk result (λ step. IfSome step (λ wants. NextStepIs wants self.now)) }
         ensures none { result ≡ Ok None → IsRunning (mode_of self.now.code.instrs.items self.now.memory.copies self.now.mode) }
         ensures waits { IfOk result (λ step. IfSome step (λ _. IsAwaiting self.now.mode ⊎ IsAtEnd self.now)) }
         ensures levels { IfOk result (λ step. IfSome step (λ wants. AsksOpenLevels wants self.now)) }
