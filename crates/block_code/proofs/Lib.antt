@@ -1,4 +1,3 @@
 pub mod Grows
 pub mod Emits
 pub mod Procedures
-pub mod Builds

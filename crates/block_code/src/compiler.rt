@@ -1,45 +1,16 @@
 //! From the bound tree to flat code. The code of a body is written from its end: the place that an
 //! instruction names is known when the instruction is written, so nothing is patched.
 
-ghost use Rattle.std.specs.Prelude.{◌≡◌, ◌++◌, ◌∷◌, [], Err, IfOk, OnOk, length, true};
-ghost use Rattle.bound_tree.specs.Bound.{source_of};
-ghost use Rattle.block_code.specs.Built.{IsBuilt};
+ghost use Rattle.std.specs.Prelude.{◌≡◌, ◌++◌, ◌∷◌, [], IfOk, length, true};
 ghost use Rattle.block_code.specs.Emitted.{EmittedBody, EmittedStmt, EmittedProcedure, EmittedProcedures};
 ghost use Rattle.block_code.specs.Code.{IsCompiled, is_simple};
 
-use crate::built::is_built;
 use crate::code::{Code, Instr, ProcedureCode};
 use bound_tree::{Bound, Header, Procedure, Stmt};
 use std::alloc::{AllocError, Global};
 
-/// Why a source was not compiled.
-#[derive(Clone, Copy, Debug, PartialEq, Eq)]
-pub enum CompileFault {
-    /// It names a record or a sequence, which is not built yet.
-    NotBuilt,
-    /// Out of memory.
-    NoMemory,
-}
-
-/// The code of a bound source. `NotBuilt` comes exactly where the source names a record or a
-/// sequence; out of memory is the only other error.
-pub fn compile(alloc: Global, bound: Bound) -> Result<Code, CompileFault>
-    ensures code { IfOk result (λ code. IsCompiled code bound) }
-    ensures built { OnOk result (IsBuilt (source_of bound)) }
-    ensures not_built { result ≡ Err CompileFault.NotBuilt → ¬ IsBuilt (source_of bound) }
-    ensures refused { ¬ IsBuilt (source_of bound) → result ≡ Err CompileFault.NotBuilt }
-{
-    if !is_built(&bound) {
-        return Err(CompileFault::NotBuilt);
-    }
-    match emit_source(alloc, bound) {
-        Ok(code) => Ok(code),
-        Err(_) => Err(CompileFault::NoMemory),
-    }
-}
-
 /// The code of a bound source. Out of memory is the only error.
-fn emit_source(alloc: Global, bound: Bound) -> Result<Code, AllocError>
+pub fn compile(alloc: Global, bound: Bound) -> Result<Code, AllocError>
     ensures { IfOk result (λ code. IsCompiled code bound) }
 {
     let Bound {

@@ -1,10 +1,9 @@
 //! Threaded flat code for every statement, and the compiler that makes it of a bound tree.
-//! `specs/Code.antt` says what code denotes which source, `specs/Built.antt` which sources are built.
+//! `specs/Code.antt` says what code denotes which source.
 #![tactic(auto)]
 
-mod built;
 pub mod code;
 pub mod compiler;
 
 pub use code::{Code, Instr, ProcedureCode};
-pub use compiler::{CompileFault, compile};
+pub use compiler::compile;

@@ -2,7 +2,7 @@ use Rattle.std.proofs.Common.{◌++◌, ◌∷◌, [], ◌∙◌, ap, refl, subs
 use Rattle.block_code.specs.declared.code.Instr.TheVariants as instr
 use Rattle.block_code.specs.Emitted.{EmittedProcedures}
 use Rattle.block_code.proofs.Procedures.{compiled}
-use Rattle.block_code.proofs.compiler.emit_source.Goals as goal
+use Rattle.block_code.proofs.compiler.compile.Goals as goal
 
 pub returns : goal.returns
 returns c =
