@@ -1,4 +1,6 @@
 pub mod Paid
 pub mod Effects
 pub mod Imported
+pub mod GivenValues
 pub mod StateRead
+pub mod Exported

@@ -1,5 +1,5 @@
-//! IMPORT into variables (OpenEdge ABL Reference, IMPORT): one line of the stream's input is read,
-//! and its elements are assigned to the targets.
+//! IMPORT into variables and fields (OpenEdge ABL Reference, IMPORT): one line of the stream's input
+//! is read, and its elements are assigned to the targets.
 
 ghost use Rattle.std.specs.Prelude.{◌≡◌, ◌∷◌, OnOk, OnErr, IfSome};
 ghost use Rattle.bound_tree.specs.Tree.{Import};
@@ -15,16 +15,17 @@ ghost use Rattle.client_machine.specs.declared.mode.Task.{Task};
 ghost use Rattle.client_streams.specs.Imports.{targets_in};
 ghost use Rattle.client_streams.specs.Statements.{under};
 
-use crate::given::assign_at;
-use crate::inputs::{line_at, read_up_to};
-use crate::statement::{end_input, fail, go_on};
+use crate::given::{are_variables_at, assign_at, given_values};
+use crate::inputs::{line_at, read_up_to, targets_at};
+use crate::statement::{end_input, fail, go_on, push_statement};
 use abl_base::Value;
 use abl_eval::EvalFault;
 use abl_format::ImportFault;
 use block_code::Instr;
 use bound_tree::Stmt;
 use client_machine::machine::Machine;
-use client_machine::mode::LineFault;
+use client_machine::mode::changes::{AssignmentList, ChangeTask};
+use client_machine::mode::{LineFault, Mode, Task};
 use complaint_lines::Complaint;
 use std::alloc::AllocError;
 
@@ -36,10 +37,10 @@ pub(crate) struct Reader {
     pub(crate) next: usize,
 }
 
-/// IMPORT at the place, into variables. At the end of the input it raises ENDKEY. An element that is
-/// no text of its target's kind is a fault, and so is a value that does not fit; the line is read all
-/// the same, and what was assigned before the fault stays. A target that is a field is not built: it
-/// answers that there is no memory.
+/// IMPORT at the place. At the end of the input it raises ENDKEY. An element that is no text of its
+/// target's kind is a fault, and so is a value that does not fit; the line is read all the same, and
+/// what was assigned to variables before the fault stays. Where a target is a field, the assignments
+/// are a task of the machine.
 pub fn import(machine: &mut Machine, place: usize, left: u32, retry: bool) -> Result<(), AllocError>
     ensures ok { OnOk result (KeepsTask (Task.RunsFrom place left retry) machine.old machine.new) }
     ensures err { OnErr result (IsUnchanged machine.old.output machine.new.output) }
@@ -140,7 +141,7 @@ fn assign_line(
     assign_values(machine, place, values, reader, left, retry)
 }
 
-/// The values are assigned to the targets.
+/// The values are assigned to the targets: to variables at once, and else as a task.
 fn assign_values(
     machine: &mut Machine,
     place: usize,
@@ -152,6 +153,9 @@ fn assign_values(
     ensures ok { OnOk result (KeepsFrom (λ p s. flat.config (flat.Execute (flat.Assigns (pairs_of (targets_in (instr_at machine.old.code.instrs.items place)) values.items) retry)) (under machine.old reader.no_error reader.next left retry) s) machine.old machine.new) }
     ensures err { OnErr result (IsUnchanged machine.old.output machine.new.output) }
 {
+    if !are_variables_at(machine, place) {
+        return give_values(machine, place, values, reader, left, retry);
+    }
     match assign_at(machine, place, values) {
         Ok(_) => {
             go_on(machine, reader.next, left, retry);
@@ -162,6 +166,30 @@ fn assign_values(
         }
         Err(EvalFault::NoMemory) => Err(AllocError),
     }
+}
+
+/// The values are assigned to variables and fields, as a task.
+fn give_values(
+    machine: &mut Machine,
+    place: usize,
+    values: Vec<Option<Value>>,
+    reader: Reader,
+    left: u32,
+    retry: bool,
+) -> Result<(), AllocError>
+    ensures ok { OnOk result (KeepsFrom (λ p s. flat.config (flat.Execute (flat.Assigns (pairs_of (targets_in (instr_at machine.old.code.instrs.items place)) values.items) retry)) (under machine.old reader.no_error reader.next left retry) s) machine.old machine.new) }
+    ensures err { OnErr result (IsUnchanged machine.old.output machine.new.output) }
+{
+    let Some(targets) = targets_at(machine, place) else {
+        return Err(AllocError);
+    };
+    let given = given_values(machine.alloc, targets, values)?;
+    push_statement(machine, reader.no_error, reader.next, left, retry)?;
+    machine.set_mode(Mode::Execute(Task::Change(ChangeTask::Assigns {
+        pairs: AssignmentList::Given(given),
+        retry,
+    })));
+    Ok(())
 }
 
 /// The IMPORT at the place.

@@ -160,7 +160,7 @@ pub(crate) fn end_input(
 }
 
 /// Pushes the continuation after a statement, and the handler of its fault.
-fn push_statement(
+pub(crate) fn push_statement(
     machine: &mut Machine,
     quiet: bool,
     next: usize,

@@ -1,4 +1,4 @@
-use Rattle.std.proofs.Common.{sym, ap, ◌∙◌, subst}
+use Rattle.std.proofs.Common.{refl, sym, ap, ◌∙◌, subst}
 use Rattle.block_flat.specs.Flat as flat
 use Rattle.block_meaning.specs.Streams.{pairs_of}
 use Rattle.client_machine.specs.Config.{instr_at}
@@ -20,7 +20,7 @@ returns-in-Ok-clause-ok c =
     let xs = pairs_of (targets_in (instr_at old.code.instrs.items c.args.place)) c.args.values.items in
     subst (λ (m : Machine). KeepsFrom (λ p s. flat.config (flat.Execute (flat.Assigns xs c.args.retry)) (under old r.no_error r.next c.args.left c.args.retry) s) old m)
     (sym (c.go_on.ensures ∙ ap (λ (x : Machine). record x { mode = mode.Execute (task.RunsFrom r.next c.args.left c.args.retry) }) c.assign_at.ensures.moved))
-    (assigned_kept xs old mem r.no_error c.args.retry r.next c.args.left c.assign_at.ensures.shape c.in-Ok.ensures.variables
+    (assigned_kept xs old mem r.no_error c.args.retry r.next c.args.left c.assign_at.ensures.shape (c.if-not-are_variables_at.ensures refl c.args.values.items)
     (λ p rest ns ans reads. c.in-Ok.ensures.assigns p rest ns c.args.retry ans reads.even))
 
 pub returns-in-Err-Fault-clause-ok : goal.returns-in-Err-Fault-clause-ok
@@ -30,7 +30,7 @@ returns-in-Err-Fault-clause-ok c =
     let m = c.assign_at.new.machine in
     let xs = pairs_of (targets_in (instr_at old.code.instrs.items c.args.place)) c.args.values.items in
     let new = c.fail_before.new.self in
-    let none = rw c.in-Err-Fault.field-0-is at c.in-Err-Fault.ensures.variables in
+    let none = c.if-not-are_variables_at.ensures refl c.args.values.items in
     let assigns = rw c.in-Err-Fault.field-0-is at c.in-Err-Fault.ensures.assigns in
     on_two c.fail_before.result (λ moved pushed.
     subst (λ (x : Machine). KeepsFrom (λ p s. flat.config (flat.Execute (flat.Assigns xs c.args.retry)) (under old r.no_error r.next c.args.left c.args.retry) s) old x)
