@@ -15,7 +15,7 @@ use Rattle.block_meaning.specs.Meaning.{finished}
 use Rattle.block_meaning.specs.GivesUp.{Begins, IsAsked, before_last, written_at, GaveUp}
 use Rattle.block_meaning.proofs.Continues.{begins_itself, begins_further, begins_same}
 use Rattle.block_flat.specs.Flat as flat
-use Rattle.block_flat.specs.Flat.{IsCodeOf, Config, means, config, answered, answer_step}
+use Rattle.block_flat.specs.Flat.{IsCodeOf, means, config, answered, answer_step}
 use Rattle.block_flat.proofs.Machine.{asks_means, answered_means}
 use Rattle.block_flat.proofs.Continues.{written_continues, something_is_asked}
 use Rattle.client_output.specs.Written.{HasWritten as Wrote, IsUnchanged}
@@ -28,7 +28,7 @@ use Rattle.client_machine.specs.declared.mode.Mode.{Mode}
 use Rattle.client_machine.specs.declared.mode.Mode.TheVariants as mode
 use Rattle.client_machine.specs.Config.{instr_at, body_at, on_answer_of, mode_of}
 use Rattle.client_machine.specs.Machine.{config_of, stack_in, state_in}
-use Rattle.client_machine.specs.Step.{code_in, Fits, KeepsRun as StepKeeps, Wants, IsAwaiting}
+use Rattle.client_machine.specs.Step.{code_in, Fits, KeepsRun as StepKeeps, NextStepIs, IsAwaiting}
 use Rattle.block_vm.proofs.AnswerWrites.{answer_step_writes}
 use Rattle.block_vm.specs.declared.client.Client.{Client}
 use Rattle.block_vm.specs.declared.client.Phase.{Phase}
@@ -112,8 +112,8 @@ step_going m names from c c' k g =
     let x = went m m names g.pieces [] c c' (λ ans. refl) g.follows k in
     record { pieces = x.pieces; more = begins_further from g.pieces x.pieces g.more x.more; follows = x.follows }
 
-pub stands_going : (m : List Answer → Progress) (names : List (List ℕ)) (from : List Piece) (c : Client) (wants : NextStep) → c.phase ≡ phase.Running → Wants wants c.machine → RunsFrom m names from c.machine → RunsOn m names from c wants
-stands_going m names from c wants run_from shows g =
+pub going_on_runs_on : (m : List Answer → Progress) (names : List (List ℕ)) (from : List Piece) (c : Client) (wants : NextStep) → c.phase ≡ phase.Running → NextStepIs wants c.machine → RunsFrom m names from c.machine → RunsOn m names from c wants
+going_on_runs_on m names from c wants run_from shows g =
     let f = g.follows in
     let refines : m [] ≡ (let d : Progress = record { written = g.pieces; wants = wants } in d) =
     f.same [] ∙ shows f.tree f.program f.rest f.fits ∙ ap (λ ps. let d : Progress = record { written = ps; wants = wants } in d) f.is in

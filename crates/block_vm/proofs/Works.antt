@@ -10,9 +10,9 @@ use Rattle.client_machine.specs.Step.{IsAwaiting, IsOver}
 use Rattle.client_machine.specs.Shows.{Shows}
 use Rattle.block_vm.specs.declared.client.Phase.{Phase}
 use Rattle.block_vm.specs.declared.client.Phase.TheVariants as phase
-use Rattle.block_vm.specs.NextStep.{IsAsking, IsLevelOp}
-use Rattle.block_vm.specs.Standing.{Standing}
-use Rattle.block_vm.specs.Work.{operations_in, WaitsIn, EndsIn, ShowsIn, IsWaiting, IsEnding, IsRequest, ShowsWants}
+use Rattle.block_vm.specs.NextStep.{IsAsking}
+use Rattle.block_vm.specs.ClientView.{ClientView}
+use Rattle.block_vm.specs.Work.{operations_in, WaitsIn, EndsIn, ShowsIn, IsWaiting, IsEnding, AsksNoEnd, ShowsNextStep}
 
 -- if a running client waits but awaits no answer, the run is over and the stack is empty
 pub at_end : (ph : Phase) (m : Mode) (ks : List StackEntry) → ph ≡ phase.Running → WaitsIn ph m ks → (IsAwaiting m → ⊥) → IsOver m × (ks ≡ [])
@@ -22,16 +22,6 @@ at_end phase.Running (mode.Unwind w) [] e waits none = (tt, refl)
 at_end phase.Running (mode.Unwind w) (k ∷ ks) e waits none = absurd waits
 at_end phase.GivingUp m ks e waits none = absurd (cc)
 at_end phase.Ended m ks e waits none = absurd (cc)
-
--- its next step requests an operation of levels or End, or it has ended
-shows_level_in : (ph : Phase) (m : Mode) (ks : List StackEntry) (w : NextStep) → ShowsIn ph m ks w → IsLevelOp w
-shows_level_in phase.Running m ks w shows = shows.1.level
-shows_level_in phase.GivingUp m ks w shows = subst IsLevelOp (sym shows) tt
-shows_level_in phase.Ended m ks (Ask o) shows = absurd shows
-shows_level_in phase.Ended m ks (Ended e) shows = tt
-
-pub shows_level : (c : Standing) (w : NextStep) → ShowsWants c w → IsLevelOp w
-shows_level c w shows = shows_level_in c.phase c.machine.mode c.machine.stack.items w shows
 
 -- if it requests an operation, it waits
 waits_in : (ph : Phase) (m : Mode) (ks : List StackEntry) (w : NextStep) → ShowsIn ph m ks w → IsAsking w → WaitsIn ph m ks
@@ -43,19 +33,19 @@ waits_in phase.GivingUp m ks w shows asks = tt
 waits_in phase.Ended m ks (Ask o) shows asks = absurd shows
 waits_in phase.Ended m ks (Ended e) shows asks = absurd asks
 
-pub shows_waits : (c : Standing) (w : NextStep) → ShowsWants c w → IsAsking w → IsWaiting c
+pub shows_waits : (c : ClientView) (w : NextStep) → ShowsNextStep c w → IsAsking w → IsWaiting c
 shows_waits c w shows asks = waits_in c.phase c.machine.mode c.machine.stack.items w shows asks
 
 -- if it requests End, it waits for the answer to End
 ends_in : (ph : Phase) (m : Mode) (ks : List StackEntry) → ShowsIn ph m ks (Ask op.End) → EndsIn ph m ks
 ends_in phase.Running (mode.Execute t) ks shows = absurd shows.0
-ends_in phase.Running (mode.Await o k) ks shows = absurd (shows.1.no_end refl tt)
+ends_in phase.Running (mode.Await o k) ks shows = absurd (shows.1 refl tt)
 ends_in phase.Running (mode.Unwind x) [] shows = tt
 ends_in phase.Running (mode.Unwind x) (k ∷ ks) shows = absurd shows.0
 ends_in phase.GivingUp m ks shows = tt
 ends_in phase.Ended m ks shows = absurd shows
 
-pub shows_end : (c : Standing) → ShowsWants c (Ask op.End) → IsEnding c
+pub shows_end : (c : ClientView) → ShowsNextStep c (Ask op.End) → IsEnding c
 shows_end c shows = ends_in c.phase c.machine.mode c.machine.stack.items shows
 
 -- after an answer to an operation, fewer operations remain
@@ -68,7 +58,7 @@ fewer_left phase.GivingUp m ks units limit w e shows less = absurd (cc)
 fewer_left phase.Ended m ks units limit w e shows less = absurd (cc)
 
 -- its next step while it runs
-pub shows_running : (ph : Phase) (m : Mode) (ks : List StackEntry) (w : NextStep) → ph ≡ phase.Running → Shows m ks w → IsRequest m w → ShowsIn ph m ks w
+pub shows_running : (ph : Phase) (m : Mode) (ks : List StackEntry) (w : NextStep) → ph ≡ phase.Running → Shows m ks w → AsksNoEnd m w → ShowsIn ph m ks w
 shows_running ph m ks w e shows request = subst (λ x. ShowsIn x m ks w) (sym e) (shows, request)
 
 -- it gives up, or has ended

@@ -1,5 +1,5 @@
 pub mod NextStep
-pub mod Standing
+pub mod ClientView
 pub mod Work
 pub mod Refines
 pub mod Begins

@@ -12,8 +12,6 @@ use Rattle.block_meaning.specs.Program.{Program}
 use Rattle.block_meaning.specs.Meaning.{finished}
 use Rattle.block_meaning.specs.GivesUp.{Begins, IsAsked, GaveUp}
 use Rattle.block_flat.specs.Flat.{IsCodeOf, means}
-use Rattle.bound_tree.specs.declared.procedure.Bound.{Bound}
-use Rattle.bound_tree.specs.declared.procedure.Procedure.{Procedure}
 use Rattle.block_flat.specs.Works.{IsRunning}
 use Rattle.client_output.specs.Written.{HasWritten as Wrote}
 use Rattle.client_machine.specs.declared.machine.Machine.{Machine}
@@ -21,7 +19,7 @@ use Rattle.client_machine.specs.Config.{mode_of}
 use Rattle.client_machine.specs.Inputs.{names_of}
 use Rattle.client_machine.specs.Machine.{config_of}
 use Rattle.client_machine.specs.Step.{code_in, Fits}
-use Rattle.block_vm.specs.Standing.{HasWritten}
+use Rattle.block_vm.specs.ClientView.{HasWritten}
 use Rattle.block_vm.specs.Work.{IsWaiting}
 use Rattle.block_vm.specs.declared.client.Client.{Client}
 use Rattle.block_vm.specs.declared.client.Phase.{Phase}
@@ -123,13 +121,3 @@ pub record RunsOn (m : List Answer → Progress) (names : List (List ℕ)) (from
   pub more : Begins from pieces
   pub has : HasWritten c names pieces
   pub at : IsAt m names pieces c wants ⊎ GaveIn m pieces c wants
-
--- ---- the beginning
-
--- no procedure has buffers
-abbrev pub AreBufferless : List Procedure → Type 0
-AreBufferless [] = Unit {0}
-AreBufferless (q ∷ qs) = (q.buffers.items ≡ []) × AreBufferless qs
-
-abbrev pub HasNoBuffers : Bound → Type 0
-HasNoBuffers bound = AreBufferless bound.procedures.items

@@ -9,9 +9,9 @@ use Rattle.client_machine.specs.declared.mode.StackEntry.{StackEntry}
 use Rattle.client_machine.specs.Shows.{Shows}
 use Rattle.block_vm.specs.declared.client.Phase.{Phase}
 use Rattle.block_vm.specs.declared.client.Phase.TheVariants as phase
-use Rattle.block_vm.specs.Standing.{Standing}
+use Rattle.block_vm.specs.ClientView.{ClientView}
 use Rattle.client_machine.specs.Step.{IsAwaiting}
-use Rattle.block_vm.specs.NextStep.{IsEnded, IsLevelOp}
+use Rattle.block_vm.specs.NextStep.{IsEnded}
 
 -- an upper bound on further operations, the current one included; repeats after Blocked do not count. Each operation but
 -- End costs a unit
@@ -23,7 +23,7 @@ operations_in phase.Running (mode.Unwind w) (k ∷ ks) units = units + 2
 operations_in phase.GivingUp m ks units = 1
 operations_in phase.Ended m ks units = 0
 
-abbrev pub most_operations : Standing → ℕ
+abbrev pub most_operations : ClientView → ℕ
 most_operations c = operations_in c.phase c.machine.mode c.machine.stack.items c.machine.units
 
 -- it waits for an answer
@@ -35,7 +35,7 @@ WaitsIn phase.Running (mode.Unwind w) (k ∷ ks) = ⊥
 WaitsIn phase.GivingUp m ks = Unit {0}
 WaitsIn phase.Ended m ks = ⊥
 
-abbrev pub IsWaiting : Standing → Type 0
+abbrev pub IsWaiting : ClientView → Type 0
 IsWaiting c = WaitsIn c.phase c.machine.mode c.machine.stack.items
 
 -- it waits for the answer to End
@@ -47,19 +47,18 @@ EndsIn phase.Running (mode.Unwind w) (k ∷ ks) = ⊥
 EndsIn phase.GivingUp m ks = Unit {0}
 EndsIn phase.Ended m ks = ⊥
 
-abbrev pub IsEnding : Standing → Type 0
+abbrev pub IsEnding : ClientView → Type 0
 IsEnding c = EndsIn c.phase c.machine.mode c.machine.stack.items
 
--- it requests an operation of levels or has ended; it does not request End while the machine awaits an answer
-pub record IsRequest (m : Mode) (wants : NextStep) : Type 0 where
-  pub level : IsLevelOp wants
-  pub no_end : wants ≡ Ask End → IsAwaiting m → ⊥
+-- it does not request End while the machine awaits an answer
+abbrev pub AsksNoEnd : Mode → NextStep → Type 0
+AsksNoEnd m wants = wants ≡ Ask End → IsAwaiting m → ⊥
 
 -- its next step
 abbrev pub ShowsIn : Phase → Mode → List StackEntry → NextStep → Type 0
-ShowsIn phase.Running m ks wants = Shows m ks wants × IsRequest m wants
+ShowsIn phase.Running m ks wants = Shows m ks wants × AsksNoEnd m wants
 ShowsIn phase.GivingUp m ks wants = wants ≡ Ask End
 ShowsIn phase.Ended m ks wants = IsEnded wants
 
-abbrev pub ShowsWants : Standing → NextStep → Type 0
-ShowsWants c wants = ShowsIn c.phase c.machine.mode c.machine.stack.items wants
+abbrev pub ShowsNextStep : ClientView → NextStep → Type 0
+ShowsNextStep c wants = ShowsIn c.phase c.machine.mode c.machine.stack.items wants

@@ -6,7 +6,6 @@ ghost use Rattle.client_machine.specs.AnswerClass.{IsOfAnswerClass, KeepsAnswer}
 ghost use Rattle.client_machine.specs.Step.{KeepsRun, IsAwaiting};
 ghost use Rattle.client_machine.specs.declared.answers.AnswerClass.{AnswerClass};
 
-use crate::families::{answer_change, answer_end, answer_read};
 use client_database::{Answer, Op};
 use client_machine::answers::{AnswerClass, answer_class};
 use client_machine::machine::Machine;
@@ -62,8 +61,8 @@ fn take_done(
         } => machine.on_entered(op, answer, place, turn, retry, left),
         OnAnswer::WasBack(depth) => machine.on_back(op, answer, depth),
         OnAnswer::WasLeft => machine.on_left(op, answer),
-        OnAnswer::End(on_answer) => answer_end(machine, op, on_answer, answer),
-        OnAnswer::Read(on_answer) => answer_read(machine, op, on_answer, answer),
-        OnAnswer::Change(on_answer) => answer_change(machine, op, on_answer, answer),
+        OnAnswer::End(on_answer) => client_ends::answer(machine, op, on_answer, answer),
+        OnAnswer::Read(on_answer) => client_finds::answer(machine, op, on_answer, answer),
+        OnAnswer::Change(on_answer) => client_records::answer(machine, op, on_answer, answer),
     }
 }

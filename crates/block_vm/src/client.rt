@@ -17,14 +17,13 @@ ghost use Rattle.block_code.specs.Code.{IsCompiled};
 ghost use Rattle.client_output.specs.Sections.{sections_of};
 ghost use Rattle.client_machine.specs.Step.{IsAwaiting};
 ghost use Rattle.block_vm.specs.declared.client.Phase.{Phase};
-ghost use Rattle.block_vm.specs.NextStep.{IsAsking, IsEnded, IsPlain, IsLevelOp};
-ghost use Rattle.block_vm.specs.Standing.{HasWritten};
-ghost use Rattle.block_vm.specs.Work.{most_operations, IsWaiting, IsEnding, IsRequest, ShowsWants};
-ghost use Rattle.block_vm.specs.Refines.{HasNoBuffers, Refines, HasGivenUp, AfterResume, HasNotBegun, IsExpected, answers_with, Follows, RunsOn};
+ghost use Rattle.block_vm.specs.NextStep.{IsAsking, IsEnded, IsPlain};
+ghost use Rattle.block_vm.specs.ClientView.{HasWritten};
+ghost use Rattle.block_vm.specs.Work.{most_operations, IsWaiting, IsEnding, AsksNoEnd, ShowsNextStep};
+ghost use Rattle.block_vm.specs.Refines.{Refines, HasGivenUp, AfterResume, HasNotBegun, IsExpected, answers_with, Follows, RunsOn};
 
 use crate::answers::take_answer;
 use crate::begin::first_machine;
-use crate::requests::may_ask;
 use crate::steps::step;
 use block_code::Code;
 use client_database::{Answer, ClientEnd, NextStep, Op};
@@ -52,7 +51,7 @@ pub struct Client {
 impl Client {
     /// A client that has not begun, with this number of units. Out of memory is the only error.
     pub fn new(alloc: Global, code: Code, inputs: Inputs, units: u64) -> Result<Client, AllocError>
-        ensures refines { IfOk result (λ client. (bound : Bound) (p : Program) → IsCompiled code bound → HasNoBuffers bound → p.source ≡ source_of bound → p.tables ≡ inputs.schema.tables → p.input ≡ inputs.own → p.inputs ≡ inputs.named.items → AreForms p.forms → p.forms.line_at ≡ line_at → Refines client bound.outputs.items (run_of p units) []) }
+        ensures refines { IfOk result (λ client. (bound : Bound) (p : Program) → IsCompiled code bound → p.source ≡ source_of bound → p.tables ≡ inputs.schema.tables → p.input ≡ inputs.own → p.inputs ≡ inputs.named.items → AreForms p.forms → p.forms.line_at ≡ line_at → Refines client bound.outputs.items (run_of p units) []) }
         ensures begins { IfOk result (λ client. HasNotBegun client) }
     {
         let machine = first_machine(alloc, code, inputs, units)?;
@@ -68,9 +67,8 @@ impl Client {
         ensures refines { (names : List (List ℕ)) (m : List Answer → Progress) (answers : List Answer) → IsExpected answer self.old answers → Refines self.old names m answers → AfterResume self.new names m (answers_with answers answer) result }
         ensures given_up { (names : List (List ℕ)) (m : List Answer → Progress) (answers : List Answer) (pieces : List Piece) → HasGivenUp self.old names m answers pieces → IfSome answer (λ _. (result ≡ NextStep.Ended ClientEnd.NoMemory) × HasWritten self.new names pieces) }
         ensures waits { IsAsking result → IsWaiting self.new }
-        ensures level { IsLevelOp result }
         ensures fewer { IfSome answer (λ a. IsPlain a → IsWaiting self.old → most_operations self.new < most_operations self.old) }
-        ensures wants { ShowsWants self.new result }
+        ensures wants { ShowsNextStep self.new result }
         ensures gives_up { answer ≡ Some Answer.NoMemory → IsWaiting self.old → IsEnding self.new ⊎ IsEnded result }
         ensures ended { IsEnding self.old → IfSome answer (λ _. IsEnded result) }
     {
@@ -83,7 +81,7 @@ impl Client {
     /// The first call.
     fn begin(&mut self) -> NextStep
         ensures refines { (names : List (List ℕ)) (m : List Answer → Progress) (answers : List Answer) → HasNotBegun self.old → answers ≡ [] → Refines self.old names m answers → AfterResume self.new names m answers result }
-        ensures wants { ShowsWants self.new result }
+        ensures wants { ShowsNextStep self.new result }
     {
         match self.phase {
             Phase::Running => self.run_on(u64::MAX),
@@ -96,7 +94,7 @@ impl Client {
         ensures refines { (names : List (List ℕ)) (m : List Answer → Progress) (answers : List Answer) → IsWaiting self.old → Refines self.old names m answers → AfterResume self.new names m (answers ++ answer ∷ []) result }
         ensures given_up { (names : List (List ℕ)) (m : List Answer → Progress) (answers : List Answer) (pieces : List Piece) → HasGivenUp self.old names m answers pieces → (result ≡ NextStep.Ended ClientEnd.NoMemory) × HasWritten self.new names pieces }
         ensures fewer { IsPlain answer → IsWaiting self.old → most_operations self.new < most_operations self.old }
-        ensures wants { ShowsWants self.new result }
+        ensures wants { ShowsNextStep self.new result }
         ensures gives_up { answer ≡ Answer.NoMemory → IsWaiting self.old → IsEnding self.new ⊎ IsEnded result }
         ensures ended { IsEnding self.old → IsEnded result }
     {
@@ -115,7 +113,7 @@ impl Client {
         requires running { self.old.phase ≡ Phase.Running }
         ensures refines { (names : List (List ℕ)) (m : List Answer → Progress) (answers : List Answer) → IsWaiting self.old → Refines self.old names m answers → AfterResume self.new names m (answers ++ answer ∷ []) result }
         ensures fewer { IsPlain answer → IsWaiting self.old → most_operations self.new < most_operations self.old }
-        ensures wants { ShowsWants self.new result }
+        ensures wants { ShowsNextStep self.new result }
         ensures gives_up { answer ≡ Answer.NoMemory → IsWaiting self.old → IsEnding self.new ⊎ IsEnded result }
         ensures ended { IsEnding self.old → IsEnded result }
     {
@@ -138,7 +136,7 @@ impl Client {
     fn run_on(&mut self, limit: u64) -> NextStep
         ensures follows { (names : List (List ℕ)) (m : List Answer → Progress) (from : List Piece) → self.old.phase ≡ Phase.Running → Follows m names from self.old.machine → RunsOn m names from self.new result }
         ensures fewer { self.old.phase ≡ Phase.Running → most_operations self.new < limit + 2 }
-        ensures wants { self.old.phase ≡ Phase.Running → ShowsWants self.new result }
+        ensures wants { self.old.phase ≡ Phase.Running → ShowsNextStep self.new result }
     {
         for _ in 0..u64::MAX {
             let wants = match self.machine.next_step() {
@@ -169,11 +167,12 @@ impl Client {
         self.machine.is_awaiting() && self.machine.units >= limit
     }
 
-    /// Whether the database of levels answers it.
+    /// Whether it does not request End while the machine awaits an answer. A machine that refines its
+    /// run never does (`IsAskedFor` of `client_machine`).
     fn may_ask(&self, wants: &NextStep) -> bool
-        ensures { result ≡ true → IsRequest self.now.machine.mode wants.now }
+        ensures { result ≡ true → AsksNoEnd self.now.machine.mode wants.now }
     {
-        may_ask(self.machine.is_awaiting(), wants)
+        !(self.machine.is_awaiting() && is_end(wants))
     }
 
     /// The client is out of memory.
@@ -191,6 +190,13 @@ impl Client {
     {
         &self.machine.output.sections
     }
+}
+
+/// Whether End is requested.
+fn is_end(wants: &NextStep) -> bool
+    ensures { result ≡ false → wants.now ≡ NextStep.Ask Op.End → ⊥ }
+{
+    matches!(wants, NextStep::Ask(Op::End))
 }
 
 /// Whether the database answered out of memory.

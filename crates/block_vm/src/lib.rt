@@ -7,8 +7,6 @@
 pub mod answers;
 pub mod begin;
 pub mod client;
-pub mod families;
-pub mod requests;
 pub mod steps;
 
 pub use client::Client;

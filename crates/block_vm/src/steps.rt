@@ -7,16 +7,13 @@ ghost use Rattle.client_machine.specs.declared.mode.StackEntry.{StackEntry};
 ghost use Rattle.client_machine.specs.declared.mode.Task.{Task};
 ghost use Rattle.client_machine.specs.Step.{KeepsRun, KeepsTask, KeepsCompletion, KeepsEntry};
 
-use crate::families::{
-    execute_change, execute_end, execute_read, unwind_to_change, unwind_to_end, unwind_to_read,
-};
 use block_code::{Code, Instr};
 use bound_tree::Stmt;
 use client_calls::steps::{call, called, run_statement};
 use client_machine::machine::Machine;
 use client_machine::mode::{Completion, Mode, StackEntry, Task};
 use client_streams::{
-    close_input, close_output, export, import, message, open_input, open_output, put,
+    close_input, close_output, export, export_record, import, message, open_input, open_output, put,
 };
 use std::alloc::AllocError;
 use std::mem;
@@ -28,6 +25,7 @@ enum Family {
     Run,
     Put,
     Export,
+    ExportRecord,
     Message,
     OutputTo,
     OutputClose,
@@ -73,7 +71,7 @@ fn execute_other(machine: &mut Machine, task: Task) -> Result<(), AllocError>
     ensures err { OnErr result (IsUnchanged machine.old.output machine.new.output) }
 {
     match task {
-        Task::End(task) => execute_end(machine, task),
+        Task::End(task) => client_ends::execute(machine, task),
         _ => execute_on_records(machine, task),
     }
 }
@@ -84,7 +82,7 @@ fn execute_on_records(machine: &mut Machine, task: Task) -> Result<(), AllocErro
     ensures err { OnErr result (IsUnchanged machine.old.output machine.new.output) }
 {
     match task {
-        Task::Read(task) => execute_read(machine, task),
+        Task::Read(task) => client_finds::execute(machine, task),
         _ => execute_changing(machine, task),
     }
 }
@@ -95,7 +93,7 @@ fn execute_changing(machine: &mut Machine, task: Task) -> Result<(), AllocError>
     ensures err { OnErr result (IsUnchanged machine.old.output machine.new.output) }
 {
     match task {
-        Task::Change(task) => execute_change(machine, task),
+        Task::Change(task) => client_records::execute(machine, task),
         _ => machine.execute(task),
     }
 }
@@ -110,6 +108,7 @@ fn run_from(machine: &mut Machine, place: usize, left: u32, retry: bool) -> Resu
         Family::Run => run_statement(machine, place, left, retry),
         Family::Put => put(machine, place, left, retry),
         Family::Export => export(machine, place, left, retry),
+        Family::ExportRecord => export_record(machine, place, left, retry),
         Family::Message => message(machine, place, left, retry),
         Family::OutputTo => open_output(machine, place, left, retry),
         Family::OutputClose => close_output(machine, place, left, retry),
@@ -133,13 +132,27 @@ fn family_of(stmt: &Stmt) -> Family {
         Stmt::Run { .. } => Family::Run,
         Stmt::Put { .. } => Family::Put,
         Stmt::Export { .. } => Family::Export,
+        Stmt::ExportRecord { .. } => Family::ExportRecord,
         Stmt::Message(_) => Family::Message,
         Stmt::OutputTo { .. } => Family::OutputTo,
         Stmt::OutputClose(_) => Family::OutputClose,
         Stmt::Import { .. } => Family::Import,
         Stmt::InputFrom { .. } => Family::InputFrom,
         Stmt::InputClose(_) => Family::InputClose,
-        _ => Family::Machine,
+        Stmt::Block { .. }
+        | Stmt::If { .. }
+        | Stmt::Assign { .. }
+        | Stmt::Find { .. }
+        | Stmt::FindCurrent { .. }
+        | Stmt::Create { .. }
+        | Stmt::Delete { .. }
+        | Stmt::Release { .. }
+        | Stmt::Undo { .. }
+        | Stmt::Leave(_)
+        | Stmt::Next(_)
+        | Stmt::Return(_)
+        | Stmt::ReturnError { .. }
+        | Stmt::Stop => Family::Machine,
     }
 }
 
@@ -182,7 +195,7 @@ fn unwind_to_records(
     ensures err { OnErr result (IsUnchanged machine.old.output machine.new.output) }
 {
     match entry {
-        StackEntry::End(entry) => unwind_to_end(machine, entry, completion),
+        StackEntry::End(entry) => client_ends::unwind_to(machine, entry, completion),
         _ => unwind_to_reading(machine, entry, completion),
     }
 }
@@ -197,7 +210,7 @@ fn unwind_to_reading(
     ensures err { OnErr result (IsUnchanged machine.old.output machine.new.output) }
 {
     match entry {
-        StackEntry::Read(entry) => unwind_to_read(machine, entry, completion),
+        StackEntry::Read(entry) => client_finds::unwind_to(machine, entry, completion),
         _ => unwind_to_changing(machine, entry, completion),
     }
 }
@@ -212,7 +225,7 @@ fn unwind_to_changing(
     ensures err { OnErr result (IsUnchanged machine.old.output machine.new.output) }
 {
     match entry {
-        StackEntry::Change(entry) => unwind_to_change(machine, entry, completion),
+        StackEntry::Change(entry) => client_records::unwind_to(machine, entry, completion),
         _ => machine.unwind_to(entry, completion),
     }
 }

@@ -1,6 +1,7 @@
 -- A task at the end of the run.
 use Rattle.std.proofs.Common.{◌≡◌, ℕ, List, Option, Some, None, IsSomeAnd, sym, ap, ◌∙◌, subst}
 use Rattle.client_database.specs.declared.event.Event.{Event}
+use Rattle.client_database.specs.declared.operation.Op.{Op}
 use Rattle.client_database.specs.declared.next_step.NextStep.{NextStep}
 use Rattle.database_meaning.specs.Setting.{Setting}
 use Rattle.turn_lock.specs.declared.view.Key.{Key}
@@ -30,10 +31,10 @@ module _ {D : Type 0} where
       by None is began = absurd is
       by (Some k) is began = began.0 ∙ ap (λ (y : Serving D). y.start) is.0
 
-module _ {C D : Type 0} (begins : C → Meant → Type 0) (along : C → Meant → List Event → NextStep → Type 0) (suits : C → Setting → Type 0) (careful : Meant → Type 0) (has_setting : D → Setting → Type 0) where
+module _ {C D : Type 0} (begins : C → Meant → Type 0) (along : C → Meant → List Event → NextStep → Type 0) (suits : C → Setting → Type 0) (careful : Meant → Type 0) (certain : Op → Type 0) (has_setting : D → Setting → Type 0) where
   pub came_to_its_end : (lock made : Lock (Serving D)) (n : ℕ) (HasIt : Setting → Type 0) (own : List Event) (old handed ran done : Task C D)
-      → IsHandedOut lock n old handed → HasRun begins along suits careful has_setting made handed ran → (done.client ≡ ran.client) × (done.end ≡ ran.end)
-      → ((f : Setting) → HasIt f → HasSettingAtLock has_setting made f) → own ≡ own_in ran.pass → CameToItsEnd begins along suits careful HasIt own old done
+      → IsHandedOut lock n old handed → HasRun begins along suits careful certain has_setting made handed ran → (done.client ≡ ran.client) × (done.end ≡ ran.end)
+      → ((f : Setting) → HasIt f → HasSettingAtLock has_setting made f) → own ≡ own_in ran.pass → CameToItsEnd begins along suits careful certain HasIt own old done
   came_to_its_end lock made n HasIt own old handed ran done h r same is mine =
       let events : own ≡ r.own = mine ∙ ap (own_in {D = D}) r.has in
       record {
@@ -41,5 +42,5 @@ module _ {C D : Type 0} (begins : C → Meant → Type 0) (along : C → Meant �
         ended = same.1 ∙ r.ended;
         came = λ m begun. subst (λ (y : C × List Event). RanToEnd along y.0 m y.1 r.end) (λ i. (sym same.0 i, sym events i)) (r.came m (subst (λ c. begins c m) (sym h.client) begun));
         fits = λ f has. subst (AllFit f) (sym events) (r.fits f (is f has));
-        unrefused = λ m f begun mild has suit. subst NoneIsRefused (sym events) (r.unrefused m f (subst (λ c. begins c m) (sym h.client) begun) mild (is f has) (subst (λ c. suits c f) (sym h.client) suit));
+        unrefused = λ m f begun mild has suit. subst (NoneIsRefused certain) (sym events) (r.unrefused m f (subst (λ c. begins c m) (sym h.client) begun) mild (is f has) (subst (λ c. suits c f) (sym h.client) suit));
       }

@@ -21,13 +21,13 @@ use Rattle.turn_lock.specs.Shared.{Lock}
 use Rattle.turn_lock.specs.Passes.{ClientPass}
 use Rattle.client_runner.specs.Tasks.{RanToEnd, ByItself, OutOfMemory, client_pass}
 
--- the client agrees with its meaning under the answers of its own events; these answers fit, and none is Refused. `IsSetting` selects the
--- settings of the run
-pub record Along {C : Type 0} (begins : C → Meant → Type 0) (along : C → Meant → List Event → NextStep → Type 0) (suits : C → Setting → Type 0) (careful : Meant → Type 0) (IsSetting : Setting → Type 0) (start now : C) (own : List Event) (wants : NextStep) : Type 0 where
+-- the client agrees with its meaning under the answers of its own events; these answers fit, and none of those to certain operations is
+-- Refused. `IsSetting` selects the settings of the run
+pub record Along {C : Type 0} (begins : C → Meant → Type 0) (along : C → Meant → List Event → NextStep → Type 0) (suits : C → Setting → Type 0) (careful : Meant → Type 0) (certain : Op → Type 0) (IsSetting : Setting → Type 0) (start now : C) (own : List Event) (wants : NextStep) : Type 0 where
   pub does : (m : Meant) → begins start m → along now m own wants
   pub suits_too : (f : Setting) → suits start f → suits now f
   pub fits : (f : Setting) → IsSetting f → AllFit f own
-  pub unrefused : (m : Meant) (f : Setting) → begins start m → careful m → IsSetting f → suits start f → NoneIsRefused own
+  pub unrefused : (m : Meant) (f : Setting) → begins start m → careful m → IsSetting f → suits start f → NoneIsRefused certain own
 
 -- where it requests an operation, it has not ended
 abbrev pub MayGoOn : NextStep → List Event → Type 0
@@ -42,47 +42,47 @@ pub may_go_on : (own after : List Event) (n : ℕ) (op : Op) (a : Answer) (wants
 may_go_on own after n op a (Ask next) unended longer over = subst HasNotEnded (sym longer) (All-push (λ (e : Event). e.op ≢ End) own (event_of n op a) unended (λ is. over is))
 may_go_on own after n op a (Ended end) unended longer over = tt
 
-module _ {C : Type 0} (begins : C → Meant → Type 0) (along : C → Meant → List Event → NextStep → Type 0) (suits : C → Setting → Type 0) (careful : Meant → Type 0) (IsSetting : Setting → Type 0) where
+module _ {C : Type 0} (begins : C → Meant → Type 0) (along : C → Meant → List Event → NextStep → Type 0) (suits : C → Setting → Type 0) (careful : Meant → Type 0) (certain : Op → Type 0) (IsSetting : Setting → Type 0) where
   -- at the first call
   pub along_first : (start now : C) (wants : NextStep) (heard : Option Answer) → heard ≡ None → ((m : Meant) → heard ≡ None → begins start m → along now m [] wants) → ((f : Setting) → suits start f → suits now f)
-      → Along begins along suits careful IsSetting start now [] wants
+      → Along begins along suits careful certain IsSetting start now [] wants
   along_first start now wants heard is_none first suits_too =
       record {
         does = λ m begun. first m is_none begun;
         suits_too = suits_too;
         fits = λ f is. All-nil (λ (e : Event). Fits f.schema e.op e.answer);
-        unrefused = λ m f begun mild is suit. All-nil (λ (e : Event). e.answer ≢ Refused);
+        unrefused = λ m f begun mild is suit. All-nil (λ (e : Event). certain e.op → e.answer ≢ Refused);
       }
 
   -- one operation is answered
-  pub along_next : ((c : C) (f : Setting) (m : Meant) (n : ℕ) (own : List Event) (op : Op) → suits c f → careful m → along c m own (Ask op) → AllFit f own → NoneIsRefused own → IsSureOf f n own op)
+  pub along_next : ((c : C) (f : Setting) (m : Meant) (n : ℕ) (own : List Event) (op : Op) → suits c f → careful m → along c m own (Ask op) → certain op → AllFit f own → NoneIsRefused certain own → IsSureOf f n own op)
       → (start old new : C) (n : ℕ) (own after : List Event) (op : Op) (a : Answer) (wants : NextStep)
-      → Along begins along suits careful IsSetting start old own (Ask op)
+      → Along begins along suits careful certain IsSetting start old own (Ask op)
       → after ≡ own ++ event_of n op a ∷ []
       → ((f : Setting) → IsSetting f → Fits f.schema op a)
       → ((f : Setting) → IsSetting f → IsSureOf f n own op → a ≢ Refused)
       → ((m : Meant) (own : List Event) (op : Op) (n : ℕ) → along old m own (Ask op) → along new m (own ++ event_of n op a ∷ []) wants)
       → ((f : Setting) → suits old f → suits new f)
-      → Along begins along suits careful IsSetting start new after wants
+      → Along begins along suits careful certain IsSetting start new after wants
   along_next sound start old new n own after op a wants h longer fit sure next suits_too =
       record {
         does = λ m begun. subst (λ l. along new m l wants) (sym longer) (next m own op n (h.does m begun));
         suits_too = λ f suit. suits_too f (h.suits_too f suit);
         fits = λ f is. subst (AllFit f) (sym longer) (All-push (λ (e : Event). Fits f.schema e.op e.answer) own (event_of n op a) (h.fits f is) (fit f is));
         unrefused = λ m f begun mild is suit.
-            subst NoneIsRefused (sym longer)
-            (All-push (λ (e : Event). e.answer ≢ Refused) own (event_of n op a) (h.unrefused m f begun mild is suit)
-            (sure f is (sound old f m n own op (h.suits_too f suit) mild (h.does m begun) (h.fits f is) (h.unrefused m f begun mild is suit))));
+            subst (NoneIsRefused certain) (sym longer)
+            (All-push (λ (e : Event). certain e.op → e.answer ≢ Refused) own (event_of n op a) (h.unrefused m f begun mild is suit)
+            (λ sure_of. sure f is (sound old f m n own op (h.suits_too f suit) mild (h.does m begun) sure_of (h.fits f is) (h.unrefused m f begun mild is suit))));
       }
 
 -- what holds for a client that has ended
-pub record Over {C : Type 0} (begins : C → Meant → Type 0) (along : C → Meant → List Event → NextStep → Type 0) (suits : C → Setting → Type 0) (careful : Meant → Type 0) (IsSetting : Setting → Type 0) (start now : C) (own : List Event) (end : ClientEnd) : Type 0 where
+pub record Over {C : Type 0} (begins : C → Meant → Type 0) (along : C → Meant → List Event → NextStep → Type 0) (suits : C → Setting → Type 0) (careful : Meant → Type 0) (certain : Op → Type 0) (IsSetting : Setting → Type 0) (start now : C) (own : List Event) (end : ClientEnd) : Type 0 where
   pub came : (m : Meant) → begins start m → RanToEnd along now m own end
   pub fits : (f : Setting) → IsSetting f → AllFit f own
-  pub unrefused : (m : Meant) (f : Setting) → begins start m → careful m → IsSetting f → suits start f → NoneIsRefused own
+  pub unrefused : (m : Meant) (f : Setting) → begins start m → careful m → IsSetting f → suits start f → NoneIsRefused certain own
 
-module _ {C : Type 0} (begins : C → Meant → Type 0) (along : C → Meant → List Event → NextStep → Type 0) (suits : C → Setting → Type 0) (careful : Meant → Type 0) (IsSetting : Setting → Type 0) where
-  pub over_by_itself : (start now : C) (own : List Event) (end : ClientEnd) → Along begins along suits careful IsSetting start now own (Ended end) → Over begins along suits careful IsSetting start now own end
+module _ {C : Type 0} (begins : C → Meant → Type 0) (along : C → Meant → List Event → NextStep → Type 0) (suits : C → Setting → Type 0) (careful : Meant → Type 0) (certain : Op → Type 0) (IsSetting : Setting → Type 0) where
+  pub over_by_itself : (start now : C) (own : List Event) (end : ClientEnd) → Along begins along suits careful certain IsSetting start now own (Ended end) → Over begins along suits careful certain IsSetting start now own end
   over_by_itself start now own end h =
       record {
         came = λ m begun. ByItself own end (h.does m begun);
@@ -90,13 +90,13 @@ module _ {C : Type 0} (begins : C → Meant → Type 0) (along : C → Meant →
         unrefused = h.unrefused;
       }
 
-  pub over_out_of_memory : (start now : C) (before own : List Event) (op : Op) (n : ℕ) (a : Answer) → Along begins along suits careful IsSetting start now before (Ask op) → op ≢ End → own ≡ before ++ event_of n End a ∷ []
-      → ((f : Setting) → IsSetting f → Fits f.schema End a) → ((f : Setting) → IsSetting f → a ≢ Refused) → Over begins along suits careful IsSetting start now own NoMemory
+  pub over_out_of_memory : (start now : C) (before own : List Event) (op : Op) (n : ℕ) (a : Answer) → Along begins along suits careful certain IsSetting start now before (Ask op) → op ≢ End → own ≡ before ++ event_of n End a ∷ []
+      → ((f : Setting) → IsSetting f → Fits f.schema End a) → ((f : Setting) → IsSetting f → a ≢ Refused) → Over begins along suits careful certain IsSetting start now own NoMemory
   over_out_of_memory start now before own op n a h other longer fit sure =
       record {
         came = λ m begun. subst (λ l. RanToEnd along now m l NoMemory) (sym longer) (OutOfMemory before op n a (h.does m begun) other);
         fits = λ f is. subst (AllFit f) (sym longer) (All-push (λ (e : Event). Fits f.schema e.op e.answer) before (event_of n End a) (h.fits f is) (fit f is));
-        unrefused = λ m f begun mild is suit. subst NoneIsRefused (sym longer) (All-push (λ (e : Event). e.answer ≢ Refused) before (event_of n End a) (h.unrefused m f begun mild is suit) (sure f is));
+        unrefused = λ m f begun mild is suit. subst (NoneIsRefused certain) (sym longer) (All-push (λ (e : Event). certain e.op → e.answer ≢ Refused) before (event_of n End a) (h.unrefused m f begun mild is suit) (λ _. sure f is));
       }
 
 -- End is always answered

@@ -44,9 +44,9 @@ abbrev pub Requests : (Op → Type 0) → NextStep → Type 0
 Requests MayRequest (Ask op) = MayRequest op
 Requests MayRequest (Ended end) = Unit {0}
 
--- no answer of these events is Refused
-abbrev pub NoneIsRefused : List Event → Type 0
-NoneIsRefused own = All (λ e. e.answer ≢ Refused) own
+-- no answer of these events to one of these operations is Refused
+abbrev pub NoneIsRefused : (Op → Type 0) → List Event → Type 0
+NoneIsRefused IsCertain own = All (λ e. IsCertain e.op → e.answer ≢ Refused) own
 
 -- each answer of these events fits its operation
 abbrev pub AllFit : Setting → List Event → Type 0

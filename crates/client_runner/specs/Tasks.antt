@@ -86,9 +86,9 @@ module _ {C D : Type 0} where
 
 -- ---- a task at its end
 
-module _ {C D : Type 0} (begins : C → Meant → Type 0) (along : C → Meant → List Event → NextStep → Type 0) (suits : C → Setting → Type 0) (careful : Meant → Type 0) (has_setting : D → Setting → Type 0) where
-  -- the client has run to its end: it did what is meant under the answers of its own events, which fit; none is Refused where the
-  -- meaning is careful
+module _ {C D : Type 0} (begins : C → Meant → Type 0) (along : C → Meant → List Event → NextStep → Type 0) (suits : C → Setting → Type 0) (careful : Meant → Type 0) (certain : Op → Type 0) (has_setting : D → Setting → Type 0) where
+  -- the client has run to its end: it did what is meant under the answers of its own events, which fit; none of those to certain
+  -- operations is Refused where the meaning is careful
   pub record HasRun (lock : Lock (Serving D)) (old new : Task C D) : Type 0 where
     pub number : new.number ≡ old.number
     pub own : List Event
@@ -97,14 +97,14 @@ module _ {C D : Type 0} (begins : C → Meant → Type 0) (along : C → Meant �
     pub ended : new.end ≡ Some end
     pub came : (m : Meant) → begins old.client m → RanToEnd along new.client m own end
     pub fits : (setting : Setting) → HasSettingAtLock has_setting lock setting → AllFit setting own
-    pub unrefused : (m : Meant) (setting : Setting) → begins old.client m → careful m → HasSettingAtLock has_setting lock setting → suits old.client setting → NoneIsRefused own
+    pub unrefused : (m : Meant) (setting : Setting) → begins old.client m → careful m → HasSettingAtLock has_setting lock setting → suits old.client setting → NoneIsRefused certain own
 
-module _ {C D : Type 0} (begins : C → Meant → Type 0) (along : C → Meant → List Event → NextStep → Type 0) (suits : C → Setting → Type 0) (careful : Meant → Type 0) where
+module _ {C D : Type 0} (begins : C → Meant → Type 0) (along : C → Meant → List Event → NextStep → Type 0) (suits : C → Setting → Type 0) (careful : Meant → Type 0) (certain : Op → Type 0) where
   -- The client has come to its end: it did what is meant under the answers of these events, its own. In a setting of the database these
-  -- answers fit their operations, and where the client suits the setting and its meaning is careful, none is Refused
+  -- answers fit their operations, and where the client suits the setting and its meaning is careful, none of those to certain operations is Refused
   pub record CameToItsEnd (HasSetting : Setting → Type 0) (own : List Event) (old new : Task C D) : Type 0 where
     pub end : ClientEnd
     pub ended : new.end ≡ Some end
     pub came : (m : Meant) → begins old.client m → RanToEnd along new.client m own end
     pub fits : (setting : Setting) → HasSetting setting → AllFit setting own
-    pub unrefused : (m : Meant) (setting : Setting) → begins old.client m → careful m → HasSetting setting → suits old.client setting → NoneIsRefused own
+    pub unrefused : (m : Meant) (setting : Setting) → begins old.client m → careful m → HasSetting setting → suits old.client setting → NoneIsRefused certain own

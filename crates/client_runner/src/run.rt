@@ -45,7 +45,7 @@ pub fn run_clients<R: Threads + Wait + Sync, C: Session + Send, D: Database + Se
     requires serves { (n : ℕ) (op : Operation) → IsAmong first (length tasks.old) n → C.may_request op ⊎ (op ≡ Operation.End) → D.serves database n op }
     ensures kept { IfOk result (λ d. IsKept D.has_setting D.opened D.trace D.serves D.active database d first (length tasks.old)) }
     ensures legal { (setting : Setting) (contents : Contents) → D.opened database setting contents → IfOk result (λ d. IsLegal setting contents (D.trace d)) }
-    ensures came { IfOk result (λ d. (k : ℕ) (t : _) → k < length tasks.old → CameToItsEnd C.begins C.along C.suits C.careful (D.has_setting database) (own_entries client_in (first + k) (D.trace d)) (slice_index_or tasks.old k t) (slice_index_or tasks.new k t)) }
+    ensures came { IfOk result (λ d. (k : ℕ) (t : _) → k < length tasks.old → CameToItsEnd C.begins C.along C.suits C.careful C.certain (D.has_setting database) (own_entries client_in (first + k) (D.trace d)) (slice_index_or tasks.old k t) (slice_index_or tasks.new k t)) }
     ensures back { IfErr result (λ d. d ≡ database) }
 {
     let clients = tasks.len() as u16;
@@ -87,7 +87,7 @@ fn run_all<R: Threads + Wait + Sync, C: Session + Send, D: Database + Send, G: G
 )
     requires ready { (k : ℕ) (t : _) → k < length tasks.old → IsReady shared.now (slice_index_or tasks.old k t) }
     requires serves { (n : ℕ) (op : Operation) → IsOneOfLock shared.now n → C.may_request op ⊎ (op ≡ Operation.End) → ServesAtLock D.serves shared.now n op }
-    ensures run { (k : ℕ) (t : _) → k < length tasks.old → HasRun C.begins C.along C.suits C.careful D.has_setting shared.now (slice_index_or tasks.old k t) (slice_index_or tasks.new k t) }
+    ensures run { (k : ℕ) (t : _) → k < length tasks.old → HasRun C.begins C.along C.suits C.careful C.certain D.has_setting shared.now (slice_index_or tasks.old k t) (slice_index_or tasks.new k t) }
 {
     let count = tasks.len();
     if count == 0 {
@@ -101,7 +101,7 @@ fn run_all<R: Threads + Wait + Sync, C: Session + Send, D: Database + Send, G: G
         &|_, task: &mut Task<C, D>|
             requires ready { IsReady shared.now task.old }
             requires serves { (n : ℕ) (op : Operation) → IsOneOfLock shared.now n → C.may_request op ⊎ (op ≡ Operation.End) → ServesAtLock D.serves shared.now n op }
-            ensures { HasRun C.begins C.along C.suits C.careful D.has_setting shared.entry.now task.old task.new }
+            ensures { HasRun C.begins C.along C.suits C.careful C.certain D.has_setting shared.entry.now task.old task.new }
         { task.run(rt, shared, &noted, gate) },
     );
 }

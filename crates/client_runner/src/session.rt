@@ -31,6 +31,9 @@ pub trait Session {
     /// The meaning requests nothing that the client's own events forbid, if none was refused.
     ghost careful: { Meant → Type 0 };
 
+    /// An operation that is well formed wherever a session with a careful meaning requests it.
+    ghost certain: { Op → Type 0 };
+
     /// Takes the answer to the last request, or None at the first call. Returns the next request,
     /// or how the session has ended. Blocked makes it repeat the same request. After End it has
     /// ended.
@@ -42,7 +45,8 @@ pub trait Session {
         ensures over { shows self.old (Step.Ask Op.End) → IfSome answer (λ _. IsOver result) }
         ensures suits { (setting : Setting) → suits self.old setting → suits self.new setting };
 
-    /// For any trace: if these are its own events, their answers fit, and none is Refused, then the
-    /// request of a session with a careful meaning is well formed.
-    ghost sure: { (session : Self) (setting : Setting) (m : Meant) (n : ℕ) (own : List Event) (op : Op) → suits session setting → careful m → along session m own (Step.Ask op) → AllFit setting own → NoneIsRefused own → IsSureOf setting n own op };
+    /// For any trace: if these are its own events, their answers fit, and none of those to certain
+    /// operations is Refused, then a certain request of a session with a careful meaning is well
+    /// formed.
+    ghost sure: { (session : Self) (setting : Setting) (m : Meant) (n : ℕ) (own : List Event) (op : Op) → suits session setting → careful m → along session m own (Step.Ask op) → certain op → AllFit setting own → NoneIsRefused certain own → IsSureOf setting n own op };
 }

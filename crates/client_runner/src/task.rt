@@ -110,7 +110,7 @@ impl<C: Session, D: Database> Task<C, D> {
     )
         requires ready { IsReady shared.now self.old }
         requires serves { (op : Operation) → C.may_request op ⊎ (op ≡ Operation.End) → ServesAtLock D.serves shared.now self.old.number op }
-        ensures run { HasRun C.begins C.along C.suits C.careful D.has_setting shared.now self.old self.new }
+        ensures run { HasRun C.begins C.along C.suits C.careful C.certain D.has_setting shared.now self.old self.new }
     {
         let Some(mut pass) = self.pass.take() else {
             unreachable!()

@@ -1,7 +1,7 @@
 -- A client and its own events, compared with the meaning of its run.
 use Rattle.std.specs.Prelude.{◌≡◌, ◌<◌, ◌≤◌, ℕ, ◌∷◌, ◌++◌, [], List, map}
 use Rattle.client_database.specs.declared.operation.Op.{Op}
-use Rattle.client_database.specs.declared.operation.Op.TheVariants.{Leave, Back, End}
+use Rattle.client_database.specs.declared.operation.Op.TheVariants.{Enter, Leave, Back, End}
 use Rattle.client_database.specs.declared.answer.Answer.{Answer}
 use Rattle.client_database.specs.declared.event.Event.{Event}
 use Rattle.client_database.specs.declared.ends.ClientEnd.TheVariants.{NoMemory}
@@ -11,7 +11,7 @@ use Rattle.database_meaning.specs.Setting.{Setting}
 use Rattle.block_meaning.specs.declared.wants.Piece.{Piece}
 use Rattle.block_meaning.specs.Meaning.{asked}
 use Rattle.block_meaning.specs.GivesUp.{GaveUp}
-use Rattle.block_vm.specs.Standing.{Standing, HasWritten}
+use Rattle.block_vm.specs.ClientView.{ClientView, HasWritten}
 use Rattle.block_vm.specs.Refines.{Agrees, HasGivenUp}
 use Rattle.block_vm.specs.Work.{IsWaiting}
 use Rattle.client_runner.specs.Meant.{Meant, NoneIsRefused, AllFit, IsSureOf}
@@ -24,12 +24,12 @@ abbrev pub operations_in : List Event → List Op
 operations_in own = map (λ (e : Event). e.op) own
 
 -- it waits for the answer to what it requests
-abbrev pub WaitsIfAsking : Standing → NextStep → Type 0
+abbrev pub WaitsIfAsking : ClientView → NextStep → Type 0
 WaitsIfAsking client (Ask op) = IsWaiting client
 WaitsIfAsking client (Ended end) = Unit {0}
 
 -- a client whose own events are these, and whose next step this is
-pub data Along (client : Standing) (m : Meant) (own : List Event) (next : NextStep) : Type 0 where
+pub data Along (client : ClientView) (m : Meant) (own : List Event) (next : NextStep) : Type 0 where
   -- it agrees with m
   AsMeant : WaitsIfAsking client next → Agrees client m.names m.run (answers_in own) next → operations_in own ≡ asked m.run (answers_in own) → Along client m own next
   -- it is out of memory, and requests End
@@ -38,18 +38,27 @@ pub data Along (client : Standing) (m : Meant) (own : List Event) (next : NextSt
   IsOver : (pieces : List Piece) (before : List Event) (last : Event) → HasWritten client m.names pieces → next ≡ Ended NoMemory → own ≡ before ++ last ∷ [] → last.op ≡ End
       → operations_in before ≡ asked m.run (answers_in before) → GaveUp m.run (answers_in before) pieces → Along client m own next
 
+-- an operation on levels: Enter, Leave, Back or End
+abbrev pub IsOnLevels : Op → Type 0
+IsOnLevels Enter = Unit {0}
+IsOnLevels (Leave keep) = Unit {0}
+IsOnLevels (Back depth) = Unit {0}
+IsOnLevels End = Unit {0}
+IsOnLevels other = ⊥
+
 -- with this number of open levels, a Leave has one to leave, and a Back names one of them
 abbrev pub IsOpen : ℕ → Op → Type 0
 IsOpen open_levels (Leave keep) = 0 < open_levels
 IsOpen open_levels (Back depth) = (0 < depth) × (depth ≤ open_levels)
 IsOpen open_levels _ = Unit {0}
 
--- if the client's own events have answers that fit and none is Refused, the next request of m names only levels that these events left open
+-- if the client's own events have answers that fit and no operation on levels was Refused, the next request of m names only levels that these
+-- events left open
 abbrev pub IsCareful : Meant → Type 0
 IsCareful m =
-    (setting : Setting) (own : List Event) (op : Op) → operations_in own ≡ asked m.run (answers_in own) → AllFit setting own → NoneIsRefused own → (m.run (answers_in own)).wants ≡ Ask op → IsOpen (levels_left 0 own) op
+    (setting : Setting) (own : List Event) (op : Op) → operations_in own ≡ asked m.run (answers_in own) → AllFit setting own → NoneIsRefused IsOnLevels own → (m.run (answers_in own)).wants ≡ Ask op → IsOpen (levels_left 0 own) op
 
--- the client agrees with m, and its next request is well formed if m is careful
-pub record Goes (client : Standing) (m : Meant) (own : List Event) (next : NextStep) : Type 0 where
+-- the client agrees with m, and its next request on levels is well formed if m is careful
+pub record Goes (client : ClientView) (m : Meant) (own : List Event) (next : NextStep) : Type 0 where
   pub along : Along client m own next
-  pub sure : (setting : Setting) (n : ℕ) (op : Op) → next ≡ Ask op → IsCareful m → AllFit setting own → NoneIsRefused own → IsSureOf setting n own op
+  pub sure : (setting : Setting) (n : ℕ) (op : Op) → next ≡ Ask op → IsOnLevels op → IsCareful m → AllFit setting own → NoneIsRefused IsOnLevels own → IsSureOf setting n own op

@@ -1,17 +1,16 @@
 //! The session of a client that runs block code.
 
 ghost use Rattle.std.specs.Prelude.{[], refl};
-ghost use Rattle.client_database.specs.Levels.{IsLevelOp};
 ghost use Rattle.block_vm.specs.Refines.{Refines, HasNotBegun};
-ghost use Rattle.block_vm.specs.Work.{ShowsWants};
-ghost use Rattle.client_session.specs.Along.{Goes, IsCareful};
+ghost use Rattle.block_vm.specs.Work.{ShowsNextStep};
+ghost use Rattle.client_session.specs.Along.{Goes, IsCareful, IsOnLevels};
 
 use block_vm::Client;
 use client_database::{Answer, NextStep};
 use client_runner::Session;
 use client_runner::laws::open_levels_are_of_own_events;
 
-/// A client that runs block code. It requests operations of levels alone.
+/// A client that runs block code. It is certain of its operations on levels.
 #[derive(Drop)]
 pub struct ClientSession {
     pub client: Client,
@@ -22,18 +21,20 @@ impl Session for ClientSession {
 
     ghost along = { λ c m own next. Goes c.client m own next };
 
-    ghost shows = { λ c next. ShowsWants c.client next };
+    ghost shows = { λ c next. ShowsNextStep c.client next };
 
-    ghost may_request = { IsLevelOp };
+    ghost may_request = { λ op. Unit {0} };
 
     ghost suits = { λ c setting. Unit {0} };
 
     ghost careful = { IsCareful };
+
+    ghost certain = { IsOnLevels };
 
     fn resume(&mut self, answer: Option<Answer>) -> NextStep {
         open_levels_are_of_own_events();
         self.client.resume(answer)
     }
 
-    ghost sure = { λ c setting m n own op suits careful goes fits unrefused. goes.sure setting n op refl careful fits unrefused };
+    ghost sure = { λ c setting m n own op suits careful goes on_levels fits unrefused. goes.sure setting n op refl on_levels careful fits unrefused };
 }

@@ -23,7 +23,7 @@ use Rattle.block_meaning.proofs.Runs.{run_stays}
 use Rattle.block_meaning.proofs.Level_runs.{run_asks}
 use Rattle.client_runner.specs.Meant.{NoneIsRefused, AllFit}
 use Rattle.client_runner.specs.Levels.{levels_after, levels_left}
-use Rattle.client_session.specs.Along.{IsOpen, IsCareful, answers_in, operations_in}
+use Rattle.client_session.specs.Along.{IsOnLevels, IsOpen, IsCareful, answers_in, operations_in}
 use Rattle.run_laws.specs.Careful.{IsStop}
 use Rattle.run_laws.proofs.Ends.{EndsAfter, requests_end}
 
@@ -88,11 +88,11 @@ min_is : (d k : ℕ) → d ≤ k → min d k ≡ d
 min_is d k le = grind arith
 
 -- the levels counted by what succeeded are those counted by what was asked
-levels_same : (schema : SchemaData) (k : ℕ) (o : Op) (a : Answer) → HasAnswer schema o a → a ≢ answer.Refused → ¬ IsStop a → o ≢ op.End → CanAsk k o
+levels_same : (schema : SchemaData) (k : ℕ) (o : Op) (a : Answer) → HasAnswer schema o a → (IsOnLevels o → a ≢ answer.Refused) → ¬ IsStop a → o ≢ op.End → CanAsk k o
     → (if is_success a then levels_after k o else k) ≡ levels_asked k o
-levels_same schema k op.Enter a fits unrefused goes not_end can = ap (λ b. if b then k + 1 else k) (enter_done schema a fits unrefused goes)
-levels_same schema k (op.Leave keep) a fits unrefused goes not_end can = ap (λ b. if b then k - 1 else k) (leave_done schema keep a fits unrefused goes)
-levels_same schema k (op.Back depth) a fits unrefused goes not_end can = ap (λ b. if b then min depth k else k) (back_done schema depth a fits unrefused goes) ∙ min_is depth k can.1
+levels_same schema k op.Enter a fits unrefused goes not_end can = ap (λ b. if b then k + 1 else k) (enter_done schema a fits (unrefused tt) goes)
+levels_same schema k (op.Leave keep) a fits unrefused goes not_end can = ap (λ b. if b then k - 1 else k) (leave_done schema keep a fits (unrefused tt) goes)
+levels_same schema k (op.Back depth) a fits unrefused goes not_end can = ap (λ b. if b then min depth k else k) (back_done schema depth a fits (unrefused tt) goes) ∙ min_is depth k can.1
 levels_same schema k op.End a fits unrefused goes not_end can = absurd (not_end refl)
 levels_same schema k o a fits unrefused goes not_end can = same_if (is_success a) k
 
@@ -114,7 +114,7 @@ pub head_same : (o o' : Op) (os os' : List Op) → o ∷ os ≡ o' ∷ os' → (
 head_same o o' os os' e = (cc, cc)
 
 -- after this answer, blocked or not
-next_levels : (schema : SchemaData) (k : ℕ) (o : Op) (a : Answer) (b : Bool) (rest : List Op) → is_blocked a ≡ b → HasAnswer schema o a → a ≢ answer.Refused → ¬ IsStop a → o ≢ op.End
+next_levels : (schema : SchemaData) (k : ℕ) (o : Op) (a : Answer) (b : Bool) (rest : List Op) → is_blocked a ≡ b → HasAnswer schema o a → (IsOnLevels o → a ≢ answer.Refused) → ¬ IsStop a → o ≢ op.End
     → CanAskAll k (unless_blocked b (o ∷ []) ++ rest) → CanAskAll (if is_success a then levels_after k o else k) rest
 next_levels schema k o a true rest is fits unrefused goes not_end can = subst (λ s. CanAskAll (if s then levels_after k o else k) rest) (sym (blocked_fails a is)) can
 next_levels schema k o a false rest is fits unrefused goes not_end can = subst (λ n. CanAskAll n rest) (sym (levels_same schema k o a fits unrefused goes not_end can.0)) can.1
@@ -122,7 +122,7 @@ next_levels schema k o a false rest is fits unrefused goes not_end can = subst (
 -- after these events, from this number of levels on, what is requested names open levels
 abbrev OpenAfter : Setting → (List Answer → Progress) → List Event → Type 0
 OpenAfter setting m own =
-    (k : ℕ) → CanAskAll k (asked_once m (answers_in own)) → operations_in own ≡ asked m (answers_in own) → AllFit setting own → NoneIsRefused own
+    (k : ℕ) → CanAskAll k (asked_once m (answers_in own)) → operations_in own ≡ asked m (answers_in own) → AllFit setting own → NoneIsRefused IsOnLevels own
     → (o : Op) → (m (answers_in own)).wants ≡ Ask o → IsOpen (levels_left k own) o
 
 open_asked : (setting : Setting) (m : List Answer → Progress) → IsRun m → (q : Op) → (m []).wants ≡ Ask q → (e : Event) (own : List Event) → OpenAfter setting (λ more. m (e.answer ∷ more)) own
@@ -136,10 +136,10 @@ open_asked setting m r q wants e own further (inr goes) (inr not_end) k can same
     let can' : CanAskAll k (unless_blocked (is_blocked e.answer) (q ∷ []) ++ once) = subst (λ w. CanAskAll k (unless_blocked (is_blocked e.answer) (op_of w) ++ once)) wants can in
     let fit : HasAnswer setting.schema q e.answer = subst (λ o. HasAnswer setting.schema o e.answer) both.0 (All-head (λ (e : Event). HasAnswer setting.schema e.op e.answer) e own fits) in
     let next : CanAskAll (if is_success e.answer then levels_after k q else k) once =
-    next_levels setting.schema k q e.answer (is_blocked e.answer) once refl fit (All-head (λ (e : Event). e.answer ≢ answer.Refused) e own unrefused) goes not_end can' in
+    next_levels setting.schema k q e.answer (is_blocked e.answer) once refl fit (subst (λ o. IsOnLevels o → e.answer ≢ answer.Refused) both.0 (All-head (λ (e : Event). IsOnLevels e.op → e.answer ≢ answer.Refused) e own unrefused)) goes not_end can' in
     further (if is_success e.answer then levels_after k e.op else k)
     (subst (λ o. CanAskAll (if is_success e.answer then levels_after k o else k) once) (sym both.0) next) both.1
-    (All-tail (λ (e : Event). HasAnswer setting.schema e.op e.answer) e own fits) (All-tail (λ (e : Event). e.answer ≢ answer.Refused) e own unrefused) o is
+    (All-tail (λ (e : Event). HasAnswer setting.schema e.op e.answer) e own fits) (All-tail (λ (e : Event). IsOnLevels e.op → e.answer ≢ answer.Refused) e own unrefused) o is
 
 open_by : (setting : Setting) (m : List Answer → Progress) → IsRun m → (w : NextStep) → (m []).wants ≡ w → (e : Event) (own : List Event) → OpenAfter setting (λ more. m (e.answer ∷ more)) own → OpenAfter setting m (e ∷ own)
 open_by setting m r (Ended end) wants e own further = λ k can same fits unrefused o is.

@@ -10,11 +10,11 @@ ghost use Rattle.client_database.specs.declared.event.Event.{Event};
 ghost use Rattle.database_meaning.specs.declared.contents.Contents.{Contents};
 ghost use Rattle.database_meaning.specs.Setting.{Setting};
 ghost use Rattle.turn_lock.specs.Journal.{own_entries};
-ghost use Rattle.block_vm.specs.Standing.{Standing};
+ghost use Rattle.block_vm.specs.ClientView.{ClientView};
 ghost use Rattle.client_runner.specs.Meant.{AllFit, client_in};
 ghost use Rattle.client_session.specs.Along.{Along, IsCareful};
 ghost use Rattle.run_laws.specs.Careful.{IsStop};
-ghost use Rattle.run_laws.specs.Unrefused.{AreOfLevels, IsUnrefused, RefusesRightly};
+ghost use Rattle.run_laws.specs.Unrefused.{IsUnrefused, RefusesRightly};
 
 use client_runner::laws::open_levels_are_of_own_events;
 
@@ -24,20 +24,21 @@ pub fn a_stop_is_followed_by_end_alone()
     ensures { (p : Program) (units : ℕ) (before more : List Answer) (a : Answer) (op : Op) → IsStop a → (run p units (before ++ a ∷ more)).wants ≡ Step.Ask op → op ≡ Op.End }
 {}
 
-/// The run of every source is careful: where the answers of its own events fit and none is Refused,
-/// it requests Leave and Back only of levels that these events have left open.
+/// The run of every source is careful: where the answers of its own events fit and no operation on
+/// levels was Refused, it requests Leave and Back only of levels that these events have left open.
 pub fn every_run_is_careful()
     ensures { (names : List (List ℕ)) (p : Program) (units : ℕ) → IsCareful (record { names = names; run = run p units }) }
 {}
 
-/// A client of block code that requests operations of levels is never refused. Where its own events in a
-/// trace are those of its run (`Along`, which `Session` keeps), their answers fit, and the database
-/// refuses rightly, none of the answers is Refused, and what it requests next is well formed in the
-/// state that the trace leaves: a Leave or Back names a level that its own events have left open.
-pub fn clients_are_never_refused()
-    ensures { (client : Standing) (names : List (List ℕ)) (p : Program) (units : ℕ) (next : Step) (setting : Setting) (contents : Contents) (n : ℕ) (trace : List Event) →
+/// No operation on levels of a client of block code is refused. Where its own events in a trace are
+/// those of its run (`Along`, which `Session` keeps), their answers fit, and the database refuses
+/// rightly, no answer to Enter, Leave, Back or End is Refused, and such an operation that it requests
+/// next is well formed in the state that the trace leaves: a Leave or Back names a level that its own
+/// events have left open.
+pub fn no_operation_on_levels_is_refused()
+    ensures { (client : ClientView) (names : List (List ℕ)) (p : Program) (units : ℕ) (next : Step) (setting : Setting) (contents : Contents) (n : ℕ) (trace : List Event) →
         Along client (record { names = names; run = run p units }) (own_entries client_in n trace) next →
-        AreOfLevels (own_entries client_in n trace) → AllFit setting (own_entries client_in n trace) → RefusesRightly setting n trace →
+        AllFit setting (own_entries client_in n trace) → RefusesRightly setting n trace →
         IsUnrefused setting contents n trace (own_entries client_in n trace) next }
 {
     open_levels_are_of_own_events();

@@ -41,6 +41,8 @@ impl Session for Script {
 
     ghost careful = { λ m. Unit {0} };
 
+    ghost certain = { IsLevelOp };
+
     fn resume(&mut self, _answer: Option<Answer>) -> NextStep {
         match self.stage {
             Stage::Enters => {
@@ -65,5 +67,5 @@ impl Session for Script {
         }
     }
 
-    ghost sure = { λ c setting m n own op suits careful along fits unrefused. absurd along };
+    ghost sure = { λ c setting m n own op suits careful along level fits unrefused. absurd along };
 }

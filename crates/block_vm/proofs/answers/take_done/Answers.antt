@@ -14,10 +14,10 @@ pub returns-in-WasLeft-clause-ok : goal.returns-in-WasLeft-clause-ok
 returns-in-WasLeft-clause-ok c = subst (λ (k : OnAnswer). OnOk c.on_left.result (KeepsAnswer c.args.op k c.args.answer c.args.machine.now c.on_left.new.self)) (sym c.in-WasLeft.is) c.on_left.ensures.ok
 
 pub returns-in-End-clause-ok : goal.returns-in-End-clause-ok
-returns-in-End-clause-ok c = subst (λ (k : OnAnswer). OnOk c.answer_end.result (KeepsAnswer c.args.op k c.args.answer c.args.machine.now c.answer_end.new.machine)) (sym c.in-End.is) c.answer_end.ensures.ok
+returns-in-End-clause-ok c = subst (λ (k : OnAnswer). OnOk c.answer.result (KeepsAnswer c.args.op k c.args.answer c.args.machine.now c.answer.new.machine)) (sym c.in-End.is) c.answer.ensures.ok
 
 pub returns-in-Read-clause-ok : goal.returns-in-Read-clause-ok
-returns-in-Read-clause-ok c = subst (λ (k : OnAnswer). OnOk c.answer_read.result (KeepsAnswer c.args.op k c.args.answer c.args.machine.now c.answer_read.new.machine)) (sym c.in-Read.is) c.answer_read.ensures.ok
+returns-in-Read-clause-ok c = subst (λ (k : OnAnswer). OnOk c.answer-in-Read.result (KeepsAnswer c.args.op k c.args.answer c.args.machine.now c.answer-in-Read.new.machine)) (sym c.in-Read.is) c.answer-in-Read.ensures.ok
 
 pub returns-in-Change-clause-ok : goal.returns-in-Change-clause-ok
-returns-in-Change-clause-ok c = subst (λ (k : OnAnswer). OnOk c.answer_change.result (KeepsAnswer c.args.op k c.args.answer c.args.machine.now c.answer_change.new.machine)) (sym c.in-Change.is) c.answer_change.ensures.ok
+returns-in-Change-clause-ok c = subst (λ (k : OnAnswer). OnOk c.answer-in-Change.result (KeepsAnswer c.args.op k c.args.answer c.args.machine.now c.answer-in-Change.new.machine)) (sym c.in-Change.is) c.answer-in-Change.ensures.ok

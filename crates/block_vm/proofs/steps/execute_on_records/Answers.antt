@@ -5,4 +5,4 @@ use Rattle.client_machine.specs.Step.{KeepsTask}
 use Rattle.block_vm.proofs.steps.execute_on_records.Goals as goal
 
 pub returns-in-Read-clause-ok : goal.returns-in-Read-clause-ok
-returns-in-Read-clause-ok c = subst (λ (k : Task). OnOk c.execute_read.result (KeepsTask k c.args.machine.now c.execute_read.new.machine)) (sym c.in-Read.is) c.execute_read.ensures.ok
+returns-in-Read-clause-ok c = subst (λ (k : Task). OnOk c.execute.result (KeepsTask k c.args.machine.now c.execute.new.machine)) (sym c.in-Read.is) c.execute.ensures.ok

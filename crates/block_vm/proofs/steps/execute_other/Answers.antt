@@ -5,4 +5,4 @@ use Rattle.client_machine.specs.Step.{KeepsTask}
 use Rattle.block_vm.proofs.steps.execute_other.Goals as goal
 
 pub returns-in-End-clause-ok : goal.returns-in-End-clause-ok
-returns-in-End-clause-ok c = subst (λ (k : Task). OnOk c.execute_end.result (KeepsTask k c.args.machine.now c.execute_end.new.machine)) (sym c.in-End.is) c.execute_end.ensures.ok
+returns-in-End-clause-ok c = subst (λ (k : Task). OnOk c.execute.result (KeepsTask k c.args.machine.now c.execute.new.machine)) (sym c.in-End.is) c.execute.ensures.ok

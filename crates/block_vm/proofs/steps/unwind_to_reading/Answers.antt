@@ -5,4 +5,4 @@ use Rattle.client_machine.specs.Step.{KeepsEntry}
 use Rattle.block_vm.proofs.steps.unwind_to_reading.Goals as goal
 
 pub returns-in-Read-clause-ok : goal.returns-in-Read-clause-ok
-returns-in-Read-clause-ok c = subst (λ (k : StackEntry). OnOk c.unwind_to_read.result (KeepsEntry k c.args.completion c.args.machine.now c.unwind_to_read.new.machine)) (sym c.in-Read.is) c.unwind_to_read.ensures.ok
+returns-in-Read-clause-ok c = subst (λ (k : StackEntry). OnOk c.unwind_to.result (KeepsEntry k c.args.completion c.args.machine.now c.unwind_to.new.machine)) (sym c.in-Read.is) c.unwind_to.ensures.ok

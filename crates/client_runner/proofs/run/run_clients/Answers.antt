@@ -38,7 +38,7 @@ returns-clause-came g c = λ k t less.
     let events : own_entries client_in (c.args.first + k) (T c.finish-2.result) ≡ own_in one.pass =
     ap (λ d. own_entries client_in (c.args.first + k) (T d)) c.finish-2.ensures.database
     ∙ (ap (λ n. own_entries client_in n trace) (sym (r.number ∙ h.number)) ∙ mine) in
-    came_to_its_end S.begins S.along S.suits S.careful H lock c.in-Ok.made.0 (c.args.first + k) (H c.args.database) _ (slice_index_or c.args.tasks.now k t) (slice_index_or c.hand_out.new.tasks k t) one (slice_index_or c.collect.new.tasks k t)
+    came_to_its_end S.begins S.along S.suits S.careful S.certain H lock c.in-Ok.made.0 (c.args.first + k) (H c.args.database) _ (slice_index_or c.args.tasks.now k t) (slice_index_or c.hand_out.new.tasks k t) one (slice_index_or c.collect.new.tasks k t)
     h r (c.collect.ensures.same k t (omega arith))
     (λ f has. at_made (λ (d : D). H d f) c.in-Ok.made.0 c.new-served.result c.args.database c.args.first (length c.args.tasks.now) c.in-Ok.ensures.made c.new-served.ensures.start.0 has)
     events

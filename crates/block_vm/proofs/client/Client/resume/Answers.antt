@@ -4,10 +4,10 @@ use Rattle.client_database.specs.declared.ends.ClientEnd.TheVariants.{NoMemory}
 use Rattle.client_database.specs.declared.next_step.NextStep.TheVariants.{Ended}
 use Rattle.client_database.specs.declared.answer.Answer.{Answer}
 use Rattle.block_vm.specs.NextStep.{IsPlain, IsEnded}
-use Rattle.block_vm.specs.Standing.{HasWritten}
+use Rattle.block_vm.specs.ClientView.{HasWritten}
 use Rattle.block_vm.specs.Work.{most_operations, IsWaiting}
 use Rattle.block_vm.specs.Refines.{Refines, AfterResume, IsExpected, answers_with}
-use Rattle.block_vm.proofs.Works.{shows_waits, shows_level}
+use Rattle.block_vm.proofs.Works.{shows_waits}
 use Rattle.block_vm.proofs.client.Client.resume.Goals as goal
 
 some_same : (a b : Answer) → Some a ≡ Some b → a ≡ b
@@ -36,12 +36,6 @@ returns-in-Some-clause-waits c = shows_waits c.resume_with.new.self c.resume_wit
 
 pub returns-in-None-clause-waits : goal.returns-in-None-clause-waits
 returns-in-None-clause-waits c = shows_waits c.begin.new.self c.begin.result c.begin.ensures.wants
-
-pub returns-in-Some-clause-level : goal.returns-in-Some-clause-level
-returns-in-Some-clause-level c = shows_level c.resume_with.new.self c.resume_with.result c.resume_with.ensures.wants
-
-pub returns-in-None-clause-level : goal.returns-in-None-clause-level
-returns-in-None-clause-level c = shows_level c.begin.new.self c.begin.result c.begin.ensures.wants
 
 pub returns-in-Some-clause-fewer : goal.returns-in-Some-clause-fewer
 returns-in-Some-clause-fewer c =

@@ -2,11 +2,11 @@ use Rattle.std.proofs.Common.{ap, ◌∙◌, refl, sym, subst}
 use Rattle.std.specs.Prelude.{Option, IfSome}
 use Rattle.client_database.specs.declared.next_step.NextStep.{NextStep}
 use Rattle.client_machine.specs.Shows.{Shows}
-use Rattle.client_machine.specs.Step.{Wants}
+use Rattle.client_machine.specs.Step.{NextStepIs}
 use Rattle.client_output.specs.Written.{IsUnchanged}
 use Rattle.client_output.proofs.Unchanged.{unchanged}
 use Rattle.block_vm.specs.declared.client.Client.{Client}
-use Rattle.block_vm.proofs.Resumes.{step_going, stands_going, fails_going}
+use Rattle.block_vm.proofs.Resumes.{step_going, going_on_runs_on, fails_going}
 use Rattle.block_vm.proofs.Works.{fewer_left, shows_running}
 use Rattle.block_vm.proofs.client.Client.run_on.Goals as goal
 
@@ -14,7 +14,7 @@ use Rattle.block_vm.proofs.client.Client.run_on.Goals as goal
 
 pub returns-in-Some-clause-follows : goal.returns-in-Some-clause-follows
 returns-in-Some-clause-follows c =
-    λ names m from run_from f. stands_going m names from c.loop.self c.in-Some.wants (c.loop.invariant.same ∙ run_from) (subst (λ (x : Option NextStep). IfSome x (λ w. Wants w c.loop.self.machine)) c.in-Some.is c.in-Ok.ensures.some) (c.loop.invariant.going names m from run_from f)
+    λ names m from run_from f. going_on_runs_on m names from c.loop.self c.in-Some.wants (c.loop.invariant.same ∙ run_from) (subst (λ (x : Option NextStep). IfSome x (λ w. NextStepIs w c.loop.self.machine)) c.in-Some.is c.in-Ok.ensures.some) (c.loop.invariant.going names m from run_from f)
 
 pub returns-in-Some-clause-fewer : goal.returns-in-Some-clause-fewer
 returns-in-Some-clause-fewer c = λ run_from.

@@ -19,14 +19,14 @@ loop-init g c =
     let S = g.C.Session in
     let IsSetting = HasSettingAtLock g.D.Database.has_setting c.args.shared.now in
     let told = pass_told c.in-Some.pass c.args.shared.now c.args.self.now.number [] (sym c.in-Some.is ∙ (c.take.ensures.value ∙ c.requires.ready.0)) in
-    let begun = along_first S.begins S.along S.suits S.careful IsSetting c.args.self.now.client c.resume-wants.new.self c.resume-wants.result _ refl c.resume-wants.ensures.first c.resume-wants.ensures.suits in
+    let begun = along_first S.begins S.along S.suits S.careful S.certain IsSetting c.args.self.now.client c.resume-wants.new.self c.resume-wants.result _ refl c.resume-wants.ensures.first c.resume-wants.ensures.suits in
     record {
       forever = (tt, tt);
       lock = told.0;
       client = told.1;
       number = refl;
       one = c.requires.ready.1;
-      along = subst (λ own. Along S.begins S.along S.suits S.careful IsSetting c.args.self.now.client c.resume-wants.new.self own c.resume-wants.result) (sym told.2) begun;
+      along = subst (λ own. Along S.begins S.along S.suits S.careful S.certain IsSetting c.args.self.now.client c.resume-wants.new.self own c.resume-wants.result) (sym told.2) begun;
       unended = subst (λ own. MayGoOn c.resume-wants.result own) (sym told.2) (may_begin c.resume-wants.result);
       shows = c.resume-wants.ensures.shows;
       requests = c.resume-wants.ensures.requests;
@@ -37,8 +37,8 @@ returns-in-Ended g c =
     let inv = c.loop.invariant in
     let S = g.C.Session in
     let IsSetting = HasSettingAtLock g.D.Database.has_setting c.args.shared.now in
-    let over = over_by_itself S.begins S.along S.suits S.careful IsSetting c.args.self.now.client c.loop.self.client c.loop.pass.list c.in-Ended.end
-    (subst (λ (w : NextStep). Along S.begins S.along S.suits S.careful IsSetting c.args.self.now.client c.loop.self.client c.loop.pass.list w) c.in-Ended.is inv.along) in
+    let over = over_by_itself S.begins S.along S.suits S.careful S.certain IsSetting c.args.self.now.client c.loop.self.client c.loop.pass.list c.in-Ended.end
+    (subst (λ (w : NextStep). Along S.begins S.along S.suits S.careful S.certain IsSetting c.args.self.now.client c.loop.self.client c.loop.pass.list w) c.in-Ended.is inv.along) in
     record {
       run = record {
         number = inv.number;
@@ -72,8 +72,8 @@ loop-preserved g c =
       number = inv.number;
       one = inv.one;
       along =
-          along_next S.begins S.along S.suits S.careful IsSetting g.met.C.Session.sure c.args.self.now.client c.loop.self.client next.new.self c.loop.self.number c.loop.pass.list list c.in-Ask.op c.in-Some-heard.given next.result
-          (subst (λ (w : NextStep). Along S.begins S.along S.suits S.careful IsSetting c.args.self.now.client c.loop.self.client c.loop.pass.list w) c.in-Ask.is inv.along)
+          along_next S.begins S.along S.suits S.careful S.certain IsSetting g.met.C.Session.sure c.args.self.now.client c.loop.self.client next.new.self c.loop.self.number c.loop.pass.list list c.in-Ask.op c.in-Some-heard.given next.result
+          (subst (λ (w : NextStep). Along S.begins S.along S.suits S.careful S.certain IsSetting c.args.self.now.client c.loop.self.client c.loop.pass.list w) c.in-Ask.is inv.along)
           event fits sure next.ensures.next next.ensures.suits;
       unended =
           may_go_on c.loop.pass.list list c.loop.self.number c.in-Ask.op c.in-Some-heard.given next.result (subst (λ (w : NextStep). MayGoOn w c.loop.pass.list) c.in-Ask.is inv.unended) event
@@ -90,8 +90,8 @@ returns-in-None-heard g c =
     let IsSetting = HasSettingAtLock g.D.Database.has_setting c.args.shared.now in
     let ended = c.request_end-last.ensures.ended in
     let same : c.answer-heard.result.pass.list ≡ c.loop.pass.list = c.answer-heard.ensures.none c.in-None-heard.is in
-    let over = over_out_of_memory S.begins S.along S.suits S.careful IsSetting c.args.self.now.client c.loop.self.client c.loop.pass.list c.request_end-last.result.list c.in-Ask.op c.loop.self.number ended.answer
-    (subst (λ (w : NextStep). Along S.begins S.along S.suits S.careful IsSetting c.args.self.now.client c.loop.self.client c.loop.pass.list w) c.in-Ask.is inv.along)
+    let over = over_out_of_memory S.begins S.along S.suits S.careful S.certain IsSetting c.args.self.now.client c.loop.self.client c.loop.pass.list c.request_end-last.result.list c.in-Ask.op c.loop.self.number ended.answer
+    (subst (λ (w : NextStep). Along S.begins S.along S.suits S.careful S.certain IsSetting c.args.self.now.client c.loop.self.client c.loop.pass.list w) c.in-Ask.is inv.along)
     (c.answer-heard.ensures.end c.in-None-heard.is) (ended.event ∙ ap (λ (l : List Event). l ++ event_of c.loop.self.number End ended.answer ∷ []) same) ended.fits ended.unrefused in
     record {
       run = record {

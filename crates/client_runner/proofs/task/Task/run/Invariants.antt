@@ -11,7 +11,7 @@ invariant-loop g l = record {
   client : l.pass.client ≡ l.self.number;
   number : l.self.number ≡ l.fn.self.number;
   one : IsOneOfLock l.shared l.self.number;
-  along : Along g.C.Session.begins g.C.Session.along g.C.Session.suits g.C.Session.careful (HasSettingAtLock g.D.Database.has_setting l.shared) l.fn.self.client l.self.client l.pass.list l.wants;
+  along : Along g.C.Session.begins g.C.Session.along g.C.Session.suits g.C.Session.careful g.C.Session.certain (HasSettingAtLock g.D.Database.has_setting l.shared) l.fn.self.client l.self.client l.pass.list l.wants;
   unended : MayGoOn l.wants l.pass.list;
   shows : g.C.Session.shows l.self.client l.wants;
   requests : Requests g.C.Session.may_request l.wants;
