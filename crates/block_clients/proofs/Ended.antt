@@ -10,17 +10,17 @@ use Rattle.client_database.specs.declared.next_step.NextStep.TheVariants.{Ask, E
 use Rattle.database_interface.specs.Step.{event_of}
 use Rattle.block_meaning.specs.State.{Progress}
 use Rattle.block_meaning.specs.GivesUp.{Begins, IsAsked, before_last, written_at}
-use Rattle.block_vm.specs.Standing.{Standing}
+use Rattle.block_vm.specs.ClientView.{ClientView}
 use Rattle.client_runner.specs.Meant.{Meant}
 use Rattle.client_session.specs.Along.{Along, AsMeant, AsksEnd, IsOver, answers_in}
-use Rattle.level_clients.specs.Outcome.{RanAsMeant, ToItsEnd, GivingUp, HasDone}
+use Rattle.block_clients.specs.Outcome.{RanAsMeant, ToItsEnd, GivingUp, HasDone}
 
 -- m never takes back what it has written
 abbrev pub OnlyGrows : (List Answer → Progress) → Type 0
 OnlyGrows m = (ans more : List Answer) → Begins (m ans).written (m (ans ++ more)).written
 
 -- it has ended
-pub done_at_its_end : (client : Standing) (m : Meant) (own : List Event) (how : ClientEnd) → Along client m own (Ended how) → HasDone client m.names m.run own how
+pub done_at_its_end : (client : ClientView) (m : Meant) (own : List Event) (how : ClientEnd) → Along client m own (Ended how) → HasDone client m.names m.run own how
 done_at_its_end client m own how (AsMeant waits agrees same) = record { pieces = agrees.pieces; has = agrees.has; did = ToItsEnd own how agrees.pieces same agrees.meant }
 done_at_its_end client m own how (AsksEnd waits pieces given is_end same) = absurd (cc is_end)
 done_at_its_end client m own how (IsOver pieces before last has is_ended own_is ends same gave) =
@@ -42,7 +42,7 @@ begins_at m (a ∷ ans) grows =
     subst (λ heard. Begins (m (before_last a ans)).written (m heard).written) split.1 (grows (before_last a ans) (split.0 ∷ []))
 
 -- there was no memory for the event of an operation, and End was requested in its place
-pub done_without_room : (client : Standing) (m : Meant) (before : List Event) (op : Op) (n : ℕ) (a : Answer) → OnlyGrows m.run → op ≢ End → Along client m before (Ask op) →
+pub done_without_room : (client : ClientView) (m : Meant) (before : List Event) (op : Op) (n : ℕ) (a : Answer) → OnlyGrows m.run → op ≢ End → Along client m before (Ask op) →
     HasDone client m.names m.run (before ++ event_of n End a ∷ []) NoMemory
 done_without_room client m before op n a grows other (AsMeant waits agrees same) =
     let written : (m.run (answers_in before)).written ≡ agrees.pieces = ap (λ (d : Progress). d.written) agrees.meant in

@@ -11,7 +11,7 @@ use Rattle.block_meaning.specs.State.{Progress}
 use Rattle.block_meaning.specs.Meaning.{asked}
 use Rattle.block_meaning.specs.GivesUp.{GaveUp}
 use Rattle.turn_lock.specs.Journal.{own_entries}
-use Rattle.block_vm.specs.Standing.{Standing, HasWritten}
+use Rattle.block_vm.specs.ClientView.{ClientView, HasWritten}
 use Rattle.client_runner.specs.Meant.{client_in}
 use Rattle.client_session.specs.Along.{answers_in, operations_in}
 
@@ -32,7 +32,7 @@ pub data RanAsMeant (m : List Answer → Progress) : List Event → ClientEnd �
       RanAsMeant m (before ++ last ∷ []) NoMemory pieces
 
 -- the client has ended so after these events of its own, and has written what m says
-pub record HasDone (client : Standing) (names : List (List ℕ)) (m : List Answer → Progress) (own : List Event) (how : ClientEnd) : Type 0 where
+pub record HasDone (client : ClientView) (names : List (List ℕ)) (m : List Answer → Progress) (own : List Event) (how : ClientEnd) : Type 0 where
   pub pieces : List Piece
   pub has : HasWritten client names pieces
   pub did : RanAsMeant m own how pieces

@@ -11,13 +11,11 @@ use Rattle.block_vm.specs.Refines.{Refines, HasNotBegun}
 use Rattle.client_runner.specs.Meant.{Meant}
 use Rattle.client_runner.specs.Served.{GoesOnBy}
 use Rattle.client_runner.specs.Tasks.{CameToItsEnd, RanToEnd, ByItself, OutOfMemory}
-use Rattle.client_session.specs.Along.{Goes, IsCareful}
+use Rattle.client_session.specs.Along.{Goes, IsCareful, IsOnLevels}
 use Rattle.client_session.specs.declared.session.ClientSession.{ClientSession}
-use Rattle.level_machine.specs.LevelDatabase.{HasSetting}
-use Rattle.level_machine.specs.declared.level_database.LevelDatabase.{LevelDatabase}
-use Rattle.level_clients.specs.Outcome.{HasDone, own_events}
-use Rattle.level_clients.specs.Ran.{ClientTask, HasRunIn}
-use Rattle.level_clients.proofs.Ended.{OnlyGrows, done_at_its_end, done_without_room}
+use Rattle.block_clients.specs.Outcome.{HasDone, own_events}
+use Rattle.block_clients.specs.Ran.{ClientTask, HasRunIn}
+use Rattle.block_clients.proofs.Ended.{OnlyGrows, done_at_its_end, done_without_room}
 
 -- what holds of the value at Ok
 pub if_ok : {A E : Type 0} (r : Result A E) (P Q : A → Type 0) → ((a : A) → P a → Q a) → IfOk r P → IfOk r Q
@@ -38,11 +36,11 @@ has_done : (session : ClientSession) (m : Meant) (own : List Event) (how : Clien
 has_done session m own how grows (ByItself o h goes) = done_at_its_end session.client m own how goes.along
 has_done session m own how grows (OutOfMemory before op n a goes other) = done_without_room session.client m before op n a grows other goes.along
 
-pub has_run : (database : LevelDatabase) (trace : List Event) (k : ℕ) (old new : ClientTask)
+pub has_run : {D : Type 0} (HasSetting : Setting → Type 0) (trace : List Event) (k : ℕ) (old new : ClientTask D)
     → ((p : Program) (units : ℕ) → OnlyGrows (run p units))
     → ((names : List (List ℕ)) (p : Program) (units : ℕ) → IsCareful (record { names = names; run = run p units }))
-    → CameToItsEnd begins along suits IsCareful (HasSetting database) (own_events k trace) old new → HasRunIn database trace k old new
-has_run database trace k old new grows careful came =
+    → CameToItsEnd begins along suits IsCareful IsOnLevels HasSetting (own_events k trace) old new → HasRunIn HasSetting trace k old new
+has_run HasSetting trace k old new grows careful came =
     record {
       how = came.end;
       ended = came.ended;
