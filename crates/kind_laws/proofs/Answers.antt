@@ -1,5 +1,5 @@
 -- The steps of an answer, and of a completion that reaches an entry of the stack.
-use Rattle.std.proofs.Common.{◌≡◌, ℕ, Bool, true, false, List, [], ◌∷◌, Option, Some, None, refl, sym, subst}
+use Rattle.std.proofs.Common.{◌≡◌, ℕ, Bool, true, List, [], ◌∷◌, Option, Some, None, refl, subst}
 use Rattle.std.specs.Prelude.{ℤ, IfSome, zero, suc, slice_index_or}
 use Rattle.std.proofs.lemmas.Option.{none-some}
 use Rattle.abl_base.specs.declared.value.Kind.{Kind}
@@ -17,29 +17,24 @@ use Rattle.client_database.specs.declared.answer.Answer.TheVariants as answer
 use Rattle.client_database.specs.declared.operation.Op.{Op}
 use Rattle.client_database.specs.declared.operation.Op.TheVariants as op
 use Rattle.client_database.specs.declared.row_order.Cursor.{Cursor}
-use Rattle.bound_tree.specs.declared.statement.FindWord.{FindWord}
-use Rattle.bound_tree.specs.declared.statement.FindWord.TheVariants as find
 use Rattle.bound_tree.specs.declared.statement.Target.{Target}
-use Rattle.bound_tree.specs.Tree.{Argument, Header, Reading}
+use Rattle.bound_tree.specs.Tree.{Reading}
 use Rattle.bound_kinds.specs.WellKinded.{is_of_kind, is_target}
-use Rattle.block_meaning.specs.Blocks.{Iteration}
 use Rattle.block_meaning.specs.Buffers.{Place, got_content, holding_in}
 use Rattle.block_meaning.specs.Changes.{stored}
-use Rattle.block_meaning.specs.Frames.{emptied, holding, marked_locked, own_frame, table_of, with_spot}
+use Rattle.block_meaning.specs.Frames.{emptied, holding, table_of, with_spot}
 use Rattle.block_meaning.specs.Lines.{Complaint, MoreThanOne, RecordIsGone}
-use Rattle.block_meaning.specs.Meaning.{copied_out, with_status, without_frame}
-use Rattle.block_meaning.specs.Program.{Program, procedure_at}
+use Rattle.block_meaning.specs.Program.{Program}
 use Rattle.block_meaning.specs.Reads.{Search, held_as, next_shown, shows, spot_at}
-use Rattle.block_meaning.specs.State.{Again, CallFrame, Completion, Content, Copy, EndKeys, Exclusive, Faults, Found, Held, Leaves, Lost, Nexts, NoLock, Normal, NotFound, Raises, Record, Returns, State, Stops, Turn, Undoes, nothing_passed}
+use Rattle.block_meaning.specs.State.{Exclusive, Held, Lost, NoLock, Normal, Record, State}
 use Rattle.block_meaning.specs.Views.{FoundRow, Grant, IsBusy, IsGone, IsGranted, found_in, grant_in, is_gone, number_in, refusal_in, row_in, values_in}
-use Rattle.block_flat.specs.Config.{AfterClosing, AndAgain, AsBefore, Called, Completes, Config, CurrentGranted, EndsWith, ErrorComes, Execute, FetchedAs, FoundAs, GoesBack, Handles, In, LeavesIf, Looks, OnAnswer, OrDo, Quiet, RunsFrom, Seconds, StackEntry, Takes, Task, ThenDo, Turns, Unwind, WasBack, WasCounted, WasCurrent, WasDeleted, WasDropped, WasEntered, WasGot, WasGranted, WasInserted, WasLeft, WasNext, WasPut, WasRead, WasSecond, WasUpgraded}
-use Rattle.block_flat.specs.Machine.{again_step, answer_step, answered, before_step, busy_answered, called_step, closing_step, count_answered, current_answered, current_grant_answered, fetched_step, found_step, grant_answered, handled_step, insert_answered, next_answered, not_found_step, or_step, over_step, pop_step, quiet_step, read_answered, refused_answered, second_answered, then_step}
-use Rattle.block_flat.specs.Steps.{config, config_if, fault}
-use Rattle.kind_laws.specs.Placed.{is_nil}
+use Rattle.block_flat.specs.Config.{CurrentGranted, Execute, Looks, OnAnswer, OrDo, Seconds, StackEntry, Takes, Unwind, WasBack, WasCounted, WasCurrent, WasDeleted, WasDropped, WasEntered, WasGot, WasGranted, WasInserted, WasLeft, WasNext, WasPut, WasRead, WasSecond, WasUpgraded}
+use Rattle.block_flat.specs.Machine.{answer_step, answered, busy_answered, count_answered, current_answered, current_grant_answered, grant_answered, insert_answered, next_answered, read_answered, refused_answered, second_answered}
+use Rattle.block_flat.specs.Steps.{config, fault}
 use Rattle.kind_laws.specs.Reached.{Ground}
-use Rattle.kind_laws.proofs.Kept.{Allowed, AreFrames, CanFail, IsAllowed, IsAsked, IsAwaited, IsCall, IsCopy, IsGoing, IsKept, IsOpen, IsOver, IsRecord, IsRow, IsSearch, IsStack, IsTask, IsWhole, Kept, Suits, allows, here, table_here, table_there}
+use Rattle.kind_laws.proofs.Kept.{AreFrames, IsAsked, IsAwaited, IsRecord, IsRow, IsSearch, IsStack, Kept, Slot, Suits, allows, here, table_here, slot_there}
 use Rattle.kind_laws.proofs.Calls.{stored_ends}
-use Rattle.kind_laws.proofs.Parts.{after_over, ask_kept, ends_kept, errs_kept, executes, kept_if, test_kept, unwinds}
+use Rattle.kind_laws.proofs.Parts.{ask_kept, ends_kept, kept_if, test_kept}
 use Rattle.kind_laws.proofs.States.{of_kind}
 use Rattle.kind_laws.proofs.Buffers.{copy_has, emptied_keeps, gets_here, holding_in_keeps, holding_keeps, left_keeps, marked_keeps, spot_keeps}
 
@@ -69,13 +64,20 @@ found_suited : (g : Ground) (o : Op) (t : TableDef) (r : Option FoundRow) → If
 found_suited g o t None h x = tt
 found_suited g o t (Some r) h x = x r.values h
 
-got_is : (t : TableDef) (vs : Option (List Value)) (row : RowId) (held : Held) (made : Option ℕ) → IfSome vs (IsRow t) → IsRecord t (got_content vs row held made)
+got_is : (t : Slot) (vs : Option (List Value)) (row : RowId) (held : Held) (made : Option ℕ) → IfSome vs (IsRow t.table) → IsRecord t (got_content vs row held made)
 got_is t None row held made h = tt
 got_is t (Some values) row held made h = h
 
+-- a record that was read again
+pub got_keeps : (g : Ground) (ns : List ℕ) (o : Op) (place : Place) (row : RowId) (held : Held) (made : Option ℕ) (a : Answer) (s : State) → Fits g.schema o a → AreFrames g ns s.frames → Suits g o (slot_there g ns place.out place.number).table →
+    AreFrames g ns (holding_in place (got_content (values_in a) row held made) s).frames
+got_keeps g ns o place row held made a s fit h is =
+    holding_in_keeps g ns place (got_content (values_in a) row held made) s h
+    (got_is (slot_there g ns place.out place.number) (values_in a) row held made (suited g o (slot_there g ns place.out place.number).table (values_in a) (values_fit g o a fit) is))
+
 -- ---- answers
 
-insert_kept : (g : Ground) (ns : List ℕ) (o : Option RowId) (place : Place) (t : ℕ) (vs : List Value) (made : ℕ) (c : Option Complaint) (ks : List StackEntry) (s : State) → AreFrames g ns s.frames → (allows ks).faults ≡ true → IsRow (table_there g ns place.out place.number) vs → IsStack g ns ks →
+insert_kept : (g : Ground) (ns : List ℕ) (o : Option RowId) (place : Place) (t : ℕ) (vs : List Value) (made : ℕ) (c : Option Complaint) (ks : List StackEntry) (s : State) → AreFrames g ns s.frames → (allows ks).faults ≡ true → IsRow (slot_there g ns place.out place.number).table vs → IsStack g ns ks →
     Kept g ns (insert_answered o place t vs made c ks s)
 insert_kept g ns (Some row) place t vs made c ks s h e r k = (holding_in_keeps g ns place (Record row vs Exclusive (Some made)) s h r, (tt, k))
 insert_kept g ns None place t vs made (Some c) ks s h e r k = (h, (e, k))
@@ -134,7 +136,7 @@ heard_kept g ns o (WasInserted place t vs made) a ks s fit h is k = insert_kept 
 heard_kept g ns o WasDropped a ks s fit h is k = (h, (tt, k))
 heard_kept g ns o WasLeft a ks s fit h is k = (left_keeps g ns s h, (tt, k))
 heard_kept g ns o (WasBack copy but) a ks s fit h is k = (h, (is, k))
-heard_kept g ns o (WasGot place row held made) a ks s fit h is k = (holding_in_keeps g ns place (got_content (values_in a) row held made) s h (got_is (table_there g ns place.out place.number) (values_in a) row held made (suited g o (table_there g ns place.out place.number) (values_in a) (values_fit g o a fit) is)), (tt, k))
+heard_kept g ns o (WasGot place row held made) a ks s fit h is k = (got_keeps g ns o place row held made a s fit h is, (tt, k))
 heard_kept g ns o (WasSecond n q c values) a ks s fit h is k = second_kept g ns g.program (found_in a) n q c values ks s h is.0 is.1 (found_suited g o (table_here g ns q.reading.buffer) (found_in a) (found_fit g o a fit) is.2) k
 heard_kept g ns o (WasNext n q) a ks s fit h is k = next_kept g ns g.program (found_in a) n q ks s h is.0 is.1 (found_suited g o (table_here g ns q.reading.buffer) (found_in a) (found_fit g o a fit) is.2) k
 heard_kept g ns o (WasGranted r retry row) a ks s fit h is k = grant_kept g ns (grant_in a) r retry row ks s h is.0 is.1 k
@@ -147,7 +149,7 @@ heard_kept g ns o (WasUpgraded b row values made) a ks s fit h is k =
 heard_kept g ns o (WasPut b t) a ks s fit h is k = refused_kept g ns (refusal_in b t a) ks s h is k
 heard_kept g ns o (WasDeleted b) a ks s fit h is k =
     kept_if g ns (is_gone a) (fault (RecordIsGone b) ks s) (config (Unwind Normal) ks (emptied b s)) (λ _. (h, (is, k))) (λ _. (emptied_keeps g ns b s h, (tt, k)))
-heard_kept g ns o (WasEntered b t retry body d) a ks s fit h is k = (h, ((is.0, copy_has g ns s h, is.1), k))
+heard_kept g ns o (WasEntered b t retry body d) a ks s fit h is k = (h, ((is.0, record { saved = copy_has g ns s h; entered = λ _ _. refl }, is.1), k))
 
 pub answer_kept : (g : Ground) (ns : List ℕ) (a : Answer) (o : Op) (on : OnAnswer) (ks : List StackEntry) (s : State) → Fits g.schema o a → AreFrames g ns s.frames → IsAwaited g ns (allows ks) o on → IsStack g ns ks → Kept g ns (answered g.program a o on ks s)
 answer_kept g ns (answer.Blocked holders) o on ks s fit h is k = (h, (is, k))

@@ -1,20 +1,20 @@
 -- The steps of a completion that reaches an entry of the stack.
-use Rattle.std.proofs.Common.{◌≡◌, ℕ, Bool, true, false, List, [], ◌∷◌, Option, Some, None, refl, sym, subst}
+use Rattle.std.proofs.Common.{◌≡◌, ℕ, Bool, true, false, List, [], ◌∷◌, Option, refl, subst}
 use Rattle.client_database.specs.declared.ends.ClientEnd.{ClientEnd}
 use Rattle.bound_tree.specs.declared.statement.FindWord.{FindWord}
 use Rattle.bound_tree.specs.declared.statement.FindWord.TheVariants as find
 use Rattle.bound_tree.specs.Tree.{Argument, Header}
-use Rattle.block_meaning.specs.Blocks.{Iteration, after_iteration, complained}
-use Rattle.block_meaning.specs.Frames.{emptied, own_frame}
-use Rattle.block_meaning.specs.Meaning.{copied_out, popped, with_status, without_frame}
-use Rattle.block_meaning.specs.Program.{Program, procedure_at}
-use Rattle.block_meaning.specs.State.{Again, CallFrame, Completion, Content, Copy, EndKeys, Faults, Found, Leaves, Lost, Nexts, Normal, NotFound, Raises, Returns, State, Stops, Turn, Undoes, nothing_passed}
-use Rattle.block_flat.specs.Config.{AfterClosing, AndAgain, AsBefore, Called, Completes, Config, EndsWith, ErrorComes, Execute, FetchedAs, FoundAs, GoesBack, Handles, In, LeavesIf, OrDo, Quiet, RunsFrom, StackEntry, Task, ThenDo, Turns, Unwind}
-use Rattle.block_flat.specs.Machine.{again_step, before_step, called_step, closing_step, fetched_step, found_step, handled_step, not_found_step, or_step, over_step, pop_step, quiet_step, then_step}
-use Rattle.block_flat.specs.Steps.{config, fault}
+use Rattle.block_meaning.specs.Blocks.{Iteration, after_iteration}
+use Rattle.block_meaning.specs.Frames.{own_frame}
+use Rattle.block_meaning.specs.Meaning.{copied_out, popped, without_frame}
+use Rattle.block_meaning.specs.Program.{procedure_at}
+use Rattle.block_meaning.specs.State.{Again, CallFrame, Completion, Content, Copy, EndKeys, Faults, Found, Lost, Normal, NotFound, Raises, Returns, State, Stops, Turn, Undoes, nothing_passed}
+use Rattle.block_flat.specs.Config.{AfterClosing, AndAgain, AsBefore, Called, Completes, EndsWith, ErrorComes, Execute, FetchedAs, FoundAs, Handles, In, OrDo, Quiet, StackEntry, Task, ThenDo}
+use Rattle.block_flat.specs.Machine.{again_step, before_step, called_step, closing_step, fetched_step, found_step, handled_step, not_found_step, or_step, pop_step, quiet_step, then_step}
+use Rattle.block_flat.specs.Steps.{config}
 use Rattle.kind_laws.specs.Placed.{is_nil}
 use Rattle.kind_laws.specs.Reached.{Ground}
-use Rattle.kind_laws.proofs.Kept.{Allowed, AreFrames, AreOld, CanFail, IsAllowed, IsCall, IsCopy, IsFrame, IsGoing, IsKept, IsOpen, IsOver, IsStack, IsTask, IsWhole, Kept, allows, here, in_block, nothing}
+use Rattle.kind_laws.proofs.Kept.{AreFrames, AreOld, CanFail, IsAllowed, IsBegun, IsCall, IsFrame, IsKept, IsOpen, IsOver, IsStack, IsTask, IsWhole, Kept, allows, in_block, nothing}
 use Rattle.kind_laws.proofs.Calls.{copied_keeps, parameters_own, parameters_there}
 use Rattle.kind_laws.proofs.Parts.{after_over, errs_kept, executes, false_true, true_false, unwinds}
 use Rattle.kind_laws.proofs.Buffers.{back_keeps, emptied_keeps}
@@ -77,10 +77,10 @@ in_kept : (g : Ground) (ns : List ℕ) (completion : Completion) (b : Header) (o
     Kept g ns (config (Execute (EndsWith b o completion)) ks s)
 in_kept g ns completion b o ks s h a is k = executes g ns (EndsWith b o completion) ks s h (is, a) k
 
-fetched_kept : (g : Ground) (ns : List ℕ) (completion : Completion) (b : Header) (copy : Option Copy) (t : Turn) (buffer body d : ℕ) (retry : Bool) (ks : List StackEntry) (s : State) → AreFrames g ns s.frames → IsWhole g ns (allows ks) b body → IsCopy g ns copy →
+fetched_kept : (g : Ground) (ns : List ℕ) (completion : Completion) (b : Header) (copy : Option Copy) (t : Turn) (buffer body d : ℕ) (retry : Bool) (ks : List StackEntry) (s : State) → AreFrames g ns s.frames → IsWhole g ns (allows ks) b body → IsBegun g ns b copy →
     (allows ks).again ≡ true → (allows ks).faults ≡ true → IsStack g ns ks → Kept g ns (fetched_step completion b copy t buffer body d retry ks s)
-fetched_kept g ns (Found own) b copy t buffer body d retry ks s h w c a e k = (h, ((record { kinded = w.code.kinded; placed = w.code.placed }, refl), (record { block = w.block; copy = c; again = a }, k)))
-fetched_kept g ns (Faults c) b copy t buffer body d retry ks s h w cp a e k = (h, (cp, (e, k)))
+fetched_kept g ns (Found own) b copy t buffer body d retry ks s h w c a e k = (h, ((record { kinded = w.code.kinded; placed = w.code.placed; calm = w.code.calm }, refl), (record { block = w.block; copy = c.saved; entered = c.entered; again = a }, k)))
+fetched_kept g ns (Faults c) b copy t buffer body d retry ks s h w cp a e k = (h, (cp.saved, (e, k)))
 fetched_kept g ns (Stops end) b copy t buffer body d retry ks s h w c a e k = (h, tt)
 fetched_kept g ns completion b copy t buffer body d retry ks s h w c a e k = (emptied_keeps g ns buffer s h, (tt, k))
 

@@ -1,5 +1,5 @@
 -- The expressions that a step evaluates are good in the running procedure.
-use Rattle.std.proofs.Common.{◌≡◌, ℕ, Bool, true, false, List, [], ◌∷◌, ◌++◌, Option, Some, None, map, refl, sym, subst}
+use Rattle.std.proofs.Common.{◌≡◌, ℕ, Bool, true, List, [], ◌∷◌, ◌++◌, Option, Some, None, map, refl, subst, inl, inr}
 use Rattle.std.specs.Prelude.{◌&&◌, not}
 use Rattle.std.specs.List.{list_all}
 use Rattle.abl_base.specs.declared.value.Kind.TheVariants.{Character}
@@ -7,13 +7,14 @@ use Rattle.abl_values.specs.declared.schema.KeyPart.{KeyPart}
 use Rattle.abl_values.specs.declared.schema.TableDef.{TableDef}
 use Rattle.bound_tree.specs.declared.expression.Variable.{Variable}
 use Rattle.bound_tree.specs.declared.statement.Target.{Target}
-use Rattle.bound_tree.specs.Tree.{Action, Argument, Assign, BracketValue, Choose, Create, CurrentOf, Export, ExportRecord, Expr, Find, FindCurrent, Given, Header, Import, In, Inner, InOut, InputClose, InputFrom, Item, LeaveBlock, Message, NextBlock, NextOf, Out, OutputClose, OutputTo, PutItems, Reading, Release, Remove, Return, ReturnError, Right, Run, Shows, Skips, Spaces, Stmt, Stop, Body, Then, ThenError, ThenLeave, ThenNext, ThenRetry, ThenReturn, ToPhrase, UndoBlock, ValueOf}
+use Rattle.bound_tree.specs.Tree.{Action, Argument, BracketValue, CurrentOf, Export, Expr, Given, Header, In, InOut, Item, Message, NextOf, Out, PutItems, Reading, Return, ReturnError, Right, Run, Shows, Skips, Spaces, Stmt, ThenError, ThenLeave, ThenNext, ThenRetry, ThenReturn, ToPhrase, ValueOf}
 use Rattle.bind_names.specs.declared.sort.Sort.{Sort}
 use Rattle.bind_names.specs.Sorts.{fits, is_broken, is_whole_kind, mask_fits, may_be_logical, may_be_number}
 use Rattle.bind_expressions.specs.WellKinded.{sort_of}
-use Rattle.bound_kinds.specs.WellKinded.{Surroundings, are_arguments, if_there, is_action, is_argument, is_body, is_bracket, is_condition, is_counting, is_for, is_good, is_header, is_item, is_kind, is_marked, is_number, is_reading, is_returned, is_run, is_shown, is_statement, is_value, is_variable, kind_of_field, kind_of_target, parts_of, table_of}
+use Rattle.bound_kinds.specs.WellKinded.{Surroundings, are_arguments, if_there, is_action, is_argument, is_body, is_bracket, is_condition, is_counting, is_for, is_good, is_item, is_kind, is_marked, is_number, is_reading, is_run, is_shown, is_statement, is_value, is_variable, kind_of_field, kind_of_target, parts_of, table_of}
 use Rattle.bound_kinds.proofs.Parts.{both, both_left, both_right}
-use Rattle.block_meaning.specs.State.{Completion, Stops}
+use Rattle.block_meaning.specs.Blocks.{Iteration}
+use Rattle.block_meaning.specs.State.{Stops}
 use Rattle.block_flat.specs.Code.{DenotesAt, Ends, Instr, Opens, Plain, Tests}
 use Rattle.client_database.specs.declared.operation.Op.{Op}
 use Rattle.block_flat.specs.Config.{StackEntry, Acts, AssignsOne, Await, Blocks, Config, EndsWith, Execute, Iterates, Mode, OnAnswer, RunsFrom, Searches, Task, Unwind, WasNext, WasRead, WasSecond}
@@ -23,6 +24,8 @@ use Rattle.kind_laws.proofs.Iterations.{header_to, header_while}
 use Rattle.kind_laws.proofs.Kept.{Allowed, IsAwaited, IsCode, IsGoing, IsTask, allows, here, is_right}
 use Rattle.kind_laws.proofs.Runs.{own_procedure, reached_kept}
 use Rattle.kind_laws.proofs.Statements.{code_is}
+use Rattle.kind_laws.proofs.Undone.{IsSafe, IsUndone, Undoing, undoing_frames}
+use Rattle.kind_laws.proofs.Undone.{acts, awaits_back, awaits_drop, awaits_get, awaits_leave, closes, drops, empties, enters, goes, has_dropped, has_emptied, has_entered, has_left, leaves, releases, restores, updated, updated_one, updates, updates_one}
 
 -- ---- a place for a value is a place for any
 
@@ -151,7 +154,36 @@ mode_values g ns ks (Execute t) ok h = task_values g ns (allows ks) t ok h.0
 mode_values g ns ks (Unwind completion) ok h = refl
 mode_values g ns ks (Await o k) ok h = answer_values g ns (allows ks) o k h.0
 
+-- the action after an UNDO of the block of a procedure
+undoing_values : (g : Ground) (ns : List ℕ) (b : Header) (o : Iteration) (act : Action) (retry : Bool) (ks : List StackEntry) (c : Config) → IsUndone g ns b o act ks → Undoing g ns b o act retry ks c → AreValues (here g ns) (expressions_of g.code c.mode)
+undoing_values g ns b o act retry ks _ u (acts s e h) = action_values (here g ns) act u.action
+undoing_values g ns b o act retry ks _ u (goes copy more s saved h) = refl
+undoing_values g ns b o act retry ks _ u (awaits_back copy more q s saved h) = refl
+undoing_values g ns b o act retry ks _ u (restores copy more s saved h) = refl
+undoing_values g ns b o act retry ks _ u (updates mark places more s h) = refl
+undoing_values g ns b o act retry ks _ u (updates_one mark place places more s h) = refl
+undoing_values g ns b o act retry ks _ u (awaits_get mark places more q place row held made s suits h) = refl
+undoing_values g ns b o act retry ks _ u (updated_one mark places more s h) = refl
+undoing_values g ns b o act retry ks _ u (updated more s h) = refl
+undoing_values g ns b o act retry ks _ u (leaves more s h) = refl
+undoing_values g ns b o act retry ks _ u (awaits_leave more q s h) = refl
+undoing_values g ns b o act retry ks _ u (has_left more s h) = refl
+undoing_values g ns b o act retry ks _ u (empties more s h) = refl
+undoing_values g ns b o act retry ks _ u (has_emptied s e h) = refl
+undoing_values g ns b o act retry ks _ u (closes out s over e h) = refl
+undoing_values g ns b o act retry ks _ u (releases bs out s i e h) = refl
+undoing_values g ns b o act retry ks _ u (enters n bs out s i e h) = refl
+undoing_values g ns b o act retry ks _ u (has_entered n bs out s i e h) = refl
+undoing_values g ns b o act retry ks _ u (drops n bs out s i e h) = refl
+undoing_values g ns b o act retry ks _ u (awaits_drop bs out q s i e h) = refl
+undoing_values g ns b o act retry ks _ u (has_dropped bs out s i e h) = refl
+
+safe_values : (g : Ground) (c : Config) → IsGround g → IsSafe g c → AreValues (running g c.state) (expressions_of g.code c.mode)
+safe_values g c ok (inl h) = subst (λ (n : ℕ). AreValues (surroundings g n) (expressions_of g.code c.mode)) (own_procedure g h.0 h.1 c.state.frames h.2.0) (mode_values g (h.0 ∷ h.1) c.stack c.mode ok h.2.1)
+safe_values g c ok (inr r) =
+    let f = undoing_frames g (r.0 ∷ r.1) r.2.block r.2.iteration r.2.action r.2.retry r.2.below c r.2.undoing in
+    subst (λ (n : ℕ). AreValues (surroundings g n) (expressions_of g.code c.mode)) (own_procedure g r.0 r.1 c.state.frames f)
+    (undoing_values g (r.0 ∷ r.1) r.2.block r.2.iteration r.2.action r.2.retry r.2.below c r.2.undone r.2.undoing)
+
 pub evaluated_good : (g : Ground) → IsGround g → (units : ℕ) (c : Config) → Reached g units c → list_all (is_value (running g c.state)) (expressions_of g.code c.mode) ≡ true
-evaluated_good g ok units c r =
-    let h = reached_kept g units c ok r in
-    subst (λ (n : ℕ). AreValues (surroundings g n) (expressions_of g.code c.mode)) (own_procedure g h.0 h.1 c.state.frames h.2.0) (mode_values g (h.0 ∷ h.1) c.stack c.mode ok h.2.1)
+evaluated_good g ok units c r = safe_values g c ok (reached_kept g units c ok r)

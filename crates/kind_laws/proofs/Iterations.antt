@@ -1,19 +1,18 @@
 -- The ends of iterations: UNDO, ERROR, ENDKEY, and what follows.
-use Rattle.std.proofs.Common.{◌≡◌, ℕ, zero, suc, Bool, true, false, List, [], ◌∷◌, Option, Some, None, refl, sym, ap, subst, ◌∙◌, inl, inr}
-use Rattle.std.specs.Prelude.{◌&&◌, ◌||◌, ◌==◌, ◌⊎◌, not}
-use Rattle.bound_tree.specs.Tree.{Action, Header, OnPhrase, Fetch, ToPhrase, Expr, ThenError, ThenLeave, ThenNext, ThenReturn, ThenRetry}
+use Rattle.std.proofs.Common.{◌≡◌, ℕ, Bool, true, false, List, ◌∷◌, Option, Some, None, refl, inl, inr}
+use Rattle.std.specs.Prelude.{◌&&◌, ◌==◌, ◌⊎◌}
+use Rattle.bound_tree.specs.Tree.{Action, Header, OnPhrase, Fetch, ThenError, ThenLeave, ThenNext, ThenReturn, ThenRetry}
 use Rattle.bound_kinds.specs.WellKinded.{Surroundings, if_there, is_action, is_condition, is_counting, is_header, is_reading}
-use Rattle.bound_kinds.proofs.Parts.{both, both_left, both_right}
-use Rattle.block_meaning.specs.Blocks.{Iteration, after_iteration, handles_endkey, instead_of_retry, iterates, next_turn, passed_with, returns_with}
-use Rattle.block_meaning.specs.Frames.{is_in}
+use Rattle.bound_kinds.proofs.Parts.{both_left, both_right}
+use Rattle.block_meaning.specs.Blocks.{Iteration, after_iteration, handles_endkey, instead_of_retry, iterates, next_turn, passed_with}
 use Rattle.block_meaning.specs.Program.{Program}
 use Rattle.block_meaning.specs.State.{Again, Completion, EndKeys, Faults, Found, Leaves, Lost, Nexts, Normal, NotFound, Passed, Raises, Returns, State, Stops, Undoes}
-use Rattle.block_flat.specs.Config.{Closes, Config, EndKeyComes, Execute, GoesBack, Passes, StackEntry, UndoComes, Unwind, Releases, ThenDo, Completes, Acts}
+use Rattle.block_flat.specs.Config.{Closes, Execute, Passes, StackEntry, UndoComes, Unwind, Releases, ThenDo, Completes}
 use Rattle.block_flat.specs.Steps.{act_step, config, config_if, endkey_step, ends_step, error_step}
-use Rattle.kind_laws.specs.Placed.{is_nil, is_placed_header, is_placed_phrase, names_one_of, undoes_one_of}
+use Rattle.kind_laws.specs.Placed.{is_placed_phrase, names_one_of}
 use Rattle.kind_laws.specs.Reached.{Ground}
-use Rattle.kind_laws.proofs.Kept.{Allowed, AreFrames, CanFail, IsAllowed, IsBlock, IsCopy, IsGoing, IsOpen, IsOver, IsStack, IsTask, Kept, MayRelease, allows, here, in_block}
-use Rattle.kind_laws.proofs.Parts.{IsOuter, after_over, clash, covers, first_copy, in_self, kept_if, releases, undoes_here, undoes_outside, undoes_self, unwinds}
+use Rattle.kind_laws.proofs.Kept.{Allowed, AreFrames, CanFail, IsAllowed, IsBlock, IsCopy, IsOpen, IsOver, IsStack, Kept, MayRelease, allows, here, in_block}
+use Rattle.kind_laws.proofs.Parts.{IsOuter, after_over, clash, covers, first_copy, in_self, kept_if, undoes_self, unwinds}
 
 -- ---- parts of a header
 
@@ -43,50 +42,28 @@ header_endkey x b h = both_right (if_there (λ (on : OnPhrase). is_action x on.a
 
 -- ---- the action after an UNDO
 
-instead_over : (c : Bool) (n : ℕ) (bs : List ℕ) → IsOver (n ∷ bs) (instead_of_retry c n)
+pub instead_over : (c : Bool) (n : ℕ) (bs : List ℕ) → IsOver (n ∷ bs) (instead_of_retry c n)
 instead_over true n bs = in_self n bs
 instead_over false n bs = in_self n bs
 
 pub act_kept : (g : Ground) (ns : List ℕ) (p : Program) (act : Action) (b : Header) (o : Iteration) (retry : Bool) (ks : List StackEntry) (s : State) → AreFrames g ns s.frames → IsOpen g ns (allows ks) b o → is_action (here g ns) act ≡ true →
-    names_one_of (b.number ∷ (allows ks).blocks) act ≡ true → IsStack g ns ks → Kept g ns (act_step p act b o retry ks s)
-act_kept g ns p ThenRetry b o retry ks s h is a n k =
+    names_one_of (b.number ∷ (allows ks).blocks) act ≡ true → MayRelease g ns (allows ks) b.scoped → IsStack g ns ks → Kept g ns (act_step p act b o retry ks s)
+act_kept g ns p ThenRetry b o retry ks s h is a n r k =
     kept_if g ns b.flags.retry_seen (config (Unwind (Again (next_turn true o.turn))) ks s) (config (Execute (Closes b o (instead_of_retry (iterates b) b.number))) ks s)
-    (λ _. (h, (is.again, k))) (λ _. (h, ((is, instead_over (iterates b) b.number (allows ks).blocks), k)))
-act_kept g ns p (ThenLeave l) b o retry ks s h is a n k = (h, ((is, n), k))
-act_kept g ns p (ThenNext l) b o retry ks s h is a n k = (h, ((is, n), k))
-act_kept g ns p (ThenReturn error e) b o retry ks s h is a n k = (h, ((is, tt), k))
-act_kept g ns p ThenError b o retry ks s h is a n k = (h, ((is, tt), k))
+    (λ _. (h, (is.again, k))) (λ _. (h, ((is, instead_over (iterates b) b.number (allows ks).blocks, r), k)))
+act_kept g ns p (ThenLeave l) b o retry ks s h is a n r k = (h, ((is, n, r), k))
+act_kept g ns p (ThenNext l) b o retry ks s h is a n r k = (h, ((is, n, r), k))
+act_kept g ns p (ThenReturn error e) b o retry ks s h is a n r k = (h, ((is, tt, r), k))
+act_kept g ns p ThenError b o retry ks s h is a n r k = (h, ((is, tt, r), k))
 
--- ---- an UNDO comes to an iteration
-
-pub undo_kept : (g : Ground) (ns : List ℕ) (b : Header) (o : Iteration) (target : ℕ) (act : Action) (retry : Bool) (passed : Passed) (ks : List StackEntry) (s : State) → AreFrames g ns s.frames → IsOpen g ns (allows ks) b o →
-    undoes_one_of (b.number ∷ (allows ks).blocks) target act ≡ true → is_action (here g ns) act ≡ true → IsCopy g ns passed.first → IsStack g ns ks →
-    Kept g ns (config_if (target == b.number)
-    (config (Execute (GoesBack (passed_with b o passed).first (passed_with b o passed).buffers)) (ThenDo (Acts b o act retry) ∷ ks) s)
-    (config (Execute (Passes b (Undoes target act retry passed) (Undoes target act retry (passed_with b o passed)))) ks s))
-undo_kept g ns b o target act retry passed ks s h is u a c k =
-    kept_if g ns (target == b.number)
-    (config (Execute (GoesBack (passed_with b o passed).first (passed_with b o passed).buffers)) (ThenDo (Acts b o act retry) ∷ ks) s)
-    (config (Execute (Passes b (Undoes target act retry passed) (Undoes target act retry (passed_with b o passed)))) ks s)
-    (λ e. (h, (first_copy g ns o.copy passed.first is.copy c, ((is, a, undoes_here target b.number (allows ks).blocks act u e), k))))
-    (λ e. (
-      h,
-      (
-        (
-          releases g ns (allows ks) b is.block,
-          (undoes_outside target b.number (allows ks).blocks act u e, a, c),
-          (undoes_outside target b.number (allows ks).blocks act u e, a, first_copy g ns o.copy passed.first is.copy c),
-        ),
-        k,
-      ),
-    ))
+-- ---- ERROR and ENDKEY
 
 -- ERROR or ENDKEY passes an iteration whose block does not handle it
-inside_of : (g : Ground) (ns : List ℕ) (a : Allowed) (b : Header) → IsBlock g ns a b → (IsOuter b → ⊥) → is_nil a.blocks ≡ false
+inside_of : (g : Ground) (ns : List ℕ) (a : Allowed) (b : Header) → IsBlock g ns a b → (IsOuter g ns a b → ⊥) → CanFail a
 inside_of g ns a b h x = go (covers g ns a b h)
   where
-    go : CanFail a ⊎ IsOuter b → is_nil a.blocks ≡ false
-    go (inl f) = f.inside
+    go : CanFail a ⊎ IsOuter g ns a b → CanFail a
+    go (inl f) = f
     go (inr o) = absurd (x o)
 
 -- ---- ERROR
@@ -101,8 +78,8 @@ pub error_kept : (g : Ground) (ns : List ℕ) (b : Header) (o : Iteration) (pass
 error_kept g ns b o passed ks s h is c k =
     kept_if g ns b.flags.undo (error_step b.on_error b o passed ks s) (config (Execute (Passes b (Raises passed) (Raises (passed_with b o passed)))) ks s)
     (λ e. error_at g ns b.on_error b o passed ks s h is (both_left (is_placed_phrase (b.number ∷ (allows ks).blocks) b.on_error) _ is.block.placed) (header_error (here g ns) b is.block.kinded) c k)
-    (λ e. let inside = inside_of g ns (allows ks) b is.block (λ x. clash b.flags.undo x.undo e) in
-    (h, ((releases g ns (allows ks) b is.block, (inside, c), (inside, first_copy g ns o.copy passed.first is.copy c)), k)))
+    (λ e. let f = inside_of g ns (allows ks) b is.block (λ x. clash b.flags.undo x.undo e) in
+    (h, ((inl f.faults, (f.inside, c), (f.inside, first_copy g ns o.copy passed.first is.copy c)), k)))
 
 -- ---- ENDKEY
 
@@ -112,8 +89,8 @@ endkey_at g ns None b o passed ks s h is p a c k =
     kept_if g ns (handles_endkey b) (config (Execute (UndoComes b o b.number (ThenLeave b.number) o.turn.retry passed)) ks s)
     (config (Execute (Passes b (EndKeys passed) (EndKeys (passed_with b o passed)))) ks s)
     (λ e. (h, ((is, undoes_self b.number (allows ks).blocks (ThenLeave b.number) (in_self b.number (allows ks).blocks), refl, c), k)))
-    (λ e. let inside = inside_of g ns (allows ks) b is.block (λ x. clash (handles_endkey b) x.endkey e) in
-    (h, ((releases g ns (allows ks) b is.block, (inside, c), (inside, first_copy g ns o.copy passed.first is.copy c)), k)))
+    (λ e. let f = inside_of g ns (allows ks) b is.block (λ x. clash (handles_endkey b) x.endkey e) in
+    (h, ((inl f.faults, (f.inside, c), (f.inside, first_copy g ns o.copy passed.first is.copy c)), k)))
 endkey_at g ns (Some on) b o passed ks s h is p a c k = (h, ((is, p, a, c), k))
 
 pub endkey_kept : (g : Ground) (ns : List ℕ) (b : Header) (o : Iteration) (passed : Passed) (ks : List StackEntry) (s : State) → AreFrames g ns s.frames → IsOpen g ns (allows ks) b o → IsCopy g ns passed.first → IsStack g ns ks →
@@ -141,11 +118,11 @@ ends_kept g ns (Stops end) b o ks s h is a k = (h, tt)
 
 -- the iteration is closed after an UNDO
 pub closes_kept : (g : Ground) (ns : List ℕ) (b : Header) (o : Iteration) (completion : Completion) (ks : List StackEntry) (s : State) → AreFrames g ns s.frames → IsOpen g ns (allows ks) b o → IsOver (b.number ∷ (allows ks).blocks) completion →
-    IsStack g ns ks → Kept g ns (config (Execute (Releases b.scoped)) (ThenDo (Completes (after_iteration b o completion)) ∷ ks) s)
-closes_kept g ns b o completion ks s h is c k = (h, (releases g ns (allows ks) b is.block, (after_over g ns (allows ks) b o completion c is.again, k)))
+    MayRelease g ns (allows ks) b.scoped → IsStack g ns ks → Kept g ns (config (Execute (Releases b.scoped)) (ThenDo (Completes (after_iteration b o completion)) ∷ ks) s)
+closes_kept g ns b o completion ks s h is c r k = (h, (r, (after_over g ns (allows ks) b o completion c is.again, k)))
 
 -- an iteration is passed: where no level is open it ends here
-pub passes_kept : (g : Ground) (ns : List ℕ) (b : Header) (ended_way left_way : Completion) (ks : List StackEntry) (s : State) → AreFrames g ns s.frames → MayRelease (allows ks) b.scoped → IsAllowed g ns (allows ks) ended_way →
+pub passes_kept : (g : Ground) (ns : List ℕ) (b : Header) (ended_way left_way : Completion) (ks : List StackEntry) (s : State) → AreFrames g ns s.frames → MayRelease g ns (allows ks) b.scoped → IsAllowed g ns (allows ks) ended_way →
     IsAllowed g ns (allows ks) left_way → IsStack g ns ks → Kept g ns (config_if (s.level == 0) (config (Execute (Releases b.scoped)) (ThenDo (Completes ended_way) ∷ ks) s) (config (Unwind left_way) ks s))
 passes_kept g ns b ended_way left_way ks s h r e l k =
     kept_if g ns (s.level == 0) (config (Execute (Releases b.scoped)) (ThenDo (Completes ended_way) ∷ ks) s) (config (Unwind left_way) ks s)

@@ -1,6 +1,7 @@
 -- What every step keeps: each open procedure has values of its kinds, and what remains to be done suits the procedure that does it.
-use Rattle.std.specs.Prelude.{◌≡◌, ◌⊎◌, ℕ, zero, suc, Bool, true, false, List, [], ◌∷◌, Option, Some, None, slice_get, slice_index_or, map}
+use Rattle.std.specs.Prelude.{◌≡◌, ◌⊎◌, ℕ, zero, suc, Bool, true, false, not, List, [], ◌∷◌, Option, Some, None, slice_get, slice_index_or}
 use Rattle.std.specs.List.{list_all}
+use Rattle.std.specs.Option.{is_some}
 use Rattle.abl_base.specs.declared.value.Kind.{Kind}
 use Rattle.abl_base.specs.declared.value.Value.{Value}
 use Rattle.abl_base.specs.declared.value.Value.TheVariants.{Unknown}
@@ -10,16 +11,15 @@ use Rattle.client_database.specs.declared.operation.Op.{Op}
 use Rattle.client_database.specs.declared.operation.Op.TheVariants as op
 use Rattle.bound_tree.specs.declared.expression.Variable.{Variable}
 use Rattle.bound_tree.specs.declared.statement.Target.{Target}
-use Rattle.bound_tree.specs.Tree.{Argument, Assignment, Fetch, Given, Header, Reading, Right, ValueOf, NextOf, CurrentOf}
+use Rattle.bound_tree.specs.Tree.{Argument, Assignment, Header, Procedure, Reading, Right, ValueOf}
 use Rattle.bound_kinds.specs.WellKinded.{Surroundings, are_arguments, if_there, is_action, is_body, is_for, is_good_procedure, is_header, is_of_kind, is_reading, is_target, kind_of_field, kind_of_target, table_of}
 use Rattle.block_meaning.specs.Blocks.{Iteration}
 use Rattle.block_meaning.specs.Frames.{is_in, no_buffer}
 use Rattle.block_meaning.specs.Program.{procedure_at}
-use Rattle.block_meaning.specs.Reads.{Search}
-use Rattle.block_meaning.specs.State.{Again, Buffer, CallFrame, Completion, Content, Copy, Empty, EndKeys, Faults, Found, Leaves, Lost, Nexts, Normal, NotFound, Pending, Raises, Record, Returns, Saved, State, Stops, Undoes}
+use Rattle.block_meaning.specs.State.{Again, Buffer, CallFrame, Completion, Content, Copy, Empty, EndKeys, Faults, Found, Leaves, Lost, Nexts, Normal, NotFound, Pending, Raises, Record, Returns, Saved, Stops, Undoes}
 use Rattle.block_flat.specs.Config.{Acts, AfterBack, AfterClosing, AndAgain, AsBefore, Assigns, AssignsEach, AssignsOne, Await, Begins, Begun, Blocks, Called, Calls, Closes, Closing, Completes, Config, Creates, CurrentGranted, Deletes, DeletesRow, Drops, Empties, EndKeyComes, EndsWith, Enters, EntersLevel, EntersOne, EntersRest, ErrorComes, Execute, FetchedAs, Fetches, FetchesFrom, Finds, FindsAs, FindsCurrent, FoundAs, GoesBack, Handles, Imports, In, IsOnly, Iterates, LeavesIf, LeavesNow, LocksAll, LocksOne, Looks, Mode, OnAnswer, OrDo, Passes, Quiet, Releases, RunsFrom, Searches, Seconds, SettlesAll, SettlesOne, StackEntry, Takes, TakesAgain, TakesAs, Task, ThenDo, Turns, UndoComes, Unwind, Updates, UpdatesOne, WasBack, WasCounted, WasCurrent, WasDeleted, WasDropped, WasEntered, WasGot, WasGranted, WasInserted, WasLeft, WasNext, WasPut, WasRead, WasSecond, WasUpgraded}
 use Rattle.block_flat.specs.Means.{first_of, less}
-use Rattle.kind_laws.specs.Placed.{is_nil, is_outermost, is_placed_body, is_placed_header, is_placed_procedure, names_one_of, scopes_none, undoes_one_of}
+use Rattle.kind_laws.specs.Placed.{is_internal, is_nil, is_outermost, is_placed_body, is_placed_header, is_placed_procedure, creates_none_in, names_one_of, scoped_outside, undoes_one_of}
 use Rattle.kind_laws.specs.Reached.{Ground, kinds_at, surroundings}
 
 -- ---- values
@@ -32,35 +32,48 @@ HaveKinds kinds values = (n : ℕ) (k : Kind) → kinds n ≡ Some k → is_of_k
 abbrev pub IsRow : TableDef → List Value → Type 0
 IsRow t values = HaveKinds (kind_of_field t) values
 
+-- what a buffer may have: a record of the table, and whether it may be a new one that is not in the database yet
+pub record Slot : Type 0 where
+  pub table : TableDef
+  pub pends : Bool
+
 -- a record of the table, or none
-abbrev pub IsRecord : TableDef → Content → Type 0
-IsRecord t Empty = Unit {0}
-IsRecord t (Record row values held made) = IsRow t values
-IsRecord t (Pending values since made) = IsRow t values
+abbrev pub IsRecord : Slot → Content → Type 0
+IsRecord x Empty = Unit {0}
+IsRecord x (Record row values held made) = IsRow x.table values
+IsRecord x (Pending values since made) = IsRow x.table values × (x.pends ≡ true)
 
 -- a buffer of the table
-pub record IsBuffer (g : Ground) (t : TableDef) (b : Buffer) : Type 0 where
-  pub fields : (f : ℕ) (k : Kind) → kind_of_field t f ≡ Some k → kind_of_field (table_at g.schema b.table) f ≡ Some k
-  pub content : IsRecord t b.content
+pub record IsBuffer (g : Ground) (x : Slot) (b : Buffer) : Type 0 where
+  pub fields : (f : ℕ) (k : Kind) → kind_of_field x.table f ≡ Some k → kind_of_field (table_at g.schema b.table) f ≡ Some k
+  pub content : IsRecord x b.content
 
--- the table of a buffer of procedure n
-abbrev pub table_in : Ground → ℕ → ℕ → TableDef
-table_in g n b = table_of (surroundings g n) b
+-- the buffers of a procedure in which no record is created: those scoped to the block of an internal procedure that starts no transaction
+abbrev pub calm_of : ℕ → Procedure → List ℕ
+calm_of zero q = []
+calm_of (suc n) q = scoped_outside q
 
--- buffers of these tables, by their numbers
-abbrev pub AreBuffers : Ground → (ℕ → TableDef) → List Buffer → Type 0
-AreBuffers g tables bs = (b : ℕ) → IsBuffer g (tables b) (slice_index_or bs b no_buffer)
+abbrev pub calm_in : Ground → ℕ → List ℕ
+calm_in g n = calm_of n (procedure_at g.program n)
 
--- records of these tables, by the numbers of their buffers
-abbrev pub AreRecords : (ℕ → TableDef) → List Content → Type 0
-AreRecords tables cs = (b : ℕ) → IsRecord (tables b) (slice_index_or cs b Empty)
+-- what a buffer of procedure n may have
+abbrev pub slot_in : Ground → ℕ → ℕ → Slot
+slot_in g n b = record { table = table_of (surroundings g n) b; pends = not (is_in b (calm_in g n)) }
+
+-- buffers, by their numbers
+abbrev pub AreBuffers : Ground → (ℕ → Slot) → List Buffer → Type 0
+AreBuffers g slots bs = (b : ℕ) → IsBuffer g (slots b) (slice_index_or bs b no_buffer)
+
+-- records, by the numbers of their buffers
+abbrev pub AreRecords : (ℕ → Slot) → List Content → Type 0
+AreRecords slots cs = (b : ℕ) → IsRecord (slots b) (slice_index_or cs b Empty)
 
 -- a frame of procedure n
 pub record IsFrame (g : Ground) (n : ℕ) (f : CallFrame) : Type 0 where
   pub procedure : f.procedure ≡ n
   pub undoable : HaveKinds (slice_get (kinds_at g n).undoable) f.undoable
   pub no_undo : HaveKinds (slice_get (kinds_at g n).no_undo) f.no_undo
-  pub buffers : AreBuffers g (table_in g n) f.buffers
+  pub buffers : AreBuffers g (slot_in g n) f.buffers
 
 -- the outermost procedure is the external one
 abbrev pub IsMain : ℕ → List ℕ → Type 0
@@ -78,7 +91,7 @@ AreFrames g (n ∷ ns) (f ∷ fs) = IsFrame g n f × IsMain n ns × AreFrames g 
 abbrev pub AreSaved : Ground → List ℕ → List Saved → Type 0
 AreSaved g ns [] = Unit {0}
 AreSaved g [] (c ∷ cs) = Unit {0}
-AreSaved g (n ∷ ns) (c ∷ cs) = HaveKinds (slice_get (kinds_at g n).undoable) c.undoable × AreRecords (table_in g n) c.contents × AreSaved g ns cs
+AreSaved g (n ∷ ns) (c ∷ cs) = HaveKinds (slice_get (kinds_at g n).undoable) c.undoable × AreRecords (slot_in g n) c.contents × AreSaved g ns cs
 
 abbrev pub IsCopy : Ground → List ℕ → Option Copy → Type 0
 IsCopy g ns None = Unit {0}
@@ -95,16 +108,24 @@ here g (n ∷ ns) = surroundings g n
 abbrev pub table_here : Ground → List ℕ → ℕ → TableDef
 table_here g ns b = table_of (here g ns) b
 
--- the table of a buffer of any open procedure
-abbrev pub table_there : Ground → List ℕ → ℕ → ℕ → TableDef
-table_there g [] out b = no_table
-table_there g (n ∷ ns) zero b = table_in g n b
-table_there g (n ∷ ns) (suc out) b = table_there g ns out b
+abbrev pub calm_here : Ground → List ℕ → List ℕ
+calm_here g [] = []
+calm_here g (n ∷ ns) = calm_in g n
+
+-- what a buffer of the running procedure may have
+abbrev pub slot_here : Ground → List ℕ → ℕ → Slot
+slot_here g ns b = record { table = table_here g ns b; pends = not (is_in b (calm_here g ns)) }
+
+-- what a buffer of any open procedure may have
+abbrev pub slot_there : Ground → List ℕ → ℕ → ℕ → Slot
+slot_there g [] out b = record { table = no_table; pends = true }
+slot_there g (n ∷ ns) zero b = slot_in g n b
+slot_there g (n ∷ ns) (suc out) b = slot_there g ns out b
 
 -- the contents that buffers of the running procedure had
 abbrev pub AreOld : Ground → List ℕ → List Content → List ℕ → Type 0
 AreOld g ns cs [] = Unit {0}
-AreOld g ns cs (b ∷ bs) = IsRecord (table_here g ns b) (first_of cs) × AreOld g ns (less cs) bs
+AreOld g ns cs (b ∷ bs) = IsRecord (slot_here g ns b) (first_of cs) × AreOld g ns (less cs) bs
 
 -- the rows that the answer to an operation may have
 abbrev pub IsAsked : Ground → Op → List Value → Type 0
@@ -120,11 +141,12 @@ Suits g o t = (values : List Value) → IsAsked g o values → IsRow t values
 pub record IsProcedure (g : Ground) (n : ℕ) : Type 0 where
   pub kinded : is_good_procedure (surroundings g n) (procedure_at g.program n) ≡ true
   pub placed : is_placed_procedure (procedure_at g.program n) ≡ true
-  pub within : scopes_none (procedure_at g.program n) ≡ true
+  pub within : creates_none_in (calm_in g n) (procedure_at g.program n).body ≡ true
 
 -- a RUN of it with these arguments
 pub record IsCall (g : Ground) (ns : List ℕ) (n : ℕ) (args : List Argument) : Type 0 where
   pub procedure : IsProcedure g n
+  pub internal : is_internal n ≡ true
   pub arguments : are_arguments (here g ns) (procedure_at g.program n).parameters args ≡ true
 
 -- values of the kinds of parameters
@@ -181,21 +203,40 @@ pub record CanFail (a : Allowed) : Type 0 where
 
 -- ---- blocks
 
--- the block of a procedure, to which no buffer is scoped
-pub record IsApart (b : Header) : Type 0 where
+-- a buffer can be entered: it has no new record, or a fault is handled
+abbrev pub MayEnter : Allowed → Slot → Type 0
+MayEnter a x = (a.faults ≡ true) ⊎ (x.pends ≡ false)
+
+-- buffers can be released: none of them has a new record, or a fault is handled
+abbrev pub MayRelease : Ground → List ℕ → Allowed → List ℕ → Type 0
+MayRelease g ns a bs = (a.faults ≡ true) ⊎ (list_all (λ b. is_in b (calm_here g ns)) bs ≡ true)
+
+-- the block of a procedure. Its buffers can be released, or an iteration of it has a level
+pub record IsApart (g : Ground) (ns : List ℕ) (a : Allowed) (b : Header) : Type 0 where
   pub outermost : is_outermost b ≡ true
-  pub within : is_nil b.scoped ≡ true
+  pub alone : is_nil a.blocks ≡ true
+  pub within : MayRelease g ns a b.scoped ⊎ (b.flags.starts ≡ true)
+
+-- an iteration of a block that starts a transaction has the copy of a level
+abbrev pub IsEntered : Header → Option Copy → Type 0
+IsEntered b copy = b.flags.starts ≡ true → b.flags.undo ≡ true → is_some copy ≡ true
+
+-- the copy with which an iteration began
+pub record IsBegun (g : Ground) (ns : List ℕ) (b : Header) (copy : Option Copy) : Type 0 where
+  pub saved : IsCopy g ns copy
+  pub entered : IsEntered b copy
 
 -- a block at a place where this is allowed
 pub record IsBlock (g : Ground) (ns : List ℕ) (a : Allowed) (b : Header) : Type 0 where
   pub kinded : is_header (here g ns) b ≡ true
   pub placed : is_placed_header a.blocks b ≡ true
-  pub covered : CanFail a ⊎ IsApart b
+  pub covered : CanFail a ⊎ IsApart g ns a b
 
 -- code for a body
 pub record IsCode (g : Ground) (ns : List ℕ) (blocks : List ℕ) (body : ℕ) : Type 0 where
   pub kinded : is_body (here g ns) (g.tree body) ≡ true
   pub placed : is_placed_body blocks (g.tree body) ≡ true
+  pub calm : creates_none_in (calm_here g ns) (g.tree body) ≡ true
 
 -- a block with its body
 pub record IsWhole (g : Ground) (ns : List ℕ) (a : Allowed) (b : Header) (body : ℕ) : Type 0 where
@@ -206,11 +247,8 @@ pub record IsWhole (g : Ground) (ns : List ℕ) (a : Allowed) (b : Header) (body
 pub record IsOpen (g : Ground) (ns : List ℕ) (a : Allowed) (b : Header) (o : Iteration) : Type 0 where
   pub block : IsBlock g ns a b
   pub copy : IsCopy g ns o.copy
+  pub entered : IsEntered b o.copy
   pub again : a.again ≡ true
-
--- buffers can be released: none of them is there, or a fault is handled
-abbrev pub MayRelease : Allowed → List ℕ → Type 0
-MayRelease a bs = (a.faults ≡ true) ⊎ (is_nil bs ≡ true)
 
 -- ---- assignments
 
@@ -234,10 +272,10 @@ pub record IsSearch (g : Ground) (ns : List ℕ) (a : Allowed) (r : Reading) : T
   pub faults : a.faults ≡ true
 
 abbrev pub IsTask : Ground → List ℕ → Allowed → Task → Type 0
-IsTask g ns a (EntersOne place) = a.faults ≡ true
+IsTask g ns a (EntersOne place) = MayEnter a (slot_there g ns place.out place.number)
 IsTask g ns a (Enters places) = a.faults ≡ true
 IsTask g ns a (Drops b) = Unit {0}
-IsTask g ns a (Releases bs) = MayRelease a bs
+IsTask g ns a (Releases bs) = MayRelease g ns a bs
 IsTask g ns a (EntersRest copy) = a.faults ≡ true
 IsTask g ns a (LeavesIf copy but) = Unit {0}
 IsTask g ns a (LeavesNow but) = Unit {0}
@@ -246,7 +284,7 @@ IsTask g ns a (GoesBack copy but) = IsCopy g ns copy
 IsTask g ns a (UpdatesOne mark place) = Unit {0}
 IsTask g ns a (Updates mark but places) = Unit {0}
 IsTask g ns a (AfterBack copy but) = AreSaved g ns copy.frames
-IsTask g ns a (Acts b o act retry) = IsOpen g ns a b o × (is_action (here g ns) act ≡ true) × (names_one_of (b.number ∷ a.blocks) act ≡ true)
+IsTask g ns a (Acts b o act retry) = IsOpen g ns a b o × (is_action (here g ns) act ≡ true) × (names_one_of (b.number ∷ a.blocks) act ≡ true) × MayRelease g ns a b.scoped
 IsTask g ns a (IsOnly k c values) = IsSearch g ns a k.reading × IsRow (table_here g ns k.reading.buffer) values
 IsTask g ns a (Seconds n k c values from) = IsSearch g ns a k.reading × IsRow (table_here g ns k.reading.buffer) values
 IsTask g ns a (TakesAs r wait retry row) = IsSearch g ns a r × (a.lost ≡ true)
@@ -266,21 +304,21 @@ IsTask g ns a (LocksAll bs) = a.faults ≡ true
 IsTask g ns a (SettlesOne b) = a.faults ≡ true
 IsTask g ns a (SettlesAll olds bs) = (a.faults ≡ true) × AreOld g ns olds bs
 IsTask g ns a (Assigns xs retry) = AreAssigned (here g ns) xs × (a.faults ≡ true)
-IsTask g ns a (Creates b) = a.faults ≡ true
+IsTask g ns a (Creates b) = (a.faults ≡ true) × (not (is_in b (calm_here g ns)) ≡ true)
 IsTask g ns a (Deletes b) = a.faults ≡ true
 IsTask g ns a (DeletesRow b t row) = a.faults ≡ true
-IsTask g ns a (Begun b) = Unit {0}
+IsTask g ns a (Begun b) = not (is_in b (calm_here g ns)) ≡ true
 IsTask g ns a (Completes completion) = IsAllowed g ns a completion
 IsTask g ns a (Empties but) = Unit {0}
-IsTask g ns a (Closes b o completion) = IsOpen g ns a b o × IsOver (b.number ∷ a.blocks) completion
-IsTask g ns a (Passes b ended_way left_way) = MayRelease a b.scoped × IsAllowed g ns a ended_way × IsAllowed g ns a left_way
+IsTask g ns a (Closes b o completion) = IsOpen g ns a b o × IsOver (b.number ∷ a.blocks) completion × MayRelease g ns a b.scoped
+IsTask g ns a (Passes b ended_way left_way) = MayRelease g ns a b.scoped × IsAllowed g ns a ended_way × IsAllowed g ns a left_way
 IsTask g ns a (UndoComes b o target act retry passed) =
     IsOpen g ns a b o × (undoes_one_of (b.number ∷ a.blocks) target act ≡ true) × (is_action (here g ns) act ≡ true) × IsCopy g ns passed.first
 IsTask g ns a (ErrorComes b o passed) = IsOpen g ns a b o × IsCopy g ns passed.first
 IsTask g ns a (EndKeyComes b o passed) = IsOpen g ns a b o × IsCopy g ns passed.first
 IsTask g ns a (EndsWith b o completion) = IsOpen g ns a b o × IsAllowed g ns (in_block b.number a) completion
 IsTask g ns a (RunsFrom body d retry) = IsCode g ns a.blocks body × (is_nil a.blocks ≡ false)
-IsTask g ns a (Begins b copy t retry body d) = IsWhole g ns a b body × IsCopy g ns copy × (a.again ≡ true)
+IsTask g ns a (Begins b copy t retry body d) = IsWhole g ns a b body × IsBegun g ns b copy × (a.again ≡ true)
 IsTask g ns a (EntersLevel b t retry body d) = IsWhole g ns a b body × (a.again ≡ true)
 IsTask g ns a (Turns n b outer body d t) = IsWhole g ns a b body
 IsTask g ns a (Iterates b outer body d t) = IsWhole g ns a b body × (a.again ≡ true)
@@ -290,9 +328,9 @@ IsTask g ns a (Calls d n args vs) = IsCall g ns n args × AreFor (procedure_at g
 
 -- ---- the stack
 
--- the completions that the stack handles
+-- the completions that the stack handles; a fault that comes to its end is that of the client
 abbrev pub allows : List StackEntry → Allowed
-allows [] = nothing
+allows [] = record nothing { faults = true }
 allows (ThenDo t ∷ ks) = allows ks
 allows (OrDo t ∷ ks) = record (allows ks) { lost = true }
 allows (FoundAs word b ∷ ks) = record (allows ks) { found = true }
@@ -316,7 +354,7 @@ IsStack g ns (Quiet quiet ∷ ks) = ((allows ks).faults ≡ true) × IsStack g n
 IsStack g ns (Handles quiet ∷ ks) = (is_nil (allows ks).blocks ≡ false) × IsStack g ns ks
 IsStack g ns (In b o ∷ ks) = IsOpen g ns (allows ks) b o × IsStack g ns ks
 IsStack g ns (FetchedAs b copy t buffer body d retry ∷ ks) =
-    (IsWhole g ns (allows ks) b body × IsCopy g ns copy × ((allows ks).again ≡ true) × ((allows ks).faults ≡ true)) × IsStack g ns ks
+    (IsWhole g ns (allows ks) b body × IsBegun g ns b copy × ((allows ks).again ≡ true) × ((allows ks).faults ≡ true)) × IsStack g ns ks
 IsStack g ns (AndAgain n b outer body d ∷ ks) = IsWhole g ns (allows ks) b body × IsStack g ns ks
 IsStack g [] (Called args n ∷ ks) = ⊥
 IsStack g (m ∷ []) (Called args n ∷ ks) = ⊥
@@ -325,11 +363,11 @@ IsStack g (m ∷ l ∷ ns) (Called args n ∷ ks) = ((m ≡ n) × IsCall g (l �
 -- ---- answers
 
 abbrev pub IsAwaited : Ground → List ℕ → Allowed → Op → OnAnswer → Type 0
-IsAwaited g ns a o (WasInserted place t values made) = (a.faults ≡ true) × IsRow (table_there g ns place.out place.number) values
+IsAwaited g ns a o (WasInserted place t values made) = (a.faults ≡ true) × IsRow (slot_there g ns place.out place.number).table values
 IsAwaited g ns a o WasDropped = Unit {0}
 IsAwaited g ns a o WasLeft = Unit {0}
 IsAwaited g ns a o (WasBack copy but) = AreSaved g ns copy.frames
-IsAwaited g ns a o (WasGot place row held made) = Suits g o (table_there g ns place.out place.number)
+IsAwaited g ns a o (WasGot place row held made) = Suits g o (slot_there g ns place.out place.number).table
 IsAwaited g ns a o (WasSecond n k c values) = IsSearch g ns a k.reading × IsRow (table_here g ns k.reading.buffer) values × Suits g o (table_here g ns k.reading.buffer)
 IsAwaited g ns a o (WasNext n k) = IsSearch g ns a k.reading × (a.found ≡ true) × Suits g o (table_here g ns k.reading.buffer)
 IsAwaited g ns a o (WasGranted r retry row) = IsSearch g ns a r × (a.lost ≡ true)

@@ -8,7 +8,9 @@ pub mod Loops
 pub mod Statements
 pub mod Tasks
 pub mod Answers
+pub mod Undone
 pub mod Completions
 pub mod Runs
 pub mod Evaluated
 pub mod Inferred
+pub mod Trees

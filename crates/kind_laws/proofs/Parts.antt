@@ -1,11 +1,11 @@
 -- Parts of steps.
-use Rattle.std.proofs.Common.{◌≡◌, ℕ, zero, suc, Bool, true, false, List, [], ◌∷◌, Option, Some, None, refl, sym, ap, subst, ◌∙◌, arith, inl, inr}
-use Rattle.std.specs.Prelude.{◌&&◌, ◌||◌, ◌==◌, ◌⊎◌, not, if◌then◌else◌, nat_lt}
+use Rattle.std.proofs.Common.{◌≡◌, ℕ, zero, suc, Bool, true, false, List, ◌∷◌, Option, Some, None, refl, arith, inl, inr}
+use Rattle.std.specs.Prelude.{◌&&◌, ◌||◌, ◌==◌, ◌⊎◌, not, if◌then◌else◌}
 use Rattle.std.proofs.lemmas.Bool.Decides.{nat_tests}
 use Rattle.abl_base.specs.declared.value.Value.{Value}
 use Rattle.client_database.specs.declared.operation.Op.{Op}
-use Rattle.bound_tree.specs.Tree.{Action, Expr, Header, ThenError, ThenLeave, ThenNext, ThenReturn, ThenRetry}
-use Rattle.bound_kinds.proofs.Parts.{both, both_left, both_right}
+use Rattle.bound_tree.specs.Tree.{Action, Expr, Header}
+use Rattle.bound_kinds.proofs.Parts.{both_left, both_right}
 use Rattle.abl_expr.specs.Operators.{holds}
 use Rattle.block_meaning.specs.declared.wants.Piece.{Piece}
 use Rattle.block_meaning.specs.Blocks.{Iteration, after_iteration, complained, completion_if, first_of_two, handles_endkey, is_given, iterates, line_piece, next_turn}
@@ -14,11 +14,11 @@ use Rattle.block_meaning.specs.Lines.{Complaint}
 use Rattle.block_meaning.specs.Program.{Program}
 use Rattle.block_meaning.specs.State.{Again, Completed, Completion, Copy, Leaves, Nexts, Normal, Returns, State, Stops, wrote, written_if}
 use Rattle.block_meaning.specs.Values.{Evaluated, EvaluatedAll, Fails, FailsAll, Gives, GivesAll, value_now}
-use Rattle.block_flat.specs.Config.{Await, Config, EndsWith, Execute, OnAnswer, StackEntry, Task, ThenDo, Unwind}
+use Rattle.block_flat.specs.Config.{Config, EndsWith, Execute, OnAnswer, StackEntry, Task, ThenDo, Unwind}
 use Rattle.block_flat.specs.Steps.{ask, asked_from, config, config_if, costing, ends_as, errs_step, given_all_step, given_step, judge_step, test_step}
-use Rattle.kind_laws.specs.Placed.{is_nil, is_outermost, names_one_of, outward, undoes_one_of}
+use Rattle.kind_laws.specs.Placed.{is_nil, names_one_of, outward, undoes_one_of}
 use Rattle.kind_laws.specs.Reached.{Ground}
-use Rattle.kind_laws.proofs.Kept.{Allowed, AreFrames, CanFail, IsAllowed, IsApart, IsAwaited, IsBlock, IsCode, IsCopy, IsGoing, IsOver, IsStack, IsTask, IsWhole, Kept, MayRelease, allows}
+use Rattle.kind_laws.proofs.Kept.{Allowed, AreFrames, CanFail, IsAllowed, IsApart, IsAwaited, IsBlock, IsCopy, IsOver, IsStack, IsTask, Kept, MayRelease, allows}
 use Rattle.kind_laws.proofs.Calls.{Ends}
 use Rattle.kind_laws.proofs.Buffers.{emptied_keeps}
 
@@ -157,16 +157,17 @@ undoes_self n bs act h = go (n == n) (equal_self n)
 
 -- ---- the block of a procedure
 
-pub record IsOuter (b : Header) : Type 0 where
+pub record IsOuter (g : Ground) (ns : List ℕ) (a : Allowed) (b : Header) : Type 0 where
   pub undo : b.flags.undo ≡ true
   pub endkey : handles_endkey b ≡ true
   pub to : is_given b.to ≡ false
   pub while_test : is_given b.while_test ≡ false
   pub fetch : is_given b.fetch ≡ false
-  pub scoped : is_nil b.scoped ≡ true
+  pub alone : is_nil a.blocks ≡ true
+  pub within : MayRelease g ns a b.scoped ⊎ (b.flags.starts ≡ true)
 
-pub outer : (b : Header) → IsApart b → IsOuter b
-outer b apart =
+pub outer : (g : Ground) (ns : List ℕ) (a : Allowed) (b : Header) → IsApart g ns a b → IsOuter g ns a b
+outer g ns a b apart =
     let h = apart.outermost in
     let first = both_left (b.flags.undo && handles_endkey b) _ h in
     let rest = both_right (b.flags.undo && handles_endkey b) _ h in
@@ -177,29 +178,23 @@ outer b apart =
       to = not_holds (is_given b.to) (both_left (not (is_given b.to)) _ rest);
       while_test = not_holds (is_given b.while_test) (both_left (not (is_given b.while_test)) _ second);
       fetch = not_holds (is_given b.fetch) (both_right (not (is_given b.while_test)) _ second);
-      scoped = apart.within;
+      alone = apart.alone;
+      within = apart.within;
     }
 
 -- it is the block of a procedure, or a fault is handled around it
-pub covers : (g : Ground) (ns : List ℕ) (a : Allowed) (b : Header) → IsBlock g ns a b → CanFail a ⊎ IsOuter b
+pub covers : (g : Ground) (ns : List ℕ) (a : Allowed) (b : Header) → IsBlock g ns a b → CanFail a ⊎ IsOuter g ns a b
 covers g ns a b h = go h.covered
   where
-    go : CanFail a ⊎ IsApart b → CanFail a ⊎ IsOuter b
+    go : CanFail a ⊎ IsApart g ns a b → CanFail a ⊎ IsOuter g ns a b
     go (inl f) = inl f
-    go (inr e) = inr (outer b e)
-
-pub releases : (g : Ground) (ns : List ℕ) (a : Allowed) (b : Header) → IsBlock g ns a b → MayRelease a b.scoped
-releases g ns a b h = go (covers g ns a b h)
-  where
-    go : CanFail a ⊎ IsOuter b → MayRelease a b.scoped
-    go (inl f) = inl f.faults
-    go (inr o) = inr o.scoped
+    go (inr e) = inr (outer g ns a b e)
 
 -- what a header has that the block of a procedure lacks
-pub lacked : {A : Type 0} (g : Ground) (ns : List ℕ) (a : Allowed) (b : Header) (o : Option A) → IsBlock g ns a b → (IsOuter b → is_given o ≡ false) → CanFail a ⊎ (is_given o ≡ false)
+pub lacked : {A : Type 0} (g : Ground) (ns : List ℕ) (a : Allowed) (b : Header) (o : Option A) → IsBlock g ns a b → (IsOuter g ns a b → is_given o ≡ false) → CanFail a ⊎ (is_given o ≡ false)
 lacked g ns a b o h f = go (covers g ns a b h)
   where
-    go : CanFail a ⊎ IsOuter b → CanFail a ⊎ (is_given o ≡ false)
+    go : CanFail a ⊎ IsOuter g ns a b → CanFail a ⊎ (is_given o ≡ false)
     go (inl x) = inl x
     go (inr x) = inr (f x)
 

@@ -1,13 +1,9 @@
 -- Every configuration that a run reaches keeps the kinds; so each variable, and each expression, has a value of its kind.
-use Rattle.std.proofs.Common.{◌≡◌, ℕ, zero, suc, Bool, true, false, List, [], ◌∷◌, Option, Some, None, refl, sym, subst, ap, ◌∙◌}
-use Rattle.std.specs.Prelude.{◌&&◌, ◌||◌, IfSome, slice_get, slice_index_or}
-use Rattle.std.specs.List.{list_all}
+use Rattle.std.proofs.Common.{◌≡◌, ℕ, Bool, true, false, List, [], ◌∷◌, Option, Some, None, refl, sym, subst, inl, inr}
+use Rattle.std.specs.Prelude.{◌&&◌, ◌||◌, IfSome}
 use Rattle.abl_base.specs.declared.value.Kind.{Kind}
 use Rattle.abl_base.specs.declared.value.Value.{Value}
-use Rattle.abl_base.specs.declared.value.Value.TheVariants as value
-use Rattle.abl_values.specs.declared.schema.TableDef.{TableDef}
 use Rattle.bound_tree.specs.declared.expression.Variable.{Variable}
-use Rattle.bound_tree.specs.declared.procedure.BufferDef.{BufferDef}
 use Rattle.bound_tree.specs.Tree as b
 use Rattle.bound_tree.specs.Tree.{Expr, Procedure, Source}
 use Rattle.bind_names.specs.declared.sort.Sort.{Sort}
@@ -21,41 +17,52 @@ use Rattle.bind_expressions.specs.WellKinded.{sort_of}
 use Rattle.abl_expr.specs.Env.{Env}
 use Rattle.abl_expr.specs.Evaluate.{evaluate}
 use Rattle.block_meaning.specs.Frames.{content_of, own_frame, value_of}
-use Rattle.block_meaning.specs.Program.{procedure_at}
-use Rattle.block_meaning.specs.State.{CallFrame, Completion, Content, Empty, Pending, Record, State, Stops}
+use Rattle.block_meaning.specs.State.{CallFrame, Content, Empty, Pending, Record, State, Stops}
 use Rattle.block_meaning.specs.Values.{env_of, field_in}
-use Rattle.block_flat.specs.Config.{Await, Config, EndsWith, Execute, Mode, StackEntry, Unwind}
-use Rattle.block_flat.specs.Machine.{mode_step, step}
+use Rattle.client_database.specs.declared.answer.Answer.{Answer}
+use Rattle.client_database.specs.declared.operation.Op.{Op}
+use Rattle.database_meaning.specs.Fits.{Fits}
+use Rattle.block_flat.specs.Config.{Await, Config, EndsWith, Execute, Mode, OnAnswer, StackEntry, Unwind}
+use Rattle.block_flat.specs.Machine.{answered, mode_step, step}
+use Rattle.block_flat.specs.Steps.{config}
 use Rattle.kind_laws.specs.Reached.{Ground, IsGround, Reached, answers, begins, running, steps, surroundings}
-use Rattle.kind_laws.proofs.Kept.{AreFrames, IsGoing, IsKept, IsRecord, Kept, here, table_here}
+use Rattle.kind_laws.proofs.Kept.{AreFrames, IsGoing, IsRecord, Slot, slot_here, table_here}
 use Rattle.kind_laws.proofs.Answers.{answer_kept}
 use Rattle.kind_laws.proofs.Completions.{pop_kept, stop_kept}
 use Rattle.kind_laws.proofs.Buffers.{content_has}
 use Rattle.kind_laws.proofs.States.{kind_there, variable_has}
 use Rattle.kind_laws.proofs.Tasks.{first_kept, task_kept}
+use Rattle.kind_laws.proofs.Undone.{IsSafe, frames_safe, retreat_answer, retreat_step}
 
 -- ---- steps
 
-mode_kept : (g : Ground) (m : ℕ) (ns : List ℕ) (mode : Mode) (ks : List StackEntry) (s : State) → IsGround g → AreFrames g (m ∷ ns) s.frames → IsGoing g (m ∷ ns) ks mode → IsKept g (mode_step g.code g.program mode ks s)
-mode_kept g m ns (Execute (EndsWith b o (Stops end))) ks s ok h x = (m, ns, (h, tt))
+mode_kept : (g : Ground) (m : ℕ) (ns : List ℕ) (mode : Mode) (ks : List StackEntry) (s : State) → IsGround g → AreFrames g (m ∷ ns) s.frames → IsGoing g (m ∷ ns) ks mode → IsSafe g (mode_step g.code g.program mode ks s)
+mode_kept g m ns (Execute (EndsWith b o (Stops end))) ks s ok h x = inl (m, ns, (h, tt))
 mode_kept g m ns (Execute t) ks s ok h x = task_kept g m ns t ks s ok h x.0 x.1
-mode_kept g m ns (Unwind (Stops end)) [] s ok h x = (m, ns, (h, tt))
-mode_kept g m ns (Unwind (Stops end)) (k ∷ ks) s ok h x = stop_kept g m ns k end ks s h
-mode_kept g m ns (Unwind completion) [] s ok h x = (m, ns, (h, x))
-mode_kept g m ns (Unwind completion) (k ∷ ks) s ok h x = pop_kept g m ns k completion ks s h x.0 x.1
-mode_kept g m ns (Await op k) ks s ok h x = (m, ns, (h, x))
+mode_kept g m ns (Unwind (Stops end)) [] s ok h x = inl (m, ns, (h, tt))
+mode_kept g m ns (Unwind (Stops end)) (k ∷ ks) s ok h x = inl (stop_kept g m ns k end ks s h)
+mode_kept g m ns (Unwind completion) [] s ok h x = inl (m, ns, (h, x))
+mode_kept g m ns (Unwind completion) (k ∷ ks) s ok h x = inl (pop_kept g m ns k completion ks s h x.0 x.1)
+mode_kept g m ns (Await op k) ks s ok h x = inl (m, ns, (h, x))
 
-pub step_kept : (g : Ground) (c : Config) → IsGround g → IsKept g c → IsKept g (step g.code g.program c)
-step_kept g c ok h = mode_kept g h.0 h.1 c.mode c.stack c.state ok h.2.0 h.2.1
+pub step_kept : (g : Ground) (c : Config) → IsGround g → IsSafe g c → IsSafe g (step g.code g.program c)
+step_kept g c ok (inl h) = mode_kept g h.0 h.1 c.mode c.stack c.state ok h.2.0 h.2.1
+step_kept g c ok (inr r) = retreat_step g r.0 r.1 c r.2
 
 -- ---- runs
 
-pub reached_kept : (g : Ground) (units : ℕ) (c : Config) → IsGround g → Reached g units c → IsKept g c
-reached_kept g units _ ok begins = first_kept g units ok
+answer_safe : (g : Ground) (a : Answer) (op : Op) (k : OnAnswer) (ks : List StackEntry) (s : State) → Fits g.schema op a → IsSafe g (config (Await op k) ks s) → IsSafe g (answered g.program a op k ks s)
+answer_safe g a op k ks s fit (inl h) = inl (h.0, h.1, answer_kept g (h.0 ∷ h.1) a op k ks s fit h.2.0 h.2.1.0 h.2.1.1)
+answer_safe g a op k ks s fit (inr r) = retreat_answer g r.0 r.1 a (config (Await op k) ks s) fit r.2
+
+pub reached_kept : (g : Ground) (units : ℕ) (c : Config) → IsGround g → Reached g units c → IsSafe g c
+reached_kept g units _ ok begins = inl (first_kept g units ok)
 reached_kept g units _ ok (steps c r) = step_kept g c ok (reached_kept g units c ok r)
-reached_kept g units _ ok (answers a op k ks s fit r) =
-    let h = reached_kept g units _ ok r in
-    (h.0, h.1, answer_kept g (h.0 ∷ h.1) a op k ks s fit h.2.0 h.2.1.0 h.2.1.1)
+reached_kept g units _ ok (answers a op k ks s fit r) = answer_safe g a op k ks s fit (reached_kept g units _ ok r)
+
+-- the open procedures
+pub reached_frames : (g : Ground) (units : ℕ) (c : Config) → IsGround g → Reached g units c → (n : ℕ) × (ns : List ℕ) × AreFrames g (n ∷ ns) c.state.frames
+reached_frames g units c ok r = frames_safe g c (reached_kept g units c ok r)
 
 -- ---- variables
 
@@ -65,8 +72,8 @@ own_procedure g m ns (f ∷ fs) h = sym h.0.procedure
 
 pub variables_have : (g : Ground) → IsGround g → (units : ℕ) (c : Config) → Reached g units c → (x : Variable) → is_variable (running g c.state) x ≡ true → is_of_kind x.kind (value_of x c.state) ≡ true
 variables_have g ok units c r x e =
-    let h = reached_kept g units c ok r in
-    variable_has g (h.0 ∷ h.1) x c.state h.2.0 (subst (λ (n : ℕ). is_variable (surroundings g n) x ≡ true) (sym (own_procedure g h.0 h.1 c.state.frames h.2.0)) e)
+    let h = reached_frames g units c ok r in
+    variable_has g (h.0 ∷ h.1) x c.state h.2 (subst (λ (n : ℕ). is_variable (surroundings g n) x ≡ true) (sym (own_procedure g h.0 h.1 c.state.frames h.2)) e)
 
 -- ---- expressions
 
@@ -84,10 +91,10 @@ sort_of_kind : (k : Kind) (v : Value) → is_of_kind k v ≡ true → has_sort (
 sort_of_kind k v e = like_of k (sort_of_value v) e
 
 -- a field of a record of the table
-field_of : (t : TableDef) (c : Content) (f : ℕ) (k : Kind) → IsRecord t c → kind_of_field t f ≡ Some k → IfSome (field_in f c) (λ v. is_of_kind k v ≡ true)
+field_of : (t : Slot) (c : Content) (f : ℕ) (k : Kind) → IsRecord t c → kind_of_field t.table f ≡ Some k → IfSome (field_in f c) (λ v. is_of_kind k v ≡ true)
 field_of t Empty f k h e = tt
 field_of t (Record row values held made) f k h e = h f k e
-field_of t (Pending values since made) f k h e = h f k e
+field_of t (Pending values since made) f k h e = h.0 f k e
 
 marked_keeps : (x : Surroundings) (env : Env) → ((v : Variable) → is_variable x v ≡ true → has_sort (Of v.kind) (env.variable v) ≡ true) → ((buffer field : ℕ) (k : Kind) → is_field x buffer field k ≡ true → IfSome (env.field buffer field) (λ v. has_sort (Of k) v ≡ true)) → (e : Expr) → is_marked x e ≡ true → Keeps env e
 marked_keeps x env f fields (b.Literal v) h = tt
@@ -117,9 +124,9 @@ sorted k (Some v) h = sort_of_kind k v h
 
 pub fields_have : (g : Ground) → IsGround g → (units : ℕ) (c : Config) → Reached g units c → (buffer field : ℕ) (k : Kind) → is_field (running g c.state) buffer field k ≡ true → IfSome (field_in field (content_of buffer c.state)) (λ v. is_of_kind k v ≡ true)
 fields_have g ok units c r buffer field k e =
-    let h = reached_kept g units c ok r in
-    field_of (table_here g (h.0 ∷ h.1) buffer) (content_of buffer c.state) field k (content_has g (h.0 ∷ h.1) buffer c.state h.2.0)
-    (kind_there k (kind_of_field (table_here g (h.0 ∷ h.1) buffer) field) (subst (λ (n : ℕ). is_field (surroundings g n) buffer field k ≡ true) (sym (own_procedure g h.0 h.1 c.state.frames h.2.0)) e))
+    let h = reached_frames g units c ok r in
+    field_of (slot_here g (h.0 ∷ h.1) buffer) (content_of buffer c.state) field k (content_has g (h.0 ∷ h.1) buffer c.state h.2)
+    (kind_there k (kind_of_field (table_here g (h.0 ∷ h.1) buffer) field) (subst (λ (n : ℕ). is_field (surroundings g n) buffer field k ≡ true) (sym (own_procedure g h.0 h.1 c.state.frames h.2)) e))
 
 pub expressions_keep : (g : Ground) → IsGround g → (units : ℕ) (c : Config) → Reached g units c → (test : Sort → Bool) (e : Expr) (retry : Bool) → is_good (running g c.state) test e ≡ true → Keeps (env_of retry c.state) e
 expressions_keep g ok units c r test e retry h =

@@ -1,32 +1,31 @@
 -- Statements and instructions.
-use Rattle.std.proofs.Common.{◌≡◌, ℕ, zero, suc, Bool, true, false, List, [], ◌∷◌, Option, Some, None, refl, sym, ap, subst, ◌∙◌, inl, inr}
-use Rattle.std.specs.Prelude.{◌&&◌, ◌⊎◌, slice_get, slice_index_or}
+use Rattle.std.proofs.Common.{◌≡◌, ℕ, zero, suc, Bool, true, false, List, [], ◌∷◌, Option, Some, None, refl, sym, subst, inl}
+use Rattle.std.specs.Prelude.{◌&&◌, slice_get, slice_index_or}
 use Rattle.std.specs.List.{list_all}
 use Rattle.abl_base.specs.declared.value.Value.{Value}
 use Rattle.abl_values.specs.Schema.{SchemaData}
 use Rattle.text_forms.specs.TextForms.{AtInputEnd, BadElement, Elements, Imported}
 use Rattle.bound_tree.specs.declared.expression.Variable.{Variable}
 use Rattle.bound_tree.specs.declared.statement.Target.{Target}
-use Rattle.bound_tree.specs.Tree.{Action, Argument, Assign, Assignment, Body, Choose, Create, CurrentOf, Export, ExportRecord, Expr, Find, FindCurrent, Given, Header, Import, Inner, InputClose, InputFrom, LeaveBlock, Message, NextBlock, NextOf, Nothing, OutputClose, OutputTo, Procedure, PutItems, Reading, Release, Remove, Return, ReturnError, Right, Run, Source, Stmt, Stop, Then, ThenError, UndoBlock, ValueOf}
-use Rattle.bound_kinds.specs.WellKinded.{Surroundings, VariableKinds, are_arguments, are_procedures, if_there, inside, is_action, is_assignment, is_body, is_condition, is_for, is_good_procedure, is_header, is_procedure, is_right_side, is_run, is_statement, is_target, is_well_kinded, kind_of_target, parameters_of}
+use Rattle.bound_tree.specs.Tree.{Argument, Assign, Assignment, Body, Choose, Create, CurrentOf, Export, ExportRecord, Find, FindCurrent, Given, Import, Inner, InputClose, InputFrom, LeaveBlock, Message, NextBlock, NextOf, Nothing, OutputClose, OutputTo, Procedure, PutItems, Release, Remove, Return, ReturnError, Right, Run, Source, Stmt, Stop, Then, UndoBlock, ValueOf}
+use Rattle.bound_kinds.specs.WellKinded.{Surroundings, VariableKinds, are_arguments, are_procedures, if_there, inside, is_assignment, is_body, is_condition, is_header, is_procedure, is_right_side, is_run, is_statement, is_target, is_well_kinded, kind_of_target, parameters_of}
 use Rattle.bound_kinds.proofs.Parts.{both, both_left, both_right}
 use Rattle.abl_expr.specs.Operators.{holds}
 use Rattle.block_meaning.specs.declared.wants.Piece.TheVariants.{Opened, Wrote}
-use Rattle.block_meaning.specs.Blocks.{complained, returns_with}
 use Rattle.block_meaning.specs.Buffers.{own}
 use Rattle.block_meaning.specs.Frames.{content_of, is_in}
 use Rattle.block_meaning.specs.Meaning.{argument_values, cleared}
-use Rattle.block_meaning.specs.Program.{Program, no_procedure, procedure_at}
-use Rattle.block_meaning.specs.State.{Completed, Content, Empty, Faults, Leaves, Nexts, Normal, Pending, Raises, Record, Returns, State, Stops, Undoes, nothing_passed, wrote}
-use Rattle.block_meaning.specs.Streams.{closes_output, opens_input, pairs_of, read_to, read_up_to, stream_at, with_stream}
+use Rattle.block_meaning.specs.Program.{no_procedure, procedure_at}
+use Rattle.block_meaning.specs.State.{Content, Empty, Pending, Raises, Record, State, nothing_passed, wrote}
+use Rattle.block_meaning.specs.Streams.{pairs_of, read_to, read_up_to, stream_at, with_stream}
 use Rattle.block_meaning.specs.Values.{Evaluated, EvaluatedAll, Fails, FailsAll, Gives, GivesAll, HasFault, IsText, Text, export_line, message_line, put_text, value_now, values_now}
-use Rattle.block_flat.specs.Code.{Code, DenotesAt, Ends as EndsBody, Instr, IsCodeOf, IsIf, IsSimple, Opens, Plain, Tests, before}
-use Rattle.block_flat.specs.Config.{Assigns, Blocks, Calls, Config, Creates, Deletes, Drops, EntersOne, Execute, Finds, FindsCurrent, Handles, Imports, Quiet, RunsFrom, StackEntry, ThenDo, Unwind, Completes}
-use Rattle.block_flat.specs.Steps.{choose_step, config, config_if, costing, ends_as, errs_step, export_step, given_all_step, given_text_step, import_step, instr_step, stmt_step, wrote_to}
-use Rattle.kind_laws.specs.Placed.{is_nil, is_placed_body, is_placed_header, is_placed_procedure, is_placed_statement, names_one_of, outward, scopes_none, undoes_one_of}
-use Rattle.kind_laws.specs.Reached.{Ground, IsGround, kinds_at, no_variables, surroundings}
-use Rattle.kind_laws.proofs.Kept.{Allowed, AreAssigned, AreFor, AreFrames, CanFail, IsAllowed, IsAssigned, IsBlock, IsCall, IsCode, IsCopy, IsGoing, IsProcedure, IsStack, IsTask, IsWhole, Kept, allows, here, is_right}
-use Rattle.kind_laws.proofs.Calls.{Ends, IfAll, arguments_are}
+use Rattle.block_flat.specs.Code.{DenotesAt, Ends as EndsBody, Instr, Opens, Plain, Tests, before}
+use Rattle.block_flat.specs.Config.{Blocks, Calls, Execute, Handles, RunsFrom, StackEntry, ThenDo, Completes}
+use Rattle.block_flat.specs.Steps.{choose_step, config, ends_as, export_step, given_all_step, given_text_step, import_step, instr_step, stmt_step, wrote_to}
+use Rattle.kind_laws.specs.Placed.{creates_none, creates_none_in, internal_of, is_internal, is_nil, is_placed_body, is_placed_header, is_placed_procedure, is_placed_statement, scopes_safely}
+use Rattle.kind_laws.specs.Reached.{Ground, IsGround, kinds_at, no_variables}
+use Rattle.kind_laws.proofs.Kept.{AreAssigned, AreFor, AreFrames, CanFail, IsCall, IsCode, IsProcedure, IsStack, Kept, allows, calm_here, calm_of, here, is_right}
+use Rattle.kind_laws.proofs.Calls.{IfAll, arguments_are}
 use Rattle.kind_laws.proofs.Parts.{costing_kept, ends_kept, errs_kept, given_all_kept, kept_if, wrote_ends}
 
 -- ---- streams change no variable
@@ -75,18 +74,17 @@ import_kept g ns (Elements vs next) n ts retry ks s h is f k = (read_to_keeps g 
 pub record IsRun (x : Surroundings) (schema : SchemaData) (outer : VariableKinds) (parameters : List (List Variable)) (own : VariableKinds) (q : Procedure) (args : List Argument) : Type 0 where
   pub kinded : is_procedure schema outer parameters own q ≡ true
   pub placed : is_placed_procedure q ≡ true
-  pub within : scopes_none q ≡ true
   pub arguments : are_arguments x q.parameters args ≡ true
 
 run_is : (x : Surroundings) (schema : SchemaData) (outer : VariableKinds) (parameters : List (List Variable)) (kinds : List VariableKinds) (qs : List Procedure) (n : ℕ) (args : List Argument) →
-    are_procedures schema outer parameters kinds qs ≡ true → list_all is_placed_procedure qs ≡ true → list_all scopes_none qs ≡ true → is_run x (slice_get (parameters_of qs) n) args ≡ true →
+    are_procedures schema outer parameters kinds qs ≡ true → list_all is_placed_procedure qs ≡ true → is_run x (slice_get (parameters_of qs) n) args ≡ true →
     IsRun x schema outer parameters (slice_index_or kinds n no_variables) (slice_index_or qs n no_procedure) args
-run_is x schema outer parameters kinds [] n args h p w r = absurd cc
-run_is x schema outer parameters [] (q ∷ qs) n args h p w r = absurd cc
-run_is x schema outer parameters (own ∷ kinds) (q ∷ qs) zero args h p w r =
-    record { kinded = both_left (is_procedure schema outer parameters own q) _ h; placed = both_left (is_placed_procedure q) _ p; within = both_left (scopes_none q) _ w; arguments = r }
-run_is x schema outer parameters (own ∷ kinds) (q ∷ qs) (suc n) args h p w r =
-    run_is x schema outer parameters kinds qs n args (both_right (is_procedure schema outer parameters own q) _ h) (both_right (is_placed_procedure q) _ p) (both_right (scopes_none q) _ w) r
+run_is x schema outer parameters kinds [] n args h p r = absurd cc
+run_is x schema outer parameters [] (q ∷ qs) n args h p r = absurd cc
+run_is x schema outer parameters (own ∷ kinds) (q ∷ qs) zero args h p r =
+    record { kinded = both_left (is_procedure schema outer parameters own q) _ h; placed = both_left (is_placed_procedure q) _ p; arguments = r }
+run_is x schema outer parameters (own ∷ kinds) (q ∷ qs) (suc n) args h p r =
+    run_is x schema outer parameters kinds qs n args (both_right (is_procedure schema outer parameters own q) _ h) (both_right (is_placed_procedure q) _ p) r
 
 procedures_are : (schema : SchemaData) (kinds : List VariableKinds) (source : Source) → is_well_kinded schema kinds source ≡ true → are_procedures schema (slice_index_or kinds 0 no_variables) (parameters_of source.procedures) kinds source.procedures ≡ true
 procedures_are schema [] source h = absurd cc
@@ -96,11 +94,34 @@ parameters_here : (g : Ground) (ns : List ℕ) → (here g ns).parameters ≡ pa
 parameters_here g [] = refl
 parameters_here g (n ∷ ns) = refl
 
-call_is : (g : Ground) (ns : List ℕ) (n : ℕ) (args : List Argument) → IsGround g → is_run (here g ns) (slice_get (here g ns).parameters n) args ≡ true → IsCall g ns n args
-call_is g ns n args ok r =
-    let is = run_is (here g ns) g.schema (kinds_at g 0) (parameters_of g.program.source.procedures) g.kinds g.program.source.procedures n args (procedures_are g.schema g.kinds g.program.source ok.kinded) ok.placed ok.within
+-- no buffer is scoped to the block of an internal one
+all_within : (qs : List Procedure) (n : ℕ) → list_all scopes_safely qs ≡ true → scopes_safely (slice_index_or qs n no_procedure) ≡ true
+all_within [] n h = refl
+all_within (q ∷ qs) zero h = both_left (scopes_safely q) _ h
+all_within (q ∷ qs) (suc n) h = all_within qs n (both_right (scopes_safely q) _ h)
+
+mutual
+  creates_one : (t : Stmt) → creates_none [] t ≡ true
+  creates_one (Inner h body) = creates_any body
+  creates_one (Choose test one other) = both (creates_none_in [] one) _ (creates_any one) (creates_any other)
+  creates_one (Create b quiet) = refl
+  creates_one t = refl
+
+  -- a record is created in none of no buffers
+  creates_any : (body : Body) → creates_none_in [] body ≡ true
+  creates_any Nothing = refl
+  creates_any (Then t ts) = both (creates_none [] t) _ (creates_one t) (creates_any ts)
+
+within_is : (qs : List Procedure) (n : ℕ) → list_all scopes_safely (internal_of qs) ≡ true → creates_none_in (calm_of n (slice_index_or qs n no_procedure)) (slice_index_or qs n no_procedure).body ≡ true
+within_is qs zero h = creates_any (slice_index_or qs 0 no_procedure).body
+within_is [] (suc n) h = refl
+within_is (q ∷ qs) (suc n) h = all_within qs n h
+
+call_is : (g : Ground) (ns : List ℕ) (n : ℕ) (args : List Argument) → IsGround g → is_internal n ≡ true → is_run (here g ns) (slice_get (here g ns).parameters n) args ≡ true → IsCall g ns n args
+call_is g ns n args ok inside r =
+    let is = run_is (here g ns) g.schema (kinds_at g 0) (parameters_of g.program.source.procedures) g.kinds g.program.source.procedures n args (procedures_are g.schema g.kinds g.program.source ok.kinded) ok.placed
     (subst (λ (ps : List (List Variable)). is_run (here g ns) (slice_get ps n) args ≡ true) (parameters_here g ns) r) in
-    record { procedure = record { kinded = is.kinded; placed = is.placed; within = is.within }; arguments = is.arguments }
+    record { procedure = record { kinded = is.kinded; placed = is.placed; within = within_is g.program.source.procedures n ok.within }; internal = inside; arguments = is.arguments }
 
 first_is : (schema : SchemaData) (outer : VariableKinds) (parameters : List (List Variable)) (kinds : List VariableKinds) (qs : List Procedure) → are_procedures schema outer parameters kinds qs ≡ true → (kinds ≡ [] → ⊥) →
     is_procedure schema outer parameters (slice_index_or kinds 0 no_variables) (slice_index_or qs 0 no_procedure) ≡ true
@@ -126,7 +147,7 @@ main_is g ok =
     record {
       kinded = first_is g.schema (kinds_at g 0) (parameters_of g.program.source.procedures) g.kinds g.program.source.procedures all some;
       placed = first_passes is_placed_procedure g.schema (kinds_at g 0) (parameters_of g.program.source.procedures) g.kinds g.program.source.procedures all some ok.placed;
-      within = first_passes scopes_none g.schema (kinds_at g 0) (parameters_of g.program.source.procedures) g.kinds g.program.source.procedures all some ok.within;
+      within = creates_any (procedure_at g.program 0).body;
     }
 
 -- ---- statements, in a stack that goes on
@@ -146,38 +167,39 @@ run_kept g ns (GivesAll vs) d n args quiet ks s h call v i k = (h, ((call, v, re
 run_kept g ns (FailsAll c) d n args quiet ks s h call v i k = (h, (refl, (i, k)))
 
 pub stmt_kept : (g : Ground) (ns : List ℕ) (t : Stmt) (d : ℕ) (retry : Bool) (ks : List StackEntry) (s : State) → IsGround g → AreFrames g ns s.frames → is_statement (here g ns) t ≡ true → is_placed_statement (allows ks).blocks t ≡ true →
+    creates_none (calm_here g ns) t ≡ true →
     is_nil (allows ks).blocks ≡ false → IsStack g ns ks → Kept g ns (stmt_step g.program t d retry ks s)
-stmt_kept g ns (Inner b body) d retry ks s ok h is pl i k = (h, (tt, k))
-stmt_kept g ns (Choose test then_it else_it) d retry ks s ok h is pl i k = (h, (tt, k))
-stmt_kept g ns (Assign pairs quiet) d retry ks s ok h is pl i k = (cleared_keeps g ns quiet s h, ((assigned_all (here g ns) pairs is, refl), (i, k)))
-stmt_kept g ns (Find word reading wait quiet) d retry ks s ok h is pl i k = (cleared_keeps g ns quiet s h, ((record { reading = is; faults = refl }, i), (refl, (i, k))))
-stmt_kept g ns (FindCurrent reading wait quiet) d retry ks s ok h is pl i k = (cleared_keeps g ns quiet s h, (refl, (i, k)))
-stmt_kept g ns (Create b quiet) d retry ks s ok h is pl i k = (cleared_keeps g ns quiet s h, (refl, (i, k)))
-stmt_kept g ns (Remove b quiet) d retry ks s ok h is pl i k = (cleared_keeps g ns quiet s h, (refl, (i, k)))
-stmt_kept g ns (Release b quiet) d retry ks s ok h is pl i k = (cleared_keeps g ns quiet s h, (refl, (tt, (i, k))))
-stmt_kept g ns (UndoBlock l act) d retry ks s ok h is pl i k = (h, ((pl, is, tt), (i, k)))
-stmt_kept g ns (LeaveBlock l) d retry ks s ok h is pl i k = (h, (pl, (i, k)))
-stmt_kept g ns (NextBlock l) d retry ks s ok h is pl i k = (h, (pl, (i, k)))
-stmt_kept g ns (Return e) d retry ks s ok h is pl i k = (h, (tt, (i, k)))
-stmt_kept g ns (ReturnError l e) d retry ks s ok h is pl i k = (h, ((both (is_in l (allows ks).blocks) _ pl refl, refl, tt), (i, k)))
-stmt_kept g ns Stop d retry ks s ok h is pl i k = (h, tt)
-stmt_kept g ns (Run n args quiet) d retry ks s ok h is pl i k =
-    run_kept g ns (argument_values g.program args (procedure_at g.program n).parameters retry (cleared quiet s)) d n args quiet ks (cleared quiet s) (cleared_keeps g ns quiet s h) (call_is g ns n args ok is)
+stmt_kept g ns (Inner b body) d retry ks s ok h is pl cr i k = (h, (tt, k))
+stmt_kept g ns (Choose test then_it else_it) d retry ks s ok h is pl cr i k = (h, (tt, k))
+stmt_kept g ns (Assign pairs quiet) d retry ks s ok h is pl cr i k = (cleared_keeps g ns quiet s h, ((assigned_all (here g ns) pairs is, refl), (i, k)))
+stmt_kept g ns (Find word reading wait quiet) d retry ks s ok h is pl cr i k = (cleared_keeps g ns quiet s h, ((record { reading = is; faults = refl }, i), (refl, (i, k))))
+stmt_kept g ns (FindCurrent reading wait quiet) d retry ks s ok h is pl cr i k = (cleared_keeps g ns quiet s h, (refl, (i, k)))
+stmt_kept g ns (Create b quiet) d retry ks s ok h is pl cr i k = (cleared_keeps g ns quiet s h, ((refl, cr), (i, k)))
+stmt_kept g ns (Remove b quiet) d retry ks s ok h is pl cr i k = (cleared_keeps g ns quiet s h, (refl, (i, k)))
+stmt_kept g ns (Release b quiet) d retry ks s ok h is pl cr i k = (cleared_keeps g ns quiet s h, (inl refl, (tt, (i, k))))
+stmt_kept g ns (UndoBlock l act) d retry ks s ok h is pl cr i k = (h, ((pl, is, tt), (i, k)))
+stmt_kept g ns (LeaveBlock l) d retry ks s ok h is pl cr i k = (h, (pl, (i, k)))
+stmt_kept g ns (NextBlock l) d retry ks s ok h is pl cr i k = (h, (pl, (i, k)))
+stmt_kept g ns (Return e) d retry ks s ok h is pl cr i k = (h, (tt, (i, k)))
+stmt_kept g ns (ReturnError l e) d retry ks s ok h is pl cr i k = (h, ((both (is_in l (allows ks).blocks) _ pl refl, refl, tt), (i, k)))
+stmt_kept g ns Stop d retry ks s ok h is pl cr i k = (h, tt)
+stmt_kept g ns (Run n args quiet) d retry ks s ok h is pl cr i k =
+    run_kept g ns (argument_values g.program args (procedure_at g.program n).parameters retry (cleared quiet s)) d n args quiet ks (cleared quiet s) (cleared_keeps g ns quiet s h) (call_is g ns n args ok pl is)
     (arguments_are g.program args (procedure_at g.program n).parameters retry (cleared quiet s)) i k
-stmt_kept g ns (Import n targets quiet) d retry ks s ok h is pl i k = (cleared_keeps g ns quiet s h, ((is, record { faults = refl; inside = i }), (i, k)))
-stmt_kept g ns (Export n es) d retry ks s ok h is pl i k =
+stmt_kept g ns (Import n targets quiet) d retry ks s ok h is pl cr i k = (cleared_keeps g ns quiet s h, ((is, record { faults = refl; inside = i }), (i, k)))
+stmt_kept g ns (Export n es) d retry ks s ok h is pl cr i k =
     given_all_kept g ns (values_now g.program es retry s) (λ vs s. ends_as (wrote_to n (export_line vs) s) (Handles false ∷ ks)) (Handles false ∷ ks) s h refl (i, k)
     (λ vs. ends_kept g ns (wrote_to n (export_line vs) s) (Handles false ∷ ks) (wrote_ends g ns (allows (Handles false ∷ ks)) (Wrote (stream_at n s).output (export_line vs)) s h) (i, k))
-stmt_kept g ns (ExportRecord n b) d retry ks s ok h is pl i k = export_kept g ns (content_of b s) n b (Handles false ∷ ks) s h refl (i, k)
-stmt_kept g ns (PutItems n items) d retry ks s ok h is pl i k = text_kept g ns (put_text g.program items retry s) n (Handles false ∷ ks) s h refl (i, k)
-stmt_kept g ns (Message es) d retry ks s ok h is pl i k =
+stmt_kept g ns (ExportRecord n b) d retry ks s ok h is pl cr i k = export_kept g ns (content_of b s) n b (Handles false ∷ ks) s h refl (i, k)
+stmt_kept g ns (PutItems n items) d retry ks s ok h is pl cr i k = text_kept g ns (put_text g.program items retry s) n (Handles false ∷ ks) s h refl (i, k)
+stmt_kept g ns (Message es) d retry ks s ok h is pl cr i k =
     given_all_kept g ns (values_now g.program es retry s) (λ vs s. ends_as (wrote_to 0 (message_line vs) s) (Handles false ∷ ks)) (Handles false ∷ ks) s h refl (i, k)
     (λ vs. ends_kept g ns (wrote_to 0 (message_line vs) s) (Handles false ∷ ks) (wrote_ends g ns (allows (Handles false ∷ ks)) (Wrote (stream_at 0 s).output (message_line vs)) s h) (i, k))
-stmt_kept g ns (OutputTo n output appends) d retry ks s ok h is pl i k =
+stmt_kept g ns (OutputTo n output appends) d retry ks s ok h is pl cr i k =
     ends_kept g ns (wrote (Opened output appends) (with_stream n (record (stream_at n s) { output = Some output }) s)) (Handles false ∷ ks) (wrote_ends g ns (allows (Handles false ∷ ks)) (Opened output appends) (with_stream n (record (stream_at n s) { output = Some output }) s) h) (i, k)
-stmt_kept g ns (OutputClose n) d retry ks s ok h is pl i k = (h, (tt, (i, k)))
-stmt_kept g ns (InputFrom n input) d retry ks s ok h is pl i k = (h, (tt, (i, k)))
-stmt_kept g ns (InputClose n) d retry ks s ok h is pl i k = (h, (tt, (i, k)))
+stmt_kept g ns (OutputClose n) d retry ks s ok h is pl cr i k = (h, (tt, (i, k)))
+stmt_kept g ns (InputFrom n input) d retry ks s ok h is pl cr i k = (h, (tt, (i, k)))
+stmt_kept g ns (InputClose n) d retry ks s ok h is pl cr i k = (h, (tt, (i, k)))
 
 -- ---- instructions
 
@@ -189,9 +211,13 @@ placed_before : (bs : List ℕ) (a rest : Body) → is_placed_body bs a ≡ true
 placed_before bs Nothing rest h r = r
 placed_before bs (Then t more) rest h r = both (is_placed_statement bs t) _ (both_left (is_placed_statement bs t) _ h) (placed_before bs more rest (both_right (is_placed_statement bs t) _ h) r)
 
+calm_before : (bs : List ℕ) (a rest : Body) → creates_none_in bs a ≡ true → creates_none_in bs rest ≡ true → creates_none_in bs (before a rest) ≡ true
+calm_before bs Nothing rest h r = r
+calm_before bs (Then t more) rest h r = both (creates_none bs t) _ (both_left (creates_none bs t) _ h) (calm_before bs more rest (both_right (creates_none bs t) _ h) r)
+
 -- code for the body at a place
-pub code_is : (g : Ground) (ns : List ℕ) (bs : List ℕ) (k : ℕ) (body : Body) → IsCode g ns bs k → g.tree k ≡ body → (is_body (here g ns) body ≡ true) × (is_placed_body bs body ≡ true)
-code_is g ns bs k body h e = (subst (λ (t : Body). is_body (here g ns) t ≡ true) e h.kinded, subst (λ (t : Body). is_placed_body bs t ≡ true) e h.placed)
+pub code_is : (g : Ground) (ns : List ℕ) (bs : List ℕ) (k : ℕ) (body : Body) → IsCode g ns bs k → g.tree k ≡ body → (is_body (here g ns) body ≡ true) × (is_placed_body bs body ≡ true) × (creates_none_in (calm_here g ns) body ≡ true)
+code_is g ns bs k body h e = (subst (λ (t : Body). is_body (here g ns) t ≡ true) e h.kinded, subst (λ (t : Body). is_placed_body bs t ≡ true) e h.placed, subst (λ (t : Body). creates_none_in (calm_here g ns) t ≡ true) e h.calm)
 
 choose_kept : (g : Ground) (ns : List ℕ) (v : Evaluated) (one other d : ℕ) (retry : Bool) (ks : List StackEntry) (s : State) → AreFrames g ns s.frames → IsCode g ns (allows ks).blocks one → IsCode g ns (allows ks).blocks other →
     is_nil (allows ks).blocks ≡ false → IsStack g ns ks → Kept g ns (choose_step v g.program one other d retry ks s)
@@ -216,7 +242,7 @@ instr_kept g ns (Opens b body next) at d retry ks s ok den h c i k =
             placed = both_left (is_placed_header (allows ks).blocks b) _ placed;
             covered = inl (record { faults = refl; inside = i });
           };
-          code = record { kinded = both_right (is_header (here g ns) b) _ kinded; placed = both_right (is_placed_header (allows ks).blocks b) _ placed };
+          code = record { kinded = both_right (is_header (here g ns) b) _ kinded; placed = both_right (is_placed_header (allows ks).blocks b) _ placed; calm = both_left (creates_none_in (calm_here g ns) (g.tree body)) _ is.2 };
         },
         (
           i,
@@ -225,6 +251,7 @@ instr_kept g ns (Opens b body next) at d retry ks s ok den h c i k =
               record {
                 kinded = both_right (is_header (here g ns) b && is_body (here g ns) (g.tree body)) _ is.0;
                 placed = both_right (is_placed_header (allows ks).blocks b && is_placed_body (b.number ∷ (allows ks).blocks) (g.tree body)) _ is.1;
+                calm = both_right (creates_none_in (calm_here g ns) (g.tree body)) _ is.2;
               },
               i,
             ),
@@ -242,18 +269,22 @@ instr_kept g ns (Tests test one other) at d retry ks s ok den h c i k =
     let branches = both_right (is_condition x test) _ first in
     let placed = both_left (is_placed_body bs den.then_it && is_placed_body bs den.else_it) _ is.1 in
     let placed_rest = both_right (is_placed_body bs den.then_it && is_placed_body bs den.else_it) _ is.1 in
+    let calm = both_left (creates_none_in (calm_here g ns) den.then_it && creates_none_in (calm_here g ns) den.else_it) _ is.2 in
+    let calm_rest = both_right (creates_none_in (calm_here g ns) den.then_it && creates_none_in (calm_here g ns) den.else_it) _ is.2 in
     costing_kept g ns s.units (λ s. choose_step (value_now g.program test retry s) g.program one other d retry ks s) ks s h
     (λ t h. choose_kept g ns (value_now g.program test retry t) one other d retry ks t h
     (record {
       kinded = subst (λ (b : Body). is_body x b ≡ true) (sym den.first) (kinded_before x den.then_it den.rest (both_left (is_body x den.then_it) _ branches) rest);
       placed = subst (λ (b : Body). is_placed_body bs b ≡ true) (sym den.first) (placed_before bs den.then_it den.rest (both_left (is_placed_body bs den.then_it) _ placed) placed_rest);
+      calm = subst (λ (b : Body). creates_none_in (calm_here g ns) b ≡ true) (sym den.first) (calm_before (calm_here g ns) den.then_it den.rest (both_left (creates_none_in (calm_here g ns) den.then_it) _ calm) calm_rest);
     })
     (record {
       kinded = subst (λ (b : Body). is_body x b ≡ true) (sym den.second) (kinded_before x den.else_it den.rest (both_right (is_body x den.then_it) _ branches) rest);
       placed = subst (λ (b : Body). is_placed_body bs b ≡ true) (sym den.second) (placed_before bs den.else_it den.rest (both_right (is_placed_body bs den.then_it) _ placed) placed_rest);
+      calm = subst (λ (b : Body). creates_none_in (calm_here g ns) b ≡ true) (sym den.second) (calm_before (calm_here g ns) den.else_it den.rest (both_right (creates_none_in (calm_here g ns) den.then_it) _ calm) calm_rest);
     }) i k)
 instr_kept g ns (Plain t next) at d retry ks s ok den h c i k =
     let is = code_is g ns (allows ks).blocks at _ c den.1 in
     costing_kept g ns s.units (λ s. stmt_step g.program t d retry (ThenDo (RunsFrom next d retry) ∷ ks) s) ks s h
-    (λ u h. stmt_kept g ns t d retry (ThenDo (RunsFrom next d retry) ∷ ks) u ok h (both_left (is_statement (here g ns) t) _ is.0) (both_left (is_placed_statement (allows ks).blocks t) _ is.1) i
-    ((record { kinded = both_right (is_statement (here g ns) t) _ is.0; placed = both_right (is_placed_statement (allows ks).blocks t) _ is.1 }, i), k))
+    (λ u h. stmt_kept g ns t d retry (ThenDo (RunsFrom next d retry) ∷ ks) u ok h (both_left (is_statement (here g ns) t) _ is.0) (both_left (is_placed_statement (allows ks).blocks t) _ is.1) (both_left (creates_none (calm_here g ns) t) _ is.2) i
+    ((record { kinded = both_right (is_statement (here g ns) t) _ is.0; placed = both_right (is_placed_statement (allows ks).blocks t) _ is.1; calm = both_right (creates_none (calm_here g ns) t) _ is.2 }, i), k))

@@ -1,7 +1,6 @@
 -- Changes of a state that keep the values of each open procedure of their kinds.
-use Rattle.std.proofs.Common.{◌≡◌, ℕ, zero, suc, Bool, true, false, List, [], ◌∷◌, Option, Some, None, map, refl, sym, ap, subst, ◌∙◌, arith}
-use Rattle.std.specs.Prelude.{◌&&◌, if◌then◌else◌, ◌==◌, ◌+◌, ◌-◌, nat_lt, slice_get, slice_index_or, slice_set}
-use Rattle.std.specs.List.{list_all}
+use Rattle.std.proofs.Common.{◌≡◌, ℕ, zero, suc, Bool, true, false, List, [], ◌∷◌, Option, Some, None, refl, sym, ap, subst, ◌∙◌}
+use Rattle.std.specs.Prelude.{if◌then◌else◌, slice_get, slice_index_or, slice_set}
 use Rattle.std.proofs.lemmas.Option.{same_Some}
 use Rattle.abl_base.specs.declared.value.Kind.{Kind}
 use Rattle.abl_base.specs.declared.value.Kind.TheVariants as kind
@@ -10,20 +9,12 @@ use Rattle.abl_base.specs.declared.value.Value.TheVariants as value
 use Rattle.abl_base.specs.declared.value.Value.TheVariants.{Unknown}
 use Rattle.abl_values.specs.Fit.{IsOfKind}
 use Rattle.bound_tree.specs.declared.expression.Variable.{Variable}
-use Rattle.bound_tree.specs.declared.procedure.BufferDef.{BufferDef}
 use Rattle.bind_names.specs.Sorts.{same_kind}
-use Rattle.bound_tree.specs.Tree.{Argument, In, InOut, Out}
-use Rattle.bound_kinds.specs.WellKinded.{VariableKinds, are_arguments, are_of_kinds, is_kind, is_of_kind, is_variable, kind_of_variable}
-use Rattle.bound_kinds.proofs.Parts.{both_left, both_right}
-use Rattle.block_meaning.specs.Buffers.{Place, buffer_in, frame_out, frame_shared, holding_in, left, left_if, shared}
-use Rattle.block_meaning.specs.Blocks.{complained}
-use Rattle.block_meaning.specs.Changes.{as_before}
-use Rattle.block_meaning.specs.Frames.{all_emptied, assigned, content_of, emptied, frame_for, frames_restored, holding, last_frame, marked_locked, no_frame, own_frame, put_back, saved_of, set_in, value_in, value_of, with_buffer, with_frame_for, with_last, with_own, with_spot, copy_of, contents_restored}
-use Rattle.block_meaning.specs.State.{Buffer, CallFrame, Completed, Content, Copy, Saved, Spot, State}
-use Rattle.block_flat.specs.Means.{contents_back, first_of, less}
-use Rattle.kind_laws.specs.Placed.{is_own}
-use Rattle.kind_laws.specs.Reached.{Ground, kinds_at, surroundings}
-use Rattle.kind_laws.proofs.Kept.{AreFor, AreFrames, AreSaved, HaveKinds, IsFrame, IsMain, here}
+use Rattle.bound_kinds.specs.WellKinded.{VariableKinds, is_kind, is_of_kind, is_variable, kind_of_variable}
+use Rattle.block_meaning.specs.Frames.{assigned, frame_for, last_frame, set_in, value_in, value_of, with_frame_for, with_last}
+use Rattle.block_meaning.specs.State.{CallFrame, State}
+use Rattle.kind_laws.specs.Reached.{Ground, kinds_at}
+use Rattle.kind_laws.proofs.Kept.{AreFrames, HaveKinds, IsFrame, here}
 
 -- ---- values of kinds
 

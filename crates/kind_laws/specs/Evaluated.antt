@@ -1,7 +1,7 @@
 -- The expressions that a step evaluates.
-use Rattle.std.specs.Prelude.{ℕ, Bool, List, [], ◌∷◌, ◌++◌, Option, Some, None, map}
-use Rattle.bound_tree.specs.Tree.{Action, Argument, Assign, Choose, Create, Export, ExportRecord, Expr, Find, FindCurrent, Header, Import, In, Inner, InOut, InputClose, InputFrom, Item, LeaveBlock, Message, NextBlock, Out, OutputClose, OutputTo, PutItems, Reading, Release, Remove, Return, ReturnError, Right, Run, Shows, Skips, Spaces, Stmt, Stop, ThenReturn, ToPhrase, UndoBlock, ValueOf}
-use Rattle.block_flat.specs.Code.{Code, Ends, Instr, Opens, Plain, Tests}
+use Rattle.std.specs.Prelude.{List, [], ◌∷◌, ◌++◌, Option, Some, None, map}
+use Rattle.bound_tree.specs.Tree.{Action, Argument, Export, Expr, In, InOut, Item, Message, Out, PutItems, Return, ReturnError, Right, Run, Shows, Skips, Spaces, Stmt, ThenReturn, ToPhrase, ValueOf}
+use Rattle.block_flat.specs.Code.{Code, Instr, Plain, Tests}
 use Rattle.block_flat.specs.Config.{Acts, AssignsOne, Await, Blocks, Execute, Iterates, Mode, OnAnswer, RunsFrom, Searches, Task, Unwind, WasNext, WasRead, WasSecond}
 
 abbrev pub expressions_if : Option Expr → List Expr

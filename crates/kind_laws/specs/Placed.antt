@@ -1,8 +1,8 @@
 -- Which bound trees name blocks only where they are around: so no LEAVE, NEXT or UNDO leaves the procedure in which it is.
-use Rattle.std.specs.Prelude.{◌≡◌, ℕ, ◌==◌, Bool, true, false, not, ◌&&◌, if◌then◌else◌, List, [], ◌∷◌, Option, Some, None}
+use Rattle.std.specs.Prelude.{ℕ, zero, suc, ◌==◌, Bool, true, false, not, ◌&&◌, if◌then◌else◌, List, [], ◌∷◌, Option, Some, None}
 use Rattle.std.specs.List.{list_all}
 use Rattle.bound_tree.specs.declared.expression.Variable.{Variable}
-use Rattle.bound_tree.specs.Tree.{Action, ThenRetry, ThenLeave, ThenNext, ThenReturn, ThenError, OnPhrase, Header, Stmt, Inner, Choose, UndoBlock, LeaveBlock, NextBlock, ReturnError, Body, Nothing, Then, Procedure, Source}
+use Rattle.bound_tree.specs.Tree.{Action, ThenLeave, ThenNext, OnPhrase, Header, Stmt, Inner, Choose, Create, UndoBlock, LeaveBlock, NextBlock, ReturnError, Run, Body, Nothing, Then, Procedure, Source}
 use Rattle.block_meaning.specs.Blocks.{handles_endkey, is_given}
 use Rattle.block_meaning.specs.Frames.{is_in}
 
@@ -31,8 +31,13 @@ is_placed_phrase around (Some on) = undoes_one_of around on.target on.action
 abbrev pub is_placed_header : List ℕ → Header → Bool
 is_placed_header around h = is_placed_phrase (h.number ∷ around) h.on_error && is_placed_phrase (h.number ∷ around) h.on_endkey
 
+-- an internal procedure; 0 is the external one
+abbrev pub is_internal : ℕ → Bool
+is_internal zero = false
+is_internal (suc n) = true
+
 abbrev mutual
-  -- each block that the statement names is around it
+  -- each block that the statement names is around it, and RUN is of an internal procedure
   pub is_placed_statement : List ℕ → Stmt → Bool
   is_placed_statement around (Inner h body) = is_placed_header around h && is_placed_body (h.number ∷ around) body
   is_placed_statement around (Choose test then_it else_it) = is_placed_body around then_it && is_placed_body around else_it
@@ -40,6 +45,7 @@ abbrev mutual
   is_placed_statement around (LeaveBlock block) = is_in block around
   is_placed_statement around (NextBlock block) = is_in block around
   is_placed_statement around (ReturnError block value) = is_in block around
+  is_placed_statement around (Run procedure arguments quiet) = is_internal procedure
   is_placed_statement around t = true
 
   pub is_placed_body : List ℕ → Body → Bool
@@ -70,9 +76,31 @@ is_placed source = list_all is_placed_procedure source.procedures
 
 -- ---- buffers
 
-abbrev pub scopes_none : Procedure → Bool
-scopes_none q = is_nil q.header.scoped
+abbrev mutual
+  -- no record is created in one of these buffers
+  pub creates_none : List ℕ → Stmt → Bool
+  creates_none bs (Inner h body) = creates_none_in bs body
+  creates_none bs (Choose test then_it else_it) = creates_none_in bs then_it && creates_none_in bs else_it
+  creates_none bs (Create b quiet) = not (is_in b bs)
+  creates_none bs t = true
 
--- NO BUFFER IS SCOPED TO THE BLOCK OF A PROCEDURE
+  pub creates_none_in : List ℕ → Body → Bool
+  creates_none_in bs Nothing = true
+  creates_none_in bs (Then t ts) = creates_none bs t && creates_none_in bs ts
+
+-- the buffers that are scoped to the block of a procedure, where the block starts no transaction
+abbrev pub scoped_outside : Procedure → List ℕ
+scoped_outside q = if q.header.flags.starts then [] else q.header.scoped
+
+-- no record is created in one of these
+abbrev pub scopes_safely : Procedure → Bool
+scopes_safely q = creates_none_in (scoped_outside q) q.body
+
+-- all procedures but the external one
+abbrev pub internal_of : List Procedure → List Procedure
+internal_of [] = []
+internal_of (q ∷ qs) = qs
+
+-- NO INTERNAL PROCEDURE CREATES A RECORD in a buffer that is scoped to its block, unless this block starts a transaction
 abbrev pub has_scoped_within : Source → Bool
-has_scoped_within source = list_all scopes_none source.procedures
+has_scoped_within source = list_all scopes_safely (internal_of source.procedures)

@@ -24,8 +24,8 @@ pub record Ground : Type 0 where
   pub schema : SchemaData
   pub kinds : List VariableKinds
 
--- THE CODE DENOTES THE PROGRAM over a sound schema. Its source is well-kinded, names only blocks that are around, and scopes no buffer to
--- the block of a procedure
+-- THE CODE DENOTES THE PROGRAM over a sound schema. Its source is well-kinded, and names only blocks that are around. An internal
+-- procedure creates no record in a buffer that is scoped to its block, unless this block starts a transaction
 pub record IsGround (g : Ground) : Type 0 where
   pub denotes : IsCodeOf g.code g.program g.tree
   pub sound : IsSound g.schema

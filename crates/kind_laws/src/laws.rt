@@ -1,14 +1,20 @@
 //! The laws. Each is the contract of a function with an empty body.
 
-ghost use Rattle.std.specs.Prelude.{◌≡◌, Bool, IfSome, true, ℕ};
+ghost use Rattle.std.specs.Prelude.{◌≡◌, Bool, IfSome, Ok, true, ℕ};
 ghost use Rattle.std.specs.List.{list_all};
 ghost use Rattle.abl_base.specs.declared.value.Kind.{Kind};
 ghost use Rattle.bound_tree.specs.declared.expression.Variable.{Variable};
-ghost use Rattle.bound_tree.specs.Tree.{Expr};
+ghost use Rattle.abl_values.specs.Schema.{SchemaData};
+ghost use Rattle.abl_syntax.specs.Syntax.{Program};
+ghost use Rattle.bound_tree.specs.Tree.{Expr, Source};
 ghost use Rattle.bind_names.specs.declared.sort.Sort.{Sort};
 ghost use Rattle.bind_expressions.specs.WellKinded.{sort_of};
+ghost use Rattle.abl_types.specs.Sources.{bound};
+ghost use Rattle.buffer_scope.specs.Scoped.{with_scopes};
+ghost use Rattle.txn_infer.specs.Flags.{with_flags};
+ghost use Rattle.bound_kinds.specs.Kinds.{kinds_of_source};
 ghost use Rattle.bound_kinds.specs.Values.{Has, Keeps};
-ghost use Rattle.bound_kinds.specs.WellKinded.{is_field, is_good, is_of_kind, is_value, is_variable};
+ghost use Rattle.bound_kinds.specs.WellKinded.{is_field, is_good, is_masked, is_of_kind, is_value, is_variable, is_well_kinded};
 ghost use Rattle.abl_expr.specs.Evaluate.{evaluate};
 ghost use Rattle.block_meaning.specs.Frames.{content_of, value_of};
 ghost use Rattle.block_meaning.specs.Values.{env_of, field_in};
@@ -38,4 +44,10 @@ pub fn expressions_have_values_of_their_sorts()
 /// procedure: so the laws above are about each of them.
 pub fn evaluated_expressions_are_good()
     ensures { (g : Ground) → IsGround g → (units : ℕ) (c : Config) → Reached g units c → list_all (is_value (running g c.state)) (expressions_of g.code c.mode) ≡ true }
+{}
+
+/// The tree of a source that breaks none of the rules Y is well-kinded also with the flags of its
+/// blocks and the scopes of its buffers, over a schema whose masks fit.
+pub fn trees_are_well_kinded()
+    ensures { (schema : SchemaData) (program : Program) (plain : Source) → is_masked schema ≡ true → bound schema program ≡ Ok plain → is_well_kinded schema (kinds_of_source program) (with_flags (with_scopes program plain)) ≡ true }
 {}
