@@ -2,3 +2,4 @@ pub mod Sources
 pub mod Headers
 pub mod TextBlocks
 pub mod Numbered
+pub mod Verdicts

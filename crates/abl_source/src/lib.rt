@@ -7,5 +7,7 @@
 
 pub mod laws;
 pub mod source;
+pub mod verdicts;
 
 pub use source::{SourceFault, read_source, read_syntax};
+pub use verdicts::{judge_names, read_scopes};

@@ -32,8 +32,7 @@ use txn_infer::infer;
 pub enum SourceFault {
     /// The first rule that it breaks, and its place: L1 to L5 of its tokens, G1 or G2 of the
     /// grammar, Y1 to Y14 of names and types, S1 to S4 of the scopes of buffers, U1 to U7 of labels and
-    /// blocks, and N1 at its first byte where it breaks none of these and names a record or a sequence,
-    /// which is not built yet.
+    /// blocks.
     Broken { rule: Rule, place: Place },
     /// Out of memory, or of numbers for what the source defines.
     NoMemory,
@@ -71,7 +70,7 @@ fn judge_blocks(program: &Program) -> Result<(), SourceFault>
 
 /// The tree with the buffers scoped to each block, or the first rule S that the text breaks, and its
 /// place. Out of memory may come at any time.
-fn scope_buffers(
+pub(crate) fn scope_buffers(
     alloc: Global,
     schema: &Schema,
     text: &[u8],
@@ -95,7 +94,7 @@ fn scope_buffers(
 }
 
 /// The same tree with the flags of its blocks.
-fn flagged(plain: Bound) -> Bound
+pub(crate) fn flagged(plain: Bound) -> Bound
     ensures { source_of result ≡ with_flags (source_of plain) }
 {
     let mut bound = plain;
@@ -117,7 +116,7 @@ pub fn read_syntax(alloc: Global, text: &[u8]) -> Result<Program, SourceFault>
 
 /// The tree that names and types make of the syntax of a text over the schema, in which no flag of a
 /// block is set yet, or the first rule Y that the text breaks, and its place.
-fn bind_syntax(
+pub(crate) fn bind_syntax(
     alloc: Global,
     schema: &Schema,
     text: &[u8],
