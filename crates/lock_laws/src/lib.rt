@@ -1,0 +1,4 @@
+//! What a client's own events tell of its locks, whatever the other clients do.
+#![tactic(auto)]
+
+pub mod laws;
