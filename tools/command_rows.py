@@ -1,9 +1,9 @@
 #!/usr/bin/env python3
 """Writes `stdout` of crates/command_tables, the answers to the rows of its `stdin`.
 
-Each row that runs a source without records is answered by tools/abl_reference.py, and each row of
-`check` that lists sources by the reference of scopes in tools/scope_rows.py, where it reads the source;
-neither knows anything of the program. The answers to other rows (wrong arguments, files that cannot be read, rules that are
+Each row that runs sources without records is answered by tools/abl_reference.py, each row that runs one
+source over a schema by tools/abl_records.py, and each row of `check` that lists sources by the reference of
+scopes in tools/scope_rows.py, where it reads the source; none knows anything of the program. The answers to other rows (wrong arguments, files that cannot be read, rules that are
 broken, faults of the outside) were worked by hand; they are in `stdout` and stay. Run it at the
 top of the repository; with `--check` it only says which committed answers the reference denies."""
 
@@ -11,6 +11,7 @@ import re
 import sys
 from pathlib import Path
 
+import abl_records
 import abl_reference
 import scope_rows
 
@@ -18,7 +19,7 @@ TABLE = Path(__file__).parent.parent / "crates" / "command_tables"
 MOST_SHOWN, SHOWN_AT_ENDS, MOST_FILE = 400, 80, 1048576
 COMMAND = re.compile(r"run s\.df ([1-9]\d{0,8}) (quiet|trace)((?: [A-Za-z0-9]{1,16}=[^ <]+(?:<[^ <]+)?){1,16})$")
 CLIENT = re.compile(r" ([^=]+)=([^ <]+)(?:<([^ <]+))?")
-BY_CLIENT = "clients"
+BY_CLIENT, WHOLE = "clients", "whole"
 CHECK = re.compile(r"check s\.df( [^ ]+){1,16}$")
 SCHEMA_LINE = re.compile(r'ADD (?:TABLE|FIELD "(\w+)" OF) "(\w+)"')
 KEPT = re.compile(r"(1|2|3|4|6|7|10) ")
@@ -43,29 +44,52 @@ def text_of(written):
     return "".join(out).encode("utf-8")
 
 
+def plain(text):
+    """The bytes of a stream as an answer writes them whole."""
+    return text.decode("latin1").replace("\n", "|")
+
+
 def shown(text):
     """The bytes of a stream as an answer writes them."""
     if len(text) <= MOST_SHOWN:
-        return text.decode("latin1").replace("\n", "|")
+        return plain(text)
     head, tail = text[:SHOWN_AT_ENDS], text[-SHOWN_AT_ENDS:]
     middle = f"..{len(text)} bytes.."
     return shown(head) + middle + shown(tail)
 
 
-def answered(row):
-    """The answer to a row, or None where the reference does not judge it."""
+def answered(row, schema_before):
+    """The answer to a row, or None where the reference does not judge it. Where the row has no schema it
+    has that of the line `= TEXT` before."""
     fields = row.split("\t")
     arguments, source, schema, faults = (fields + [""] * 4)[:4]
+    schema = schema or schema_before
     files = dict(field.split("=", 1) for field in fields[4:] if field)
     files.setdefault("p", source)
     files.setdefault("s.df", schema)
     if CHECK.match(arguments) and not faults:
         return listed(arguments.split()[2:], schema, files)
     command = COMMAND.match(arguments)
-    if not command or faults not in ("", BY_CLIENT) or schema:
+    if not command or faults not in ("", BY_CLIENT, WHOLE):
         return None
     files = {key.encode(): text_of(text) for key, text in files.items()}
-    return ran(int(command[1]), command[2], CLIENT.findall(command[3]), files, faults == BY_CLIENT)
+    clients = CLIENT.findall(command[3])
+    if schema:
+        return ran_over_records(int(command[1]), command[2], clients, files, faults == WHOLE) if len(clients) == 1 else None
+    return ran(int(command[1]), command[2], clients, files, faults == BY_CLIENT)
+
+
+def ran_over_records(units, mode, clients, files, whole):
+    """The answer to a run of one client over a schema; None where it is refused."""
+    name, program, given = clients[0]
+    source, own = files.get(program.encode()), files.get(given.encode()) if given else b""
+    if source is None or own is None or len(source) > MOST_FILE or len(own) > MOST_FILE:
+        return None
+    try:
+        text, line, status = abl_records.run(files[b"s.df"].decode(), source, units, mode, name, own, files)
+    except abl_reference.Refused:
+        return None
+    return f"{status} {plain(text) if whole else shown(text)} {shown(line)}"
 
 
 def ran(units, mode, named, files, by_client):
@@ -132,16 +156,17 @@ def main():
     for line in (TABLE / "stdout").read_text().splitlines():
         row, _, answer = line.rpartition("\t")
         known[row] = answer
-    lines, denied = [], []
+    lines, denied, schema = [], [], ""
     for row in rows:
-        if row.startswith("#"):
+        if row.startswith(("#", "= ")):
+            schema = row[2:] if row.startswith("= ") else schema
             lines.append(row)
             continue
         old = known.get(row)
         if old is not None and KEPT.match(old) and "N1 at" not in old:
             new = old
         else:
-            new = answered(row) or old
+            new = answered(row, schema) or old
         if new is None:
             raise SystemExit(f"no answer: {row}")
         if old is not None and new != old:
@@ -153,4 +178,5 @@ def main():
     (TABLE / "stdout").write_text("\n".join(lines) + "\n")
 
 
-main()
+if __name__ == "__main__":
+    main()

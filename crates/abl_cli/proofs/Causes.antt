@@ -1,14 +1,13 @@
 -- Files that are read one after the other, where none fails, and what prevents reading one.
 use Rattle.std.proofs.Common.{◌≡◌, ◌<◌, ℕ, zero, suc, List, [], ◌∷◌, ◌++◌, Option, Some, None, Result, Err, refl, sym, ap, ◌∙◌, subst, length, take, get_or, arith}
 use Rattle.std.specs.Prelude.{IsTrue, IfErr}
-use Rattle.std.specs.List.{flat_map}
 use Rattle.fault_count.specs.Faults.{Rose}
 use Rattle.abl_outside.specs.Files.{IsLonger, FileState}
 use Rattle.abl_cli.specs.declared.load.TheConstants.{MAX_FILE_BYTES}
 use Rattle.abl_cli.specs.declared.refusal.Refusal.{Refusal}
 use Rattle.abl_arguments.specs.CommandLine.{ClientFiles}
 use Rattle.abl_cli.specs.declared.load.ClientTexts.{ClientTexts}
-use Rattle.abl_cli.specs.Command.{HasText, HasInput, HaveTexts, HaveClients, IsNotRead, is_missing, is_too_long, reading_wants, OneIsNotRead, this_one, later_one, AreSame, client_files, input_file}
+use Rattle.abl_cli.specs.Command.{HasText, HasInput, HaveTexts, HaveClients, IsNotRead, is_missing, is_too_long, reading_wants, OneIsNotRead, this_one, later_one, AreSame, input_file}
 
 -- what holds of an error holds of the result that has it
 pub of_error : {A : Type 0} {result : Result A Refusal} {refusal : Refusal} (P : Refusal → Type 0) → result ≡ Err refusal → P refusal → IfErr result P

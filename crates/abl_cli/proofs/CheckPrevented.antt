@@ -5,9 +5,8 @@ use Rattle.fault_count.specs.Faults.{Rose}
 use Rattle.abl_base.specs.declared.rule.Rule.{Rule}
 use Rattle.abl_base.specs.declared.place.Place.{Place}
 use Rattle.abl_outside.specs.declared.out.Stream.TheVariants.{Output as Standard}
-use Rattle.abl_outside.specs.Files.{FileState, IsLonger}
+use Rattle.abl_outside.specs.Files.{FileState}
 use Rattle.abl_outside.specs.Out.{OutState, appended}
-use Rattle.abl_schema.specs.declared.violation.Violation.{Violation}
 use Rattle.abl_schema.specs.Rules.{violation_of}
 use Rattle.abl_values.specs.Schema.{SchemaData}
 use Rattle.block_listing.specs.Listing.{listing}
@@ -20,7 +19,7 @@ use Rattle.abl_cli.specs.declared.refusal.Refusal.TheVariants.{File, TooLong, Sc
 use Rattle.abl_cli.specs.declared.command.Report.{Report}
 use Rattle.abl_cli.specs.declared.load.TheConstants.{MAX_FILE_BYTES}
 use Rattle.abl_cli.specs.Check.{IsListing, HaveListings, OneBreaks, this_breaks, later_breaks, program_breaks, program_wants, check_text}
-use Rattle.abl_cli.specs.Command.{schema_in, HasText, HaveTexts, IsNotRead, is_missing, is_too_long, reading_wants, OneIsNotRead, this_one, later_one, BreaksSchema, breaks_f, schema_wants, CheckTexts, PreventsCheck, no_schema_file, no_program, schema_is_broken, one_breaks, AreListed, HasChecked, WritesStatus, output_refusal, status_after, wrong_argument, prevented, check_prevented, CommandResult, Refused, Ran, Checked, IsRefusal, IsThere, AreThere}
+use Rattle.abl_cli.specs.Command.{schema_in, HaveTexts, IsNotRead, OneIsNotRead, this_one, later_one, CheckTexts, PreventsCheck, no_schema_file, no_program, schema_is_broken, one_breaks, AreListed, HasChecked, WritesStatus, output_refusal, status_after, wrong_argument, prevented, check_prevented, CommandResult, Refused, Ran, Checked, IsRefusal, AreThere}
 use Rattle.abl_cli.specs.CheckFiles.{AreThereWith, NamesSources, check_files}
 use Rattle.abl_cli.proofs.FileCauses.{wants, same_text, same_texts, have_none, have_long, unread, none_unread, one_missing, one_long, same_violation, no_violation}
 use Rattle.abl_cli.proofs.Judged.{wrong_or_formed, rose_in_check}

@@ -1,15 +1,16 @@
 -- The result of a run, from what was read, begun and executed.
-use Rattle.std.proofs.Common.{◌≡◌, ◌⊎◌, inl, inr, ℕ, List, [], sym, subst}
+use Rattle.std.proofs.Common.{◌≡◌, ◌⊎◌, inl, inr, ℕ, List, [], subst}
 use Rattle.abl_outside.specs.Files.{FileState}
 use Rattle.abl_outside.specs.Out.{OutState}
-use Rattle.level_clients.specs.Ran.{ClientTask}
-use Rattle.abl_arguments.specs.CommandLine.{Names, Run, ClientFiles, number_of}
+use Rattle.abl_values.specs.Schema.{SchemaData}
+use Rattle.block_clients.specs.Ran.{ClientTask}
+use Rattle.abl_arguments.specs.CommandLine.{Names, ClientFiles, number_of}
 use Rattle.abl_arguments.specs.declared.run.RunArguments.{RunArguments}
 use Rattle.abl_arguments.specs.declared.parts.Mode.{Mode}
 use Rattle.abl_cli.specs.declared.command.Report.{Report}
 use Rattle.abl_cli.specs.declared.refusal.Refusal.{Refusal}
 use Rattle.abl_cli.specs.declared.refusal.Refusal.TheVariants.{NoMemory}
-use Rattle.abl_cli.specs.Command.{CommandResult, Refused, Ran, HasRun, IsRefused, Prevents, prevented, run_wants, Work, client_names}
+use Rattle.abl_cli.specs.Command.{CommandResult, Refused, Ran, HasRun, IsRefused, Prevents, prevented, run_wants, Work, client_names, schema_in}
 use Rattle.abl_cli.specs.Inside.{AreToDo, IsReady}
 
 -- a refusal for out of memory is the same for any client names
@@ -29,17 +30,18 @@ module _ (arguments : List (List ℕ)) (files : FileState) (faults : ℕ) (old n
         (subst (λ (s : List ℕ). Prevents files faults s named.run.clients refusal) is_schema (subst (λ (cs : List ClientFiles). Prevents files faults schema cs refusal) are_clients prevents)))
         (subst (λ (ns : List (List ℕ)). IsRefused ns refusal old new report) are_names is)
 
-    pub run_executed : (units : ℕ) (mode : Mode) (tasks : List ClientTask) → units ≡ number_of named.run.steps → mode ≡ named.run.mode → IsReady files schema clients units tasks →
-        ((n : ℕ) (works : List Work) → AreToDo n works tasks → HasRun mode names n works old new report ⊎ IsRefused names NoMemory old new report) → CommandResult arguments files faults old new report
-    run_executed units mode tasks are_units is_mode was_ready ensured = by_case (ensured units ready.works ready.to_do)
+    pub run_executed : {D : Type 0} (units : ℕ) (mode : Mode) (denoted : SchemaData) (tasks : List (ClientTask D)) → units ≡ number_of named.run.steps → mode ≡ named.run.mode → IsReady files schema clients units denoted tasks →
+        ((n : ℕ) (works : List Work) → AreToDo n works tasks → HasRun mode denoted names n works old new report ⊎ IsRefused names NoMemory old new report) → CommandResult arguments files faults old new report
+    run_executed units mode denoted tasks are_units is_mode was_ready ensured = by_case (ensured units ready.works ready.to_do)
       where
-        ready : IsReady files named.run.schema named.run.clients units tasks
-        ready = subst (λ (s : List ℕ). IsReady files s named.run.clients units tasks) is_schema (subst (λ (cs : List ClientFiles). IsReady files schema cs units tasks) are_clients was_ready)
+        ready : IsReady files named.run.schema named.run.clients units denoted tasks
+        ready = subst (λ (s : List ℕ). IsReady files s named.run.clients units denoted tasks) is_schema (subst (λ (cs : List ClientFiles). IsReady files schema cs units denoted tasks) are_clients was_ready)
 
-        by_case : HasRun mode names units ready.works old new report ⊎ IsRefused names NoMemory old new report → CommandResult arguments files faults old new report
+        by_case : HasRun mode denoted names units ready.works old new report ⊎ IsRefused names NoMemory old new report → CommandResult arguments files faults old new report
         by_case (inl ran) =
             Ran named.run named.is_run named.arguments_are ready.texts ready.clean ready.works ready.are
-            (subst (λ (m : Mode). HasRun m (client_names named.run) (number_of named.run.steps) ready.works old new report) is_mode
-            (subst (λ (ns : List (List ℕ)). HasRun mode ns (number_of named.run.steps) ready.works old new report) are_names
-            (subst (λ (n : ℕ). HasRun mode names n ready.works old new report) are_units ran)))
+            (subst (λ (m : Mode). HasRun m (schema_in ready.texts.df) (client_names named.run) (number_of named.run.steps) ready.works old new report) is_mode
+            (subst (λ (s : SchemaData). HasRun mode s (client_names named.run) (number_of named.run.steps) ready.works old new report) ready.schema_is
+            (subst (λ (ns : List (List ℕ)). HasRun mode denoted ns (number_of named.run.steps) ready.works old new report) are_names
+            (subst (λ (n : ℕ). HasRun mode denoted names n ready.works old new report) are_units ran))))
         by_case (inr refused) = Refused (client_names named.run) NoMemory (prevented named.run named.is_run named.arguments_are run_wants) (subst (λ (ns : List (List ℕ)). IsRefused ns NoMemory old new report) are_names refused)

@@ -1,5 +1,5 @@
 -- Which refusals may come of files that are observable and sound, and of the text of a schema file.
-use Rattle.std.proofs.Common.{◌≡◌, ◌⊎◌, inl, inr, ◌<◌, ℕ, List, [], ◌∷◌, ◌++◌, Option, Some, None, refl, sym, ap, ◌∙◌, subst, arith, length}
+use Rattle.std.proofs.Common.{◌≡◌, inl, inr, ◌<◌, ℕ, List, [], ◌∷◌, ◌++◌, Some, None, refl, sym, ap, ◌∙◌, subst, arith, length}
 use Rattle.std.specs.Prelude.{IsTrue}
 use Rattle.abl_base.specs.declared.rule.Rule.{Rule}
 use Rattle.abl_outside.specs.Files.{FileState, IsLonger}

@@ -16,7 +16,7 @@ use Rattle.abl_cli.specs.Report.{status_of}
 use Rattle.abl_outside.specs.Out.{OutState}
 use Rattle.abl_outside.specs.Files.{FileState}
 use Rattle.abl_cli.specs.Check.{OneBreaks, this_breaks, later_breaks}
-use Rattle.abl_cli.specs.Command.{IsNotRead, Prevents, no_file, schema_breaks, source_breaks, no_named_input, OneSourceBreaks, this_source, later_source, OneIsNotRead, this_one, later_one, PreventsCheck, no_schema_file, no_program, schema_is_broken, one_breaks, Cause, wrong_argument, prevented, check_prevented, IsReported, HasChecked, CommandResult, Refused, Ran, Checked, output_refusal, WritesStatus, refusal_after, failure_refusal, first_failure, one_lacks_memory, client_names, status_after, IsUsage, HasWholeText, of_run, of_check}
+use Rattle.abl_cli.specs.Command.{IsNotRead, Prevents, no_file, schema_breaks, source_breaks, no_named_input, OneSourceBreaks, this_source, later_source, OneIsNotRead, this_one, later_one, PreventsCheck, no_schema_file, no_program, schema_is_broken, one_breaks, Cause, wrong_argument, prevented, check_prevented, IsReported, HasChecked, CommandResult, Refused, Ran, Checked, output_refusal, WritesStatus, refusal_after, failure_refusal, first_failure, one_lacks_memory, client_names, status_after, schema_in, IsUsage, HasWholeText, of_run, of_check}
 
 -- ---- arguments
 
@@ -149,10 +149,6 @@ module _ (arguments : List (List ℕ)) (files : FileState) (faults : ℕ) (old n
   faults_later name ends None before after is = let e = ap (λ (w : OutState). w.faults) is in omega (arith, e)
   faults_later name ends (Some refusal) before after is = is.1.later
 
-  -- the text is the same whatever the schema, so an empty one serves
-  empty_schema : SchemaData
-  empty_schema = record { tables = []; sequences = []; order = [] }
-
   -- a count that rose rose to a later one too
   rose_to : (mid : ℕ) → mid ≤ new.faults → Rose old.faults mid → Rose old.faults new.faults
   rose_to mid later (inl below) = inl (omega (arith, later, below))
@@ -161,9 +157,9 @@ module _ (arguments : List (List ℕ)) (files : FileState) (faults : ℕ) (old n
   pub rose_in_check : (names listings : List (List ℕ)) (told : HasChecked names listings old new report) → told.whole ≡ false → Rose old.faults new.faults
   rose_in_check names listings told broken = rose_to told.between.faults (faults_later [] [] report.refusal told.between new told.lines) (told.text.cause broken)
 
-  pub rose_in_report : (mode : Mode) (names : List (List ℕ)) (ends : List ClientEnd) (parts : List (List Section)) (r : IsReported mode names ends parts old new report) → r.whole ≡ false → Rose old.faults new.faults
-  rose_in_report mode names ends parts r broken =
-      rose_to r.between.faults (faults_later names report.ends report.refusal r.between new r.lines) ((r.text empty_schema).cause broken)
+  pub rose_in_report : (mode : Mode) (schema : SchemaData) (names : List (List ℕ)) (ends : List ClientEnd) (parts : List (List Section)) (r : IsReported mode schema names ends parts old new report) → r.whole ≡ false → Rose old.faults new.faults
+  rose_in_report mode schema names ends parts r broken =
+      rose_to r.between.faults (faults_later names report.ends report.refusal r.between new r.lines) (r.text.cause broken)
 
   output_by : (lacks : Bool) (first : Option ℕ) (whole : Bool) → (if lacks then Some NoMemory else failure_refusal first whole) ≡ Some Output → whole ≡ false
   output_by true first whole e = absurd (cc e)
@@ -178,7 +174,7 @@ module _ (arguments : List (List ℕ)) (files : FileState) (faults : ℕ) (old n
   output_rose (Refused name refusal cause is) given =
       let same : refusal ≡ Output = cc (is.refusal, given) in absurd (no_output_cause name (subst (λ r. Cause arguments files faults name r) same cause))
   output_rose (Ran named is_run are texts clean works are_works ran) given =
-      rose_in_report named.mode (client_names named) ran.ends ran.parts ran.reported (output_breaks ran.reported.whole ran.ends (sym ran.reported.refusal ∙ given))
+      rose_in_report named.mode (schema_in texts.df) (client_names named) ran.ends ran.parts ran.reported (output_breaks ran.reported.whole ran.ends (sym ran.reported.refusal ∙ given))
   output_rose (Checked check is_check are listings listed told) given = rose_in_check check.programs listings told (breaks_checked told.whole (sym told.refusal ∙ given))
     where
       breaks_checked : (whole : Bool) → output_refusal whole ≡ Some Output → whole ≡ false
@@ -217,7 +213,7 @@ module _ (arguments : List (List ℕ)) (files : FileState) (faults : ℕ) (old n
       let r = ran.reported in
       let ok = status_of_run r.whole ran.ends (ap status_after (sym r.refusal) ∙ sym r.status ∙ zero) in
       let same : new ≡ r.between = subst (λ refusal. WritesStatus (client_names named) report.ends refusal r.between new) (r.refusal ∙ ok.1) r.lines in
-      of_run named.mode (client_names named) ran.parts (λ schema. ap (λ (w : OutState). w.texts) same ∙ (r.text schema).all ok.0 given)
+      of_run named are texts ran.parts (ap (λ (w : OutState). w.texts) same ∙ r.text.all ok.0 given)
   whole_at_0 (Checked check is_check are listings listed told) zero given =
       let ok = status_of_check told.whole (ap status_after (sym told.refusal) ∙ sym told.status ∙ zero) in
       let same : new ≡ told.between = subst (λ refusal. WritesStatus [] [] refusal told.between new) (told.refusal ∙ ok.1) told.lines in

@@ -1,4 +1,3 @@
-pub mod BuiltForms
 pub mod Causes
 pub mod CheckPrevented
 pub mod Checks
@@ -7,11 +6,9 @@ pub mod Databases
 pub mod Endings
 pub mod FileCauses
 pub mod Judged
-pub mod LevelAnswers
 pub mod Loads
 pub mod Named
 pub mod Prevented
 pub mod Runs
 pub mod TraceLines
-pub mod Violations
 pub mod Writing

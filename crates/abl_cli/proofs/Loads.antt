@@ -1,7 +1,7 @@
 -- What a run has loaded, and what prevents it once its texts are read.
-use Rattle.std.proofs.Common.{◌≡◌, ◌⊎◌, inl, inr, ◌+◌, ◌≤◌, ◌<◌, ℕ, suc, List, [], ◌∷◌, ◌++◌, Option, Some, None, refl, sym, ap, ◌∙◌, subst, arith, length}
+use Rattle.std.proofs.Common.{◌≡◌, ◌⊎◌, inl, inr, ◌≤◌, ◌<◌, ℕ, suc, List, [], ◌∷◌, ◌++◌, None, refl, sym, ap, ◌∙◌, subst, arith, length}
 use Rattle.std.specs.List.{flat_map}
-use Rattle.std.specs.Prelude.{IsTrue, All, map, remove, slice_index_or}
+use Rattle.std.specs.Prelude.{IsTrue, All, remove, slice_index_or}
 use Rattle.std.proofs.lemmas.List.Elements.{All-cons, All-nil}
 use Rattle.abl_schema.specs.Rules.{violation_of}
 use Rattle.abl_values.specs.declared.schema.TableDef.{TableDef}
@@ -10,15 +10,14 @@ use Rattle.abl_outside.specs.Files.{FileState}
 use Rattle.bound_tree.specs.Bound.{source_of}
 use Rattle.bound_tree.specs.Tree.{Source as Tree}
 use Rattle.block_code.specs.declared.code.Code.{Code}
-use Rattle.level_clients.specs.Ran.{ClientTask}
+use Rattle.block_clients.specs.Ran.{ClientTask}
 use Rattle.abl_arguments.specs.CommandLine.{ClientFiles}
 use Rattle.abl_cli.specs.declared.load.ClientTexts.{ClientTexts}
 use Rattle.abl_cli.specs.declared.load.TheConstants.{MAX_FILE_BYTES}
 use Rattle.abl_cli.specs.declared.refusal.Refusal.{Refusal}
 use Rattle.abl_cli.specs.declared.refusal.Refusal.TheVariants.{NoMemory}
-use Rattle.abl_cli.specs.Command.{schema_in, HasText, HasInput, HaveTexts, HaveClients, BreaksSchema, OneIsNotRead, later_one, OneSourceBreaks, AreSame, Texts, AreTrees, AreWorks, Work, Prevents, no_file, schema_breaks, source_breaks, no_named_input, run_wants, named_inputs, client_files, input_file}
-use Rattle.abl_cli.specs.Inside.{AreBegun, IsBegun, AreToDo, HaveCodes, IsReady, inputs_of}
-use Rattle.abl_cli.proofs.BuiltForms.{has_no_buffers}
+use Rattle.abl_cli.specs.Command.{schema_in, HasText, HasInput, HaveTexts, HaveClients, BreaksSchema, OneIsNotRead, later_one, OneSourceBreaks, AreSame, Texts, AreTrees, AreWorks, Work, Prevents, no_file, schema_breaks, source_breaks, no_named_input, run_wants, named_inputs, client_files}
+use Rattle.abl_cli.specs.Inside.{AreBegun, AreToDo, HaveCodes, IsReady, inputs_of}
 use Rattle.abl_cli.proofs.Causes.{still_have, still_one, unread_first, unread_later, input_texts}
 
 -- ---- numbers of clients
@@ -41,15 +40,15 @@ as_many_works files schema [] (w ∷ ws) are = absurd are
 as_many_works files schema (t ∷ ts) [] are = absurd are
 as_many_works files schema (t ∷ ts) (w ∷ ws) are = ap (λ k. suc k) (as_many_works files schema ts ws are.1)
 
-pub as_many_tasks : (units : ℕ) (works : List Work) (tasks : List ClientTask) → AreToDo units works tasks → length tasks ≡ length works
+pub as_many_tasks : {D : Type 0} (units : ℕ) (works : List Work) (tasks : List (ClientTask D)) → AreToDo units works tasks → length tasks ≡ length works
 as_many_tasks units [] [] are = refl
 as_many_tasks units [] (t ∷ ts) are = absurd are
 as_many_tasks units (w ∷ ws) [] are = absurd are
 as_many_tasks units (w ∷ ws) (t ∷ ts) are = ap (λ k. suc k) (as_many_tasks units ws ts are.1)
 
 -- there is a task for each client
-pub tasks_of : (files : FileState) (schema : List ℕ) (cs : List ClientFiles) (units : ℕ) (tasks : List ClientTask) → IsReady files schema cs units tasks → length tasks ≡ length cs
-tasks_of files schema cs units tasks ready =
+pub tasks_of : {D : Type 0} (files : FileState) (schema : List ℕ) (cs : List ClientFiles) (units : ℕ) (denoted : SchemaData) (tasks : List (ClientTask D)) → IsReady files schema cs units denoted tasks → length tasks ≡ length cs
+tasks_of files schema cs units denoted tasks ready =
     as_many_tasks units ready.works tasks ready.to_do ∙ as_many_works files (schema_in ready.texts.df) ready.texts.texts ready.works ready.are ∙ as_many_texts files cs ready.texts.texts ready.texts.have
 
 -- the sources that were read are short
@@ -94,12 +93,12 @@ denoted schema (t ∷ ts) (code ∷ codes) have =
     }
 
 -- the works of the clients that were begun
-pub record Begun (files : FileState) (schema : SchemaData) (units : ℕ) (ts : List ClientTexts) (tasks : List ClientTask) : Type 0 where
+pub record Begun {D : Type 0} (files : FileState) (schema : SchemaData) (units : ℕ) (ts : List ClientTexts) (tasks : List (ClientTask D)) : Type 0 where
   pub works : List Work
   pub are : AreWorks files schema ts works
   pub to_do : AreToDo units works tasks
 
-pub begun_works : (files : FileState) (schema : SchemaData) (units : ℕ) (ts : List ClientTexts) (codes : List Code) (tasks : List ClientTask) → HaveCodes schema ts codes → AreBegun files units schema.tables codes ts tasks → Begun files schema units ts tasks
+pub begun_works : {D : Type 0} (files : FileState) (schema : SchemaData) (units : ℕ) (ts : List ClientTexts) (codes : List Code) (tasks : List (ClientTask D)) → HaveCodes schema ts codes → AreBegun files units schema.tables codes ts tasks → Begun files schema units ts tasks
 begun_works files schema units [] [] [] have begun = record { works = []; are = tt; to_do = tt }
 begun_works files schema units [] [] (task ∷ tasks) have begun = absurd begun
 begun_works files schema units [] (code ∷ codes) tasks have begun = absurd have
@@ -112,11 +111,11 @@ begun_works files schema units (t ∷ ts) (code ∷ codes) (task ∷ tasks) have
     record {
       works = record { tables = schema.tables; tree = source_of one.bound; input = t.input; inputs = client.inputs } ∷ rest.works;
       are = ((one.form, (refl, (refl, subst (λ ns. HaveTexts files ns client.inputs) one.compiled.inputs client.have))), rest.are);
-      to_do = ((λ p is. client.to_run one.bound p one.compiled (has_no_buffers one.bound one.form.built) is.source is.tables is.input_is is.inputs_are is.forms is.lines), rest.to_do);
+      to_do = ((λ p is. client.to_run one.bound p one.compiled is.source is.tables is.input_is is.inputs_are is.forms is.lines), rest.to_do);
     }
 
 module _ (files later : FileState) (same : AreSame files later) (sound_observable : IsTrue files.sound → IsTrue files.observable) where
-  pub still_begun : (units : ℕ) (tables : List TableDef) (codes : List Code) (ts : List ClientTexts) (tasks : List ClientTask) → AreBegun later units tables codes ts tasks → AreBegun files units tables codes ts tasks
+  pub still_begun : {D : Type 0} (units : ℕ) (tables : List TableDef) (codes : List Code) (ts : List ClientTexts) (tasks : List (ClientTask D)) → AreBegun later units tables codes ts tasks → AreBegun files units tables codes ts tasks
   still_begun units tables [] [] [] begun = tt
   still_begun units tables [] [] (task ∷ tasks) begun = absurd begun
   still_begun units tables [] (t ∷ ts) tasks begun = absurd begun
@@ -166,11 +165,11 @@ module _ (files : FileState) (schema : List ℕ) (clients : List ClientFiles) (d
           no_named_input texts_of is_clean d.trees d.are (subst (λ ns. OneIsNotRead files faults ns refusal) d.inputs (still_one files later same sound_observable h))
 
       -- the clients are begun
-      pub is_ready : (units : ℕ) (tasks : List ClientTask) → AreBegun later units (schema_in d).tables codes ts tasks → IsReady files schema clients units tasks
+      pub is_ready : {D : Type 0} (units : ℕ) (denoted : SchemaData) (tasks : List (ClientTask D)) → denoted ≡ schema_in d → AreBegun later units (schema_in d).tables codes ts tasks → IsReady files schema clients units denoted tasks
       unfolding texts_of
-      is_ready units tasks begun =
+      is_ready units denoted tasks schema_is begun =
           let done = begun_works files (schema_in df) units ts codes tasks are_codes (still_begun files later same sound_observable units (schema_in df).tables codes ts tasks (subst (λ t. AreBegun later units (schema_in t).tables codes ts tasks) is_df begun)) in
-          record { texts = texts_of; clean = is_clean; works = done.works; are = done.are; to_do = done.to_do }
+          record { texts = texts_of; clean = is_clean; schema_is = schema_is ∙ ap (λ (t : List ℕ). schema_in t) is_df; works = done.works; are = done.are; to_do = done.to_do }
 
 -- ---- vectors that are used up
 

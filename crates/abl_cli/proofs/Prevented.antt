@@ -17,15 +17,15 @@ use Rattle.abl_arguments.specs.declared.parts.Mode.TheVariants.{Trace, Quiet}
 use Rattle.abl_arguments.proofs.Clients.{same_clients}
 use Rattle.abl_arguments.proofs.CheckForms.{other_command}
 use Rattle.abl_cli.specs.declared.refusal.Refusal.{Refusal}
-use Rattle.abl_cli.specs.declared.refusal.Refusal.TheVariants.{File, TooLong, Schema, Source, Client, NoMemory}
+use Rattle.abl_cli.specs.declared.refusal.Refusal.TheVariants.{File, TooLong, Schema, Source, NoMemory}
 use Rattle.abl_cli.specs.declared.command.Report.{Report}
 use Rattle.abl_cli.specs.declared.load.TheConstants.{MAX_FILE_BYTES}
 use Rattle.abl_cli.specs.declared.load.ClientTexts.{ClientTexts}
-use Rattle.abl_cli.specs.Sources.{BreaksFirst, IsSourceOf}
-use Rattle.abl_cli.specs.Command.{schema_in, HasText, HasInput, HaveTexts, HaveClients, OneIsNotRead, BreaksSchema, BreaksSource, breaks_rule, source_wants, OneSourceBreaks, this_source, later_source, AreTrees, Texts, Prevents, no_file, schema_breaks, source_breaks, no_named_input, run_wants, Work, AreWorks, named_inputs, client_files, input_file, run_files, client_names, wrong_argument, prevented, check_prevented, HasRun, CommandResult, Refused, Ran, Checked, refusal_after, failure_refusal, first_failure, one_lacks_memory, status_after, IsRefusal, IsThere, IsInputThere, AreThere, ClientsThere, AllThere, AreSources, NamesRun}
+use Rattle.abl_source.specs.Sources.{BreaksRule, IsTreeOf}
+use Rattle.abl_cli.specs.Command.{schema_in, HaveTexts, HaveClients, OneIsNotRead, breaks_rule, source_wants, OneSourceBreaks, this_source, later_source, AreTrees, Texts, Prevents, no_file, schema_breaks, source_breaks, no_named_input, run_wants, Work, AreWorks, named_inputs, client_files, input_file, run_files, client_names, wrong_argument, prevented, check_prevented, HasRun, CommandResult, Refused, Ran, Checked, refusal_after, failure_refusal, first_failure, one_lacks_memory, status_after, IsRefusal, IsInputThere, AreThere, ClientsThere, AllThere, AreSources, NamesRun}
 use Rattle.abl_cli.proofs.Causes.{input_texts}
 use Rattle.abl_cli.proofs.FileCauses.{wants, same_text, have_none, have_long, none_lacks, one_missing, one_long, same_violation, no_violation}
-use Rattle.abl_cli.proofs.Violations.{one_is_first, sources_break_none, one_source}
+use Rattle.abl_source.proofs.Violations.{one_rule, one_tree_of, trees_break_none}
 use Rattle.abl_cli.proofs.Judged.{wrong_or_formed, rose_in_report}
 
 -- ---- arguments name one run
@@ -110,25 +110,25 @@ sources_are files observable sound (c ∷ cs) (t ∷ ts) (s ∷ ss) have are = (
 module _ (schema : SchemaData) where
   -- the first source that breaks a rule is the one that is refused
   broken_at : (n : ℕ) (ts : List ClientTexts) (before : List (List ℕ)) (trees : List Tree) (after : List (List ℕ)) (text : List ℕ) {rule : Rule} {place : Place} {refusal : Refusal} → SourcesAre ts (before ++ text ∷ after) → AreSources schema before trees →
-      BreaksFirst schema text rule place → OneSourceBreaks schema n ts refusal → IsRefusal (Some refusal) (Source (n + length before) rule place)
+      BreaksRule schema text rule place → OneSourceBreaks schema n ts refusal → IsRefusal (Some refusal) (Source (n + length before) rule place)
   broken_at n [] [] trees after text same are first h = absurd same
   broken_at n [] (b ∷ bs) trees after text same are first h = absurd same
   broken_at n (t ∷ ts) [] [] after text {rule} {place} same are first (this_source (breaks_rule {rule = found_rule} {place = found_place} found)) =
-      let one = one_is_first schema text (subst (λ s. BreaksFirst schema s found_rule found_place) same.0 found) first in
+      let one = one_rule schema text (subst (λ s. BreaksRule schema s found_rule found_place) same.0 found) first in
       inl (ap (λ r. Some (Source n r found_place)) one.rules ∙ ap (λ p. Some (Source n rule p)) one.places ∙ ap (λ k. Some (Source k rule place)) (omega arith))
   broken_at n (t ∷ ts) [] [] after text same are first (this_source source_wants) = inr refl
-  broken_at n (t ∷ ts) [] [] after text same are first (later_source tree is h) = absurd (sources_break_none schema text (subst (λ s. IsSourceOf schema s tree) same.0 is) first)
+  broken_at n (t ∷ ts) [] [] after text same are first (later_source tree is h) = absurd (trees_break_none schema text (subst (λ s. IsTreeOf schema s tree) same.0 is) first)
   broken_at n (t ∷ ts) [] (tree ∷ trees) after text same are first h = absurd are
   broken_at n (t ∷ ts) (b ∷ bs) [] after text same are first h = absurd are
   broken_at n (t ∷ ts) (b ∷ bs) (tree ∷ trees) after text same are first (this_source (breaks_rule {rule = found_rule} {place = found_place} found)) =
-      absurd (sources_break_none schema b are.0 (subst (λ s. BreaksFirst schema s found_rule found_place) same.0 found))
+      absurd (trees_break_none schema b are.0 (subst (λ s. BreaksRule schema s found_rule found_place) same.0 found))
   broken_at n (t ∷ ts) (b ∷ bs) (tree ∷ trees) after text same are first (this_source source_wants) = inr refl
   broken_at n (t ∷ ts) (b ∷ bs) (tree ∷ trees) after text {rule} {place} {refusal} same are first (later_source found is h) =
       subst (λ k. IsRefusal (Some refusal) (Source k rule place)) (omega arith) (broken_at (n + 1) ts bs trees after text same.1 are.1 first h)
 
   -- the sources are numbered from 0
   first_broken : (ts : List ClientTexts) (before : List (List ℕ)) (trees : List Tree) (after : List (List ℕ)) (text : List ℕ) {rule : Rule} {place : Place} {refusal : Refusal} → SourcesAre ts (before ++ text ∷ after) → AreSources schema before trees →
-      BreaksFirst schema text rule place → OneSourceBreaks schema 0 ts refusal → IsRefusal (Some refusal) (Source (length before) rule place)
+      BreaksRule schema text rule place → OneSourceBreaks schema 0 ts refusal → IsRefusal (Some refusal) (Source (length before) rule place)
   first_broken ts before trees after text {rule} {place} {refusal} same are first h =
       let numbered : 0 + length before ≡ length before = omega arith in
       subst (λ k. IsRefusal (Some refusal) (Source k rule place)) numbered (broken_at 0 ts before trees after text same are first h)
@@ -139,7 +139,7 @@ module _ (schema : SchemaData) where
   none_breaks n (t ∷ ts) [] trees same are h = absurd same
   none_breaks n (t ∷ ts) (s ∷ ss) [] same are h = absurd are
   none_breaks n (t ∷ ts) (s ∷ ss) (tree ∷ trees) same are (this_source (breaks_rule {rule = found_rule} {place = found_place} found)) =
-      absurd (sources_break_none schema s are.0 (subst (λ x. BreaksFirst schema x found_rule found_place) same.0 found))
+      absurd (trees_break_none schema s are.0 (subst (λ x. BreaksRule schema x found_rule found_place) same.0 found))
   none_breaks n (t ∷ ts) (s ∷ ss) (tree ∷ trees) same are (this_source source_wants) = refl
   none_breaks n (t ∷ ts) (s ∷ ss) (tree ∷ trees) same are (later_source found is h) = none_breaks (n + 1) ts ss trees same.1 are.1 h
 
@@ -153,15 +153,15 @@ module _ (schema : SchemaData) where
   one_trees (t ∷ ts) (s ∷ ss) [] os same are others = absurd are
   one_trees (t ∷ ts) (s ∷ ss) (tree ∷ trees) [] same are others = absurd others
   one_trees (t ∷ ts) (s ∷ ss) (tree ∷ trees) (o ∷ os) same are others =
-      let first : o ≡ tree = one_source schema s (subst (λ x. IsSourceOf schema x o) same.0 others.0) are.0 in
+      let first : o ≡ tree = one_tree_of schema s (subst (λ x. IsTreeOf schema x o) same.0 others.0) are.0 in
       ap (λ x. x ∷ os) first ∙ ap (λ xs. tree ∷ xs) (one_trees ts ss trees os same.1 are.1 others.1)
 
   -- a source that breaks a rule is no work
-  no_work : (files : FileState) (ts : List ClientTexts) (before after : List (List ℕ)) (text : List ℕ) (works : List Work) {rule : Rule} {place : Place} → SourcesAre ts (before ++ text ∷ after) → BreaksFirst schema text rule place → AreWorks files schema ts works → ⊥
+  no_work : (files : FileState) (ts : List ClientTexts) (before after : List (List ℕ)) (text : List ℕ) (works : List Work) {rule : Rule} {place : Place} → SourcesAre ts (before ++ text ∷ after) → BreaksRule schema text rule place → AreWorks files schema ts works → ⊥
   no_work files [] [] after text works same first are = same
   no_work files [] (b ∷ bs) after text works same first are = same
   no_work files (t ∷ ts) before after text [] same first are = are
-  no_work files (t ∷ ts) [] after text (w ∷ ws) same first are = sources_break_none schema text (subst (λ s. IsSourceOf schema s w.tree) same.0 are.0.0) first
+  no_work files (t ∷ ts) [] after text (w ∷ ws) same first are = trees_break_none schema text (subst (λ s. IsTreeOf schema s w.tree) same.0 are.0.0) first
   no_work files (t ∷ ts) (b ∷ bs) after text (w ∷ ws) same first are = no_work files ts bs after text ws same.1 first are.1
 
 -- the trees of the works, and the texts of their named inputs
@@ -191,11 +191,11 @@ module _ (arguments : List (List ℕ)) (files : FileState) (faults : ℕ) (old n
     had_run : (texts : Texts files run.schema run.clients) → violation_of texts.df ≡ None → (works : List Work) → AreWorks files (schema_in texts.df) texts.texts works →
         ((Rose old.faults new.faults → ⊥) → (report.status ≡ 0) ⊎ ((report.status ≡ 8) ⊎ (report.status ≡ 7))) → Outcome
 
-  done_well : (named : Run) (units : ℕ) (works : List Work) → HasRun named.mode (client_names named) units works old new report → (Rose old.faults new.faults → ⊥) → (report.status ≡ 0) ⊎ ((report.status ≡ 8) ⊎ (report.status ≡ 7))
-  done_well named units works ran quiet =
+  done_well : (named : Run) (schema : SchemaData) (units : ℕ) (works : List Work) → HasRun named.mode schema (client_names named) units works old new report → (Rose old.faults new.faults → ⊥) → (report.status ≡ 0) ⊎ ((report.status ≡ 8) ⊎ (report.status ≡ 7))
+  done_well named schema units works ran quiet =
       let r = ran.reported in
       subst (λ status. (status ≡ 0) ⊎ ((status ≡ 8) ⊎ (status ≡ 7))) (sym (r.status ∙ ap status_after r.refusal))
-      (fine_ends r.whole ran.ends (λ broken. quiet (rose_in_report arguments files faults old new report named.mode (client_names named) ran.ends ran.parts r broken)))
+      (fine_ends r.whole ran.ends (λ broken. quiet (rose_in_report arguments files faults old new report named.mode schema (client_names named) ran.ends ran.parts r broken)))
 
   moved : (named : Run) → named ≡ run → (texts : Texts files named.schema named.clients) → violation_of texts.df ≡ None → (works : List Work) → AreWorks files (schema_in texts.df) texts.texts works →
       ((Rose old.faults new.faults → ⊥) → (report.status ≡ 0) ⊎ ((report.status ≡ 8) ⊎ (report.status ≡ 7))) → Outcome
@@ -213,7 +213,7 @@ module _ (arguments : List (List ℕ)) (files : FileState) (faults : ℕ) (old n
   outcome (Refused given refusal (check_prevented check is_check are prevents) is) = absurd (other_command (sym names.arguments_are ∙ are))
   outcome (Checked check is_check are listings listed told) = absurd (other_command (sym names.arguments_are ∙ are))
   outcome (Ran named is_named are texts clean works worked ran) =
-      moved named (one_run named run is_named names.is_run (sym are ∙ names.arguments_are)) texts clean works worked (done_well named _ works ran)
+      moved named (one_run named run is_named names.is_run (sym are ∙ names.arguments_are)) texts clean works worked (done_well named (schema_in texts.df) _ works ran)
 
   refusal_by : {want : Refusal} → ((refusal : Refusal) → Prevents files faults run.schema run.clients refusal → IsRefusal (Some refusal) want) →
       ((texts : Texts files run.schema run.clients) → violation_of texts.df ≡ None → (works : List Work) → AreWorks files (schema_in texts.df) texts.texts works → ⊥) → Outcome → IsRefusal report.refusal want
@@ -286,7 +286,7 @@ module _ (arguments : List (List ℕ)) (files : FileState) (faults : ℕ) (old n
     module _ (clean : violation_of df ≡ None) where
       -- ---- a source that breaks a rule
 
-      module _ (before : List (List ℕ)) (trees : List Tree) (after : List (List ℕ)) (text : List ℕ) (split : sources ≡ before ++ text ∷ after) (are : AreSources (schema_in df) before trees) {rule : Rule} {place : Place} (first : BreaksFirst (schema_in df) text rule place) where
+      module _ (before : List (List ℕ)) (trees : List Tree) (after : List (List ℕ)) (text : List ℕ) (split : sources ≡ before ++ text ∷ after) (are : AreSources (schema_in df) before trees) {rule : Rule} {place : Place} (first : BreaksRule (schema_in df) text rule place) where
         split_sources : (texts : Texts files run.schema run.clients) → SourcesAre texts.texts (before ++ text ∷ after)
         split_sources texts = subst (SourcesAre texts.texts) split (its_sources texts)
 
@@ -298,7 +298,7 @@ module _ (arguments : List (List ℕ)) (files : FileState) (faults : ℕ) (old n
         no_trees [] [] found same h = same
         no_trees [] (b ∷ bs) found same h = same
         no_trees (t ∷ ts) bs [] same h = h
-        no_trees (t ∷ ts) [] (f ∷ fs) same h = sources_break_none (schema_in df) text (subst (λ s. IsSourceOf (schema_in df) s f) same.0 h.0) first
+        no_trees (t ∷ ts) [] (f ∷ fs) same h = trees_break_none (schema_in df) text (subst (λ s. IsTreeOf (schema_in df) s f) same.0 h.0) first
         no_trees (t ∷ ts) (b ∷ bs) (f ∷ fs) same h = no_trees ts bs fs same.1 h.1
 
         source_by : {refusal : Refusal} → Prevents files faults run.schema run.clients refusal → IsRefusal (Some refusal) (Source (length before) rule place)

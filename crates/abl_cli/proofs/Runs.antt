@@ -1,28 +1,28 @@
 -- What the clients of a run have done, one after the other.
-use Rattle.std.proofs.Common.{◌≡◌, ◌<◌, ◌≤◌, ◌+◌, ◌++◌, ◌∙◌, ℕ, suc, List, [], ◌∷◌, refl, sym, ap, subst, arith, length, take}
+use Rattle.std.proofs.Common.{◌≡◌, ◌<◌, ◌+◌, ◌++◌, ◌∙◌, ℕ, suc, List, [], ◌∷◌, refl, sym, ap, subst, arith, length, take}
 use Rattle.std.proofs.lemmas.List.{take-append-le, take_all}
 use Rattle.std.specs.Prelude.{map, slice_index_or}
 use Rattle.block_meaning.specs.Meaning.{run}
-use Rattle.block_vm.specs.Standing.{Standing}
+use Rattle.block_vm.specs.ClientView.{ClientView}
 use Rattle.client_database.specs.declared.event.Event.{Event}
 use Rattle.client_output.specs.declared.section.Section.{Section}
-use Rattle.level_clients.specs.Ran.{ClientTask}
+use Rattle.block_clients.specs.Ran.{ClientTask}
 use Rattle.abl_cli.specs.ClientRun.{ClientOutcome, own_events}
 use Rattle.abl_cli.specs.Command.{DidAsMeant, Work}
 use Rattle.abl_cli.specs.Report.{reports}
 use Rattle.abl_cli.specs.Inside.{AreToDo, HasEnded, HasSections, HaveSections, end_or_none}
 
-pub did_as_meant : (trace : List Event) (units number : ℕ) (works : List Work) (olds news : List ClientTask) (parts : List (List Section)) → length news ≡ length olds → AreToDo units works olds →
-    ((k : ℕ) (t : ClientTask) → k < length olds → HasEnded trace (number + k) (slice_index_or olds k t) (slice_index_or news k t)) → HaveSections news parts →
-    DidAsMeant units trace number works (map (λ (t : ClientTask). end_or_none t.end) news) parts
-did_as_meant trace units number [] [] [] [] long to_do ended have = tt
-did_as_meant trace units number [] [] [] (sections ∷ parts) long to_do ended have = absurd have
-did_as_meant trace units number [] [] (n ∷ ns) parts long to_do ended have = absurd (omega (arith, long))
-did_as_meant trace units number [] (o ∷ os) news parts long to_do ended have = absurd to_do
-did_as_meant trace units number (w ∷ ws) [] news parts long to_do ended have = absurd to_do
-did_as_meant trace units number (w ∷ ws) (o ∷ os) [] parts long to_do ended have = absurd (omega (arith, long))
-did_as_meant trace units number (w ∷ ws) (o ∷ os) (n ∷ ns) [] long to_do ended have = absurd have
-did_as_meant trace units number (w ∷ ws) (o ∷ os) (n ∷ ns) (sections ∷ parts) long to_do ended have =
+pub did_as_meant : {D : Type 0} (trace : List Event) (units number : ℕ) (works : List Work) (olds news : List (ClientTask D)) (parts : List (List Section)) → length news ≡ length olds → AreToDo units works olds →
+    ((k : ℕ) (t : ClientTask D) → k < length olds → HasEnded trace (number + k) (slice_index_or olds k t) (slice_index_or news k t)) → HaveSections news parts →
+    DidAsMeant units trace number works (map (λ (t : ClientTask D). end_or_none t.end) news) parts
+did_as_meant {D} trace units number [] [] [] [] long to_do ended have = tt
+did_as_meant {D} trace units number [] [] [] (sections ∷ parts) long to_do ended have = absurd have
+did_as_meant {D} trace units number [] [] (n ∷ ns) parts long to_do ended have = absurd (omega (arith, long))
+did_as_meant {D} trace units number [] (o ∷ os) news parts long to_do ended have = absurd to_do
+did_as_meant {D} trace units number (w ∷ ws) [] news parts long to_do ended have = absurd to_do
+did_as_meant {D} trace units number (w ∷ ws) (o ∷ os) [] parts long to_do ended have = absurd (omega (arith, long))
+did_as_meant {D} trace units number (w ∷ ws) (o ∷ os) (n ∷ ns) [] long to_do ended have = absurd have
+did_as_meant {D} trace units number (w ∷ ws) (o ∷ os) (n ∷ ns) (sections ∷ parts) long to_do ended have =
     let first : HasEnded trace number o n = subst (λ m. HasEnded trace m o n) (omega arith) (ended 0 o (omega arith)) in (
       (λ p is.
           let done = first.done w.tree.outputs p units (to_do.0 p is) in
@@ -37,10 +37,10 @@ did_as_meant trace units number (w ∷ ws) (o ∷ os) (n ∷ ns) (sections ∷ p
     )
 
 -- each client has written some sections
-has_sections : (client : Standing) → (sections : List Section) × HasSections client sections
+has_sections : (client : ClientView) → (sections : List Section) × HasSections client sections
 has_sections client = (client.machine.output.sections.items, λ names pieces has. has.sections)
 
-pub have_sections : (tasks : List ClientTask) → (parts : List (List Section)) × HaveSections tasks parts
+pub have_sections : {D : Type 0} (tasks : List (ClientTask D)) → (parts : List (List Section)) × HaveSections tasks parts
 have_sections [] = ([], tt)
 have_sections (task ∷ tasks) =
     let one = has_sections task.client.client in

@@ -1,10 +1,10 @@
 -- The lines of a trace, parted.
 use Rattle.std.proofs.Common.{◌≡◌, ◌<◌, ◌+◌, ℕ, suc, zero, Bool, true, false, List, [], ◌∷◌, ◌++◌, sym, ap, ◌∙◌, subst, arith, length, take, drop, append_assoc, append-nil, get_or}
-use Rattle.std.specs.Prelude.{codes}
+use Rattle.std.specs.Prelude.{codes, decimal, slice_index_or}
 use Rattle.abl_values.specs.Schema.{SchemaData}
 use Rattle.abl_outside.specs.declared.out.Stream.TheVariants.{Output}
 use Rattle.client_database.specs.declared.event.Event.{Event}
-use Rattle.abl_cli.specs.Trace.{trace_line, trace_lines, trace_part}
+use Rattle.abl_cli.specs.Trace.{added, answer_name, op_name, operands, trace_line, trace_lines, trace_part}
 use Rattle.abl_outside.specs.Out.{OutState, Writes}
 use Rattle.abl_cli.proofs.Writing.{writes_part, writes_then}
 
@@ -79,3 +79,42 @@ module _ (schema : SchemaData) (names : List (List ℕ)) (trace : List Event) (i
           ap (λ text. heading ++ text) (lines-parted schema names 1 trace i d below ∙ ap (λ k. (trace_lines schema names 1 (take i trace) ++ trace_line schema names k (get_or trace i d)) ++ trace_lines schema names (k + 1) (drop (suc i) trace)) number)
           ∙ sym (append_assoc heading (trace_lines schema names 1 (take i trace) ++ trace_line schema names (i + 1) (get_or trace i d)) (trace_lines schema names (i + 1 + 1) (drop (suc i) trace)))
           ∙ ap (λ text. text ++ trace_lines schema names (i + 1 + 1) (drop (suc i) trace)) (sym (append_assoc heading (trace_lines schema names 1 (take i trace)) (trace_line schema names (i + 1) (get_or trace i d))))
+
+-- ---- a line, in three parts
+
+line_joined : (a b c d e f : List ℕ) → (a ++ (b ++ c)) ++ ((d ++ e) ++ f) ≡ ((((a ++ b) ++ c) ++ d) ++ e) ++ f
+line_joined a b c d e f =
+    let x = a ++ (b ++ c) in
+    sym (append_assoc x (d ++ e) f) ∙ ap (λ text. text ++ f) (sym (append_assoc x d e)) ∙ ap (λ text. ((text ++ d) ++ e) ++ f) (sym (append_assoc a b c))
+
+module _ (schema : SchemaData) (names : List (List ℕ)) (n : ℕ) (event : Event) where
+  -- the number of the event and the name of its client
+  abbrev caller_part : List ℕ
+  caller_part = decimal n ++ 32 ∷ slice_index_or names event.client []
+
+  -- the operation
+  abbrev op_part : List ℕ
+  op_part = 32 ∷ op_name event.op ++ operands schema event.op
+
+  -- the answer, and the end of the line
+  abbrev answer_part : List ℕ
+  answer_part = 32 ∷ answer_name event.answer ++ added names event.answer ++ 10 ∷ []
+
+  is_line : (caller_part ++ op_part) ++ answer_part ≡ trace_line schema names n event
+  is_line = line_joined caller_part (32 ∷ op_name event.op) (operands schema event.op) (32 ∷ answer_name event.answer) (added names event.answer) (10 ∷ [])
+
+  pub part_of_caller : (old new : OutState) → Writes false Output caller_part old new → Writes false Output (trace_line schema names n event) old new
+  part_of_caller old new caller =
+      subst (λ text. Writes false Output text old new) is_line (writes_part Output (caller_part ++ op_part) answer_part old new (writes_part Output caller_part op_part old new caller))
+
+  pub part_of_op : (old mid new : OutState) → Writes true Output caller_part old mid → Writes false Output op_part mid new → Writes false Output (trace_line schema names n event) old new
+  part_of_op old mid new caller op =
+      subst (λ text. Writes false Output text old new) is_line
+      (writes_part Output (caller_part ++ op_part) answer_part old new (writes_then false Output caller_part op_part old mid new caller op))
+
+  pub whole_line :
+      (ok : Bool) (old mid late new : OutState) → Writes true Output caller_part old mid → Writes true Output op_part mid late → Writes ok Output answer_part late new →
+      Writes ok Output (trace_line schema names n event) old new
+  whole_line ok old mid late new caller op answer =
+      subst (λ text. Writes ok Output text old new) is_line
+      (writes_then ok Output (caller_part ++ op_part) answer_part old late new (writes_then true Output caller_part op_part old mid late caller op) answer)

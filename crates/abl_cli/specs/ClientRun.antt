@@ -8,13 +8,14 @@ use Rattle.block_meaning.specs.State.{Progress}
 use Rattle.client_output.specs.declared.section.Section.{Section}
 use Rattle.client_output.specs.Sections.{sections_of}
 use Rattle.client_runner.specs.Meant.{NoneIsRefused}
-use Rattle.level_clients.specs.Outcome.{RanAsMeant}
-pub use Rattle.level_clients.specs.Outcome.{own_events}
+use Rattle.client_session.specs.Along.{IsOnLevels}
+use Rattle.block_clients.specs.Outcome.{RanAsMeant}
+pub use Rattle.block_clients.specs.Outcome.{own_events}
 
 -- the client, whose run means m and whose source names these outputs, has these events of its own, ended so and wrote these sections: it
--- did what m means under the answers of these events (`RanAsMeant`), and none of them is Refused
+-- did what m means under the answers of these events (`RanAsMeant`), and no answer to an operation on levels is Refused
 pub record ClientOutcome (outputs : List (List ℕ)) (m : List Answer → Progress) (own : List Event) (how : ClientEnd) (sections : List Section) : Type 0 where
   pub pieces : List Piece
   pub did : RanAsMeant m own how pieces
   pub wrote : sections ≡ sections_of outputs pieces
-  pub unrefused : NoneIsRefused own
+  pub unrefused : NoneIsRefused IsOnLevels own

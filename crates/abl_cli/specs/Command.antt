@@ -9,13 +9,12 @@ use Rattle.abl_schema.specs.Meaning.{schema_of}
 use Rattle.schema_lines.specs.Files.{items_of}
 use Rattle.abl_outside.specs.declared.out.Stream.TheVariants.{Output as Standard, Diagnostics}
 use Rattle.abl_outside.specs.Files.{FileState, IsLonger}
-use Rattle.database_meaning.specs.Setting.{Setting}
-use Rattle.database_meaning.specs.Traces.{IsSoundContents, IsLegal}
-use Rattle.database_meaning.specs.declared.contents.Contents.{Contents}
+use Rattle.database_meaning.specs.Traces.{IsLegal}
+use Rattle.new_database.specs.Contents.{new_contents}
 use Rattle.client_database.specs.declared.ends.ClientEnd.{ClientEnd}
 use Rattle.client_database.specs.declared.ends.ClientEnd.TheVariants as end
 use Rattle.bound_tree.specs.Tree.{Source as Tree}
-use Rattle.abl_cli.specs.Sources.{BreaksFirst, IsSourceOf}
+use Rattle.abl_source.specs.Sources.{BreaksRule, IsTreeOf}
 use Rattle.bound_tree.specs.Bound.{source_of}
 use Rattle.bound_tree.specs.declared.procedure.Bound.{Bound}
 use Rattle.block_code.specs.declared.code.Code.{Code}
@@ -106,20 +105,20 @@ pub record Texts (files : FileState) (schema : List ℕ) (clients : List ClientF
 
 -- why the text of the source of this number is refused over the schema, likewise
 pub data BreaksSource (schema : SchemaData) (number : ℕ) (text : List ℕ) : Refusal → Type 0 where
-  breaks_rule : {rule : Rule} {place : Place} → BreaksFirst schema text rule place → BreaksSource schema number text (Source number rule place)
+  breaks_rule : {rule : Rule} {place : Place} → BreaksRule schema text rule place → BreaksSource schema number text (Source number rule place)
   source_wants : BreaksSource schema number text NoMemory
 
 -- why the first of these sources that is refused is; they have the numbers from this one on
 pub data OneSourceBreaks (schema : SchemaData) : ℕ → List ClientTexts → Refusal → Type 0 where
   this_source : {number : ℕ} {t : ClientTexts} {ts : List ClientTexts} {refusal : Refusal} → BreaksSource schema number t.source refusal → OneSourceBreaks schema number (t ∷ ts) refusal
-  later_source : {number : ℕ} {t : ClientTexts} {ts : List ClientTexts} {refusal : Refusal} (tree : Tree) → IsSourceOf schema t.source tree → OneSourceBreaks schema (number + 1) ts refusal → OneSourceBreaks schema number (t ∷ ts) refusal
+  later_source : {number : ℕ} {t : ClientTexts} {ts : List ClientTexts} {refusal : Refusal} (tree : Tree) → IsTreeOf schema t.source tree → OneSourceBreaks schema (number + 1) ts refusal → OneSourceBreaks schema number (t ∷ ts) refusal
 
 -- the sources denote these trees
 abbrev pub AreTrees : SchemaData → List ClientTexts → List Tree → Type 0
 AreTrees schema [] [] = Unit {0}
 AreTrees schema [] (tree ∷ trees) = ⊥
 AreTrees schema (t ∷ ts) [] = ⊥
-AreTrees schema (t ∷ ts) (tree ∷ trees) = IsSourceOf schema t.source tree × AreTrees schema ts trees
+AreTrees schema (t ∷ ts) (tree ∷ trees) = IsTreeOf schema t.source tree × AreTrees schema ts trees
 
 -- the files after INPUT FROM, in client order and text order
 abbrev pub named_inputs : List Tree → List (List ℕ)
@@ -160,7 +159,7 @@ pub record AreListed (files : FileState) (check : Check) (listings : List (List 
 -- the code is that of the text over the schema
 pub record IsCodeOf (schema : SchemaData) (text : List ℕ) (code : Code) : Type 0 where
   pub bound : Bound
-  pub form : IsSourceOf schema text (source_of bound)
+  pub form : IsTreeOf schema text (source_of bound)
   pub compiled : IsCompiled code bound
 
 -- what a client runs: the tables of the schema, its source, its own input and the named ones
@@ -175,7 +174,7 @@ abbrev pub AreWorks : FileState → SchemaData → List ClientTexts → List Wor
 AreWorks files schema [] [] = Unit {0}
 AreWorks files schema [] (w ∷ ws) = ⊥
 AreWorks files schema (t ∷ ts) [] = ⊥
-AreWorks files schema (t ∷ ts) (w ∷ ws) = (IsSourceOf schema t.source w.tree × ((w.tables ≡ schema.tables) × ((w.input ≡ t.input) × HaveTexts files w.tree.inputs w.inputs))) × AreWorks files schema ts ws
+AreWorks files schema (t ∷ ts) (w ∷ ws) = (IsTreeOf schema t.source w.tree × ((w.tables ≡ schema.tables) × ((w.input ≡ t.input) × HaveTexts files w.tree.inputs w.inputs))) × AreWorks files schema ts ws
 
 -- the names of the clients of a run
 abbrev pub client_names : Run → List (List ℕ)
@@ -240,14 +239,13 @@ failure_refusal (Some first) whole = Some (Client first)
 abbrev pub refusal_after : List ClientEnd → Bool → Option Refusal
 refusal_after ends whole = if one_lacks_memory ends then Some NoMemory else failure_refusal (first_failure 0 ends) whole
 
--- the report of a run whose clients ended so and wrote these sections: its text is on standard output, or a prefix where a
--- write failed, and then the lines on standard error. No operation of levels names a part of the schema, so the text is the same
--- whatever the schema
-pub record IsReported (mode : Mode) (names : List (List ℕ)) (ends : List ClientEnd) (parts : List (List Section)) (old new : OutState) (report : Report) : Type 0 where
+-- the report of a run over this schema whose clients ended so and wrote these sections: its text is on standard output, or a prefix where a
+-- write failed, and then the lines on standard error
+pub record IsReported (mode : Mode) (schema : SchemaData) (names : List (List ℕ)) (ends : List ClientEnd) (parts : List (List Section)) (old new : OutState) (report : Report) : Type 0 where
   pub ends_are : report.ends ≡ ends
   pub whole : Bool
   pub between : OutState
-  pub text : (schema : SchemaData) → Writes whole Standard (run_text mode schema names parts report.trace) old between
+  pub text : Writes whole Standard (run_text mode schema names parts report.trace) old between
   pub refusal : report.refusal ≡ refusal_after ends whole
   pub status : report.status ≡ status_after report.refusal
   pub lines : WritesStatus names report.ends report.refusal between new
@@ -269,16 +267,16 @@ DidAsMeant units trace number (w ∷ ws) (how ∷ ends) (sections ∷ parts) =
     ((p : Program) → IsProgram w p → ClientOutcome w.tree.outputs (run p units) (own_events number trace) how sections) × DidAsMeant units trace (number + 1) ws ends parts
 DidAsMeant units trace number works ends parts = ⊥
 
--- A RUN of the clients of these names and works in this mode, and its report. Each client did as its source means under its own answers,
--- whatever the schedule. The trace is of these clients alone, and legal whatever the schema and the contents of the database, which no
--- operation of levels looks at
-pub record HasRun (mode : Mode) (names : List (List ℕ)) (units : ℕ) (works : List Work) (old new : OutState) (report : Report) : Type 0 where
+-- A RUN of the clients of these names and works over a new database of this schema in this mode, and its report. Each client did as its source
+-- means under its own answers, whatever the schedule. The trace is of these clients alone, and legal for a database that has no row at first
+-- and each sequence at its initial value
+pub record HasRun (mode : Mode) (schema : SchemaData) (names : List (List ℕ)) (units : ℕ) (works : List Work) (old new : OutState) (report : Report) : Type 0 where
   pub ends : List ClientEnd
   pub parts : List (List Section)
   pub did : DidAsMeant units report.trace 0 works ends parts
   pub clients : All (λ (e : Event). e.client < length works) report.trace
-  pub legal : (f : Setting) (contents : Contents) → length works ≤ f.clients → IsSoundContents f contents → IsLegal f contents report.trace
-  pub reported : IsReported mode names ends parts old new report
+  pub legal : IsLegal (record { schema = schema; clients = length works }) (new_contents schema) report.trace
+  pub reported : IsReported mode schema names ends parts old new report
 
 -- the report of a check of the sources of these names with these listings: its text is on standard output, or a prefix where a write
 -- failed, and then the line on standard error
@@ -301,7 +299,7 @@ pub data CommandResult (arguments : List (List ℕ)) (files : FileState) (faults
   -- it ran the clients that the arguments name, over a schema that breaks no rule
   Ran : (named : Run) → IsRun named → arguments ≡ arguments_of named →
       (texts : Texts files named.schema named.clients) → violation_of texts.df ≡ None → (works : List Work) → AreWorks files (schema_in texts.df) texts.texts works →
-      HasRun named.mode (client_names named) (number_of named.steps) works old new report → CommandResult arguments files faults old new report
+      HasRun named.mode (schema_in texts.df) (client_names named) (number_of named.steps) works old new report → CommandResult arguments files faults old new report
   -- it listed the sources that the arguments name, over a schema that breaks no rule
   Checked : (check : Check) → IsCheck check → arguments ≡ check_arguments check → (listings : List (List ℕ)) → AreListed files check listings → HasChecked check.programs listings old new report →
       CommandResult arguments files faults old new report
@@ -317,10 +315,11 @@ abbrev pub IsUsage : Option Refusal → Type 0
 IsUsage (Some (Usage arg)) = Unit {0}
 IsUsage refusal = ⊥
 
--- the whole text of a command was appended to standard output, and nothing to standard error: that of a run, or that of the check that
--- the arguments name
+-- the whole text of a command was appended to standard output, and nothing to standard error: that of the run or of the check that the
+-- arguments name
 pub data HasWholeText (arguments : List (List ℕ)) (files : FileState) (report : Report) (old new : OutState) : Type 0 where
-  of_run : (mode : Mode) (names : List (List ℕ)) (parts : List (List Section)) → ((schema : SchemaData) → new.texts ≡ appended Standard (run_text mode schema names parts report.trace) old.texts) → HasWholeText arguments files report old new
+  of_run : (run : Run) → arguments ≡ arguments_of run → (texts : Texts files run.schema run.clients) → (parts : List (List Section)) →
+      new.texts ≡ appended Standard (run_text run.mode (schema_in texts.df) (client_names run) parts report.trace) old.texts → HasWholeText arguments files report old new
   of_check : (check : Check) → arguments ≡ check_arguments check → (listings : List (List ℕ)) → AreListed files check listings → new.texts ≡ appended Standard (check_text check.programs listings) old.texts →
       HasWholeText arguments files report old new
 
@@ -363,7 +362,7 @@ abbrev pub AreSources : SchemaData → List (List ℕ) → List Tree → Type 0
 AreSources schema [] [] = Unit {0}
 AreSources schema [] (tree ∷ trees) = ⊥
 AreSources schema (text ∷ texts) [] = ⊥
-AreSources schema (text ∷ texts) (tree ∷ trees) = IsSourceOf schema text tree × AreSources schema texts trees
+AreSources schema (text ∷ texts) (tree ∷ trees) = IsTreeOf schema text tree × AreSources schema texts trees
 
 -- what holds inside of a call: no read has failed, and what is known of the files is as it was
 pub record AreSame (old new : FileState) : Type 0 where

@@ -1,4 +1,3 @@
-pub mod Sources
 pub mod Trace
 pub mod Report
 pub mod ClientRun

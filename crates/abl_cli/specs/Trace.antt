@@ -1,5 +1,5 @@
 -- The lines of a trace: what each client asked, and what it was answered, in order.
-use Rattle.std.specs.Prelude.{◌≡◌, ℕ, ◌+◌, Bool, if◌then◌else◌, List, [], ◌∷◌, ◌++◌, length, codes, decimal, slice_index_or}
+use Rattle.std.specs.Prelude.{ℕ, ◌+◌, Bool, if◌then◌else◌, List, [], ◌∷◌, ◌++◌, length, codes, decimal, slice_index_or}
 use Rattle.std.specs.List.{flat_map}
 use Rattle.std.specs.Fmt.{signed_decimal}
 use Rattle.abl_values.specs.Schema.{SchemaData, name_of}
@@ -8,7 +8,6 @@ use Rattle.client_database.specs.declared.operation.Op.TheVariants.{Enter, Leave
 use Rattle.client_database.specs.declared.answer.Answer.{Answer}
 use Rattle.client_database.specs.declared.answer.Answer.TheVariants as answer
 use Rattle.client_database.specs.declared.event.Event.{Event}
-use Rattle.level_machine.specs.Turns.{IsLevelOp}
 pub use Rattle.abl_values.specs.Schema.{no_sequence}
 
 -- ---- operations
@@ -111,10 +110,3 @@ trace_lines schema names n (event ∷ trace) = trace_line schema names n event +
 -- the part of a report that has the trace
 abbrev pub trace_part : SchemaData → List (List ℕ) → List Event → List ℕ
 trace_part schema names trace = codes "== trace ==" ++ 10 ∷ trace_lines schema names 1 trace
-
--- ---- what is built
-
--- an event of levels: its line does not depend on a schema, and its answer is a name alone
-pub record IsLevelEvent (event : Event) : Type 0 where
-  pub op : IsLevelOp event.op
-  pub answer : (names : List (List ℕ)) → added names event.answer ≡ []

@@ -7,9 +7,9 @@ ghost use Rattle.abl_cli.specs.Command.{CommandResult, IsRefused};
 use crate::check::check_sources;
 use crate::clients::{clients_of, names_of};
 use crate::execute::execute;
-use crate::load::load;
+use crate::load::{Loaded, load};
 use crate::refusal::Refusal;
-use crate::report::write_status;
+use crate::report::{ReportForm, write_status};
 use abl_arguments::{Arg, Command, RunArguments, read_command};
 use abl_base::{Bytes, Items};
 use abl_outside::{Files, Gate, Out};
@@ -34,8 +34,8 @@ pub struct Report {
 }
 
 /// Does what the arguments say. `run` reads the schema file, the sources and the inputs, compiles the
-/// sources, and runs each client on a thread of its own over one database. `check` reads the schema
-/// file and the sources, and lists the blocks of each source, also of one that is not built yet. It
+/// sources, and runs each client on a thread of its own over one new database. `check` reads the schema
+/// file and the sources, and lists the blocks of each source. It
 /// writes the report to standard output and the lines of the status to standard error. A client comes
 /// to the gate before each of its steps.
 pub fn run_abl<R: Threads + Wait + Sync, F: Files, O: Out, G: Gate + Sync>(
@@ -76,7 +76,19 @@ fn run_sources<R: Threads + Wait + Sync, F: Files, O: Out, G: Gate + Sync>(
     };
     match load(alloc, files, run.schema, &clients, run.steps) {
         Err(refusal) => refused(alloc, out, &names, refusal),
-        Ok(tasks) => execute(rt, alloc, out, gate, run.mode, &names, tasks),
+        Ok(loaded) => {
+            let Loaded {
+                schema,
+                database,
+                tasks,
+            } = loaded;
+            let form = ReportForm {
+                mode: run.mode,
+                schema: &schema,
+                names: &names,
+            };
+            execute(rt, alloc, out, gate, &form, database, tasks)
+        }
     }
 }
 

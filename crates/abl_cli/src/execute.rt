@@ -1,47 +1,47 @@
 //! A run: the clients on threads over one database, the report, and the lines of the status.
 
-ghost use Rattle.std.specs.Prelude.{◌≡◌, ◌++◌, ◌+◌, ◌<◌, ◌≤◌, ◌⊎◌, ℕ, List, [], All, length, map, vec_capacity, vec_len};
+ghost use Rattle.std.specs.Prelude.{◌≡◌, ◌++◌, ◌+◌, ◌<◌, ◌≤◌, ◌⊎◌, ℕ, List, [], length, map, vec_capacity, vec_len};
 ghost use Rattle.client_output.specs.declared.section.Section.{Section};
-ghost use Rattle.level_clients.specs.Ran.{ClientTask as TheTask};
-ghost use Rattle.abl_cli.specs.Trace.{IsLevelEvent};
+ghost use Rattle.new_database.specs.New.{IsNew};
 ghost use Rattle.abl_cli.specs.Inside.{AreToDo, HaveSections, end_or_none};
 ghost use Rattle.abl_cli.specs.Command.{HasRun, IsReported, IsRefused, Work, WritesStatus, failure_refusal, first_failure, is_failure, is_no_memory, one_lacks_memory, refusal_after, output_refusal, status_after};
 
 use crate::command::{Ends, Report, refused};
-use crate::database::{RunTask, run_tasks};
+use crate::database::{RunDatabase, RunStore, RunTask, run_tasks};
 use crate::refusal::Refusal;
-use crate::report::{write_run, write_status};
-use abl_arguments::Mode;
+use crate::report::{ReportForm, write_run, write_status};
 use abl_base::Bytes;
 use abl_outside::{Gate, Out};
+use abl_rows::RowStore;
 use client_database::{ClientEnd, Trace};
 use client_runner::Task;
 use std::alloc::Global;
 use std::sync::Wait;
 use std::thread::Threads;
 
-/// Runs each client on a thread of its own, and writes the report and the lines of the status. All
-/// memory that a run needs before a client begins is taken first.
+/// Runs each client on a thread of its own over a new database, and writes the report and the lines of
+/// the status. All memory that a run needs before a client begins is taken first.
 pub fn execute<R: Threads + Wait + Sync, O: Out, G: Gate + Sync>(
     rt: &R,
     alloc: Global,
     out: &mut O,
     gate: &G,
-    mode: Mode,
-    names: &[Bytes],
+    form: &ReportForm<'_>,
+    database: RunDatabase,
     tasks: Vec<RunTask>,
 ) -> Report
     requires some { 0 < length tasks.items }
     requires few { length tasks.items ≤ 16 }
-    ensures { (units : ℕ) (works : List Work) → AreToDo units works tasks.items → HasRun mode names.now units works (O.state out.old) (O.state out.new) result ⊎ IsRefused names.now Refusal.NoMemory (O.state out.old) (O.state out.new) result }
+    requires new { IsNew (⟦<RunStore as RowStore>⟧.state database.rows) database form.now.schema.now (length tasks.items) }
+    ensures { (units : ℕ) (works : List Work) → AreToDo units works tasks.items → HasRun form.now.mode form.now.schema.now form.now.names.now units works (O.state out.old) (O.state out.new) result ⊎ IsRefused form.now.names.now Refusal.NoMemory (O.state out.old) (O.state out.new) result }
 {
     let mut tasks = tasks;
     let Ok(ends) = Vec::with_capacity(alloc, tasks.len()) else {
-        return refused(alloc, out, names, Refusal::NoMemory);
+        return refused(alloc, out, form.names, Refusal::NoMemory);
     };
-    match run_tasks(rt, alloc, tasks.as_mut_slice(), gate) {
-        Ok(trace) => report(out, mode, names, tasks, trace, ends),
-        Err(_) => refused(alloc, out, names, Refusal::NoMemory),
+    match run_tasks(rt, alloc, database, tasks.as_mut_slice(), gate) {
+        Ok(trace) => report(out, form, tasks, trace, ends),
+        Err(_) => refused(alloc, out, form.names, Refusal::NoMemory),
     }
 }
 
@@ -49,8 +49,7 @@ pub fn execute<R: Threads + Wait + Sync, O: Out, G: Gate + Sync>(
 /// is in `ends`.
 fn report<O: Out>(
     out: &mut O,
-    mode: Mode,
-    names: &[Bytes],
+    form: &ReportForm<'_>,
     tasks: Vec<RunTask>,
     trace: Trace,
     ends: Vec<ClientEnd>,
@@ -58,14 +57,13 @@ fn report<O: Out>(
     requires none { ends.items ≡ [] }
     requires room { length tasks.items ≤ vec_capacity ends }
     requires few { length tasks.items ≤ 16 }
-    requires levels { All IsLevelEvent trace }
-    ensures reported { (parts : List (List Section)) × HaveSections tasks.items parts × IsReported mode names.now (map (λ (t : TheTask). end_or_none t.end) tasks.items) parts (O.state out.old) (O.state out.new) result }
+    ensures reported { (parts : List (List Section)) × HaveSections tasks.items parts × IsReported form.now.mode form.now.schema.now form.now.names.now (map (λ t. end_or_none t.end) tasks.items) parts (O.state out.old) (O.state out.new) result }
     ensures trace { result.trace ≡ trace }
 {
-    let whole = write_run(out, mode, names, &tasks, trace.as_slice()).is_ok();
+    let whole = write_run(out, form, &tasks, trace.as_slice()).is_ok();
     let ends = ends_of(tasks, ends);
     let refusal = refusal_after(&ends, whole);
-    write_refusal(out, names, &ends, &refusal);
+    write_refusal(out, form.names, &ends, &refusal);
     Report {
         status: status_of(&refusal),
         trace,
@@ -77,7 +75,7 @@ fn report<O: Out>(
 /// Adds how each client has ended, in order. Room for the ends is in `ends`.
 fn ends_of(tasks: Vec<RunTask>, ends: Vec<ClientEnd>) -> Vec<ClientEnd>
     requires room { vec_len ends + length tasks.items ≤ vec_capacity ends }
-    ensures { result.items ≡ ends.items ++ map (λ (t : TheTask). end_or_none t.end) tasks.items }
+    ensures { result.items ≡ ends.items ++ map (λ t. end_or_none t.end) tasks.items }
 {
     let mut tasks = tasks;
     let mut ends = ends;

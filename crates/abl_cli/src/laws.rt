@@ -6,11 +6,9 @@ ghost use Rattle.bound_tree.specs.Tree.{Source as Tree};
 ghost use Rattle.abl_base.specs.declared.rule.Rule.{Rule as TheRule};
 ghost use Rattle.abl_base.specs.declared.place.Place.{Place as ThePlace};
 ghost use Rattle.abl_schema.specs.Rules.{violation_of};
-ghost use Rattle.abl_cli.specs.Sources.{BreaksFirst, IsSourceOf};
 ghost use Rattle.abl_cli.specs.declared.refusal.Refusal.TheVariants.{Usage, File, TooLong, Schema, Source, Output};
 ghost use Rattle.abl_cli.specs.declared.command.Report.{Report as Told};
 ghost use Rattle.abl_cli.specs.declared.load.TheConstants.{MAX_FILE_BYTES as MOST};
-ghost use Rattle.abl_values.specs.Schema.{SchemaData};
 ghost use Rattle.abl_outside.specs.Out.{appended};
 ghost use Rattle.abl_outside.specs.declared.out.Stream.TheVariants.{Output as Standard};
 ghost use Rattle.abl_source.specs.Sources.{BreaksRule};
@@ -51,7 +49,7 @@ pub fn the_first_cause_is_the_refusal()
         CommandResult arguments files faults old new report → NamesRun arguments files run →
         (df : List ℕ) (sources : List (List ℕ)) → AllThere files run df sources → violation_of df ≡ None →
         (before after : List (List ℕ)) (trees : List Tree) (text : List ℕ) → sources ≡ before ++ text ∷ after → AreSources (schema_in df) before trees →
-        (rule : TheRule) (place : ThePlace) → BreaksFirst (schema_in df) text rule place → IsRefusal report.refusal (Source (length before) rule place) }
+        (rule : TheRule) (place : ThePlace) → BreaksRule (schema_in df) text rule place → IsRefusal report.refusal (Source (length before) rule place) }
     ensures no_named_input { (arguments : List (List ℕ)) (files : FileState) (faults : ℕ) (old new : OutState) (report : Told) (run : Run) →
         CommandResult arguments files faults old new report → NamesRun arguments files run →
         (df : List ℕ) (sources : List (List ℕ)) → AllThere files run df sources → violation_of df ≡ None → (trees : List Tree) → AreSources (schema_in df) sources trees →
@@ -125,19 +123,4 @@ pub fn status_0_says_that_the_report_is_whole()
 pub fn output_is_at_fault_where_its_count_rose()
     ensures { (arguments : List (List ℕ)) (files : FileState) (faults : ℕ) (old new : OutState) (report : Told) →
         CommandResult arguments files faults old new report → report.refusal ≡ Some Output → Rose old.faults new.faults }
-{}
-
-/// A text has at most one tree over a schema.
-pub fn one_tree()
-    ensures { (schema : SchemaData) (text : List ℕ) (a b : Tree) → IsSourceOf schema text a → IsSourceOf schema text b → a ≡ b }
-{}
-
-/// A text breaks at most one rule first over a schema, at one place.
-pub fn one_rule_is_first()
-    ensures { (schema : SchemaData) (text : List ℕ) (rule other : TheRule) (place spot : ThePlace) → BreaksFirst schema text rule place → BreaksFirst schema text other spot → (rule ≡ other) × (place ≡ spot) }
-{}
-
-/// A text that has a tree over a schema breaks no rule over it.
-pub fn sources_break_no_rule()
-    ensures { (schema : SchemaData) (text : List ℕ) (tree : Tree) (rule : TheRule) (place : ThePlace) → IsSourceOf schema text tree → ¬ BreaksFirst schema text rule place }
 {}

@@ -7,15 +7,16 @@ ghost use Rattle.abl_arguments.specs.CommandLine.{client_in};
 ghost use Rattle.abl_cli.specs.declared.refusal.Refusal.TheVariants.{NoMemory};
 ghost use Rattle.abl_cli.specs.Command.{AreSame, BreaksSchema, BreaksSource, HasInput, HasText, HaveClients, HaveTexts, IsCodeOf, IsNotRead, OneIsNotRead, OneSourceBreaks, Prevents, Work, client_files, input_file, schema_in};
 ghost use Rattle.block_code.specs.declared.code.Code.{Code as TheCode};
-ghost use Rattle.level_clients.specs.Ran.{ClientTask as TheTask};
+ghost use Rattle.new_database.specs.New.{IsNew};
 ghost use Rattle.abl_cli.specs.Inside.{AreBegun, HaveCodes, IsBegun, IsReady, inputs_of};
 
-use crate::database::RunTask;
+use crate::database::{RunDatabase, RunStore, RunTask, open_database};
 use crate::refusal::Refusal;
 use crate::source::compile_source;
 use abl_arguments::ClientArgument;
 use abl_base::Bytes;
 use abl_outside::{FileFault, Files};
+use abl_rows::RowStore;
 use abl_schema::{SchemaRefusal, read_df};
 use abl_source::SourceFault;
 use abl_values::Schema;
@@ -35,28 +36,50 @@ pub struct ClientTexts {
     pub input: Bytes,
 }
 
+/// What a run needs: the schema, a new database of it, and the clients, ready to run.
+#[derive(Drop)]
+pub struct Loaded {
+    pub schema: Schema,
+    pub database: RunDatabase,
+    pub tasks: Vec<RunTask>,
+}
+
+/// The schema of a run, and the codes of its sources.
+#[derive(Drop)]
+struct Compiled {
+    schema: Schema,
+    codes: Vec<Code>,
+}
+
 /// Reads the schema file, and the source and the input of each client, compiles the sources where the
-/// schema breaks no rule, and reads the files after INPUT FROM. Each client may spend this number of
-/// units.
+/// schema breaks no rule, reads the files after INPUT FROM, and opens a new database. Each client may
+/// spend this number of units.
 pub fn load<F: Files>(
     alloc: Global,
     files: &mut F,
     schema: &[u8],
     clients: &[ClientArgument<'_>],
     units: u64,
-) -> Result<Vec<RunTask>, Refusal>
+) -> Result<Loaded, Refusal>
     requires { length clients.now ≤ 16 }
-    ensures ready { IfOk result (λ tasks. IsReady (F.state files.old) schema.now (map client_in clients.now) units tasks.items) }
+    ensures ready { IfOk result (λ loaded. IsReady (F.state files.old) schema.now (map client_in clients.now) units loaded.schema loaded.tasks.items) }
+    ensures new { IfOk result (λ loaded. IsNew (⟦<RunStore as RowStore>⟧.state loaded.database.rows) loaded.database loaded.schema (length loaded.tasks.items)) }
     ensures prevented { IfErr result (Prevents (F.state files.old) (F.state files.new).faults schema.now (map client_in clients.now)) }
 {
     let df = read(alloc, files, schema)?;
     let mut texts = Vec::new(alloc);
     read_clients(alloc, files, clients, &mut texts)?;
-    let codes = codes_in(alloc, df.as_slice(), &texts)?;
+    let compiled = compiled_in(alloc, df.as_slice(), &texts)?;
+    let Compiled { schema, codes } = compiled;
     let mut tasks = Vec::new(alloc);
-    match begin_clients(alloc, files, df.as_slice(), units, codes, texts, &mut tasks) {
-        Ok(()) => Ok(tasks),
-        Err(refusal) => Err(refusal),
+    begin_clients(alloc, files, df.as_slice(), units, codes, texts, &mut tasks)?;
+    match open_database(alloc, df.as_slice(), clients.len() as u16) {
+        Ok(database) => Ok(Loaded {
+            schema,
+            database,
+            tasks,
+        }),
+        Err(_) => Err(Refusal::NoMemory),
     }
 }
 
@@ -158,18 +181,19 @@ pub(crate) fn read<F: Files>(alloc: Global, files: &mut F, name: &[u8]) -> Resul
     }
 }
 
-/// The codes of the sources over the schema of this text.
-fn codes_in(alloc: Global, df: &[u8], texts: &[ClientTexts]) -> Result<Vec<Code>, Refusal>
+/// The schema of this text, and the codes of the sources over it.
+fn compiled_in(alloc: Global, df: &[u8], texts: &[ClientTexts]) -> Result<Compiled, Refusal>
     requires short { All (λ (t : ClientTexts). length t.source ≤ MAX_FILE_BYTES) texts.now }
     requires few { length texts.now ≤ 16 }
     ensures clean { OnOk result (violation_of df.now ≡ None) }
-    ensures codes { IfOk result (λ codes. HaveCodes (schema_in df.now) texts.now codes.items) }
+    ensures schema { IfOk result (λ compiled. compiled.schema ≡ schema_in df.now) }
+    ensures codes { IfOk result (λ compiled. HaveCodes (schema_in df.now) texts.now compiled.codes.items) }
     ensures refused { IfErr result (λ refusal. (refusal ≡ NoMemory) ⊎ (BreaksSchema df.now refusal ⊎ ((violation_of df.now ≡ None) × OneSourceBreaks (schema_in df.now) 0 texts.now refusal))) }
 {
     let schema = schema_of(alloc, df)?;
     let mut codes = Vec::new(alloc);
     match add_codes(alloc, &schema, texts, 0, &mut codes) {
-        Ok(()) => Ok(codes),
+        Ok(()) => Ok(Compiled { schema, codes }),
         Err(refusal) => Err(refusal),
     }
 }
@@ -239,7 +263,7 @@ fn begin_clients<F: Files>(
     tasks: &mut Vec<RunTask>,
 ) -> Result<(), Refusal>
     requires { length codes.items ≡ length texts.items }
-    ensures begun { OnOk result ((more : List TheTask) × (tasks.new.items ≡ tasks.old.items ++ more) × AreBegun (F.state files.old) units (schema_in df.now).tables codes.items texts.items more) }
+    ensures begun { OnOk result ((more : List _) × (tasks.new.items ≡ tasks.old.items ++ more) × AreBegun (F.state files.old) units (schema_in df.now).tables codes.items texts.items more) }
     ensures refused { IfErr result (λ refusal. (refusal ≡ NoMemory) ⊎ OneIsNotRead (F.state files.old) (F.state files.new).faults (inputs_of codes.items) refusal) }
 {
     let mut codes = codes;
@@ -264,7 +288,7 @@ fn add_client<F: Files>(
     text: ClientTexts,
     tasks: &mut Vec<RunTask>,
 ) -> Result<(), Refusal>
-    ensures begun { OnOk result ((task : TheTask) × (tasks.new.items ≡ tasks.old.items ++ task ∷ []) × IsBegun (F.state files.old) units (schema_in df.now).tables code text.input task) }
+    ensures begun { OnOk result ((task : _) × (tasks.new.items ≡ tasks.old.items ++ task ∷ []) × IsBegun (F.state files.old) units (schema_in df.now).tables code text.input task) }
     ensures same { OnOk result (AreSame (F.state files.old) (F.state files.new)) }
     ensures refused { IfErr result (λ refusal. (refusal ≡ NoMemory) ⊎ OneIsNotRead (F.state files.old) (F.state files.new).faults code.inputs.items refusal) }
 {

@@ -1,12 +1,10 @@
 //! The text that a run writes to standard output, and the lines on how a command ended.
 
-ghost use Rattle.std.specs.Prelude.{◌≡◌, ◌++◌, ◌∷◌, [], All, List, codes, decimal, is_ok, slice_get};
+ghost use Rattle.std.specs.Prelude.{◌≡◌, ◌++◌, ◌∷◌, [], List, codes, decimal, is_ok, slice_get};
 ghost use Rattle.client_output.specs.declared.section.Section.{Section as Written};
 ghost use Rattle.std.specs.List.{flat_map};
 ghost use Rattle.abl_outside.specs.declared.out.Stream.{Stream};
 ghost use Rattle.abl_outside.specs.Out.{Writes};
-ghost use Rattle.abl_values.specs.Schema.{SchemaData};
-ghost use Rattle.abl_cli.specs.Trace.{IsLevelEvent};
 ghost use Rattle.abl_cli.specs.Report.{line_end_of, line_end_after, part_of, report_of, reports, run_text, end_line, end_lines, name_or_none, status_lines};
 ghost use Rattle.abl_cli.specs.Inside.{HaveSections};
 
@@ -16,9 +14,19 @@ use crate::trace::write_trace;
 use abl_arguments::Mode;
 use abl_base::{Bytes, Place};
 use abl_outside::{Out, OutFailed, Stream};
+use abl_values::Schema;
 use client_database::{ClientEnd, Event};
 use client_output::Section;
 use itoa::Buffer;
+
+/// What the report of a run needs besides what the clients did: the mode, the schema, whose names are
+/// in the lines of a trace, and the names of the clients.
+#[derive(Clone, Copy)]
+pub struct ReportForm<'a> {
+    pub mode: Mode,
+    pub schema: &'a Schema,
+    pub names: &'a [Bytes],
+}
 
 /// Writes the piece. After an error a prefix of it was written.
 fn write_piece<O: Out>(out: &mut O, stream: Stream, piece: &[u8]) -> Result<(), OutFailed>
@@ -106,19 +114,17 @@ pub fn write_report<O: Out>(out: &mut O, name: &[u8], sections: &[Section]) -> R
 /// Writes the text of a run: the part of each client, and in mode trace the trace.
 pub fn write_run<O: Out>(
     out: &mut O,
-    mode: Mode,
-    names: &[Bytes],
+    form: &ReportForm<'_>,
     tasks: &[RunTask],
     trace: &[Event],
 ) -> Result<(), OutFailed>
-    requires { All IsLevelEvent trace.now }
-    ensures { (parts : List (List Written)) × HaveSections tasks.now parts × ((schema : SchemaData) → Writes (is_ok result) Stream.Output (run_text mode schema names.now parts trace.now) (O.state out.old) (O.state out.new)) }
+    ensures { (parts : List (List Written)) × HaveSections tasks.now parts × Writes (is_ok result) Stream.Output (run_text form.now.mode form.now.schema.now form.now.names.now parts trace.now) (O.state out.old) (O.state out.new) }
 {
-    match mode {
-        Mode::Quiet => write_reports(out, names, tasks),
+    match form.mode {
+        Mode::Quiet => write_reports(out, form.names, tasks),
         Mode::Trace => {
-            write_reports(out, names, tasks)?;
-            write_trace(out, names, trace)
+            write_reports(out, form.names, tasks)?;
+            write_trace(out, form.schema, form.names, trace)
         }
     }
 }

@@ -1,27 +1,32 @@
 //! The lines of a trace (this project's choice).
 
-ghost use Rattle.std.specs.Prelude.{◌≡◌, ◌+◌, ◌++◌, ◌∷◌, [], All, codes, decimal, is_ok, slice_index_or, IfNone, IfSome};
-ghost use Rattle.abl_values.specs.Schema.{SchemaData};
+ghost use Rattle.std.specs.Prelude.{◌≡◌, ◌<◌, ◌++◌, ◌∷◌, [], codes, decimal, is_ok, length, slice_index_or};
+ghost use Rattle.abl_values.specs.Schema.{name_of};
 ghost use Rattle.abl_outside.specs.declared.out.Stream.{Stream};
-ghost use Rattle.level_machine.specs.Turns.{IsLevelOp};
-ghost use Rattle.abl_cli.specs.Trace.{IsLevelEvent, answer_name, op_name, operands, trace_line, trace_part};
 ghost use Rattle.abl_outside.specs.Out.{Writes};
+ghost use Rattle.abl_cli.specs.Trace.{added, answer_name, client_names, either_letter, op_name, operands, sequence_name, trace_line, trace_part};
 
 use crate::report::write_all;
 use abl_base::Bytes;
 use abl_outside::{Out, OutFailed, Stream};
+use abl_values::Schema;
 use client_database::{Answer, Event, Op};
 use itoa::Buffer;
 
 /// Writes the part of the report that has the trace: `== trace ==`, and for each event its number
-/// from 1, the client's name, the operation and the answer. It takes no memory.
-pub fn write_trace<O: Out>(out: &mut O, names: &[Bytes], trace: &[Event]) -> Result<(), OutFailed>
-    requires { All IsLevelEvent trace.now }
-    ensures { (schema : SchemaData) → Writes (is_ok result) Stream.Output (trace_part schema names.now trace.now) (O.state out.old) (O.state out.new) }
+/// from 1, the client's name, the operation and the answer, with the names of the schema. It takes
+/// no memory.
+pub fn write_trace<O: Out>(
+    out: &mut O,
+    schema: &Schema,
+    names: &[Bytes],
+    trace: &[Event],
+) -> Result<(), OutFailed>
+    ensures { Writes (is_ok result) Stream.Output (trace_part schema.now names.now trace.now) (O.state out.old) (O.state out.new) }
 {
     write_heading(out)?;
     for (at, event) in trace.iter().enumerate() {
-        write_event(out, at as u64 + 1, names, event)?;
+        write_event(out, schema, at as u64 + 1, names, event)?;
     }
     Ok(())
 }
@@ -33,29 +38,41 @@ fn write_heading<O: Out>(out: &mut O) -> Result<(), OutFailed>
     write_all(out, Stream::Output, &[b"== trace ==\n"])
 }
 
-/// Writes the line of an event of levels.
+/// Writes the line of an event.
 fn write_event<O: Out>(
     out: &mut O,
+    schema: &Schema,
     number: u64,
     names: &[Bytes],
     event: &Event,
 ) -> Result<(), OutFailed>
-    requires { IsLevelEvent event.now }
-    ensures { (schema : SchemaData) → Writes (is_ok result) Stream.Output (trace_line schema names.now number event.now) (O.state out.old) (O.state out.new) }
+    ensures { Writes (is_ok result) Stream.Output (trace_line schema.now names.now number event.now) (O.state out.old) (O.state out.new) }
 {
-    let name = client_name(names, event.client);
+    write_caller(out, names, number, event.client)?;
+    write_op(out, schema, &event.op)?;
+    write_answer(out, names, &event.answer)
+}
+
+/// Writes the number of an event and the name of its client.
+fn write_caller<O: Out>(
+    out: &mut O,
+    names: &[Bytes],
+    number: u64,
+    client: u16,
+) -> Result<(), OutFailed>
+    ensures { Writes (is_ok result) Stream.Output (decimal number ++ 32 ∷ slice_index_or names.now client []) (O.state out.old) (O.state out.new) }
+{
     let mut digits = Buffer::new();
     let number = digits.format(number).as_bytes();
-    let op = op_name(&event.op);
-    let answer = answer_name(&event.answer);
-    match operand(&event.op) {
-        None => write_line(out, number, name, op, b"", b"", answer),
-        Some(operand) => {
-            let mut digits = Buffer::new();
-            let operand = digits.format(operand).as_bytes();
-            write_line(out, number, name, op, b" ", operand, answer)
-        }
-    }
+    write_two(out, number, client_name(names, client))
+}
+
+/// Writes the two words, with a blank between them.
+fn write_two<'a, O: Out>(out: &mut O, first: &'a [u8], second: &'a [u8]) -> Result<(), OutFailed>
+    ensures { Writes (is_ok result) Stream.Output (first.now ++ 32 ∷ second.now) (O.state out.old) (O.state out.new) }
+{
+    let pieces = [first, b" ", second];
+    write_all(out, Stream::Output, &pieces)
 }
 
 /// The name of the client of this number, and nothing where there is none.
@@ -68,22 +85,93 @@ fn client_name(names: &[Bytes], client: u16) -> &[u8]
     }
 }
 
-/// Writes a line of these arguments, with `blank` before the operand.
-fn write_line<'a, O: Out>(
-    out: &mut O,
-    number: &'a [u8],
-    name: &'a [u8],
-    op: &'a [u8],
-    blank: &'a [u8],
-    operand: &'a [u8],
-    answer: &'a [u8],
-) -> Result<(), OutFailed>
-    ensures { Writes (is_ok result) Stream.Output (number.now ++ 32 ∷ name.now ++ 32 ∷ op.now ++ (blank.now ++ operand.now) ++ 32 ∷ answer.now ++ 10 ∷ []) (O.state out.old) (O.state out.new) }
+/// Writes the name of the operation, and what it is on: a number of rows, a level, a table, a row or
+/// a sequence, each after a blank.
+fn write_op<O: Out>(out: &mut O, schema: &Schema, op: &Op) -> Result<(), OutFailed>
+    ensures { Writes (is_ok result) Stream.Output (32 ∷ op_name op.now ++ operands schema.now op.now) (O.state out.old) (O.state out.new) }
 {
-    let pieces = [
-        number, b" ", name, b" ", op, blank, operand, b" ", answer, b"\n",
-    ];
+    let name = op_name(op);
+    let mut digits = Buffer::new();
+    match op {
+        Op::Enter | Op::End => write_all(out, Stream::Output, &[b" ", name]),
+        Op::Leave { keep } => {
+            let rows = digits.format(keep.len() as u64).as_bytes();
+            write_operand(out, name, rows)
+        }
+        Op::Back { depth } => {
+            let level = digits.format(*depth).as_bytes();
+            write_operand(out, name, level)
+        }
+        Op::Next { table, .. } | Op::Insert { table, .. } => {
+            write_operand(out, name, table_name(schema, *table))
+        }
+        Op::Get { row, .. } | Op::Put { row, .. } | Op::Delete { row, .. } | Op::Drop { row } => {
+            let row = digits.format(row.0).as_bytes();
+            write_operand(out, name, row)
+        }
+        Op::Lock {
+            row,
+            exclusive,
+            wait,
+            ..
+        } => {
+            let row = digits.format(row.0).as_bytes();
+            write_lock(out, name, row, *exclusive, *wait)
+        }
+        Op::NextValue { sequence } | Op::CurrentValue { sequence } => {
+            write_operand(out, name, sequence_name(schema, *sequence))
+        }
+    }
+}
+
+/// Writes the name of an operation and what it is on.
+fn write_operand<'a, O: Out>(
+    out: &mut O,
+    name: &'a [u8],
+    operand: &'a [u8],
+) -> Result<(), OutFailed>
+    ensures { Writes (is_ok result) Stream.Output (32 ∷ name.now ++ 32 ∷ operand.now) (O.state out.old) (O.state out.new) }
+{
+    let pieces = [b" ", name, b" ", operand];
     write_all(out, Stream::Output, &pieces)
+}
+
+/// Writes the name of a lock operation, its row, X for an exclusive lock, else S, and W where the
+/// client waits, else N.
+fn write_lock<'a, O: Out>(
+    out: &mut O,
+    name: &'a [u8],
+    row: &'a [u8],
+    exclusive: bool,
+    wait: bool,
+) -> Result<(), OutFailed>
+    ensures { Writes (is_ok result) Stream.Output (32 ∷ name.now ++ 32 ∷ row.now ++ either_letter exclusive 88 83 ++ either_letter wait 87 78) (O.state out.old) (O.state out.new) }
+{
+    let strength: &[u8] = if exclusive { b" X" } else { b" S" };
+    let patience: &[u8] = if wait { b" W" } else { b" N" };
+    let pieces = [b" ", name, b" ", row, strength, patience];
+    write_all(out, Stream::Output, &pieces)
+}
+
+/// The name of the table of this number, and nothing where there is none.
+fn table_name(schema: &Schema, table: u16) -> &[u8]
+    ensures { result.now ≡ name_of schema.now table }
+{
+    if table < schema.tables() {
+        schema.table_name(table)
+    } else {
+        b""
+    }
+}
+
+/// The name of the sequence of this number, and nothing where there is none.
+fn sequence_name(schema: &Schema, sequence: u16) -> &[u8]
+    ensures { result.now ≡ sequence_name schema.now sequence }
+{
+    match schema.sequences().get(usize::from(sequence)) {
+        Some(sequence) => sequence.name.as_slice(),
+        None => b"",
+    }
 }
 
 /// What the operation is called.
@@ -107,18 +195,85 @@ fn op_name(op: &Op) -> &'static [u8]
     }
 }
 
-/// The number after the name of an operation of levels, if it has one: the number of rows kept, or
-/// the level.
-fn operand(op: &Op) -> Option<u64>
-    requires { IsLevelOp op.now }
-    ensures none { IfNone result ((schema : SchemaData) → operands schema op.now ≡ []) }
-    ensures some { IfSome result (λ number. (schema : SchemaData) → operands schema op.now ≡ 32 ∷ decimal number) }
+/// Writes the name of the answer, what it adds to the name, and the end of the line.
+fn write_answer<O: Out>(out: &mut O, names: &[Bytes], answer: &Answer) -> Result<(), OutFailed>
+    ensures { Writes (is_ok result) Stream.Output (32 ∷ answer_name answer.now ++ added names.now answer.now ++ 10 ∷ []) (O.state out.old) (O.state out.new) }
 {
-    match op {
-        Op::Leave { keep } => Some(keep.len() as u64),
-        Op::Back { depth } => Some(u64::from(*depth)),
-        _ => None,
+    let name = answer_name(answer);
+    let mut digits = Buffer::new();
+    match answer {
+        Answer::Found { row, .. } | Answer::Inserted { row } | Answer::Duplicate { row, .. } => {
+            let row = digits.format(row.0).as_bytes();
+            write_with_number(out, name, row)
+        }
+        Answer::Value(value) => {
+            let value = digits.format(*value).as_bytes();
+            write_with_number(out, name, value)
+        }
+        Answer::Busy { holders } | Answer::Blocked { holders } => {
+            write_with_clients(out, name, names, holders.as_slice())
+        }
+        Answer::Deadlock { cycle } => write_with_clients(out, name, names, cycle.as_slice()),
+        _ => write_all(out, Stream::Output, &[b" ", name, b"\n"]),
     }
+}
+
+/// Writes the name of an answer with a number.
+fn write_with_number<'a, O: Out>(
+    out: &mut O,
+    name: &'a [u8],
+    number: &'a [u8],
+) -> Result<(), OutFailed>
+    ensures { Writes (is_ok result) Stream.Output (32 ∷ name.now ++ 32 ∷ number.now ++ 10 ∷ []) (O.state out.old) (O.state out.new) }
+{
+    let pieces = [b" ", name, b" ", number, b"\n"];
+    write_all(out, Stream::Output, &pieces)
+}
+
+/// Writes the name of an answer with the names of clients.
+fn write_with_clients<O: Out>(
+    out: &mut O,
+    name: &[u8],
+    names: &[Bytes],
+    clients: &[u16],
+) -> Result<(), OutFailed>
+    ensures { Writes (is_ok result) Stream.Output (32 ∷ name.now ++ client_names names.now clients.now ++ 10 ∷ []) (O.state out.old) (O.state out.new) }
+{
+    write_word(out, name)?;
+    write_clients(out, names, clients)?;
+    write_line_end(out)
+}
+
+/// Writes the names of clients, each after a blank.
+fn write_clients<O: Out>(out: &mut O, names: &[Bytes], clients: &[u16]) -> Result<(), OutFailed>
+    ensures { Writes (is_ok result) Stream.Output (client_names names.now clients.now) (O.state out.old) (O.state out.new) }
+{
+    for client in clients {
+        write_client(out, names, *client)?;
+    }
+    Ok(())
+}
+
+/// Writes the name of the client of this number after a blank.
+fn write_client<O: Out>(out: &mut O, names: &[Bytes], client: u16) -> Result<(), OutFailed>
+    ensures { Writes (is_ok result) Stream.Output (32 ∷ slice_index_or names.now client []) (O.state out.old) (O.state out.new) }
+{
+    write_word(out, client_name(names, client))
+}
+
+/// Writes the word after a blank.
+fn write_word<'a, O: Out>(out: &mut O, word: &'a [u8]) -> Result<(), OutFailed>
+    ensures { Writes (is_ok result) Stream.Output (32 ∷ word.now) (O.state out.old) (O.state out.new) }
+{
+    let pieces = [b" ", word];
+    write_all(out, Stream::Output, &pieces)
+}
+
+/// Ends the line.
+fn write_line_end<O: Out>(out: &mut O) -> Result<(), OutFailed>
+    ensures { Writes (is_ok result) Stream.Output (10 ∷ []) (O.state out.old) (O.state out.new) }
+{
+    write_all(out, Stream::Output, &[b"\n"])
 }
 
 /// What the answer is called.

@@ -5,11 +5,12 @@ pub const HELP: &str = "abl DATABASE run SCHEMA STEPS MODE CLIENT...
 abl DATABASE check SCHEMA PROG...
 
 run reads the schema file SCHEMA, compiles the ABL source of each CLIENT, and runs
-1 to 16 clients at the same time over one database. CLIENT is NAME=PROG or
-NAME=PROG<INPUT, and no two have one NAME. Each client may spend STEPS units (1 to
-999999999). IMPORT reads the file INPUT; without it the input is empty. Each file
-may have 1 MiB (1048576 bytes). Put an argument with < in quotation marks, so that
-a shell does not take it.
+1 to 16 clients at the same time over one database in memory. It is new: it has no
+record, and each sequence has its initial value. Nothing of it is kept. CLIENT is
+NAME=PROG or NAME=PROG<INPUT, and no two have one NAME. Each client may spend
+STEPS units (1 to 999999999). IMPORT reads the file INPUT; without it the input is
+empty. Each file may have 1 MiB (1048576 bytes). Put an argument with < in
+quotation marks, so that a shell does not take it.
 
 The output of each client goes to standard output, in the order of the arguments,
 and in MODE trace the lines of what they requested of the database and were
@@ -34,7 +35,6 @@ a letter and a number, and the line or the line:column where it is broken first:
   F  the schema file           Y   the names and types of the source
   L  the tokens of the source  S   the scopes of its buffers
   G  its grammar               U   its labels and blocks
-  N1 a record or a sequence, which run does not support yet
 
 DATABASE is not read yet.
 

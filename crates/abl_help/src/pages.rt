@@ -1,6 +1,6 @@
 //! The pages. Written by tools/explanations from tools/explanations.txt.
 
-static NAMES: [&str; 62] = [
+static NAMES: [&str; 61] = [
     "L1",
     "L2",
     "L3",
@@ -33,7 +33,6 @@ static NAMES: [&str; 62] = [
     "U5",
     "U6",
     "U7",
-    "N1",
     "F1",
     "F2",
     "F3",
@@ -70,7 +69,7 @@ pub fn names() -> &'static [&'static str] {
     &NAMES
 }
 
-static SUMMARIES: [&str; 62] = [
+static SUMMARIES: [&str; 61] = [
     "A byte begins no token",
     "A comment is open at the end of the source",
     "A text is open at the end of the source",
@@ -103,7 +102,6 @@ static SUMMARIES: [&str; 62] = [
     "The LEAVE or NEXT after an UNDO is of a block inside the one that is undone",
     "A phrase or an option is given twice, as TRANSACTION, WHILE, NO-ERROR or FORMAT",
     "The RETRY after an UNDO is of another block than the one that is undone",
-    "The source breaks no other rule, and does not run yet",
     "A line begins with ADD, UPDATE, DROP or RENAME and is none of the four items",
     "A name is not a letter and then letters, digits and `# $ % & - _`, or has more than 32 bytes",
     "Two tables have one name",
@@ -131,7 +129,7 @@ static SUMMARIES: [&str; 62] = [
     "The output of the client, named outputs included, would pass 16 MiB (16,777,216 bytes)",
     "The trace would pass 256 MiB, where an operation counts 64 bytes and what it carries",
     "A transaction would write more than 7,989 slots",
-    "The client waits for others that wait for it, directly or not",
+    "The client asks for a record that another client has locked, or for a key that another has reserved, and would wait for clients that wait for it, directly or not",
     "The disk failed, and the database is closed",
 ];
 
@@ -140,7 +138,7 @@ pub fn summaries() -> &'static [&'static str] {
     &SUMMARIES
 }
 
-static TEXTS: [&str; 62] = [
+static TEXTS: [&str; 61] = [
     "L1: A byte begins no token. Outside texts and comments a source has names,
 numbers, dates, texts, white space and the symbols `: , ( ) = <> < > <= >= + -
 * / ? ^` and the period, which is one only before white space, a comment or
@@ -643,24 +641,6 @@ Undo the block that is to be tried again.
       END.
     END.
 ",
-    "N1: The source breaks no other rule, and does not run yet: it names a record
-or a sequence. The place is always 1:1. A source names a record by a table or
-buffer in FIND, FOR, CREATE, DELETE, RELEASE, DO FOR, DEFINE BUFFER, IMPORT,
-EXPORT, AVAILABLE or LOCKED, or by `buffer.field`; and a sequence by NEXT-
-VALUE or CURRENT-VALUE.
-
-Refused at 1:1:
-
-    FIND FIRST Customer.
-    ^
-    MESSAGE Customer.Name.
-
-Read the values from a file by IMPORT into variables.
-
-    DEFINE VARIABLE name AS CHARACTER.
-    IMPORT name.
-    MESSAGE name.
-",
     "F1: A line begins with ADD, UPDATE, DROP or RENAME and is none of the four
 items: ADD TABLE, ADD FIELD, ADD INDEX, ADD SEQUENCE. Nothing may follow the
 form on its line. So an incremental dump is refused.
@@ -923,9 +903,9 @@ It prints on standard error
 See the page of the rule.
 ",
     "status 4: The source breaks a rule: the first of L1 to L5, else of G1 and G2,
-else of Y1 to Y14, else of S1 to S4, else of U1 to U7, else N1. The line has
-the client's name, the rule, and the line and column, which count from 1,
-columns in bytes.
+else of Y1 to Y14, else of S1 to S4, else of U1 to U7. The line has the
+client's name, the rule, and the line and column, which count from 1, columns
+in bytes.
 
     abl shop run orders.df 10 quiet a=a.p
 
@@ -1057,18 +1037,57 @@ bytes and what it carries. It is counted in mode `quiet` too.
 
 Split the work over several commands.
 ",
-    "stop TxFull: A transaction would write more than 7,989 slots. No source that
-runs today writes one.
+    "stop TxFull: A transaction would write more than 7,989 slots. A record is
+stored in one slot for each 240 bytes, and a change writes each of its slots;
+what was undone inside the transaction counts too.
 
-Use smaller transactions.
-",
-    "stop Deadlock: The client waits for others that wait for it, directly or not.
-No source that runs today takes a lock.
+Stops at 5:5:
 
-Lock records in the same order in every source.
+    DEFINE VARIABLE i AS INTEGER NO-UNDO.
+    DO TRANSACTION:
+      DO i = 1 TO 8000:
+        CREATE Item.
+        Item.ItemNum = i.
+        ^
+      END.
+    END.
+
+Use smaller transactions: here one for each record.
+
+    DEFINE VARIABLE i AS INTEGER NO-UNDO.
+    DO i = 1 TO 8000 TRANSACTION:
+      CREATE Item.
+      Item.ItemNum = i.
+    END.
 ",
-    "stop Closed: The disk failed, and the database is closed. No source that runs
-today uses a disk.
+    "stop Deadlock: The client asks for a record that another client has locked, or
+for a key that another has reserved, and would wait for clients that wait for
+it, directly or not. It stops at once, and what it had not committed is
+undone, so that the others can go on. Below two clients run one source, one
+with the input 1 and one with the input 2: each has one record and asks for
+the other's.
+
+Stops at 11:3:
+
+    DEFINE VARIABLE mine AS INTEGER NO-UNDO.
+    DEFINE VARIABLE n AS INT64 NO-UNDO.
+    IMPORT mine.
+    DO TRANSACTION:
+      CREATE Item.
+      Item.ItemNum = mine.
+      n = NEXT-VALUE(NextOrder).
+      DO WHILE n < 2: /* until both have their record */
+        n = CURRENT-VALUE(NextOrder).
+      END.
+      FIND Item WHERE Item.ItemNum = 3 - mine SHARE-LOCK.
+      ^
+    END.
+
+Lock records in the same order in every source, or end the transaction before
+the next lock.
+",
+    "stop Closed: The disk failed, and the database is closed. A run has its
+database in memory, so no run ends so.
 ",
 ];
 

@@ -1,7 +1,8 @@
 //! The answers of rows.
 
 use crate::by_client::by_client;
-use crate::texts::{shown, text_of};
+use crate::texts::{shown, text_of, whole};
+use crate::unnamed::unnamed;
 use abl_base::{Bytes, Items};
 use abl_cli::{Arg, run_abl};
 use abl_outside::{MemFiles, MemOut, NamedFile, OpenGate, Stream};
@@ -22,13 +23,21 @@ struct Row<'a> {
     files: &'a str,
 }
 
-/// The status of a row's command, and what is then on the two streams.
-pub fn answer<R: Threads + Wait + Sync>(
+/// The status of a row's command, and what is then on the two streams. A row without a schema file
+/// has this one.
+pub fn answer<'a, R: Threads + Wait + Sync>(
     rt: &R,
     alloc: Global,
-    row: &str,
+    row: &'a str,
+    schema: &'a str,
 ) -> Result<String, AllocError> {
-    let row = fields_of(row);
+    let fields = fields_of(row);
+    let schema = if fields.schema.is_empty() {
+        schema
+    } else {
+        fields.schema
+    };
+    let row = Row { schema, ..fields };
     let arguments = arguments_of(alloc, row.arguments)?;
     let reads = numbers_after(alloc, row.faults, "read")?;
     let writes = numbers_after(alloc, row.faults, "write")?;
@@ -40,14 +49,31 @@ pub fn answer<R: Threads + Wait + Sync>(
     let mut files = files_of(alloc, &row, &reads)?;
     let mut out = MemOut::new(alloc, most, &writes)?;
     let report = run_abl(rt, alloc, &arguments, &mut files, &mut out, &OpenGate);
-    let output = if row.faults.contains("clients") {
-        let grouped = by_client(alloc, out.text(Stream::Output), &arguments)?;
-        shown(alloc, &grouped)?
-    } else {
-        shown(alloc, out.text(Stream::Output))?
-    };
-    let diagnostics = shown(alloc, out.text(Stream::Diagnostics))?;
+    let output = stream_shown(alloc, out.text(Stream::Output), &row, &arguments)?;
+    let diagnostics = stream_shown(alloc, out.text(Stream::Diagnostics), &row, &arguments)?;
     format!(in alloc; "{} {output} {diagnostics}", report.status)
+}
+
+/// What is on a stream, as the row's words ask for it: a trace by client, the lines in their order
+/// without the clients' names, or a long text whole.
+fn stream_shown(
+    alloc: Global,
+    text: &[u8],
+    row: &Row<'_>,
+    arguments: &[Arg],
+) -> Result<String, AllocError> {
+    if row.faults.contains("clients") {
+        let grouped = by_client(alloc, text, arguments)?;
+        return shown(alloc, &grouped);
+    }
+    if row.faults.contains("unnamed") {
+        let sorted = unnamed(alloc, text, arguments)?;
+        return shown(alloc, &sorted);
+    }
+    if row.faults.contains("whole") {
+        return whole(alloc, text);
+    }
+    shown(alloc, text)
 }
 
 /// The fields of a row; those that it lacks are empty.

@@ -50,14 +50,20 @@ fn add_text(bytes: &mut Vec<u8>, text: &[u8], number: &[u8]) -> Result<(), Alloc
     Ok(())
 }
 
+/// The bytes as a text, with `|` for a line feed.
+pub fn whole(alloc: Global, bytes: &[u8]) -> Result<String, AllocError> {
+    let mut text = String::new(alloc);
+    add_shown(&mut text, bytes)?;
+    Ok(text)
+}
+
 /// The bytes as a text, with `|` for a line feed. Of more than 400 bytes the first and the last 80
 /// are written, and between them the number of all.
 pub fn shown(alloc: Global, bytes: &[u8]) -> Result<String, AllocError> {
-    let mut text = String::new(alloc);
     if bytes.len() <= MOST_SHOWN {
-        add_shown(&mut text, bytes)?;
-        return Ok(text);
+        return whole(alloc, bytes);
     }
+    let mut text = String::new(alloc);
     let (head, _) = bytes.split_at(SHOWN_AT_ENDS);
     let (_, tail) = bytes.split_at(bytes.len() - SHOWN_AT_ENDS);
     add_shown(&mut text, head)?;

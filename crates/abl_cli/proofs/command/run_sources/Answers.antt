@@ -27,7 +27,7 @@ pub execute-requires-clause-some : goal.execute-requires-clause-some
 execute-requires-clause-some g c κs within =
     let read = c.in-Ok.ensures c.requires.run.clients c.requires.clients c.requires.is_run.clients in
     let clients_are : map client_in c.deref-2.result.now ≡ c.requires.run.clients = ap (λ (cs : List ClientArgument). map client_in cs) c.deref-2.ensures.value ∙ read in
-    let many = tasks_of _ _ (map client_in c.deref-2.result.now) _ c.in-Ok-load.tasks.items c.in-Ok-load.ensures.ready in
+    let many = tasks_of _ _ (map client_in c.deref-2.result.now) _ c.in-Ok-load.loaded.schema c.in-Ok-load.loaded.tasks.items c.in-Ok-load.ensures.ready in
     let same = ap (λ (cs : List ClientFiles). length cs) clients_are in
     omega (arith, many, same, c.requires.is_run.some)
 
@@ -35,7 +35,7 @@ pub execute-requires-clause-few : goal.execute-requires-clause-few
 execute-requires-clause-few g c κs within =
     let read = c.in-Ok.ensures c.requires.run.clients c.requires.clients c.requires.is_run.clients in
     let clients_are : map client_in c.deref-2.result.now ≡ c.requires.run.clients = ap (λ (cs : List ClientArgument). map client_in cs) c.deref-2.ensures.value ∙ read in
-    let many = tasks_of _ _ (map client_in c.deref-2.result.now) _ c.in-Ok-load.tasks.items c.in-Ok-load.ensures.ready in
+    let many = tasks_of _ _ (map client_in c.deref-2.result.now) _ c.in-Ok-load.loaded.schema c.in-Ok-load.loaded.tasks.items c.in-Ok-load.ensures.ready in
     let same = ap (λ (cs : List ClientFiles). length cs) clients_are in
     omega (arith, many, same, c.requires.is_run.few)
 
@@ -46,4 +46,4 @@ returns g c =
     let named : map client_in c.deref.result.now ≡ c.requires.run.clients = ap (λ (cs : List ClientArgument). map client_in cs) c.deref.ensures.value ∙ read in
     let names_are : c.deref-in-Ok-load.result.now ≡ client_names c.requires.run = c.deref-in-Ok-load.ensures.value ∙ (c.in-Ok-names_of.ensures ∙ ap (λ (cs : List ClientFiles). map (λ (client : ClientFiles). client.name) cs) named) in
     run_executed c.args.arguments.now _ _ _ _ _ c.args.run.now c.requires c.args.run.now.schema.now (map client_in c.deref-2.result.now) c.deref-in-Ok-load.result.now c.requires.schema clients_are names_are
-    c.args.run.now.steps c.args.run.now.mode c.in-Ok-load.tasks.items c.requires.steps c.requires.mode c.in-Ok-load.ensures.ready c.execute.ensures
+    c.args.run.now.steps c.args.run.now.mode c.in-Ok-load.loaded.schema c.in-Ok-load.loaded.tasks.items c.requires.steps c.requires.mode c.in-Ok-load.ensures.ready c.execute.ensures

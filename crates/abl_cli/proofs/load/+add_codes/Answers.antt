@@ -5,7 +5,7 @@ use Rattle.std.proofs.lemmas.Result.{err_from_is_err_and}
 use Rattle.abl_cli.specs.declared.load.ClientTexts.{ClientTexts}
 use Rattle.abl_cli.specs.declared.refusal.Refusal.{Refusal}
 use Rattle.abl_cli.specs.declared.refusal.Refusal.TheVariants.{NoMemory}
-use Rattle.abl_cli.specs.Sources.{IsSourceOf}
+use Rattle.abl_source.specs.Sources.{IsTreeOf}
 use Rattle.abl_cli.specs.Command.{BreaksSource, OneSourceBreaks, later_source, this_source}
 use Rattle.abl_cli.proofs.Causes.{of_error}
 use Rattle.abl_cli.proofs.load.+add_codes.Goals as goal
@@ -26,6 +26,6 @@ returns-clause-refused t c =
     (λ (refusal : Refusal). (refusal ≡ NoMemory) ⊎ OneSourceBreaks c.args.schema.now c.args.number c.args.texts.now refusal)
     (λ refusal h. elim h [
       | inl e ↦ inl e
-      | inr one ↦ inr (subst (λ (texts : List ClientTexts). OneSourceBreaks c.args.schema.now c.args.number texts refusal) (sym c.in-Some.ensures.cases.0) (later_source {t = c.in-Some.text.now} (source_of c.in_ok-code.ensures.code.bound) (subst (λ (source : List ℕ). IsSourceOf c.args.schema.now source (source_of c.in_ok-code.ensures.code.bound)) c.as_slice.ensures c.in_ok-code.ensures.code.form) one))
+      | inr one ↦ inr (subst (λ (texts : List ClientTexts). OneSourceBreaks c.args.schema.now c.args.number texts refusal) (sym c.in-Some.ensures.cases.0) (later_source {t = c.in-Some.text.now} (source_of c.in_ok-code.ensures.code.bound) (subst (λ (source : List ℕ). IsTreeOf c.args.schema.now source (source_of c.in_ok-code.ensures.code.bound)) c.as_slice.ensures c.in_ok-code.ensures.code.form) one))
     ])
     c.add_codes.ensures.refused

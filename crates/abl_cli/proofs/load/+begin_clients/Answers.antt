@@ -1,9 +1,9 @@
 -- A client is begun, and then the others.
-use Rattle.std.proofs.Common.{◌≡◌, ◌⊎◌, inl, inr, ◌<◌, ◌++◌, ◌∷◌, [], Err, List, ℕ, sym, ap, ◌∙◌, subst, append_assoc, rules, length}
+use Rattle.std.proofs.Common.{◌≡◌, ◌⊎◌, inl, inr, ◌<◌, ◌++◌, ◌∷◌, [], Err, List, sym, ap, ◌∙◌, subst, append_assoc, rules, length}
 use Rattle.std.proofs.lemmas.Result.{err_from_is_err_and}
 use Rattle.abl_outside.specs.Files.{FileState}
 use Rattle.block_code.specs.declared.code.Code.{Code}
-use Rattle.level_clients.specs.Ran.{ClientTask}
+use Rattle.block_clients.specs.Ran.{ClientTask}
 use Rattle.abl_cli.specs.declared.load.ClientTexts.{ClientTexts}
 use Rattle.abl_cli.specs.declared.refusal.Refusal.{Refusal}
 use Rattle.abl_cli.specs.declared.refusal.Refusal.TheVariants.{NoMemory}
@@ -47,11 +47,11 @@ returns-clause-begun g t c =
     let old = c.args.tasks.now.items in
     let new = c.begin_clients.new.tasks.items in
     on_ok c.begin_clients.result
-    ((more : List ClientTask) × (new ≡ c.add_client.new.tasks.items ++ more) × AreBegun later c.args.units tables codes texts more)
-    ((more : List ClientTask) × (new ≡ old ++ more) × AreBegun files c.args.units tables c.args.codes.items c.args.texts.items more)
+    ((more : List (ClientTask _)) × (new ≡ c.add_client.new.tasks.items ++ more) × AreBegun later c.args.units tables codes texts more)
+    ((more : List (ClientTask _)) × (new ≡ old ++ more) × AreBegun files c.args.units tables c.args.codes.items c.args.texts.items more)
     (λ rest. (
       first ∷ rest.0,
-      rest.1 ∙ ap (λ (tasks : List ClientTask). tasks ++ rest.0) begun.1 ∙ append_assoc old (first ∷ []) rest.0,
+      rest.1 ∙ ap (λ (tasks : List (ClientTask _)). tasks ++ rest.0) begun.1 ∙ append_assoc old (first ∷ []) rest.0,
       subst (λ (cs : List Code). AreBegun files c.args.units tables cs c.args.texts.items (first ∷ rest.0)) (sym codes_are)
           (subst (λ (ts : List ClientTexts). AreBegun files c.args.units tables (c.remove-code.result ∷ codes) ts (first ∷ rest.0)) (sym texts_are)
           (begun.2, still_begun files later c.in_ok-add_client.ensures.same sound c.args.units tables codes texts rest.0 rest.2)),

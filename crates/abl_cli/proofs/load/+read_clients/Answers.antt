@@ -4,7 +4,7 @@ use Rattle.std.specs.List.{flat_map}
 use Rattle.std.specs.Prelude.{map}
 use Rattle.std.proofs.lemmas.Result.{err_from_is_err_and}
 use Rattle.abl_outside.specs.Files.{FileState}
-use Rattle.abl_arguments.specs.CommandLine.{ClientFiles, client_in}
+use Rattle.abl_arguments.specs.CommandLine.{client_in}
 use Rattle.abl_arguments.specs.declared.client.ClientArgument.{ClientArgument}
 use Rattle.abl_cli.specs.declared.load.ClientTexts.{ClientTexts}
 use Rattle.abl_cli.specs.declared.refusal.Refusal.{Refusal}

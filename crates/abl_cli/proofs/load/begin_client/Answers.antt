@@ -13,9 +13,9 @@ returns-in-Ok-new-clause-begun g c =
       inputs = named;
       have = subst (λ (names : List (List ℕ)). HaveTexts (g.F.Files.state c.args.files.now) names named) c.as_slice.ensures.value c.in_ok-named.ensures.texts;
       to_run =
-          λ bound p compiled none source tables input inputs forms lines.
+          λ bound p compiled source tables input inputs forms lines.
           record {
             begins = subst (λ (session : ClientSession). HasNotBegun session.client) (sym c.new-in-Ok-new.ensures) c.in-Ok-new.ensures.begins;
-            refines = subst (λ (session : ClientSession). Refines session.client bound.outputs.items (run p c.args.units) []) (sym c.new-in-Ok-new.ensures) (c.in-Ok-new.ensures.refines bound p compiled none source (tables ∙ sym (ap (λ (schema : SchemaData). schema.tables) c.in-Ok.ensures.schema)) input inputs forms lines);
+            refines = subst (λ (session : ClientSession). Refines session.client bound.outputs.items (run p c.args.units) []) (sym c.new-in-Ok-new.ensures) (c.in-Ok-new.ensures.refines bound p compiled source (tables ∙ sym (ap (λ (schema : SchemaData). schema.tables) c.in-Ok.ensures.schema)) input inputs forms lines);
           };
     }

@@ -6,15 +6,15 @@ use Rattle.std.proofs.lemmas.Result.{err_from_is_err_and}
 use Rattle.abl_schema.specs.Rules.{violation_of}
 use Rattle.abl_outside.specs.Files.{FileState}
 use Rattle.abl_arguments.specs.CommandLine.{ClientFiles, client_in}
-use Rattle.level_clients.specs.Ran.{ClientTask}
+use Rattle.block_clients.specs.Ran.{ClientTask}
 use Rattle.abl_cli.specs.declared.load.ClientTexts.{ClientTexts}
 use Rattle.abl_cli.specs.declared.load.TheConstants.{MAX_FILE_BYTES}
-use Rattle.abl_cli.specs.declared.refusal.Refusal.{Refusal}
 use Rattle.abl_cli.specs.declared.refusal.Refusal.TheVariants.{NoMemory}
-use Rattle.abl_cli.specs.Command.{BreaksSchema, HaveClients, OneSourceBreaks, Prevents, no_file, this_one, schema_in}
+use Rattle.abl_cli.specs.Command.{BreaksSchema, HaveClients, OneSourceBreaks, no_file, this_one, run_wants, schema_in}
 use Rattle.abl_cli.specs.Inside.{AreBegun, HaveCodes}
 use Rattle.abl_cli.proofs.Causes.{of_error, same_further, still_one, still_clients}
-use Rattle.abl_cli.proofs.Loads.{as_many_texts, as_many_codes, short_sources, files_prevent, rules_prevent, named_prevents, is_ready}
+use Rattle.abl_cli.proofs.Databases.{as_new}
+use Rattle.abl_cli.proofs.Loads.{as_many_texts, as_many_codes, short_sources, files_prevent, rules_prevent, named_prevents, is_ready, tasks_of}
 use Rattle.abl_cli.proofs.load.load.Goals as goal
 
 pub returns-in_err-df-clause-prevented : goal.returns-in_err-df-clause-prevented
@@ -37,8 +37,8 @@ returns-in_err-read_clients-clause-prevented g c =
       | inr one ↦ inr (still_one files later c.in_ok-df.ensures.same sound one)
     ]))
 
-pub codes_in-requires-clause-short : goal.codes_in-requires-clause-short
-codes_in-requires-clause-short g c =
+pub compiled_in-requires-clause-short : goal.compiled_in-requires-clause-short
+compiled_in-requires-clause-short g c =
     let files : FileState = g.F.Files.state c.args.files.now in
     let later : FileState = g.F.Files.state c.read.new.files in
     let sound = g.met.F.Files.sound_observable c.args.files.now in
@@ -49,8 +49,8 @@ codes_in-requires-clause-short g c =
     let have = subst (λ (ts : List ClientTexts). HaveClients files clients ts) (sym texts_are) (still_clients files later c.in_ok-df.ensures.same sound clients read.0 read.2) in
     subst (λ (ts : List ClientTexts). All (λ (t : ClientTexts). length t.source ≤ MAX_FILE_BYTES) ts) (sym c.deref.ensures.value) (short_sources files clients texts have)
 
-pub codes_in-requires-clause-few : goal.codes_in-requires-clause-few
-codes_in-requires-clause-few g c =
+pub compiled_in-requires-clause-few : goal.compiled_in-requires-clause-few
+compiled_in-requires-clause-few g c =
     let files : FileState = g.F.Files.state c.args.files.now in
     let later : FileState = g.F.Files.state c.read.new.files in
     let sound = g.met.F.Files.sound_observable c.args.files.now in
@@ -63,8 +63,8 @@ codes_in-requires-clause-few g c =
     let mapped = length-map c.args.clients.now client_in in
     subst (λ (ts : List ClientTexts). length ts ≤ 16) (sym c.deref.ensures.value) (omega (arith, many, mapped, c.requires))
 
-pub returns-in_err-codes-clause-prevented : goal.returns-in_err-codes-clause-prevented
-returns-in_err-codes-clause-prevented g c =
+pub returns-in_err-compiled-clause-prevented : goal.returns-in_err-compiled-clause-prevented
+returns-in_err-compiled-clause-prevented g c =
     let files : FileState = g.F.Files.state c.args.files.now in
     let later : FileState = g.F.Files.state c.read.new.files in
     let sound = g.met.F.Files.sound_observable c.args.files.now in
@@ -74,17 +74,38 @@ returns-in_err-codes-clause-prevented g c =
     let texts_are = read.1 ∙ ap (λ (ts : List ClientTexts). ts ++ read.0) c.new-texts.ensures.items in
     let have = subst (λ (ts : List ClientTexts). HaveClients files clients ts) (sym texts_are) (still_clients files later c.in_ok-df.ensures.same sound clients read.0 read.2) in
     let d = c.as_slice.result.now in
-    let p = err_from_is_err_and c.from_residual-in_err-codes.result c.from_residual-in_err-codes.ensures.1 in
-    let refusal = c.in_err-codes.field-0.0 in
-    let is : c.from_residual-in_err-codes.result ≡ Err refusal = cc (p.1, p.2) in
+    let p = err_from_is_err_and c.from_residual-in_err-compiled.result c.from_residual-in_err-compiled.ensures.1 in
+    let refusal = c.in_err-compiled.field-0.0 in
+    let is : c.from_residual-in_err-compiled.result ≡ Err refusal = cc (p.1, p.2) in
     of_error _ is (rules_prevent files c.args.schema.now clients c.in_ok-df.df c.in_ok-df.ensures.text texts have d c.as_slice.ensures (g.F.Files.state c.read_clients.new.files).faults refusal
-    (subst (λ (ts : List ClientTexts). (refusal ≡ NoMemory) ⊎ (BreaksSchema d refusal ⊎ ((violation_of d ≡ None) × OneSourceBreaks (schema_in d) 0 ts refusal))) c.deref.ensures.value c.in_err-codes.ensures.refused))
+    (subst (λ (ts : List ClientTexts). (refusal ≡ NoMemory) ⊎ (BreaksSchema d refusal ⊎ ((violation_of d ≡ None) × OneSourceBreaks (schema_in d) 0 ts refusal))) c.deref.ensures.value c.in_err-compiled.ensures.refused))
 
 pub begin_clients-requires : goal.begin_clients-requires
 begin_clients-requires g c =
     let d = c.as_slice.result.now in
-    let codes = c.in_ok-codes.codes.items in
-    as_many_codes (schema_in d) c.read_clients.new.texts.items codes (subst (λ (ts : List ClientTexts). HaveCodes (schema_in d) ts codes) c.deref.ensures.value c.in_ok-codes.ensures.codes)
+    let codes = c.in_ok-compiled.compiled.codes.items in
+    as_many_codes (schema_in d) c.read_clients.new.texts.items codes (subst (λ (ts : List ClientTexts). HaveCodes (schema_in d) ts codes) c.deref.ensures.value c.in_ok-compiled.ensures.codes)
+
+pub returns-in_err-begin_clients-clause-prevented : goal.returns-in_err-begin_clients-clause-prevented
+returns-in_err-begin_clients-clause-prevented g c =
+    let files : FileState = g.F.Files.state c.args.files.now in
+    let later : FileState = g.F.Files.state c.read.new.files in
+    let sound = g.met.F.Files.sound_observable c.args.files.now in
+    let clients : List ClientFiles = map client_in c.args.clients.now in
+    let texts : List ClientTexts = c.read_clients.new.texts.items in
+    let read = c.in_ok-read_clients.ensures.read in
+    let texts_are = read.1 ∙ ap (λ (ts : List ClientTexts). ts ++ read.0) c.new-texts.ensures.items in
+    let have = subst (λ (ts : List ClientTexts). HaveClients files clients ts) (sym texts_are) (still_clients files later c.in_ok-df.ensures.same sound clients read.0 read.2) in
+    let named : FileState = g.F.Files.state c.read_clients.new.files in
+    let d = c.as_slice.result.now in
+    let codes = c.in_ok-compiled.compiled.codes.items in
+    let are = subst (λ (ts : List ClientTexts). HaveCodes (schema_in d) ts codes) c.deref.ensures.value c.in_ok-compiled.ensures.codes in
+    let same = same_further c.in_ok-df.ensures.same c.in_ok-read_clients.ensures.same in
+    let p = err_from_is_err_and c.from_residual-in_err-begin_clients.result c.from_residual-in_err-begin_clients.ensures.1 in
+    let refusal = c.in_err-begin_clients.field-0.0 in
+    let is : c.from_residual-in_err-begin_clients.result ≡ Err refusal = cc (p.1, p.2) in
+    of_error _ is (named_prevents files c.args.schema.now clients c.in_ok-df.df c.in_ok-df.ensures.text texts have d c.as_slice.ensures c.in_ok-compiled.ensures.clean codes are named same sound
+    (g.F.Files.state c.begin_clients.new.files).faults refusal c.in_err-begin_clients.ensures.refused)
 
 pub returns-in-Ok-clause-ready : goal.returns-in-Ok-clause-ready
 returns-in-Ok-clause-ready g c =
@@ -98,29 +119,21 @@ returns-in-Ok-clause-ready g c =
     let have = subst (λ (ts : List ClientTexts). HaveClients files clients ts) (sym texts_are) (still_clients files later c.in_ok-df.ensures.same sound clients read.0 read.2) in
     let named : FileState = g.F.Files.state c.read_clients.new.files in
     let d = c.as_slice.result.now in
-    let codes = c.in_ok-codes.codes.items in
-    let are = subst (λ (ts : List ClientTexts). HaveCodes (schema_in d) ts codes) c.deref.ensures.value c.in_ok-codes.ensures.codes in
+    let codes = c.in_ok-compiled.compiled.codes.items in
+    let are = subst (λ (ts : List ClientTexts). HaveCodes (schema_in d) ts codes) c.deref.ensures.value c.in_ok-compiled.ensures.codes in
     let same = same_further c.in_ok-df.ensures.same c.in_ok-read_clients.ensures.same in
-    let begun = c.in-Ok.ensures.begun in
-    let tasks_are = begun.1 ∙ ap (λ (ts : List ClientTask). ts ++ begun.0) c.new-tasks.ensures.items in
-    is_ready files c.args.schema.now clients c.in_ok-df.df c.in_ok-df.ensures.text texts have d c.as_slice.ensures c.in_ok-codes.ensures.clean codes are named same sound c.args.units c.begin_clients.new.tasks.items
+    let begun = c.in_ok-begin_clients.ensures.begun in
+    let tasks_are = begun.1 ∙ ap (λ (ts : List (ClientTask _)). ts ++ begun.0) c.new-tasks.ensures.items in
+    is_ready files c.args.schema.now clients c.in_ok-df.df c.in_ok-df.ensures.text texts have d c.as_slice.ensures c.in_ok-compiled.ensures.clean codes are named same sound c.args.units c.in_ok-compiled.compiled.schema c.begin_clients.new.tasks.items c.in_ok-compiled.ensures.schema
     (subst (λ (text : List ℕ). AreBegun named c.args.units (schema_in text).tables codes texts c.begin_clients.new.tasks.items) (c.as_slice-2.ensures ∙ sym c.as_slice.ensures)
-    (subst (λ (ts : List ClientTask). AreBegun named c.args.units (schema_in c.as_slice-2.result.now).tables codes texts ts) (sym tasks_are) begun.2))
+    (subst (λ (ts : List (ClientTask _)). AreBegun named c.args.units (schema_in c.as_slice-2.result.now).tables codes texts ts) (sym tasks_are) begun.2))
+
+pub returns-in-Ok-clause-new : goal.returns-in-Ok-clause-new
+returns-in-Ok-clause-new g c =
+    let many = tasks_of _ _ (map client_in c.args.clients.now) _ c.in_ok-compiled.compiled.schema c.begin_clients.new.tasks.items (returns-in-Ok-clause-ready g c) in
+    let mapped = length-map c.args.clients.now client_in in
+    let schema_is = ap (λ (text : List ℕ). schema_in text) (c.as_slice-3.ensures ∙ sym c.as_slice.ensures) ∙ sym c.in_ok-compiled.ensures.schema in
+    as_new _ _ _ _ _ _ c.in-Ok.ensures schema_is (sym (many ∙ mapped))
 
 pub returns-clause-prevented : goal.returns-clause-prevented
-returns-clause-prevented g c =
-    let files : FileState = g.F.Files.state c.args.files.now in
-    let later : FileState = g.F.Files.state c.read.new.files in
-    let sound = g.met.F.Files.sound_observable c.args.files.now in
-    let clients : List ClientFiles = map client_in c.args.clients.now in
-    let texts : List ClientTexts = c.read_clients.new.texts.items in
-    let read = c.in_ok-read_clients.ensures.read in
-    let texts_are = read.1 ∙ ap (λ (ts : List ClientTexts). ts ++ read.0) c.new-texts.ensures.items in
-    let have = subst (λ (ts : List ClientTexts). HaveClients files clients ts) (sym texts_are) (still_clients files later c.in_ok-df.ensures.same sound clients read.0 read.2) in
-    let named : FileState = g.F.Files.state c.read_clients.new.files in
-    let d = c.as_slice.result.now in
-    let codes = c.in_ok-codes.codes.items in
-    let are = subst (λ (ts : List ClientTexts). HaveCodes (schema_in d) ts codes) c.deref.ensures.value c.in_ok-codes.ensures.codes in
-    let same = same_further c.in_ok-df.ensures.same c.in_ok-read_clients.ensures.same in
-    named_prevents files c.args.schema.now clients c.in_ok-df.df c.in_ok-df.ensures.text texts have d c.as_slice.ensures c.in_ok-codes.ensures.clean codes are named same sound
-    (g.F.Files.state c.begin_clients.new.files).faults c.in-Err.refusal c.in-Err.ensures.refused
+returns-clause-prevented g c = run_wants

@@ -1,6 +1,4 @@
-use Rattle.std.specs.Prelude.{List, ℕ, Option, option_copied}
-use Rattle.abl_outside.specs.Files.{FileState}
-use Rattle.abl_cli.specs.Command.{IsNotRead, OneIsNotRead, this_one, input_file}
+use Rattle.abl_cli.specs.Command.{IsNotRead, this_one}
 use Rattle.abl_cli.proofs.Named.{if_err}
 use Rattle.abl_cli.proofs.load.read_input.Goals as goal
 

@@ -7,9 +7,9 @@ pub returns-in_err-write_reports-in-Trace : goal.returns-in_err-write_reports-in
 returns-in_err-write_reports-in-Trace g c =
     let p = err_from_is_err_and c.from_residual.result c.from_residual.ensures.1 in
     let written = c.in_err-write_reports-in-Trace.ensures in
-    (written.0, written.1, λ schema. rw (p.1, c.in-Trace.is) (writes_part Output _ _ _ _ written.2))
+    (written.0, written.1, rw (p.1, c.in-Trace.is) (writes_part Output _ _ _ _ written.2))
 
 pub returns-in_ok-write_reports-in-Trace : goal.returns-in_ok-write_reports-in-Trace
 returns-in_ok-write_reports-in-Trace g c =
     let written = c.in_ok-write_reports-in-Trace.ensures in
-    (written.0, written.1, λ schema. rw c.in-Trace.is (writes_then _ Output _ _ _ _ _ written.2 (c.write_trace.ensures schema)))
+    (written.0, written.1, rw c.in-Trace.is (writes_then _ Output _ _ _ _ _ written.2 c.write_trace.ensures))

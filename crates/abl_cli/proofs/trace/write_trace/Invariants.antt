@@ -1,5 +1,4 @@
-use Rattle.std.proofs.Common.{true, take, ◌∷◌, []}
-use Rattle.abl_values.specs.Schema.{SchemaData}
+use Rattle.std.proofs.Common.{true, take}
 use Rattle.abl_outside.specs.declared.out.Stream.TheVariants.{Output}
 use Rattle.abl_cli.specs.Trace.{trace_part}
 use Rattle.abl_outside.specs.Out.{Writes}
@@ -8,6 +7,6 @@ use Rattle.abl_cli.proofs.trace.write_trace.Given as goal
 -- what comes before was written whole
 abbrev pub invariant-loop-at : goal.invariant-loop-at
 invariant-loop-at g l =
-    (schema : SchemaData) → Writes true Output (trace_part schema l.names (take l.at l.trace))
+    Writes true Output (trace_part l.schema l.names (take l.at l.trace))
     (g.O.Out.state l.fn.out)
     (g.O.Out.state l.out)
