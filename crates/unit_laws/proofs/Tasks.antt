@@ -193,7 +193,7 @@ loop_spends : (p : Program) (l : Option ToPhrase) (t : Turn) (retry : Bool) (go 
 loop_spends p None t retry go ks s x = x s
 loop_spends p (Some l) t retry go ks s x = spends_if t.retry s.units (go s) (advance_step p l t retry t.start go ks s) (x s) (advance_spends p l t retry t.start go ks s x)
 
-turn_spends : (p : Program) (b : Header) (outer : Bool) (body d : ℕ) (t : Turn) (ks : List StackEntry) (s : State) → Spends s.units (turn_step p b outer body d t ks s)
+pub turn_spends : (p : Program) (b : Header) (outer : Bool) (body d : ℕ) (t : Turn) (ks : List StackEntry) (s : State) → Spends s.units (turn_step p b outer body d t ks s)
 turn_spends p b outer body d t ks s =
     loop_spends p b.to t (retry_in b t outer)
     (λ s. while_step p b.while_test (retry_in b t outer) (λ s. config (Execute (EntersLevel b (record t { start = None }) (retry_in b t outer) body d)) ks s) ks s) ks s
@@ -228,7 +228,7 @@ text_spends : (x : Text) (n : ℕ) (ks : List StackEntry) (s : State) → Spends
 text_spends (IsText bytes) n ks s = wrote_to_spends n bytes ks s
 text_spends (HasFault c) n ks s = same s.units
 
-choose_spends : (v : Evaluated) (p : Program) (one other d : ℕ) (retry : Bool) (ks : List StackEntry) (s : State) → Spends s.units (choose_step v p one other d retry ks s)
+pub choose_spends : (v : Evaluated) (p : Program) (one other d : ℕ) (retry : Bool) (ks : List StackEntry) (s : State) → Spends s.units (choose_step v p one other d retry ks s)
 choose_spends (Gives v) p one other d retry ks s = spends_if (holds v) s.units (config (Execute (RunsFrom one d retry)) ks s) (config (Execute (RunsFrom other d retry)) ks s) (same s.units) (same s.units)
 choose_spends (Fails c) p one other d retry ks s = errs_spends (complained p (Some c) s) (Completes (Raises nothing_passed)) ks s.units (complained_stays p (Some c) s).units
 
@@ -238,7 +238,7 @@ cleared_executes task ks quiet s = executes task ks s (cleared quiet s) (cleared
 no_more : (m n : ℕ) → m ≡ n → m ≤ n
 no_more m n e = omega (arith, e)
 
-stmt_spends : (p : Program) (t : Stmt) (d : ℕ) (retry : Bool) (ks : List StackEntry) (s : State) → Spends s.units (stmt_step p t d retry ks s)
+pub stmt_spends : (p : Program) (t : Stmt) (d : ℕ) (retry : Bool) (ks : List StackEntry) (s : State) → Spends s.units (stmt_step p t d retry ks s)
 stmt_spends p (Inner b body) d retry ks s = same s.units
 stmt_spends p (Choose test then_it else_it) d retry ks s = same s.units
 stmt_spends p (Assign pairs quiet) d retry ks s = cleared_executes (Assigns pairs retry) (Handles quiet ∷ ks) quiet s

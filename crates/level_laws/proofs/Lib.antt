@@ -1,0 +1,7 @@
+pub mod Kept
+pub mod Parts
+pub mod Tasks
+pub mod Completions
+pub mod Answers
+pub mod Runs
+pub mod Inferred
