@@ -20,7 +20,7 @@ use Rattle.database_meaning.specs.Steps.{is_success, row_of_answer}
 use Rattle.block_meaning.specs.Buffers.{Place, got_content, holding_in, left, left_if}
 use Rattle.block_meaning.specs.Changes.{stored}
 use Rattle.block_meaning.specs.Frames.{emptied, holding, table_of, with_spot}
-use Rattle.block_meaning.specs.Levels.{CanAsk}
+use Rattle.level_laws.specs.Reached.{IsInside}
 use Rattle.block_meaning.specs.Lines.{Complaint, MoreThanOne, RecordIsGone}
 use Rattle.block_meaning.specs.Program.{Program}
 use Rattle.block_meaning.specs.Reads.{Search, held_as, is_exclusive, next_shown, shows, spot_at}
@@ -318,7 +318,7 @@ module _ (schema : SchemaData) (p : Program) (a : Answer) (ks : List StackEntry)
         ),
       ))
 
-  heard_sound : (k : ℕ) (held : ℕ → Bool) (o : Op) (on : OnAnswer) → Fits schema o a → CanAsk k o → Good held k s → Awaits held o on ks s → Sound (holds_next k held o a) (levels_next k o a) (answer_step p on a ks s)
+  heard_sound : (k : ℕ) (held : ℕ → Bool) (o : Op) (on : OnAnswer) → Fits schema o a → IsInside k o → Good held k s → Awaits held o on ks s → Sound (holds_next k held o a) (levels_next k o a) (answer_step p on a ks s)
   heard_sound k held o (WasInserted place t vs made) fits can g w =
       subst (λ o. Sound (holds_next k held o a) (levels_next k o a) (answer_step p (WasInserted place t vs made) a ks s)) (sym w.0)
       (insert_sound (holds_next k held (op.Insert t vs) a) (levels_next k (op.Insert t vs) a) (row_in a) place t vs made (refusal_in place.number t a) ks s (inserted_held k held t vs a) h (good_after k held (op.Insert t vs) a tt s g) (needs_after k held (op.Insert t vs) a tt [] ks s w.1))
@@ -330,7 +330,7 @@ module _ (schema : SchemaData) (p : Program) (a : Answer) (ks : List StackEntry)
       (h, (left_good k held w.0 a s (leave_done schema w.0 a (subst (λ o. Fits schema o a) w.1 fits) unrefused heard) g, free_needs (holds_next k held (op.Leave w.0) a) [] ks (left s) w.2))
   heard_sound k held o (WasBack copy but) fits can g w =
       let done = back_done schema copy.depth a (subst (λ o. Fits schema o a) w.0 fits) unrefused heard in
-      let is_open : CanAsk k (op.Back copy.depth) = subst (CanAsk k) w.0 can in
+      let is_open : IsInside k (op.Back copy.depth) = subst (IsInside k) w.0 can in
       let least : min copy.depth k ≡ copy.depth = (let l = is_open.1 in grind (arith, l)) in
       subst (λ o. Sound (holds_next k held o a) (levels_next k o a) (answer_step p (WasBack copy but) a ks s)) (sym w.0)
       (h, (sym (ap (λ b. cond b (min copy.depth k) k) done ∙ least), frames_more held (holds_next k held (op.Back copy.depth) a) s.frames (among_back k copy.depth held a) g.1, w.1))
@@ -374,7 +374,7 @@ module _ (schema : SchemaData) (p : Program) (a : Answer) (ks : List StackEntry)
 
 -- ---- an answer
 
-pub answer_sound : (schema : SchemaData) (p : Program) (k : ℕ) (held : ℕ → Bool) (a : Answer) (o : Op) (on : OnAnswer) (ks : List StackEntry) (s : State) → Fits schema o a → a ≢ answer.Refused → CanAsk k o → Sound held k (config (Await o on) ks s) →
+pub answer_sound : (schema : SchemaData) (p : Program) (k : ℕ) (held : ℕ → Bool) (a : Answer) (o : Op) (on : OnAnswer) (ks : List StackEntry) (s : State) → Fits schema o a → a ≢ answer.Refused → IsInside k o → Sound held k (config (Await o on) ks s) →
     Sound (holds_next k held o a) (levels_next k o a) (answered p a o on ks s)
 answer_sound schema p k held (answer.Blocked holders) o on ks s fits unrefused can x = x
 answer_sound schema p k held answer.NoMemory o on ks s fits unrefused can x = (x.0, x.1.0)

@@ -8,13 +8,17 @@ use Rattle.client_database.specs.declared.operation.Op.TheVariants as op
 use Rattle.database_meaning.specs.Steps.{is_success}
 use Rattle.block_meaning.specs.Program.{Program}
 use Rattle.block_meaning.specs.State.{State}
-use Rattle.block_flat.specs.Code.{Code}
+use Rattle.block_flat.specs.Code.{Code, IsCodeOf}
+use Rattle.bound_tree.specs.Tree.{Body}
 use Rattle.block_flat.specs.Config.{Await, Config, CurrentGranted, Execute, Mode, OnAnswer, StackEntry, Unwind, WasBack, WasCounted, WasCurrent, WasDeleted, WasDropped, WasEntered, WasGot, WasGranted, WasInserted, WasLeft, WasNext, WasPut, WasRead, WasSecond, WasUpgraded}
 use Rattle.block_flat.specs.Machine.{answered, mode_step}
 use Rattle.block_flat.specs.Steps.{config}
 use Rattle.client_runner.specs.Levels.{levels_after, levels_left}
 use Rattle.lock_laws.specs.Exclusive.{holds, holds_after, holds_left}
-use Rattle.operation_laws.specs.Reached.{IsOfHeldRow, Reached, answers, begins, steps}
+use Rattle.level_laws.specs.Flagged.{IsFlaggedProgram}
+use Rattle.level_laws.specs.Reached.{Reached, answers, begins, steps}
+use Rattle.level_laws.proofs.Runs.{changes_inside}
+use Rattle.operation_laws.specs.HeldRows.{IsOfHeldRow}
 use Rattle.operation_laws.proofs.Answers.{answer_sound, holds_next, levels_next}
 use Rattle.operation_laws.proofs.Claims.{start_claims}
 use Rattle.operation_laws.proofs.Completions.{over_sound}
@@ -39,12 +43,12 @@ mode_sound code p held k (Execute t) ks s h a = task_sound held k code p t ks s 
 mode_sound code p held k (Unwind completion) ks s h a = over_sound held k p ks completion s h a
 mode_sound code p held k (Await o on) ks s h a = (h, a)
 
-module _ (code : Code) (p : Program) (schema : SchemaData) (units : ℕ) where
-  reached_sound : (own : List Event) (c : Config) → Reached code p schema units own c → Sound (holds own) (levels_left 0 own) c
+module _ (code : Code) (p : Program) (tree : ℕ → Body) (denotes : IsCodeOf code p tree) (flagged : IsFlaggedProgram p) (schema : SchemaData) (units : ℕ) where
+  pub reached_sound : (own : List Event) (c : Config) → Reached code p schema units own c → Sound (holds own) (levels_left 0 own) c
   reached_sound _ _ begins = (tt, ((refl, (start_claims (λ row. false) p 0, tt)), tt))
   reached_sound _ _ (steps own c r) = let x = reached_sound own c r in mode_sound code p (holds own) (levels_left 0 own) c.mode c.stack c.state x.0 x.1
-  reached_sound _ _ (answers own e on ks s fits unrefused can r) =
-      let x = answer_sound schema p (levels_left 0 own) (holds own) e.answer e.op on ks s fits unrefused can (reached_sound own (config (Await e.op on) ks s) r) in
+  reached_sound _ _ (answers own e on ks s fits unrefused r) =
+      let x = answer_sound schema p (levels_left 0 own) (holds own) e.answer e.op on ks s fits unrefused (changes_inside code p tree schema units own e.op on ks s denotes flagged r) (reached_sound own (config (Await e.op on) ks s) r) in
       subst (λ held. Sound held (levels_left 0 (own ++ e ∷ [])) (answered p e.answer e.op on ks s)) (sym (fun_ext (λ row. holds_last row 0 false own e)))
       (subst (λ k. Sound (holds_next (levels_left 0 own) (holds own) e.op e.answer) k (answered p e.answer e.op on ks s)) (sym (levels_last 0 own e)) x)
 
@@ -78,5 +82,5 @@ module _ (code : Code) (p : Program) (schema : SchemaData) (units : ℕ) where
   awaited_held own o (WasDeleted b) ks s w = of_held own o _ w.2 w.3
   awaited_held own o (WasEntered b t retry body d) ks s w = of_held own o _ w.0 tt
 
-pub changes_held : (code : Code) (p : Program) (schema : SchemaData) (units : ℕ) (own : List Event) (o : Op) (on : OnAnswer) (ks : List StackEntry) (s : State) → Reached code p schema units own (config (Await o on) ks s) → IsOfHeldRow own o
-changes_held code p schema units own o on ks s r = awaited_held code p schema units own o on ks s (reached_sound code p schema units own (config (Await o on) ks s) r).1.1
+pub changes_held : (code : Code) (p : Program) (tree : ℕ → Body) (schema : SchemaData) (units : ℕ) (own : List Event) (o : Op) (on : OnAnswer) (ks : List StackEntry) (s : State) → IsCodeOf code p tree → IsFlaggedProgram p → Reached code p schema units own (config (Await o on) ks s) → IsOfHeldRow own o
+changes_held code p tree schema units own o on ks s denotes flagged r = awaited_held code p tree denotes flagged schema units own o on ks s (reached_sound code p tree denotes flagged schema units own (config (Await o on) ks s) r).1.1

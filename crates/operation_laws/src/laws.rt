@@ -2,16 +2,19 @@
 
 ghost use Rattle.std.specs.Prelude.{List, ℕ};
 ghost use Rattle.abl_values.specs.Schema.{SchemaData};
-ghost use Rattle.block_flat.specs.Code.{Code};
+ghost use Rattle.block_flat.specs.Code.{Code, IsCodeOf};
+ghost use Rattle.bound_tree.specs.Tree.{Body};
+ghost use Rattle.level_laws.specs.Flagged.{IsFlaggedProgram};
+ghost use Rattle.level_laws.specs.Reached.{Reached};
 ghost use Rattle.block_flat.specs.Config.{Await, OnAnswer, StackEntry};
 ghost use Rattle.block_flat.specs.Steps.{config};
 ghost use Rattle.block_meaning.specs.Program.{Program};
 ghost use Rattle.block_meaning.specs.State.{State};
 ghost use Rattle.client_database.specs.declared.event.Event.{Event};
 ghost use Rattle.client_database.specs.declared.operation.Op.{Op};
-ghost use Rattle.operation_laws.specs.Reached.{IsOfHeldRow, Reached};
+ghost use Rattle.operation_laws.specs.HeldRows.{IsOfHeldRow};
 
 /// A client requests Put and Delete only of rows that it holds exclusively by its own events.
 pub fn changes_are_of_rows_held_exclusively()
-    ensures { (code : Code) (p : Program) (schema : SchemaData) (units : ℕ) (own : List Event) (op : Op) (on : OnAnswer) (ks : List StackEntry) (s : State) → Reached code p schema units own (config (Await op on) ks s) → IsOfHeldRow own op }
+    ensures { (code : Code) (p : Program) (tree : ℕ → Body) (schema : SchemaData) (units : ℕ) (own : List Event) (op : Op) (on : OnAnswer) (ks : List StackEntry) (s : State) → IsCodeOf code p tree → IsFlaggedProgram p → Reached code p schema units own (config (Await op on) ks s) → IsOfHeldRow own op }
 {}
