@@ -1,0 +1,5 @@
+pub mod Weights
+pub mod Parts
+pub mod Tasks
+pub mod Completions
+pub mod Runs
