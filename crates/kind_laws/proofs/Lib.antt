@@ -13,4 +13,7 @@ pub mod Completions
 pub mod Runs
 pub mod Evaluated
 pub mod Inferred
+pub mod Around
+pub mod Bound
 pub mod Trees
+pub mod Texts

@@ -1,3 +1,4 @@
 pub mod Placed
 pub mod Reached
 pub mod Evaluated
+pub mod Texts

@@ -1,7 +1,7 @@
 //! The laws. Each is the contract of a function with an empty body.
 
-ghost use Rattle.std.specs.Prelude.{◌≡◌, Bool, IfSome, Ok, true, ℕ};
-ghost use Rattle.std.specs.List.{list_all};
+ghost use Rattle.std.specs.Prelude.{◌≡◌, Bool, IfSome, List, None, Ok, true, ℕ};
+ghost use Rattle.std.specs.List.{All, list_all};
 ghost use Rattle.abl_base.specs.declared.value.Kind.{Kind};
 ghost use Rattle.bound_tree.specs.declared.expression.Variable.{Variable};
 ghost use Rattle.abl_values.specs.Schema.{SchemaData};
@@ -10,6 +10,7 @@ ghost use Rattle.bound_tree.specs.Tree.{Expr, Source};
 ghost use Rattle.bind_names.specs.declared.sort.Sort.{Sort};
 ghost use Rattle.bind_expressions.specs.WellKinded.{sort_of};
 ghost use Rattle.abl_types.specs.Sources.{bound};
+ghost use Rattle.block_rules.specs.Rules.{first_broken};
 ghost use Rattle.buffer_scope.specs.Scoped.{with_scopes};
 ghost use Rattle.txn_infer.specs.Flags.{with_flags};
 ghost use Rattle.bound_kinds.specs.Kinds.{kinds_of_source};
@@ -20,7 +21,9 @@ ghost use Rattle.block_meaning.specs.Frames.{content_of, value_of};
 ghost use Rattle.block_meaning.specs.Values.{env_of, field_in};
 ghost use Rattle.block_flat.specs.Config.{Config};
 ghost use Rattle.kind_laws.specs.Evaluated.{expressions_of};
+ghost use Rattle.kind_laws.specs.Placed.{is_placed};
 ghost use Rattle.kind_laws.specs.Reached.{Ground, IsGround, Reached, running};
+ghost use Rattle.kind_laws.specs.Texts.{IsOfText};
 
 /// In every state that a run reaches, each variable of the running procedure, and each of the external
 /// procedure that it uses, has a value of its kind, or `?`.
@@ -50,4 +53,18 @@ pub fn evaluated_expressions_are_good()
 /// blocks and the scopes of its buffers, over a schema whose masks fit.
 pub fn trees_are_well_kinded()
     ensures { (schema : SchemaData) (program : Program) (plain : Source) → is_masked schema ≡ true → bound schema program ≡ Ok plain → is_well_kinded schema (kinds_of_source program) (with_flags (with_scopes program plain)) ≡ true }
+{}
+
+/// The tree of a source that breaks none of the rules Y and U names only blocks that are around the
+/// place.
+pub fn trees_name_blocks_around()
+    ensures { (schema : SchemaData) (program : Program) (plain : Source) → bound schema program ≡ Ok plain → first_broken program ≡ None → is_placed (with_flags (with_scopes program plain)) ≡ true }
+{}
+
+/// In every state that a run of a source text reaches, each expression that the next step or answer
+/// evaluates has a value of its sort there, or a fault. The text and the schema file break no rule. The
+/// one other premise is that no internal procedure creates a record in a buffer that is scoped to its
+/// block, unless this block starts a transaction.
+pub fn expressions_of_a_text_have_values_of_their_sorts()
+    ensures { (file text : List ℕ) (g : Ground) → IsOfText file text g → (units : ℕ) (c : Config) → Reached g units c → All (λ e. (retry : Bool) → Has (sort_of e) (evaluate g.program.forms (env_of retry c.state) e)) (expressions_of g.code c.mode) }
 {}
