@@ -1,7 +1,8 @@
 -- The contents of a new database are sound, and a store without rows was opened with them.
-use Rattle.std.proofs.Common.{◌≡◌, ◌∙◌, ℕ, [], refl, sym, subst}
+use Rattle.std.proofs.Common.{◌≡◌, ◌∙◌, ◌*◌, ℕ, ℤ, List, [], take, refl, sym, ap, subst, arith}
+use Rattle.std.proofs.Math.Seq.{drop-nil}
 use Rattle.std.specs.Prelude.{None, Option, false}
-use Rattle.std.specs.FinMap.{get, get-empty}
+use Rattle.std.specs.FinMap.{get-empty}
 use Rattle.std.specs.Ordering.{nat_cmp}
 use Rattle.std.proofs.lemmas.List.{length-map}
 use Rattle.abl_values.specs.Schema.{SchemaData}
@@ -9,12 +10,13 @@ use Rattle.abl_values.specs.declared.schema.SequenceDef.{SequenceDef}
 use Rattle.database_meaning.specs.declared.state.Key.{Key}
 use Rattle.database_meaning.specs.declared.state.StoredRow.{StoredRow}
 use Rattle.database_meaning.specs.Setting.{has_key, unique_keys}
-use Rattle.database_meaning.specs.Traces.{IsSoundContents, rows_of}
+use Rattle.database_meaning.specs.Traces.{IsSoundContents}
 use Rattle.abl_rows.specs.Rows.{RowState, no_transaction}
 use Rattle.db_core.specs.Opening.{IsOpened}
 use Rattle.mem_slots.specs.Mem.{at_rest}
 use Rattle.mem_slots.specs.Sparse.{zeros}
 use Rattle.chain_store.specs.Places.{HoldNothing}
+use Rattle.sequence_slots.specs.Values.{HoldValues, slot_bytes}
 use Rattle.new_database.specs.Contents.{new_contents}
 
 -- no row has no key
@@ -34,6 +36,11 @@ sound schema clients =
 
 pub is_opened : (rows : RowState) (schema : SchemaData) → ((c : ℕ) → rows.transaction c ≡ no_transaction) → ((k : ℕ) → rows.committed k ≡ None) → IsOpened rows (new_contents schema)
 is_opened rows schema idle empty = record { idle = idle; committed = λ observable k. empty k ∙ sym (get-empty nat_cmp k) }
+
+-- slots of zeros hold no sequence value
+pub hold_no_value : HoldValues at_rest.committed []
+unfolding zeros
+hold_no_value = record { few = omega arith; whole = tt; each = λ i lt. sym (ap (λ (values : List ℤ). slot_bytes (take 30 values)) (drop-nil (30 * i))) }
 
 -- slots of zeros hold no row
 pub hold_nothing : HoldNothing at_rest.reads

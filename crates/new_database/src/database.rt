@@ -19,8 +19,9 @@ pub type NewDatabase = Db<NewStore>;
 
 /// A new database of the schema for 1 to 16 clients: it has no row, each sequence has its initial
 /// value, and no client has requested anything. The store and the machine each have a schema of their
-/// own, which is one schema. An error means out of memory. (This project's choice: a run begins with an
-/// empty database, and nothing of it is kept.)
+/// own, which is one schema. An error means out of memory; more than 256 sequences, which no schema file
+/// gives, count as that. (This project's choice: a run begins with an empty database, and nothing of it
+/// is kept.)
 pub fn open(
     alloc: Global,
     schema: Schema,
@@ -33,8 +34,10 @@ pub fn open(
 {
     let sequences = initial_values(alloc, schema.sequences())?;
     let slots = MemSlots::new(alloc)?;
-    let rows = RecordStore::new(alloc, slots, schema_of_rows)?;
-    Db::new(alloc, rows, schema, sequences, clients)
+    match RecordStore::new(alloc, slots, schema_of_rows) {
+        Ok(rows) => Db::new(alloc, rows, schema, sequences, clients),
+        Err(_) => Err(AllocError),
+    }
 }
 
 /// The initial value of each sequence, in order.

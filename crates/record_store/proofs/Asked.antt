@@ -1,5 +1,5 @@
 -- What the indexes answer, said of the store.
-use Rattle.std.proofs.Common.{◌≡◌, ◌≢◌, ℕ, Bool, List, Option, Some, None, Result, Ok, Err, IfOk, OnOk, IsErrOf, MatchOption, refl, sym, ap, ◌∙◌, subst}
+use Rattle.std.proofs.Common.{◌≡◌, ◌≢◌, ℕ, Bool, List, Option, Some, None, Result, Ok, Err, IfOk, OnOk, IsErrOf, MatchOption, sym, subst}
 use Rattle.abl_base.specs.declared.value.Value.{Value}
 use Rattle.abl_base.specs.declared.row.RowId.{RowId}
 use Rattle.client_database.specs.declared.row_order.Cursor.{Cursor}
@@ -19,7 +19,7 @@ use Rattle.abl_rows.specs.declared.store.RowError.{RowError}
 use Rattle.abl_rows.specs.declared.store.RowError.TheVariants.{Disk}
 use Rattle.abl_rows.specs.Changes.{RowsById}
 use Rattle.abl_rows.specs.Questions.{FindsNoneIn, IsLeastDuplicate, ReservesAgainst, replaced_at}
-use Rattle.abl_rows.specs.Rows.{AfterError, HasCause, IsObservable, RowState}
+use Rattle.abl_rows.specs.Rows.{AfterError, IsObservable, RowState}
 use Rattle.key_index.specs.Index.{Keys}
 use Rattle.row_indexes.specs.declared.moves.Moved.{Moved}
 use Rattle.row_indexes.specs.Places.{keepers_of, places_of}

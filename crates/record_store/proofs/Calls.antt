@@ -1,12 +1,10 @@
 -- A store after a call that only asks, or that was refused.
-use Rattle.std.proofs.Common.{◌≡◌, ℕ, List, length, Result, Ok, Err, OnOk, IsTrue, IsErrOf, ℤ, refl, sym, ap, ◌∙◌, subst, le_refl}
+use Rattle.std.proofs.Common.{◌≡◌, ℕ, List, length, Result, Ok, Err, OnOk, ℤ, refl, sym, ap, ◌∙◌, subst, le_refl}
 use Rattle.abl_storage.specs.Slots.{SlotState}
 use Rattle.abl_values.specs.Schema.{SchemaData}
 use Rattle.abl_rows.specs.declared.store.RowError.{RowError}
 use Rattle.abl_rows.specs.declared.store.RowError.TheVariants.{Disk, NoMemory}
-use Rattle.abl_rows.specs.Changes.{RowsById}
-use Rattle.abl_rows.specs.Rows.{AfterError, Durable, Fails, HasCause, RowState, SameBase, durable_of}
-use Rattle.abl_rows.specs.Times.{Goes, Rests}
+use Rattle.abl_rows.specs.Rows.{AfterError, HasCause, RowState}
 use Rattle.key_index.specs.Index.{Keys}
 use Rattle.row_indexes.specs.declared.moves.Moved.{Moved}
 use Rattle.row_indexes.specs.Places.{keepers_of}
@@ -15,57 +13,11 @@ use Rattle.stored_rows.specs.declared.open.Open.{Open}
 use Rattle.stored_rows.specs.State.{Reserved, state_of}
 use Rattle.indexed_rows.specs.Indexed.{IsIndexed}
 use Rattle.indexed_rows.proofs.Kept.{refused_indexed, same_indexed}
-use Rattle.record_store.specs.State.{nothing_left, store_state, times_of}
-
-abbrev durable : RowsById → List ℤ → Durable
-durable rows sequences = record { rows = rows; sequences = sequences }
-
--- ---- time
-
-pub rests_of : (old new : RowState) → (IsTrue old.observable → durable_of new ≡ durable_of old) → Rests old nothing_left nothing_left (times_of old) (times_of new)
-rests_of old new same = record {
-  goes = record {
-    later = le_refl 0;
-    since = refl;
-    nothing_else = λ m d le none. none;
-    stays = λ m d le none. none;
-    here = λ m d lt none. absurd none;
-  };
-  doubt = same;
-}
-
-pub goes_of : (old new : RowState) → Goes old nothing_left nothing_left (times_of old) (times_of new)
-goes_of old new = record {
-  later = le_refl 0;
-  since = refl;
-  nothing_else = λ m d le none. none;
-  stays = λ m d le none. none;
-  here = λ m d lt none. absurd none;
-}
-
-pub durable_fails : (old new : RowState) → Fails old new → IsTrue old.observable → durable_of new ≡ durable_of old
-durable_fails old new f known = ap (λ (r : RowsById). durable r new.sequences) (f.committed known) ∙ ap (durable old.committed) (f.sequences known)
-
-pub rests_by_error : {T : Type 0} (old new : RowState) (error : RowError) → AfterError {T = T} old new (Err error) → Rests old nothing_left nothing_left (times_of old) (times_of new)
-rests_by_error old new Disk a = rests_of old new (durable_fails old new (a.disk refl))
-rests_by_error old new NoMemory a = rests_of old new (λ known. ap durable_of (a.memory refl))
-
-pub rests_same : (old new : RowState) → new ≡ old → Rests old nothing_left nothing_left (times_of old) (times_of new)
-rests_same old new e = rests_of old new (λ known. ap durable_of e)
-
-pub durable_base : (old new : RowState) → SameBase old new → durable_of new ≡ durable_of old
-durable_base old new b = ap (λ (r : RowsById). durable r new.sequences) b.committed ∙ ap (durable old.committed) b.sequences
-
-pub rests_base : (old new : RowState) → SameBase old new → Rests old nothing_left nothing_left (times_of old) (times_of new)
-rests_base old new b = rests_of old new (λ known. durable_base old new b)
+use Rattle.record_store.specs.State.{store_state}
 
 pub on_ok : {T P Q : Type 0} (result : Result T RowError) → (P → Q) → OnOk result P → OnOk result Q
 on_ok (Ok x) f p = f p
 on_ok (Err e) f p = tt
-
-pub time_by : {T : Type 0} (old new : RowState) (result : Result T RowError) → OnOk result (SameBase old new) → AfterError old new result → Rests old nothing_left nothing_left (times_of old) (times_of new)
-time_by old new (Ok x) base err = rests_base old new base
-time_by old new (Err e) base err = rests_by_error old new e err
 
 -- ---- out of memory, where nothing has changed
 
@@ -112,10 +64,6 @@ module _ (schema now_schema : SchemaData) (keys : List Keys) (sequences : List �
   pub asked_indexed : {T : Type 0} (result : Result T RowError) → OnOk result (new ≡ old) → AfterError old new result → (moved : ℕ → List Moved) → IsIndexed old moved keys → IsIndexed new moved keys
   asked_indexed (Ok x) same err moved h = same_indexed old new moved keys same h
   asked_indexed (Err e) same err moved h = refused_indexed old new moved keys e err h
-
-  pub asked_time : {T : Type 0} (result : Result T RowError) → OnOk result (new ≡ old) → AfterError old new result → Rests old nothing_left nothing_left (times_of old) (times_of new)
-  asked_time (Ok x) same err = rests_same old new same
-  asked_time (Err e) same err = rests_by_error old new e err
 
   pub asked_values : length sequences ≡ length schema.sequences → length sequences ≡ length now_schema.sequences
   asked_values is = is ∙ ap (λ (x : SchemaData). length x.sequences) (sym same_schema)

@@ -1,8 +1,7 @@
 -- What the trait asks of every store.
-use Rattle.std.proofs.Common.{◌≡◌, ◌≢◌, ℕ, Bool, true, false, List, Some, ℤ, sym, ◌∙◌}
+use Rattle.std.proofs.Common.{◌≡◌, ℕ, true, false, List, Some, ℤ, sym, ◌∙◌}
 use Rattle.abl_storage.specs.Slots.{SlotState}
 use Rattle.abl_values.specs.Schema.{SchemaData}
-use Rattle.database_meaning.specs.declared.state.Key.{Key}
 use Rattle.abl_rows.specs.Rows.{IsConsistent}
 use Rattle.key_index.specs.Index.{Keys}
 use Rattle.row_indexes.specs.Places.{keepers_of}

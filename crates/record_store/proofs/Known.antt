@@ -1,5 +1,5 @@
 -- What a call tells of the rows, where they are known.
-use Rattle.std.proofs.Common.{◌≡◌, ◌≢◌, ℕ, suc, Bool, List, [], ◌∷◌, length, Option, Some, None, Result, Ok, Err, IfOk, MatchOption, ℤ, refl, sym, ap, ◌∙◌, subst}
+use Rattle.std.proofs.Common.{◌≡◌, ◌≢◌, ℕ, suc, List, [], ◌∷◌, length, Option, Some, None, Result, Ok, Err, IfOk, MatchOption, ℤ, refl, sym, ap, ◌∙◌}
 use Rattle.abl_base.specs.declared.value.Value.{Value}
 use Rattle.abl_base.specs.declared.row.RowId.{RowId}
 use Rattle.abl_storage.specs.Slots.{SlotState, IsReadable}
@@ -24,7 +24,7 @@ use Rattle.row_keys.specs.Questions.{IsRead}
 use Rattle.row_keys.specs.Reserved.{reserved_at}
 use Rattle.stored_rows.specs.declared.open.Open.{Open}
 use Rattle.stored_rows.specs.Decoded.{decoded}
-use Rattle.stored_rows.specs.State.{Reserved, rows_if, state_of}
+use Rattle.stored_rows.specs.State.{Reserved, state_of}
 use Rattle.stored_rows.proofs.Changed.{rows_known}
 use Rattle.record_store.specs.State.{store_state}
 

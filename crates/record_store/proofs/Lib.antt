@@ -6,3 +6,4 @@ pub mod Returns
 pub mod NewStore
 pub mod Asked
 pub mod Replacing
+pub mod Timed

@@ -1,5 +1,5 @@
 -- A change of a row that was read before.
-use Rattle.std.proofs.Common.{◌≡◌, ◌⊎◌, inl, inr, ⊎_elim, ℕ, ◌+◌, ◌^◌, ◌<◌, ◌≤◌, Bool, true, false, List, Option, Some, None, Result, IsErrOf, IsTrue, ℤ, refl, sym, ap, ◌∙◌, subst, arith, le_trans}
+use Rattle.std.proofs.Common.{◌≡◌, inl, inr, ⊎_elim, ℕ, ◌<◌, ◌≤◌, true, false, List, Some, None, Result, IsTrue, ℤ, sym, ap, ◌∙◌, subst, arith, le_trans}
 use Rattle.std.proofs.lemmas.Bool.{cases_lt}
 use Rattle.fault_count.specs.Faults.{Rose}
 use Rattle.abl_base.specs.declared.value.Value.{Value}

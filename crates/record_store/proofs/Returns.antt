@@ -1,5 +1,5 @@
 -- A store after a client began, went back, committed or gave up.
-use Rattle.std.proofs.Common.{◌≡◌, ◌≢◌, ℕ, ◌&&◌, ◌==◌, Bool, true, false, cond, eqb, eqb-true, eq-eqb, List, [], length, take, drop, Option, Some, None, Result, Ok, Err, OnOk, ℤ, refl, sym, ap, ◌∙◌, subst}
+use Rattle.std.proofs.Common.{◌≡◌, ◌≢◌, ℕ, ◌&&◌, Bool, true, false, cond, eqb, eqb-true, List, [], length, take, drop, Option, Some, None, Result, Ok, Err, OnOk, ℤ, refl, sym, ap, ◌∙◌, subst}
 use Rattle.std.proofs.Math.Path.{fun_ext}
 use Rattle.std.proofs.lemmas.Bool.{ne_eqb}
 use Rattle.abl_storage.specs.Slots.{SlotState}
@@ -7,7 +7,6 @@ use Rattle.abl_values.specs.Schema.{SchemaData}
 use Rattle.database_meaning.specs.declared.state.Key.{Key}
 use Rattle.abl_rows.specs.declared.store.RowError.{RowError}
 use Rattle.abl_rows.specs.Rows.{Abandons, AfterError, Begins, Commits, GoesBack, IsConsistent, RowState}
-use Rattle.abl_rows.specs.Times.{Rests}
 use Rattle.key_index.specs.Index.{Keys}
 use Rattle.key_index.specs.Places.{is_client, without_keeper}
 use Rattle.row_indexes.specs.declared.moves.Moved.{Moved}
@@ -20,15 +19,14 @@ use Rattle.row_keys.specs.Reserved.{is_in_schema, reserved_at}
 use Rattle.row_keys.proofs.Kept.{reserved_none}
 use Rattle.indexed_rows.specs.Indexed.{IsIndexed}
 use Rattle.indexed_rows.proofs.Ended.{abandoned, committed}
-use Rattle.indexed_rows.proofs.Keepers.{ended_keeper, same_client}
+use Rattle.indexed_rows.proofs.Keepers.{ended_keeper}
 use Rattle.indexed_rows.proofs.Kept.{begun_indexed, refused_indexed}
 use Rattle.indexed_rows.proofs.Returned.{returned}
 use Rattle.stored_rows.specs.declared.open.Open.{Open}
 use Rattle.stored_rows.specs.Opens.{log_in, touched_in}
 use Rattle.stored_rows.specs.State.{Reserved, state_of}
 use Rattle.stored_rows.specs.Stored.{IsStored}
-use Rattle.record_store.specs.State.{nothing_left, store_state, times_of}
-use Rattle.record_store.proofs.Calls.{rests_base, rests_by_error}
+use Rattle.record_store.specs.State.{store_state}
 use Rattle.record_store.proofs.Consistent.{none_reserved, store_consistent}
 
 -- ---- begin

@@ -1,23 +1,20 @@
 -- A store after a change of one row, and after one that was refused.
-use Rattle.std.proofs.Common.{◌≡◌, ◌≢◌, inl, inr, ℕ, ◌||◌, Bool, true, false, List, [], ◌∷◌, ◌++◌, length, drop, Option, Some, Result, Ok, Err, IsTrue, ℤ, refl, sym, ap, ◌∙◌, subst}
+use Rattle.std.proofs.Common.{◌≡◌, ◌≢◌, inl, inr, ℕ, true, List, [], ◌∷◌, ◌++◌, length, drop, Option, Some, Err, ℤ, sym, ap, ◌∙◌, subst}
 use Rattle.std.proofs.lemmas.Bool.{cases_eq}
 use Rattle.std.proofs.Math.Path.{fun_ext}
 use Rattle.abl_storage.specs.Slots.{SlotState, IsReadable}
 use Rattle.abl_values.specs.Schema.{SchemaData}
-use Rattle.database_meaning.specs.declared.state.Key.{Key}
 use Rattle.database_meaning.specs.declared.state.StoredRow.{StoredRow}
 use Rattle.abl_rows.specs.declared.store.RowError.{RowError}
-use Rattle.abl_rows.specs.declared.store.RowError.TheVariants.{Disk, NoMemory}
-use Rattle.abl_rows.specs.Rows.{AfterError, ChangesRow, IsConsistent, RowState, RowTransaction, SameBase, is_moved}
+use Rattle.abl_rows.specs.Rows.{AfterError, ChangesRow, IsConsistent, RowState, RowTransaction}
 use Rattle.key_index.specs.Index.{Keys}
 use Rattle.row_indexes.specs.declared.moves.Move.{Move}
 use Rattle.row_indexes.specs.declared.moves.Moved.{Moved}
-use Rattle.row_indexes.specs.Places.{AreWithin, Keepers, Places, keepers_of, places_of}
+use Rattle.row_indexes.specs.Places.{AreWithin, Keepers, keepers_of, places_of}
 use Rattle.row_indexes.specs.Changes.{AreAllKept, CanUndoAll}
 use Rattle.row_indexes.specs.Making.{CanMake, kept_after, made}
 use Rattle.index_changes.specs.declared.entering.Before.{Before}
 use Rattle.row_keys.specs.Entries.{AreEntries, AreEntriesAt}
-use Rattle.row_keys.specs.Numbers.{index_count}
 use Rattle.row_keys.specs.Moves.{AreMovesOf}
 use Rattle.row_keys.specs.Reserved.{reserved_at}
 use Rattle.row_keys.proofs.Kept.{reserves_for_others}

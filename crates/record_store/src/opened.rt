@@ -1,35 +1,85 @@
 //! A new store.
 
-ghost use Rattle.std.specs.Prelude.{◌≡◌, ℕ, [], false, IfOk};
+ghost use Rattle.std.specs.Prelude.{◌≡◌, ◌≤◌, ℕ, [], length, false, IsTrue, IfOk};
 ghost use Rattle.abl_storage.specs.Slots.{IsReadable};
 ghost use Rattle.chain_store.specs.Places.{HoldNothing};
-ghost use Rattle.record_store.specs.State.{IsNewStore, store_state};
+ghost use Rattle.sequence_slots.specs.Values.{HoldValues};
+ghost use Rattle.stored_rows.specs.State.{state_of};
+ghost use Rattle.record_store.specs.State.{IsNewStore, initial_values, no_reserved, store_state};
 
 use crate::sequences::first_values;
 use crate::store::RecordStore;
+use abl_base::limits::MAX_SEQUENCES;
+use abl_rows::RowError;
 use abl_storage::Slots;
 use abl_values::Schema;
 use indexed_rows::idle_clients;
 use row_keys::new_indexes;
-use std::alloc::{AllocError, Global};
+use std::alloc::Global;
 use stored_rows::StoredRows;
+
+/// The client whose first transaction stores the sequence values of a new store.
+const FIRST_CLIENT: u16 = 0;
+
+/// The rows of slots that hold nothing, after a transaction that stores these sequence values.
+fn new_rows<S: Slots + Drop>(
+    alloc: Global,
+    slots: S,
+    schema: Schema,
+    values: &[i64],
+) -> Result<StoredRows<S>, RowError>
+    requires idle { (c : ℕ) → ((S.Slots.state slots).transaction c).begun ≡ false }
+    requires clean { (c : ℕ) → ((S.Slots.state slots).transaction c).undo ≡ [] }
+    requires fine { (S.Slots.state slots).failed ≡ false }
+    requires empty { IsReadable (S.Slots.state slots) → HoldNothing (S.Slots.state slots).reads }
+    requires settled { IsReadable (S.Slots.state slots) → (k : ℕ) → (S.Slots.state slots).committed k ≡ (S.Slots.state slots).reads k }
+    requires certain { IsReadable (S.Slots.state slots) → (k : ℕ) → (S.Slots.state slots).doubt k ≡ (S.Slots.state slots).committed k }
+    requires none { IsReadable (S.Slots.state slots) → HoldValues (S.Slots.state slots).committed [] }
+    requires values { values.now ≡ initial_values schema }
+    requires few { length values.now ≤ 256 }
+    ensures schema { IfOk result (λ rows. rows.schema ≡ schema) }
+    ensures new { IfOk result (λ rows. IsNewStore (state_of rows.schema no_reserved values.now (S.Slots.state rows.chains.slots) rows.opens.items) schema) }
+    ensures held { IfOk result (λ rows. IsTrue (S.Slots.state rows.chains.slots).observable → HoldValues (S.Slots.state rows.chains.slots).committed values.now) }
+{
+    let mut rows = match StoredRows::new(alloc, slots, schema) {
+        Ok(rows) => rows,
+        Err(_) => return Err(RowError::NoMemory),
+    };
+    rows.begin(FIRST_CLIENT)?;
+    rows.commit(FIRST_CLIENT, &[], values)?;
+    Ok(rows)
+}
 
 impl<S: Slots + Drop> RecordStore<S> {
     /// The store of a new database over slots that hold nothing: it has no row, and each sequence has
-    /// its initial value. An error means out of memory.
-    pub fn new(alloc: Global, slots: S, schema: Schema) -> Result<RecordStore<S>, AllocError>
+    /// its initial value, which a first transaction stores. The errors are those of memory and the disk;
+    /// more than 256 sequences, which no schema file gives, count as out of memory.
+    pub fn new(alloc: Global, slots: S, schema: Schema) -> Result<RecordStore<S>, RowError>
         requires idle { (c : ℕ) → ((S.Slots.state slots).transaction c).begun ≡ false }
         requires clean { (c : ℕ) → ((S.Slots.state slots).transaction c).undo ≡ [] }
         requires fine { (S.Slots.state slots).failed ≡ false }
         requires empty { IsReadable (S.Slots.state slots) → HoldNothing (S.Slots.state slots).reads }
         requires settled { IsReadable (S.Slots.state slots) → (k : ℕ) → (S.Slots.state slots).committed k ≡ (S.Slots.state slots).reads k }
-        ensures new { IfOk result (λ store. IsNewStore (store_state store.rows.schema store.indexes.items store.sequences.items (S.Slots.state store.rows.chains.slots) store.rows.opens.items) schema) }
-        ensures slots { IfOk result (λ store. store.rows.chains.slots ≡ slots) }
+        requires certain { IsReadable (S.Slots.state slots) → (k : ℕ) → (S.Slots.state slots).doubt k ≡ (S.Slots.state slots).committed k }
+        requires none { IsReadable (S.Slots.state slots) → HoldValues (S.Slots.state slots).committed [] }
+        ensures { IfOk result (λ store. IsNewStore (store_state store.rows.schema store.indexes.items store.sequences.items (S.Slots.state store.rows.chains.slots) store.rows.opens.items) schema) }
     {
-        let indexes = new_indexes(alloc, &schema)?;
-        let clients = idle_clients(alloc)?;
-        let sequences = first_values(alloc, &schema)?;
-        let rows = StoredRows::new(alloc, slots, schema)?;
+        let indexes = match new_indexes(alloc, &schema) {
+            Ok(indexes) => indexes,
+            Err(_) => return Err(RowError::NoMemory),
+        };
+        let clients = match idle_clients(alloc) {
+            Ok(clients) => clients,
+            Err(_) => return Err(RowError::NoMemory),
+        };
+        let sequences = match first_values(alloc, &schema) {
+            Ok(sequences) => sequences,
+            Err(_) => return Err(RowError::NoMemory),
+        };
+        if MAX_SEQUENCES < sequences.len() {
+            return Err(RowError::NoMemory);
+        }
+        let rows = new_rows(alloc, slots, schema, sequences.as_slice())?;
         Ok(RecordStore {
             alloc,
             rows,

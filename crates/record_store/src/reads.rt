@@ -1,7 +1,7 @@
 //! Reading rows of a table.
 
 ghost use Rattle.std.specs.Prelude.{◌≡◌, ℕ, ℤ, List, Some, MatchOption, IfOk, OnOk};
-ghost use Rattle.abl_storage.specs.Slots.{IsReadable, Rests};
+ghost use Rattle.abl_storage.specs.Slots.{Goes, IsReadable, KeepsCommitted, Rests};
 ghost use Rattle.database_meaning.specs.Setting.{FitsTable, HasTable};
 ghost use Rattle.database_meaning.specs.Waiting.{row_in};
 ghost use Rattle.abl_rows.specs.Questions.{replaced_at};
@@ -51,6 +51,8 @@ pub(crate) fn read<S: Slots + Drop>(
     ensures cause { (reserved : Reserved) (sequences : List ℤ) →
         HasCause (S.Slots.state rows.old.chains.slots).faults (S.Slots.state rows.new.chains.slots).faults
         (state_of rows.old.schema reserved sequences (S.Slots.state rows.old.chains.slots) rows.old.opens.items) result }
+    ensures keeps { KeepsCommitted (S.Slots.state rows.old.chains.slots) (S.Slots.state rows.new.chains.slots) }
+    ensures time { Goes (S.Slots.state rows.old.chains.slots) (S.Slots.state rows.new.chains.slots) (S.Slots.stop rows.old.chains.slots) (S.Slots.stop rows.new.chains.slots) }
 {
     match rows.get(row) {
         Ok(stored) => Ok(values_in(table, stored)),
@@ -76,6 +78,8 @@ pub(crate) fn replaced<S: Slots + Drop>(
     ensures cause { (reserved : Reserved) (sequences : List ℤ) →
         HasCause (S.Slots.state rows.old.chains.slots).faults (S.Slots.state rows.new.chains.slots).faults
         (state_of rows.old.schema reserved sequences (S.Slots.state rows.old.chains.slots) rows.old.opens.items) result }
+    ensures keeps { KeepsCommitted (S.Slots.state rows.old.chains.slots) (S.Slots.state rows.new.chains.slots) }
+    ensures time { Goes (S.Slots.state rows.old.chains.slots) (S.Slots.state rows.new.chains.slots) (S.Slots.stop rows.old.chains.slots) (S.Slots.stop rows.new.chains.slots) }
 {
     match row {
         None => Ok(None),
@@ -103,6 +107,8 @@ pub(crate) fn found<S: Slots + Drop>(
     ensures cause { (reserved : Reserved) (sequences : List ℤ) →
         HasCause (S.Slots.state rows.old.chains.slots).faults (S.Slots.state rows.new.chains.slots).faults
         (state_of rows.old.schema reserved sequences (S.Slots.state rows.old.chains.slots) rows.old.opens.items) result }
+    ensures keeps { KeepsCommitted (S.Slots.state rows.old.chains.slots) (S.Slots.state rows.new.chains.slots) }
+    ensures time { Goes (S.Slots.state rows.old.chains.slots) (S.Slots.state rows.new.chains.slots) (S.Slots.stop rows.old.chains.slots) (S.Slots.stop rows.new.chains.slots) }
 {
     match read(rows, table, at.row) {
         Ok(Some(values)) => Ok(Some(FoundRow {
@@ -138,6 +144,8 @@ pub(crate) fn old_row<S: Slots + Drop>(
     ensures cause { (reserved : Reserved) (sequences : List ℤ) →
         HasCause (S.Slots.state rows.old.chains.slots).faults (S.Slots.state rows.new.chains.slots).faults
         (state_of rows.old.schema reserved sequences (S.Slots.state rows.old.chains.slots) rows.old.opens.items) result }
+    ensures keeps { KeepsCommitted (S.Slots.state rows.old.chains.slots) (S.Slots.state rows.new.chains.slots) }
+    ensures time { Goes (S.Slots.state rows.old.chains.slots) (S.Slots.state rows.new.chains.slots) (S.Slots.stop rows.old.chains.slots) (S.Slots.stop rows.new.chains.slots) }
 {
     match rows.old_row(row) {
         Ok(Some(old)) => {

@@ -1,11 +1,12 @@
 //! `RecordStore` as a `RowStore`.
 
-ghost use Rattle.std.proofs.Common.{le_refl, sym, true≢false, ◌∙◌};
+ghost use Rattle.std.proofs.Common.{sym, true≢false, ◌∙◌};
 ghost use Rattle.row_indexes.specs.Places.{keepers_of};
 ghost use Rattle.row_keys.specs.Reserved.{reserved_at};
 ghost use Rattle.row_keys.proofs.Kept.{reserved_none};
 ghost use Rattle.stored_rows.proofs.Consistent.{consistent as rows_are_consistent};
-ghost use Rattle.record_store.specs.State.{nothing_left, store_state, times_of};
+ghost use Rattle.stored_rows.specs.Durable.{left_in, times_in};
+ghost use Rattle.record_store.specs.State.{store_state};
 
 use crate::changes::prepare;
 use crate::questions::{least_duplicate, place_found, reserved_against};
@@ -24,9 +25,9 @@ impl<S: Slots + Drop> RowStore for RecordStore<S> {
 
     ghost faults = { λ s. (S.Slots.state s.rows.chains.slots).faults };
 
-    ghost times = { λ s. times_of (store_state s.rows.schema s.indexes.items s.sequences.items (S.Slots.state s.rows.chains.slots) s.rows.opens.items) };
+    ghost times = { λ s. times_in s.rows.schema (S.Slots.state s.rows.chains.slots) };
 
-    ghost left = { λ s. nothing_left };
+    ghost left = { λ s. left_in s.rows.schema (S.Slots.stop s.rows.chains.slots) };
 
     fn table(&mut self, row: RowId) -> Result<Option<u16>, RowError> {
         self.rows.table(row)
@@ -230,11 +231,14 @@ impl<S: Slots + Drop> RowStore for RecordStore<S> {
     }
 
     fn commit(&mut self, client: u16, sequences: &[i64]) -> Result<u64, RowError> {
-        match self.rows.commit(client) {
-            Ok(_) => {
+        match self
+            .rows
+            .commit(client, self.sequences.as_slice(), sequences)
+        {
+            Ok(moment) => {
                 end(&mut self.indexes, &mut self.clients, client);
                 store_values(&mut self.sequences, sequences);
-                Ok(0)
+                Ok(moment)
             }
             Err(error) => Err(error),
         }
@@ -248,7 +252,7 @@ impl<S: Slots + Drop> RowStore for RecordStore<S> {
     ghost consistent = { λ s. rows_are_consistent s.rows.schema (reserved_at s.rows.schema (keepers_of s.indexes.items)) s.sequences.items (S.Slots.state s.rows.chains.slots) s.rows.opens.items s.rows.stored
         (λ c idle. reserved_none s.rows.schema (keepers_of s.indexes.items) c (λ j key is. true≢false (sym (s.indexed.begun c j key is) ∙ idle))) };
 
-    ghost left_known = { λ s m durable known. absurd known };
+    ghost left_known = { λ s m durable known. let stop = S.Slots.stop_known s.rows.chains.slots m known.0 known.1 in record { observable = stop.observable; from = stop.from; past = stop.past } };
 
-    ghost since_past = { λ s. le_refl 0 };
+    ghost since_past = { λ s. S.Slots.since_past s.rows.chains.slots };
 }

@@ -1,10 +1,11 @@
 //! The store.
 
-ghost use Rattle.std.specs.Prelude.{◌≡◌, length};
+ghost use Rattle.std.specs.Prelude.{◌≡◌, ◌≤◌, length, IsTrue};
 ghost use Rattle.indexed_rows.specs.Indexed.{IsIndexed};
 ghost use Rattle.indexed_rows.proofs.Props.{IsIndexed-prop};
 ghost use Rattle.indexed_rows.specs.Moved.{moved_in};
-ghost use Rattle.record_store.specs.State.{store_state};
+ghost use Rattle.sequence_slots.specs.Values.{HoldValues};
+ghost use Rattle.record_store.specs.State.{Have64Bits-prop, store_state};
 ghost use Rattle.std.proofs.Props.{props};
 
 use abl_storage::Slots;
@@ -27,5 +28,7 @@ pub struct RecordStore<S: Slots + Drop> {
     pub(crate) sequences: Vec<i64>,
     ghost sixteen: { length clients.items ≡ 16 },
     ghost values: { length sequences.items ≡ length rows.schema.sequences },
+    ghost few: { length sequences.items ≤ 256 },
+    ghost held: { IsTrue (S.Slots.state rows.chains.slots).observable → HoldValues (S.Slots.state rows.chains.slots).committed sequences.items } by { Prim.hlevel (props, Have64Bits-prop) },
     ghost indexed: { IsIndexed (store_state rows.schema indexes.items sequences.items (S.Slots.state rows.chains.slots) rows.opens.items) (moved_in clients.items) indexes.items } by { Prim.hlevel (props, IsIndexed-prop) },
 }

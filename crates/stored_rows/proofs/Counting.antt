@@ -2,7 +2,7 @@
 use Rattle.std.proofs.Common.{◌≡◌, inl, inr, ℕ, ◌+◌, ◌-◌, ◌^◌, ◌<◌, ◌≤◌, Bool, true, false, eqb, List, Option, None, Result, Ok, Err, OnOk, OnErr, IsTrue, ℤ, refl, sym, ap, ◌∙◌, subst, arith}
 use Rattle.std.proofs.lemmas.Bool.{cases_eq, cases_lt}
 use Rattle.std.proofs.lemmas.Bool.Decides.{nat_tests}
-use Rattle.abl_storage.specs.Slots.{SlotState, Begins, Fails, GoesBack, HasCause, IsReadable, KeepsCommitted, Rests}
+use Rattle.abl_storage.specs.Slots.{SlotState, Begins, GoesBack, HasCause, IsReadable, KeepsCommitted, Rests}
 use Rattle.abl_storage.specs.declared.slots.SlotFault.{SlotFault}
 use Rattle.abl_storage.specs.declared.slots.SlotFault.TheVariants.{Disk, NoMemory, TxFull}
 use Rattle.abl_values.specs.Schema.{SchemaData}
@@ -15,6 +15,7 @@ use Rattle.row_chain.proofs.Chained.{no_row_at}
 use Rattle.abl_rows.specs.Changes.{RowsById}
 use Rattle.abl_rows.specs.Questions.{IsUsed}
 use Rattle.stored_rows.specs.declared.open.Open.{Open}
+use Rattle.stored_rows.specs.Commits.{FailsValues}
 use Rattle.stored_rows.specs.Counted.{AreCounted, fragments_below}
 use Rattle.stored_rows.specs.Decoded.{decoded, row_of}
 use Rattle.stored_rows.specs.Opens.{open_in}
@@ -36,8 +37,8 @@ counted_keeps schema s t used keeps fine counted readable =
     subst (λ (f : ℕ → List ℕ). AreCounted (decoded schema f) used) (sym (keeps.committed was.0)) (counted was)
 
 -- a commit that failed leaves what was committed
-pub counted_fails : (schema : SchemaData) (s t : SlotState) (used client : ℕ) → Fails s t client → s.failed ≡ false → (IsReadable s → AreCounted (decoded schema s.committed) used) → IsReadable t → AreCounted (decoded schema t.committed) used
-counted_fails schema s t used client fails fine counted readable =
+pub counted_fails : (schema : SchemaData) (s t : SlotState) (used client : ℕ) (values : List ℤ) → FailsValues s t client values → s.failed ≡ false → (IsReadable s → AreCounted (decoded schema s.committed) used) → IsReadable t → AreCounted (decoded schema t.committed) used
+counted_fails schema s t used client values fails fine counted readable =
     let was : IsReadable s = (subst (λ (b : Bool). IsTrue b) fails.observable readable.0, fine) in
     subst (λ (f : ℕ → List ℕ). AreCounted (decoded schema f) used) (sym (fails.committed was.0)) (counted was)
 

@@ -1,7 +1,7 @@
 -- The state after a refusal.
 use Rattle.std.proofs.Common.{◌≡◌, ℕ, ◌&&◌, not, Bool, true, false, List, Err, IsErrOf, IsTrue, ℤ, refl, ap, ◌∙◌}
 use Rattle.std.proofs.Math.Path.{fun_ext}
-use Rattle.abl_storage.specs.Slots.{SlotState, Transaction, Fails as SlotsFail, HasCause, IsReadable, KeepsCommitted, Rests}
+use Rattle.abl_storage.specs.Slots.{SlotState, Transaction, HasCause, IsReadable, KeepsCommitted, Rests}
 use Rattle.abl_storage.specs.declared.slots.SlotFault.TheVariants.{Disk as SlotDisk, TxFull, NoMemory as SlotMemory}
 use Rattle.abl_values.specs.Schema.{SchemaData}
 use Rattle.chain_store.specs.declared.fault.ChainFault.{ChainFault}
@@ -11,6 +11,7 @@ use Rattle.abl_rows.specs.Changes.{RowsById}
 use Rattle.abl_rows.specs.Rows.{AfterError, Fails, RowState, RowTransaction}
 use Rattle.abl_rows.specs.Rows as rows
 use Rattle.stored_rows.specs.declared.open.Open.{Open}
+use Rattle.stored_rows.specs.Commits.{FailsValues}
 use Rattle.stored_rows.specs.Decoded.{decoded}
 use Rattle.stored_rows.specs.Opens.{open_in}
 use Rattle.stored_rows.specs.State.{Reserved, row_error, rows_if, state_of, transaction_of}
@@ -20,7 +21,7 @@ abbrev made : SchemaData → List ℤ → Bool → Bool → RowsById → RowsByI
 made schema sequences observable failed present committed transaction =
     record { observable = observable; failed = failed; schema = schema; rows = present; committed = committed; sequences = sequences; transaction = transaction }
 
-and_parts : (a b : Bool) → IsTrue (a && not b) → IsTrue a × (b ≡ false)
+pub and_parts : (a b : Bool) → IsTrue (a && not b) → IsTrue a × (b ≡ false)
 and_parts true true e = absurd (cc e)
 and_parts true false e = (e, refl)
 and_parts false b e = absurd (cc e)
@@ -76,10 +77,10 @@ module _ (schema : SchemaData) (reserved : Reserved) (sequences : List ℤ) (s t
   cause_of Full cause = record { later = cause.later; disk = λ e. absurd (cc e) }
 
   -- a commit failed: the disk alone refuses one
-  pub after_failure : {T U : Type 0} (client : ℕ) (fault : ChainFault) → SlotsFail s t client → HasCause {T = U} s t (of_slots (Err fault))
+  pub after_failure : {T U : Type 0} (client : ℕ) (values : List ℤ) (fault : ChainFault) → FailsValues s t client values → HasCause {T = U} s t (of_slots (Err fault))
       → (IsErrOf {T = U} (Err fault) Full → ⊥) × ((IsErrOf {T = U} (of_slots (Err fault)) SlotMemory → ⊥) × (IsErrOf {T = U} (of_slots (Err fault)) TxFull → ⊥))
       → AfterError {T = T} (state_of schema reserved sequences s a) (state_of schema reserved sequences t b) (Err (row_error fault))
-  after_failure client (Slot SlotDisk) fails cause only = record {
+  after_failure client values (Slot SlotDisk) fails cause only = record {
     memory = λ e. absurd (cc e);
     disk = λ e. record {
       observable = fails.observable;
@@ -87,9 +88,9 @@ module _ (schema : SchemaData) (reserved : Reserved) (sequences : List ℤ) (s t
       schema = refl;
       committed = λ is. same_rows s.observable t.observable (decoded schema s.committed) (decoded schema t.committed) fails.observable (λ is. ap (decoded schema) (fails.committed is));
       sequences = λ is. refl;
-      transaction = transactions (λ c. ap (λ (f : ℕ → Transaction). (f c).begun) fails.transaction);
+      transaction = transactions fails.begun;
     };
   }
-  after_failure client (Slot TxFull) fails cause only = absurd (only.1.1 refl)
-  after_failure client (Slot SlotMemory) fails cause only = absurd (only.1.0 refl)
-  after_failure client Full fails cause only = absurd (only.0 refl)
+  after_failure client values (Slot TxFull) fails cause only = absurd (only.1.1 refl)
+  after_failure client values (Slot SlotMemory) fails cause only = absurd (only.1.0 refl)
+  after_failure client values Full fails cause only = absurd (only.0 refl)

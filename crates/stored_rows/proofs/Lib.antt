@@ -21,3 +21,6 @@ pub mod Known
 pub mod Consistent
 pub mod Counting
 pub mod Sends
+pub mod Quiet
+pub mod LowSlots
+pub mod Committing

@@ -4,3 +4,6 @@ pub mod Stored
 pub mod Opens
 pub mod Counted
 pub mod State
+pub mod Quiet
+pub mod Commits
+pub mod Durable

@@ -2,7 +2,7 @@
 
 ghost use Rattle.std.specs.Prelude.{◌≡◌, ◌<◌, ◌≤◌, ℤ, List, length, IfOk, OnOk};
 ghost use Rattle.database_meaning.specs.Counts.{sum_below};
-ghost use Rattle.abl_storage.specs.Slots.{Goes, IsReadable};
+ghost use Rattle.abl_storage.specs.Slots.{Goes, IsReadable, KeepsCommitted};
 ghost use Rattle.database_meaning.specs.Setting.{fragments as fragments_in};
 ghost use Rattle.abl_rows.specs.Questions.{IsUsed, table_at};
 ghost use Rattle.abl_rows.specs.Rows.{AfterError, HasCause, IsFree, OnlyDisk};
@@ -56,6 +56,7 @@ impl<S: Slots + Drop> StoredRows<S> {
             HasCause (S.Slots.state self.old.chains.slots).faults (S.Slots.state self.new.chains.slots).faults
             (state_of self.old.schema reserved sequences (S.Slots.state self.old.chains.slots) self.old.opens.items) result }
         ensures only { OnlyDisk result }
+        ensures keeps { KeepsCommitted (S.Slots.state self.old.chains.slots) (S.Slots.state self.new.chains.slots) }
         ensures time { Goes (S.Slots.state self.old.chains.slots) (S.Slots.state self.new.chains.slots) (S.Slots.stop self.old.chains.slots) (S.Slots.stop self.new.chains.slots) }
     {
         match self.chains.table(row) {
@@ -79,6 +80,7 @@ impl<S: Slots + Drop> StoredRows<S> {
             HasCause (S.Slots.state self.old.chains.slots).faults (S.Slots.state self.new.chains.slots).faults
             (state_of self.old.schema reserved sequences (S.Slots.state self.old.chains.slots) self.old.opens.items) result }
         ensures only { OnlyDisk result }
+        ensures keeps { KeepsCommitted (S.Slots.state self.old.chains.slots) (S.Slots.state self.new.chains.slots) }
         ensures time { Goes (S.Slots.state self.old.chains.slots) (S.Slots.state self.new.chains.slots) (S.Slots.stop self.old.chains.slots) (S.Slots.stop self.new.chains.slots) }
     {
         match self.chains.length(row) {
@@ -102,6 +104,7 @@ impl<S: Slots + Drop> StoredRows<S> {
         ensures cause { (reserved : Reserved) (sequences : List ℤ) →
             HasCause (S.Slots.state self.old.chains.slots).faults (S.Slots.state self.new.chains.slots).faults
             (state_of self.old.schema reserved sequences (S.Slots.state self.old.chains.slots) self.old.opens.items) result }
+        ensures keeps { KeepsCommitted (S.Slots.state self.old.chains.slots) (S.Slots.state self.new.chains.slots) }
         ensures time { Goes (S.Slots.state self.old.chains.slots) (S.Slots.state self.new.chains.slots) (S.Slots.stop self.old.chains.slots) (S.Slots.stop self.new.chains.slots) }
     {
         match self.chains.fresh() {

@@ -1,7 +1,7 @@
 //! Beginning a transaction.
 
 ghost use Rattle.std.specs.Prelude.{◌≡◌, ◌<◌, ℕ, ℤ, List, true, false, OnOk};
-ghost use Rattle.abl_storage.specs.Slots.{Goes};
+ghost use Rattle.abl_storage.specs.Slots.{Goes, KeepsCommitted};
 ghost use Rattle.abl_rows.specs.Rows.{AfterError, Begins, HasCause};
 ghost use Rattle.stored_rows.specs.State.{Reserved, state_of};
 
@@ -27,6 +27,7 @@ impl<S: Slots + Drop> StoredRows<S> {
         ensures cause { (reserved : Reserved) (sequences : List ℤ) →
             HasCause (S.Slots.state self.old.chains.slots).faults (S.Slots.state self.new.chains.slots).faults
             (state_of self.old.schema reserved sequences (S.Slots.state self.old.chains.slots) self.old.opens.items) result }
+        ensures keeps { KeepsCommitted (S.Slots.state self.old.chains.slots) (S.Slots.state self.new.chains.slots) }
         ensures time { Goes (S.Slots.state self.old.chains.slots) (S.Slots.state self.new.chains.slots) (S.Slots.stop self.old.chains.slots) (S.Slots.stop self.new.chains.slots) }
     {
         let transaction = &mut self.opens[client as usize];

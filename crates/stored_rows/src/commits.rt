@@ -1,8 +1,11 @@
 //! Committing a transaction.
 
-ghost use Rattle.std.specs.Prelude.{◌≡◌, ◌≢◌, ◌<◌, ◌+◌, ◌-◌, ◌^◌, ℕ, ℤ, List, true, false, IfOk, OnOk, OnErr};
-ghost use Rattle.abl_storage.specs.Slots.{Fails, Goes};
+ghost use Rattle.std.specs.Prelude.{◌≡◌, ◌≢◌, ◌<◌, ◌≤◌, ◌+◌, ◌-◌, ◌^◌, ℕ, ℤ, List, length, true, false, IsTrue, IfOk, OnOk, OnErr};
+ghost use Rattle.abl_storage.specs.Slots.{Goes, IsReadable};
 ghost use Rattle.abl_rows.specs.Rows.{AfterError, Commits, HasCause, OnlyDisk};
+ghost use Rattle.abl_rows.specs.Times.{IsInDoubt};
+ghost use Rattle.sequence_slots.specs.Values.{HoldValues};
+ghost use Rattle.stored_rows.specs.Durable.{times_in};
 ghost use Rattle.stored_rows.specs.State.{Reserved, state_of};
 
 use crate::fault::error_of;
@@ -20,33 +23,48 @@ pub(crate) fn moved(number: u64, before: u64, after: u64) -> u64
 }
 
 impl<S: Slots + Drop> StoredRows<S> {
-    /// Commits the transaction, and returns the moment from which on each stop leaves its rows. After
-    /// an error, which is Disk, it is still begun, and a stop may leave its rows or not. It takes no
+    /// Commits the transaction with these values of the schema's sequences, of which `stored` are held
+    /// until then. It returns the moment from which on each stop leaves them and its rows. After an
+    /// error, which is Disk, it is still begun, and a stop may leave it committed or not. It takes no
     /// memory.
-    pub fn commit(&mut self, client: u16) -> Result<u64, RowError>
+    pub fn commit(
+        &mut self,
+        client: u16,
+        stored: &[i64],
+        sequences: &[i64],
+    ) -> Result<u64, RowError>
         requires client { client < 16 }
         requires fine { (S.Slots.state self.old.chains.slots).failed ≡ false }
         requires begun { ((S.Slots.state self.old.chains.slots).transaction client).begun ≡ true }
+        requires many { length sequences.now ≡ length self.old.schema.sequences }
+        requires few { length sequences.now ≤ 270 }
+        requires held { IsReadable (S.Slots.state self.old.chains.slots) → HoldValues (S.Slots.state self.old.chains.slots).committed stored.now }
         ensures schema { self.new.schema ≡ self.old.schema }
-        ensures ok { OnOk result ((before after : Reserved) (sequences stored : List ℤ) → after client ≡ (λ key. false) → ((c : ℕ) → c ≢ client → after c ≡ before c) →
-            Commits (state_of self.old.schema before sequences (S.Slots.state self.old.chains.slots) self.old.opens.items)
-            (state_of self.old.schema after stored (S.Slots.state self.new.chains.slots) self.new.opens.items) client stored) }
+        ensures ok { OnOk result ((before after : Reserved) (values others : List ℤ) → after client ≡ (λ key. false) → ((c : ℕ) → c ≢ client → after c ≡ before c) →
+            Commits (state_of self.old.schema before values (S.Slots.state self.old.chains.slots) self.old.opens.items)
+            (state_of self.old.schema after others (S.Slots.state self.new.chains.slots) self.new.opens.items) client others) }
         ensures moment { IfOk result (λ moment. moment ≡ (S.Slots.state self.new.chains.slots).moment) }
         ensures acknowledged { OnOk result ((slots : ℕ → List ℕ) → S.Slots.stop self.new.chains.slots (S.Slots.state self.new.chains.slots).moment slots → slots ≡ (S.Slots.state self.new.chains.slots).committed) }
-        ensures fails { OnErr result (Fails (S.Slots.state self.old.chains.slots) (S.Slots.state self.new.chains.slots) client) }
-        ensures err { (reserved : Reserved) (sequences : List ℤ) →
-            AfterError (state_of self.old.schema reserved sequences (S.Slots.state self.old.chains.slots) self.old.opens.items)
-            (state_of self.old.schema reserved sequences (S.Slots.state self.new.chains.slots) self.new.opens.items) result }
-        ensures cause { (reserved : Reserved) (sequences : List ℤ) →
+        ensures held { OnOk result (IsReadable (S.Slots.state self.old.chains.slots) → HoldValues (S.Slots.state self.new.chains.slots).committed sequences.now) }
+        ensures certain { OnOk result (IsTrue (S.Slots.state self.old.chains.slots).observable → (S.Slots.state self.new.chains.slots).doubt ≡ (S.Slots.state self.new.chains.slots).committed) }
+        ensures observable { (S.Slots.state self.new.chains.slots).observable ≡ (S.Slots.state self.old.chains.slots).observable }
+        ensures fails { OnErr result (IsTrue (S.Slots.state self.old.chains.slots).observable → (S.Slots.state self.new.chains.slots).committed ≡ (S.Slots.state self.old.chains.slots).committed) }
+        ensures doubt { OnErr result ((reserved : Reserved) (values : List ℤ) →
+            IsInDoubt (state_of self.old.schema reserved values (S.Slots.state self.old.chains.slots) self.old.opens.items) client sequences.now
+            (times_in self.old.schema (S.Slots.state self.old.chains.slots)) (times_in self.old.schema (S.Slots.state self.new.chains.slots))) }
+        ensures err { (reserved : Reserved) (values : List ℤ) →
+            AfterError (state_of self.old.schema reserved values (S.Slots.state self.old.chains.slots) self.old.opens.items)
+            (state_of self.old.schema reserved values (S.Slots.state self.new.chains.slots) self.new.opens.items) result }
+        ensures cause { (reserved : Reserved) (values : List ℤ) →
             HasCause (S.Slots.state self.old.chains.slots).faults (S.Slots.state self.new.chains.slots).faults
-            (state_of self.old.schema reserved sequences (S.Slots.state self.old.chains.slots) self.old.opens.items) result }
+            (state_of self.old.schema reserved values (S.Slots.state self.old.chains.slots) self.old.opens.items) result }
         ensures only { OnlyDisk result }
         ensures time { Goes (S.Slots.state self.old.chains.slots) (S.Slots.state self.new.chains.slots) (S.Slots.stop self.old.chains.slots) (S.Slots.stop self.new.chains.slots) }
     {
         let transaction = &mut self.opens[client as usize];
         let before = before_all(transaction.log.as_slice());
         let after = after_all(transaction.log.as_slice());
-        match commit(&mut self.chains, transaction, client) {
+        match commit(&mut self.chains, transaction, client, stored, sequences) {
             Ok(moment) => {
                 self.used = moved(self.used, before, after);
                 Ok(moment)

@@ -1,11 +1,14 @@
 //! Changing a row in chains, and noting what undoes that.
 
 ghost use Rattle.std.specs.Prelude.{◌≡◌, ◌≤◌, ◌<◌, ℕ, List, length, take, true, false, Some, None, IfOk, OnOk, OnErr, IsErrOf};
-ghost use Rattle.abl_storage.specs.Slots.{Begins, Commits, Ends, Fails, Goes, GoesBack, HasCause, IsReadable, OnlyDisk, Rests};
+ghost use Rattle.abl_storage.specs.Slots.{Begins, Ends, Goes, GoesBack, HasCause, IsReadable, OnlyDisk, Rests, wrote};
 ghost use Rattle.abl_values.specs.Rows.{fragments_of};
 ghost use Rattle.row_chain.specs.Calls.{Touched};
-ghost use Rattle.row_chain.specs.Fragments.{begins, table_in};
+ghost use Rattle.row_chain.specs.Fragments.{begins, ends, table_in};
 ghost use Rattle.chain_store.specs.Rows.{ChangesRow, of_slots};
+ghost use Rattle.sequence_slots.specs.Values.{HoldValues};
+ghost use Rattle.stored_rows.specs.Commits.{CommitsValues, FailsValues};
+ghost use Rattle.stored_rows.specs.Quiet.{IsQuiet};
 ghost use Rattle.stored_rows.specs.Opens.{no_open, view_of, with_change};
 ghost use Rattle.stored_rows.specs.Stored.{mark_or};
 
@@ -15,6 +18,7 @@ use abl_base::RowId;
 use abl_storage::{Mark, SlotFault, Slots};
 use chain_store::{ChainFault, Chains};
 use database_meaning::StoredRow;
+use sequence_writes::store_values;
 
 /// The number of fragments that hold this many bytes.
 pub(crate) fn fragments(bytes: usize) -> u32
@@ -217,29 +221,40 @@ pub fn abandon<S: Slots + Drop>(chains: &mut Chains<S>, transaction: &mut Open, 
     transaction.end();
 }
 
-/// Commits the client's transaction and ends it. After an error it is still begun.
+/// Commits the client's transaction with these sequence values, of which `stored` are held, and ends
+/// it. After an error it is still begun.
 pub fn commit<S: Slots + Drop>(
     chains: &mut Chains<S>,
     transaction: &mut Open,
     client: u16,
+    stored: &[i64],
+    values: &[i64],
 ) -> Result<u64, ChainFault>
     requires client { client < 16 }
     requires begun { ((S.Slots.state chains.old.slots).transaction client).begun ≡ true }
-    ensures ok { OnOk result (Commits (S.Slots.state chains.old.slots) (S.Slots.state chains.new.slots) client) }
+    requires fine { (S.Slots.state chains.old.slots).failed ≡ false }
+    requires quiet { IsQuiet (S.Slots.state chains.old.slots) }
+    requires none { (k : ℕ) → ends k ≡ true → wrote ((S.Slots.state chains.old.slots).transaction client).undo k ≡ false }
+    requires few { length values.now ≤ 270 }
+    requires held { IsReadable (S.Slots.state chains.old.slots) → HoldValues (S.Slots.state chains.old.slots).committed stored.now }
+    ensures ok { OnOk result (CommitsValues (S.Slots.state chains.old.slots) (S.Slots.state chains.new.slots) client values.now) }
     ensures none { OnOk result (view_of transaction.new ≡ no_open) }
     ensures moment { IfOk result (λ moment. moment ≡ (S.Slots.state chains.new.slots).moment) }
     ensures acknowledged { OnOk result ((slots : ℕ → List ℕ) → S.Slots.stop chains.new.slots (S.Slots.state chains.new.slots).moment slots → slots ≡ (S.Slots.state chains.new.slots).committed) }
-    ensures err { OnErr result (Fails (S.Slots.state chains.old.slots) (S.Slots.state chains.new.slots) client) }
+    ensures err { OnErr result (FailsValues (S.Slots.state chains.old.slots) (S.Slots.state chains.new.slots) client values.now) }
     ensures same { OnErr result (view_of transaction.new ≡ view_of transaction.old) }
     ensures time { Goes (S.Slots.state chains.old.slots) (S.Slots.state chains.new.slots) (S.Slots.stop chains.old.slots) (S.Slots.stop chains.new.slots) }
     ensures cause { HasCause (S.Slots.state chains.old.slots) (S.Slots.state chains.new.slots) (of_slots result) }
     ensures only { (IsErrOf result ChainFault.Full → ⊥) × OnlyDisk (of_slots result) }
 {
-    match chains.commit(client) {
-        Ok(moment) => {
-            transaction.end();
-            Ok(moment)
-        }
+    match store_values(chains, client, stored, values) {
+        Ok(()) => match chains.commit(client) {
+            Ok(moment) => {
+                transaction.end();
+                Ok(moment)
+            }
+            Err(fault) => Err(fault),
+        },
         Err(fault) => Err(fault),
     }
 }

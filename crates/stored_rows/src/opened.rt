@@ -104,6 +104,7 @@ impl<S: Slots + Drop> StoredRows<S> {
         requires clean { (c : ℕ) → ((S.Slots.state slots).transaction c).undo ≡ [] }
         requires fine { (S.Slots.state slots).failed ≡ false }
         requires settled { IsReadable (S.Slots.state slots) → (k : ℕ) → (S.Slots.state slots).committed k ≡ (S.Slots.state slots).reads k }
+        requires certain { IsReadable (S.Slots.state slots) → (k : ℕ) → (S.Slots.state slots).doubt k ≡ (S.Slots.state slots).committed k }
         ensures same { IfOk result (λ rows. Still (S.Slots.state slots) (S.Slots.state rows.chains.slots) (S.Slots.stop slots) (S.Slots.stop rows.chains.slots)) }
         ensures schema { IfOk result (λ rows. rows.schema ≡ schema) }
         ensures err { IfErr result (λ e. Looked {T = ℕ} (S.Slots.state slots) (S.Slots.state e.1) (S.Slots.stop slots) (S.Slots.stop e.1) (Err e.0)) }
@@ -137,6 +138,7 @@ impl<S: Slots + Drop> StoredRows<S> {
         requires fine { (S.Slots.state slots).failed ≡ false }
         requires empty { IsReadable (S.Slots.state slots) → HoldNothing (S.Slots.state slots).reads }
         requires settled { IsReadable (S.Slots.state slots) → (k : ℕ) → (S.Slots.state slots).committed k ≡ (S.Slots.state slots).reads k }
+        requires certain { IsReadable (S.Slots.state slots) → (k : ℕ) → (S.Slots.state slots).doubt k ≡ (S.Slots.state slots).committed k }
         ensures same { IfOk result (λ rows. rows.chains.slots ≡ slots) }
         ensures schema { IfOk result (λ rows. rows.schema ≡ schema) }
         ensures none { IfOk result (λ rows. (c : ℕ) → open_in rows.opens.items c ≡ no_open) }

@@ -1,7 +1,7 @@
 //! Reading rows.
 
 ghost use Rattle.std.specs.Prelude.{◌≡◌, ℤ, List, Some, None, MatchOption, IfOk, OnOk, ⊤};
-ghost use Rattle.abl_storage.specs.Slots.{Goes, IsReadable, Rests};
+ghost use Rattle.abl_storage.specs.Slots.{Goes, IsReadable, KeepsCommitted, Rests};
 ghost use Rattle.database_meaning.specs.Setting.{FitsTable, HasTable};
 ghost use Rattle.row_chain.specs.Calls.{Looked};
 ghost use Rattle.chain_store.specs.Rows.{of_slots};
@@ -62,6 +62,7 @@ impl<S: Slots + Drop> StoredRows<S> {
         ensures cause { (reserved : Reserved) (sequences : List ℤ) →
             HasCause (S.Slots.state self.old.chains.slots).faults (S.Slots.state self.new.chains.slots).faults
             (state_of self.old.schema reserved sequences (S.Slots.state self.old.chains.slots) self.old.opens.items) result }
+        ensures keeps { KeepsCommitted (S.Slots.state self.old.chains.slots) (S.Slots.state self.new.chains.slots) }
         ensures time { Goes (S.Slots.state self.old.chains.slots) (S.Slots.state self.new.chains.slots) (S.Slots.stop self.old.chains.slots) (S.Slots.stop self.new.chains.slots) }
     {
         match find(self.alloc, &mut self.chains, &self.schema, row) {
@@ -89,6 +90,7 @@ impl<S: Slots + Drop> StoredRows<S> {
         ensures cause { (reserved : Reserved) (sequences : List ℤ) →
             HasCause (S.Slots.state self.old.chains.slots).faults (S.Slots.state self.new.chains.slots).faults
             (state_of self.old.schema reserved sequences (S.Slots.state self.old.chains.slots) self.old.opens.items) result }
+        ensures keeps { KeepsCommitted (S.Slots.state self.old.chains.slots) (S.Slots.state self.new.chains.slots) }
         ensures time { Goes (S.Slots.state self.old.chains.slots) (S.Slots.state self.new.chains.slots) (S.Slots.stop self.old.chains.slots) (S.Slots.stop self.new.chains.slots) }
     {
         match find(self.alloc, &mut self.chains, &self.schema, row) {

@@ -2,7 +2,7 @@
 
 ghost use Rattle.std.specs.Prelude.{◌≡◌, ◌≤◌, ◌<◌, ℤ, List, true, false, Some, None, OnOk};
 ghost use Rattle.abl_base.specs.declared.limits.TheConstants.{MAX_ROW_BYTES};
-ghost use Rattle.abl_storage.specs.Slots.{Goes, IsReadable};
+ghost use Rattle.abl_storage.specs.Slots.{Goes, IsReadable, KeepsCommitted};
 ghost use Rattle.database_meaning.specs.Setting.{FitsTable, HasTable, row_size};
 ghost use Rattle.database_meaning.specs.Waiting.{row_in};
 ghost use Rattle.abl_rows.specs.Rows.{AfterError, ChangesRow, HasCause};
@@ -46,6 +46,7 @@ impl<S: Slots + Drop> StoredRows<S> {
         ensures cause { (reserved : Reserved) (sequences : List ℤ) →
             HasCause (S.Slots.state self.old.chains.slots).faults (S.Slots.state self.new.chains.slots).faults
             (state_of self.old.schema reserved sequences (S.Slots.state self.old.chains.slots) self.old.opens.items) result }
+        ensures keeps { KeepsCommitted (S.Slots.state self.old.chains.slots) (S.Slots.state self.new.chains.slots) }
         ensures time { Goes (S.Slots.state self.old.chains.slots) (S.Slots.state self.new.chains.slots) (S.Slots.stop self.old.chains.slots) (S.Slots.stop self.new.chains.slots) }
     {
         let OldRow {
@@ -87,6 +88,7 @@ impl<S: Slots + Drop> StoredRows<S> {
         ensures cause { (reserved : Reserved) (sequences : List ℤ) →
             HasCause (S.Slots.state self.old.chains.slots).faults (S.Slots.state self.new.chains.slots).faults
             (state_of self.old.schema reserved sequences (S.Slots.state self.old.chains.slots) self.old.opens.items) result }
+        ensures keeps { KeepsCommitted (S.Slots.state self.old.chains.slots) (S.Slots.state self.new.chains.slots) }
         ensures time { Goes (S.Slots.state self.old.chains.slots) (S.Slots.state self.new.chains.slots) (S.Slots.stop self.old.chains.slots) (S.Slots.stop self.new.chains.slots) }
     {
         let OldRow {

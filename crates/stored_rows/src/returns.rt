@@ -1,7 +1,7 @@
 //! Going back to a mark, and giving up.
 
 ghost use Rattle.std.specs.Prelude.{◌≡◌, ◌≢◌, ◌<◌, ◌≤◌, ℕ, ℤ, List, length, true, false, OnOk};
-ghost use Rattle.abl_storage.specs.Slots.{Goes};
+ghost use Rattle.abl_storage.specs.Slots.{Goes, KeepsCommitted};
 ghost use Rattle.abl_rows.specs.Rows.{Abandons, AfterError, GoesBack, HasCause, OnlyDisk};
 ghost use Rattle.stored_rows.specs.Opens.{log_in};
 ghost use Rattle.stored_rows.specs.State.{Reserved, state_of};
@@ -38,6 +38,7 @@ impl<S: Slots + Drop> StoredRows<S> {
             HasCause (S.Slots.state self.old.chains.slots).faults (S.Slots.state self.new.chains.slots).faults
             (state_of self.old.schema reserved sequences (S.Slots.state self.old.chains.slots) self.old.opens.items) result }
         ensures only { OnlyDisk result }
+        ensures keeps { KeepsCommitted (S.Slots.state self.old.chains.slots) (S.Slots.state self.new.chains.slots) }
         ensures time { Goes (S.Slots.state self.old.chains.slots) (S.Slots.state self.new.chains.slots) (S.Slots.stop self.old.chains.slots) (S.Slots.stop self.new.chains.slots) }
     {
         let transaction = &mut self.opens[client as usize];
@@ -57,6 +58,7 @@ impl<S: Slots + Drop> StoredRows<S> {
             Abandons (state_of self.old.schema before sequences (S.Slots.state self.old.chains.slots) self.old.opens.items)
             (state_of self.old.schema after sequences (S.Slots.state self.new.chains.slots) self.new.opens.items) client }
         ensures later { (S.Slots.state self.old.chains.slots).faults ≤ (S.Slots.state self.new.chains.slots).faults }
+        ensures keeps { KeepsCommitted (S.Slots.state self.old.chains.slots) (S.Slots.state self.new.chains.slots) }
         ensures time { Goes (S.Slots.state self.old.chains.slots) (S.Slots.state self.new.chains.slots) (S.Slots.stop self.old.chains.slots) (S.Slots.stop self.new.chains.slots) }
     {
         let transaction = &mut self.opens[client as usize];

@@ -5,6 +5,7 @@ ghost use Rattle.abl_storage.specs.Slots.{IsReadable};
 ghost use Rattle.stored_rows.specs.Opens.{log_in, touched_in};
 ghost use Rattle.stored_rows.specs.Counted.{AreCounted};
 ghost use Rattle.stored_rows.specs.Decoded.{decoded};
+ghost use Rattle.stored_rows.specs.Quiet.{IsQuiet};
 ghost use Rattle.stored_rows.specs.Stored.{AreMarks-prop, AreWeighed-prop, IsStored};
 ghost use Rattle.std.proofs.Props.{props};
 
@@ -27,5 +28,6 @@ pub struct StoredRows<S: Slots + Drop> {
     pub(crate) used: u64,
     ghost sixteen: { length opens.items ≡ 16 },
     ghost stored: { IsStored schema (S.Slots.state chains.slots) (log_in opens.items) (touched_in opens.items) } by { Prim.hlevel (props, AreMarks-prop, AreWeighed-prop) },
+    ghost quiet: { IsQuiet (S.Slots.state chains.slots) } by { Prim.hlevel props },
     ghost counted: { IsReadable (S.Slots.state chains.slots) → AreCounted (decoded schema (S.Slots.state chains.slots).committed) used } by { Prim.hlevel props },
 }

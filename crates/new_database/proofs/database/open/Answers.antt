@@ -1,12 +1,12 @@
 -- The store and the machine are those of the new contents.
-use Rattle.std.proofs.Common.{◌≡◌, ◌∙◌, ℕ, List, refl, sym, ap, subst, length}
+use Rattle.std.proofs.Common.{◌≡◌, ◌∙◌, List, [], refl, sym, ap, subst}
 use Rattle.std.specs.Prelude.{map}
-use Rattle.std.proofs.lemmas.List.{length-map}
 use Rattle.abl_storage.specs.Slots.{SlotState}
 use Rattle.abl_values.specs.declared.schema.SequenceDef.{SequenceDef}
 use Rattle.chain_store.specs.Places.{HoldNothing}
 use Rattle.new_database.specs.Contents.{new_contents}
-use Rattle.new_database.proofs.Empty.{hold_nothing, is_opened, sound}
+use Rattle.sequence_slots.specs.Values.{HoldValues}
+use Rattle.new_database.proofs.Empty.{hold_no_value, hold_nothing, is_opened, sound}
 use Rattle.new_database.proofs.Opened.{three_of}
 use Rattle.new_database.proofs.database.open.Goals as goal
 
@@ -19,22 +19,25 @@ new-requires-2-clause-clean c = λ client. ap (λ (s : SlotState). (s.transactio
 pub new-requires-2-clause-empty : goal.new-requires-2-clause-empty
 new-requires-2-clause-empty c = λ readable. subst (λ (s : SlotState). HoldNothing s.reads) (sym c.in_ok-slots.ensures) hold_nothing
 
+pub new-requires-2-clause-none : goal.new-requires-2-clause-none
+new-requires-2-clause-none c = λ readable. subst (λ (s : SlotState). HoldValues s.committed []) (sym c.in_ok-slots.ensures) hold_no_value
+
 pub new-requires-2-clause-settled : goal.new-requires-2-clause-settled
 new-requires-2-clause-settled c = λ readable k. subst (λ (s : SlotState). s.committed k ≡ s.reads k) (sym c.in_ok-slots.ensures) refl
 
-pub new-requires-3-clause-opened : goal.new-requires-3-clause-opened
-new-requires-3-clause-opened c =
+pub new-requires-in-Ok-clause-opened : goal.new-requires-in-Ok-clause-opened
+new-requires-in-Ok-clause-opened c =
     let schema = c.args.schema in
-    (new_contents schema, is_opened _ schema c.in_ok-rows.ensures.new.idle c.in_ok-rows.ensures.new.empty, c.in_ok-sequences.ensures ∙ ap (λ (s : List SequenceDef). map (λ (x : SequenceDef). x.initial) s) c.sequences.ensures)
+    (new_contents schema, is_opened _ schema c.in-Ok.ensures.idle c.in-Ok.ensures.empty, c.in_ok-sequences.ensures ∙ ap (λ (s : List SequenceDef). map (λ (x : SequenceDef). x.initial) s) c.sequences.ensures)
 
-pub returns : goal.returns
-returns c =
+pub returns-in-Ok : goal.returns-in-Ok
+returns-in-Ok c =
     let schema = c.args.schema in
-    three_of c.new-3.result c.new-3.ensures.opened c.new-3.ensures.active c.new-3.ensures.trace
+    three_of c.new-in-Ok.result c.new-in-Ok.ensures.opened c.new-in-Ok.ensures.active c.new-in-Ok.ensures.trace
     (λ db opened active none.
     record {
       opened =
-          opened (new_contents schema) (is_opened _ schema c.in_ok-rows.ensures.new.idle c.in_ok-rows.ensures.new.empty)
+          opened (new_contents schema) (is_opened _ schema c.in-Ok.ensures.idle c.in-Ok.ensures.empty)
           (c.in_ok-sequences.ensures ∙ ap (λ (s : List SequenceDef). map (λ (x : SequenceDef). x.initial) s) c.sequences.ensures) refl (sound schema c.args.clients);
       active = active;
       trace = none;

@@ -1,9 +1,7 @@
-use Rattle.std.proofs.Common.{ℕ, List, Option, Some, Err, ℤ, refl, sym, subst}
+use Rattle.std.proofs.Common.{List, Option, subst}
 use Rattle.abl_base.specs.declared.value.Value.{Value}
 use Rattle.database_meaning.specs.declared.state.StoredRow.{StoredRow}
-use Rattle.abl_rows.specs.declared.store.FoundRow.{FoundRow}
 use Rattle.row_keys.specs.Questions.{IsRead}
-use Rattle.stored_rows.specs.declared.decode.OldRow.{OldRow}
 use Rattle.stored_rows.specs.State.{state_of}
 use Rattle.record_store.proofs.Calls.{other_cause, other_error}
 use Rattle.record_store.proofs.reads.read.Goals as goal

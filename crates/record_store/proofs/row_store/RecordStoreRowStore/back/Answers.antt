@@ -1,19 +1,16 @@
-use Rattle.std.proofs.Common.{◌≡◌, ◌≢◌, ℕ, ◌<◌, ◌≤◌, List, length, Option, Some, None, Result, Ok, Err, IfOk, OnOk, OnErr, MatchOption, IsTrue, ℤ, refl, sym, ap, ◌∙◌, subst, arith}
-use Rattle.abl_base.specs.declared.row.RowId.{RowId}
-use Rattle.abl_base.specs.declared.value.Value.{Value}
-use Rattle.row_indexes.specs.Places.{keepers_of, places_of}
+use Rattle.std.proofs.Common.{ℕ, ◌<◌, ◌≤◌, Err, sym, subst}
+use Rattle.row_indexes.specs.Places.{keepers_of}
 use Rattle.row_keys.specs.Reserved.{reserved_at}
 use Rattle.indexed_rows.proofs.Kept.{refused_indexed}
 use Rattle.indexed_rows.specs.Moved.{moved_in}
-use Rattle.record_store.proofs.Calls.{asked_err, asked_indexed, asked_same, asked_time, asked_values}
-use Rattle.std.proofs.Common.{drop, take}
+use Rattle.record_store.proofs.Calls.{asked_err, asked_values}
 use Rattle.row_indexes.specs.Changes.{AreAllWithin}
 use Rattle.stored_rows.specs.Opens.{log_in}
 use Rattle.record_store.specs.State.{store_state}
-use Rattle.record_store.proofs.Calls.{rests_base, rests_by_error}
 use Rattle.record_store.proofs.Known.{length_changes, length_moved}
 use Rattle.record_store.proofs.Returns.{back_ok, back_store}
 use Rattle.stored_rows.specs.Stored.{changes_of}
+use Rattle.record_store.proofs.Timed.{store_held, store_rests}
 use Rattle.record_store.proofs.row_store.RecordStoreRowStore.back.Goals as goal
 
 pub back-requires-clause-mark : goal.back-requires-clause-mark
@@ -60,7 +57,7 @@ returns-in-Ok-clause-time g c =
     let e = c.back.ensures in
     let err = e.err (reserved_at rows.schema (keepers_of store.indexes.items)) store.sequences.items in
     let u = c.go_back.ensures in
-    rests_base (store_state rows.schema store.indexes.items store.sequences.items s rows.opens.items) (store_state new.schema c.go_back.new.indexes.items store.sequences.items t new.opens.items) (back_ok rows.schema new.schema store.indexes.items c.go_back.new.indexes.items store.sequences.items s t rows.opens.items new.opens.items (moved_in store.clients.items) (moved_in c.go_back.new.clients.items) c.args.client c.args.mark e.schema store.indexed rows.stored c.in-Ok.ensures.ok u.places u.keepers u.count u.own u.others).base
+    store_rests rows.schema new.schema store.indexes.items store.sequences.items s t rows.opens.items (g.S.Slots.stop rows.chains.slots) (g.S.Slots.stop new.chains.slots) e.schema store.values store.held e.keeps e.time (g.met.S.Slots.stop_known new.chains.slots)
 
 pub returns-in-Err-clause-err : goal.returns-in-Err-clause-err
 returns-in-Err-clause-err g c =
@@ -82,8 +79,7 @@ returns-in-Err-clause-time g c =
     let t = g.S.Slots.state new.chains.slots in
     let e = c.back.ensures in
     let err = e.err (reserved_at rows.schema (keepers_of store.indexes.items)) store.sequences.items in
-    rests_by_error {T = Unit {0}} (store_state rows.schema store.indexes.items store.sequences.items s rows.opens.items) (store_state new.schema store.indexes.items store.sequences.items t new.opens.items) c.in-Err.error
-    (asked_err rows.schema new.schema store.indexes.items store.sequences.items s t rows.opens.items new.opens.items e.schema {T = Unit {0}} (Err c.in-Err.error) (c.in-Err.ensures.err (reserved_at rows.schema (keepers_of store.indexes.items)) store.sequences.items))
+    store_rests rows.schema new.schema store.indexes.items store.sequences.items s t rows.opens.items (g.S.Slots.stop rows.chains.slots) (g.S.Slots.stop new.chains.slots) e.schema store.values store.held e.keeps e.time (g.met.S.Slots.stop_known new.chains.slots)
 
 pub returns-in-Ok-clause-cause : goal.returns-in-Ok-clause-cause
 returns-in-Ok-clause-cause g c =
@@ -119,6 +115,18 @@ invariant_of-self-clause-indexed g c =
     let u = c.go_back.ensures in
     back_store rows.schema new.schema store.indexes.items c.go_back.new.indexes.items store.sequences.items s t rows.opens.items new.opens.items (moved_in store.clients.items) (moved_in c.go_back.new.clients.items) c.args.client c.args.mark e.schema store.indexed rows.stored c.in-Ok.ensures.ok u.places u.keepers u.count u.own u.others
 
+pub invariant_of-self-clause-held : goal.invariant_of-self-clause-held
+invariant_of-self-clause-held g c =
+    let store = c.args.self.now in
+    let rows = store.rows in
+    let new = c.back.new.self in
+    let s = g.S.Slots.state rows.chains.slots in
+    let t = g.S.Slots.state new.chains.slots in
+    let e = c.back.ensures in
+    let err = e.err (reserved_at rows.schema (keepers_of store.indexes.items)) store.sequences.items in
+    let u = c.go_back.ensures in
+    store_held s t store.sequences.items e.keeps store.held
+
 pub invariant_of-self-clause-values : goal.invariant_of-self-clause-values
 invariant_of-self-clause-values g c =
     let store = c.args.self.now in
@@ -139,4 +147,4 @@ invariant_of-self-in-Err-1 g c =
     let t = g.S.Slots.state new.chains.slots in
     let e = c.back.ensures in
     let err = e.err (reserved_at rows.schema (keepers_of store.indexes.items)) store.sequences.items in
-    record { sixteen = store.sixteen; values = asked_values rows.schema new.schema store.indexes.items store.sequences.items s t rows.opens.items new.opens.items e.schema store.values; indexed = refused_indexed (store_state rows.schema store.indexes.items store.sequences.items s rows.opens.items) (store_state new.schema store.indexes.items store.sequences.items t new.opens.items) (moved_in store.clients.items) store.indexes.items c.in-Err.error (asked_err rows.schema new.schema store.indexes.items store.sequences.items s t rows.opens.items new.opens.items e.schema {T = Unit {0}} (Err c.in-Err.error) (c.in-Err.ensures.err (reserved_at rows.schema (keepers_of store.indexes.items)) store.sequences.items)) store.indexed }
+    record { sixteen = store.sixteen; values = asked_values rows.schema new.schema store.indexes.items store.sequences.items s t rows.opens.items new.opens.items e.schema store.values; few = store.few; held = store_held s t store.sequences.items e.keeps store.held; indexed = refused_indexed (store_state rows.schema store.indexes.items store.sequences.items s rows.opens.items) (store_state new.schema store.indexes.items store.sequences.items t new.opens.items) (moved_in store.clients.items) store.indexes.items c.in-Err.error (asked_err rows.schema new.schema store.indexes.items store.sequences.items s t rows.opens.items new.opens.items e.schema {T = Unit {0}} (Err c.in-Err.error) (c.in-Err.ensures.err (reserved_at rows.schema (keepers_of store.indexes.items)) store.sequences.items)) store.indexed }

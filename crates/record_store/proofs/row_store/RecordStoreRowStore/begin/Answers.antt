@@ -1,14 +1,10 @@
-use Rattle.std.proofs.Common.{◌≡◌, ◌≢◌, ℕ, ◌<◌, ◌≤◌, List, length, Option, Some, None, Result, Ok, Err, IfOk, OnOk, OnErr, MatchOption, IsTrue, ℤ, refl, sym, ap, ◌∙◌, subst, arith}
-use Rattle.abl_base.specs.declared.row.RowId.{RowId}
-use Rattle.abl_base.specs.declared.value.Value.{Value}
-use Rattle.row_indexes.specs.Places.{keepers_of, places_of}
+use Rattle.row_indexes.specs.Places.{keepers_of}
 use Rattle.row_keys.specs.Reserved.{reserved_at}
 use Rattle.indexed_rows.specs.Moved.{moved_in}
-use Rattle.record_store.proofs.Calls.{asked_err, asked_indexed, asked_same, asked_time, asked_values}
-use Rattle.abl_rows.specs.Rows.{Begins}
-use Rattle.record_store.specs.State.{store_state}
-use Rattle.record_store.proofs.Calls.{on_ok, time_by}
+use Rattle.record_store.proofs.Calls.{asked_err, asked_values}
+use Rattle.record_store.proofs.Calls.{on_ok}
 use Rattle.record_store.proofs.Returns.{begin_ok, begin_store}
+use Rattle.record_store.proofs.Timed.{store_held, store_rests}
 use Rattle.record_store.proofs.row_store.RecordStoreRowStore.begin.Goals as goal
 
 pub returns-clause-ok : goal.returns-clause-ok
@@ -53,10 +49,7 @@ returns-clause-time g c =
     let t = g.S.Slots.state new.chains.slots in
     let e = c.begin.ensures in
     let err = e.err (reserved_at rows.schema (keepers_of store.indexes.items)) store.sequences.items in
-    time_by (store_state rows.schema store.indexes.items store.sequences.items s rows.opens.items) (store_state new.schema store.indexes.items store.sequences.items t new.opens.items) c.begin.result
-    (on_ok c.begin.result (λ (b : Begins (store_state rows.schema store.indexes.items store.sequences.items s rows.opens.items) (store_state new.schema store.indexes.items store.sequences.items t new.opens.items) c.args.client). b.base)
-    (on_ok c.begin.result (begin_ok rows.schema new.schema store.indexes.items store.sequences.items s t rows.opens.items new.opens.items (moved_in store.clients.items) c.args.client e.schema store.indexed rows.stored c.requires.idle) e.ok))
-    (asked_err rows.schema new.schema store.indexes.items store.sequences.items s t rows.opens.items new.opens.items e.schema {T = Unit {0}} c.begin.result err)
+    store_rests rows.schema new.schema store.indexes.items store.sequences.items s t rows.opens.items (g.S.Slots.stop rows.chains.slots) (g.S.Slots.stop new.chains.slots) e.schema store.values store.held e.keeps e.time (g.met.S.Slots.stop_known new.chains.slots)
 
 pub invariant_of-self-clause-values : goal.invariant_of-self-clause-values
 invariant_of-self-clause-values g c =
@@ -79,3 +72,14 @@ invariant_of-self-clause-indexed g c =
     let e = c.begin.ensures in
     let err = e.err (reserved_at rows.schema (keepers_of store.indexes.items)) store.sequences.items in
     begin_store rows.schema new.schema store.indexes.items store.sequences.items s t rows.opens.items new.opens.items (moved_in store.clients.items) c.args.client e.schema store.indexed rows.stored c.requires.idle c.begin.result e.ok e.err
+
+pub invariant_of-self-clause-held : goal.invariant_of-self-clause-held
+invariant_of-self-clause-held g c =
+    let store = c.args.self.now in
+    let rows = store.rows in
+    let new = c.begin.new.self in
+    let s = g.S.Slots.state rows.chains.slots in
+    let t = g.S.Slots.state new.chains.slots in
+    let e = c.begin.ensures in
+    let err = e.err (reserved_at rows.schema (keepers_of store.indexes.items)) store.sequences.items in
+    store_held s t store.sequences.items e.keeps store.held

@@ -1,15 +1,17 @@
-use Rattle.std.proofs.Common.{◌≡◌, ◌≢◌, ℕ, ◌<◌, ◌≤◌, List, length, Option, Some, None, Result, Ok, Err, IfOk, OnOk, OnErr, MatchOption, IsTrue, ℤ, refl, sym, ap, ◌∙◌, subst, arith}
-use Rattle.abl_base.specs.declared.row.RowId.{RowId}
-use Rattle.abl_base.specs.declared.value.Value.{Value}
-use Rattle.row_indexes.specs.Places.{keepers_of, places_of}
+use Rattle.std.proofs.Common.{◌≡◌, ℕ, ◌<◌, List, length, Err, IsTrue, ℤ, sym, ap, ◌∙◌, subst, arith}
+use Rattle.row_indexes.specs.Places.{keepers_of}
 use Rattle.row_keys.specs.Reserved.{reserved_at}
 use Rattle.indexed_rows.specs.Moved.{moved_in}
-use Rattle.record_store.proofs.Calls.{asked_err, asked_indexed, asked_same, asked_time, asked_values}
-use Rattle.std.proofs.Common.{inl}
+use Rattle.record_store.proofs.Calls.{asked_err, asked_values}
+use Rattle.std.proofs.Common.{Bool}
+use Rattle.abl_values.specs.Schema.{SchemaData}
+use Rattle.abl_rows.specs.Times.{IsInDoubt}
+use Rattle.sequence_slots.specs.Values.{HoldValues}
+use Rattle.stored_rows.specs.Durable.{durable_in, times_in}
+use Rattle.record_store.proofs.Timed.{durable_is, store_goes}
 use Rattle.abl_rows.specs.Rows.{Commits}
 use Rattle.indexed_rows.proofs.Kept.{refused_indexed}
 use Rattle.record_store.specs.State.{store_state}
-use Rattle.record_store.proofs.Calls.{goes_of, rests_by_error}
 use Rattle.record_store.proofs.Returns.{commit_ok, commit_store}
 use Rattle.record_store.proofs.row_store.RecordStoreRowStore.commit.Goals as goal
 
@@ -39,8 +41,7 @@ returns-in-Ok-clause-time g c =
     let s = g.S.Slots.state rows.chains.slots in
     let t = g.S.Slots.state new.chains.slots in
     let e = c.commit.ensures in
-    let err = e.err (reserved_at rows.schema (keepers_of store.indexes.items)) store.sequences.items in
-    goes_of (store_state rows.schema store.indexes.items store.sequences.items s rows.opens.items) (store_state new.schema c.end.new.indexes.items c.store_values.new.values.items t new.opens.items)
+    store_goes rows.schema store.indexes.items store.sequences.items s rows.opens.items new.schema t (g.S.Slots.stop rows.chains.slots) (g.S.Slots.stop new.chains.slots) e.schema store.values store.held e.time (g.met.S.Slots.stop_known new.chains.slots) e.observable
 
 pub returns-in-Ok-clause-cause : goal.returns-in-Ok-clause-cause
 returns-in-Ok-clause-cause g c =
@@ -73,8 +74,8 @@ returns-in-Err-clause-doubt g c =
     let s = g.S.Slots.state rows.chains.slots in
     let t = g.S.Slots.state new.chains.slots in
     let e = c.commit.ensures in
-    let err = e.err (reserved_at rows.schema (keepers_of store.indexes.items)) store.sequences.items in
-    λ known. inl ((rests_by_error {T = ℕ} (store_state rows.schema store.indexes.items store.sequences.items s rows.opens.items) (store_state new.schema store.indexes.items store.sequences.items t new.opens.items) c.in-Err.error (asked_err rows.schema new.schema store.indexes.items store.sequences.items s t rows.opens.items new.opens.items e.schema {T = ℕ} (Err c.in-Err.error) (c.in-Err.ensures.err (reserved_at rows.schema (keepers_of store.indexes.items)) store.sequences.items))).doubt known)
+    subst (λ (x : SchemaData). IsInDoubt (store_state rows.schema store.indexes.items store.sequences.items s rows.opens.items) c.args.client c.args.sequences.now (times_in rows.schema s) (times_in x t)) (sym e.schema)
+    (c.in-Err.ensures.doubt (reserved_at rows.schema (keepers_of store.indexes.items)) store.sequences.items)
 
 pub returns-in-Err-clause-time : goal.returns-in-Err-clause-time
 returns-in-Err-clause-time g c =
@@ -84,8 +85,7 @@ returns-in-Err-clause-time g c =
     let s = g.S.Slots.state rows.chains.slots in
     let t = g.S.Slots.state new.chains.slots in
     let e = c.commit.ensures in
-    let err = e.err (reserved_at rows.schema (keepers_of store.indexes.items)) store.sequences.items in
-    goes_of (store_state rows.schema store.indexes.items store.sequences.items s rows.opens.items) (store_state new.schema store.indexes.items store.sequences.items t new.opens.items)
+    store_goes rows.schema store.indexes.items store.sequences.items s rows.opens.items new.schema t (g.S.Slots.stop rows.chains.slots) (g.S.Slots.stop new.chains.slots) e.schema store.values store.held e.time (g.met.S.Slots.stop_known new.chains.slots) e.observable
 
 pub returns-in-Err-clause-cause : goal.returns-in-Err-clause-cause
 returns-in-Err-clause-cause g c =
@@ -130,4 +130,63 @@ invariant_of-self-in-Err-1 g c =
     let t = g.S.Slots.state new.chains.slots in
     let e = c.commit.ensures in
     let err = e.err (reserved_at rows.schema (keepers_of store.indexes.items)) store.sequences.items in
-    record { sixteen = store.sixteen; values = asked_values rows.schema new.schema store.indexes.items store.sequences.items s t rows.opens.items new.opens.items e.schema store.values; indexed = refused_indexed (store_state rows.schema store.indexes.items store.sequences.items s rows.opens.items) (store_state new.schema store.indexes.items store.sequences.items t new.opens.items) (moved_in store.clients.items) store.indexes.items c.in-Err.error (asked_err rows.schema new.schema store.indexes.items store.sequences.items s t rows.opens.items new.opens.items e.schema {T = ℕ} (Err c.in-Err.error) (c.in-Err.ensures.err (reserved_at rows.schema (keepers_of store.indexes.items)) store.sequences.items)) store.indexed }
+    record { sixteen = store.sixteen; values = asked_values rows.schema new.schema store.indexes.items store.sequences.items s t rows.opens.items new.opens.items e.schema store.values; few = store.few; held = λ seen. let was : IsTrue s.observable = subst (λ (b : Bool). IsTrue b) e.observable seen in subst (λ (f : ℕ → List ℕ). HoldValues f store.sequences.items) (sym (c.in-Err.ensures.fails was)) (store.held was); indexed = refused_indexed (store_state rows.schema store.indexes.items store.sequences.items s rows.opens.items) (store_state new.schema store.indexes.items store.sequences.items t new.opens.items) (moved_in store.clients.items) store.indexes.items c.in-Err.error (asked_err rows.schema new.schema store.indexes.items store.sequences.items s t rows.opens.items new.opens.items e.schema {T = ℕ} (Err c.in-Err.error) (c.in-Err.ensures.err (reserved_at rows.schema (keepers_of store.indexes.items)) store.sequences.items)) store.indexed }
+
+pub commit-requires-clause-few : goal.commit-requires-clause-few
+commit-requires-clause-few g c =
+    let few = c.args.self.now.few in
+    let values = c.args.self.now.values in
+    let many = c.requires.sequences in
+    omega (arith, few, values, many)
+
+pub commit-requires-clause-held : goal.commit-requires-clause-held
+commit-requires-clause-held g c = λ readable. subst (HoldValues (g.S.Slots.state c.args.self.now.rows.chains.slots).committed) (sym c.as_slice.ensures.value) (c.args.self.now.held readable.0)
+
+pub returns-in-Ok-clause-acknowledged : goal.returns-in-Ok-clause-acknowledged
+returns-in-Ok-clause-acknowledged g c = λ durable left.
+    let store = c.args.self.now in
+    let rows = store.rows in
+    let new = c.commit.new.self in
+    let s = g.S.Slots.state rows.chains.slots in
+    let t = g.S.Slots.state new.chains.slots in
+    let e = c.commit.ensures in
+    let held_now : IsTrue t.observable → HoldValues t.committed c.store_values.new.values.items =
+    λ seen. subst (HoldValues t.committed) (sym c.store_values.ensures) (c.in-Ok.ensures.held (subst (λ (b : Bool). IsTrue b) e.observable seen, c.requires.fine)) in
+    let long : length c.store_values.new.values.items ≡ length new.schema.sequences = ap length c.store_values.ensures ∙ (c.requires.sequences ∙ ap (λ (x : SchemaData). length x.sequences) (sym e.schema)) in
+    left.2
+    ∙ (ap (durable_in new.schema) (c.in-Ok.ensures.acknowledged left.0 left.1)
+    ∙ sym (durable_is new.schema c.end.new.indexes.items c.store_values.new.values.items t new.opens.items long held_now (g.met.S.Slots.stop_known new.chains.slots t.moment left.0 left.1).observable))
+
+pub returns-in-Ok-clause-certain : goal.returns-in-Ok-clause-certain
+returns-in-Ok-clause-certain g c = λ seen.
+    let store = c.args.self.now in
+    let rows = store.rows in
+    let new = c.commit.new.self in
+    let s = g.S.Slots.state rows.chains.slots in
+    let t = g.S.Slots.state new.chains.slots in
+    let e = c.commit.ensures in
+    let held_now : IsTrue t.observable → HoldValues t.committed c.store_values.new.values.items =
+    λ seen. subst (HoldValues t.committed) (sym c.store_values.ensures) (c.in-Ok.ensures.held (subst (λ (b : Bool). IsTrue b) e.observable seen, c.requires.fine)) in
+    let long : length c.store_values.new.values.items ≡ length new.schema.sequences = ap length c.store_values.ensures ∙ (c.requires.sequences ∙ ap (λ (x : SchemaData). length x.sequences) (sym e.schema)) in
+    ap (durable_in new.schema) (c.in-Ok.ensures.certain seen)
+    ∙ sym (durable_is new.schema c.end.new.indexes.items c.store_values.new.values.items t new.opens.items long held_now (subst (λ (b : Bool). IsTrue b) (sym e.observable) seen))
+
+pub invariant_of-self-clause-held : goal.invariant_of-self-clause-held
+invariant_of-self-clause-held g c =
+    let store = c.args.self.now in
+    let rows = store.rows in
+    let new = c.commit.new.self in
+    let s = g.S.Slots.state rows.chains.slots in
+    let t = g.S.Slots.state new.chains.slots in
+    let e = c.commit.ensures in
+    let held_now : IsTrue t.observable → HoldValues t.committed c.store_values.new.values.items =
+    λ seen. subst (HoldValues t.committed) (sym c.store_values.ensures) (c.in-Ok.ensures.held (subst (λ (b : Bool). IsTrue b) e.observable seen, c.requires.fine)) in
+    held_now
+
+pub invariant_of-self-clause-few : goal.invariant_of-self-clause-few
+invariant_of-self-clause-few g c =
+    let few = c.args.self.now.few in
+    let values = c.args.self.now.values in
+    let many = c.requires.sequences in
+    let same : length c.store_values.new.values.items ≡ length c.args.sequences.now = ap length c.store_values.ensures in
+    omega (arith, few, values, many, same)

@@ -1,18 +1,12 @@
-use Rattle.std.proofs.Common.{◌≡◌, ◌≢◌, ℕ, ◌<◌, ◌≤◌, List, length, Option, Some, None, Result, Ok, Err, IfOk, OnOk, OnErr, MatchOption, IsTrue, ℤ, refl, sym, ap, ◌∙◌, subst, arith, le_refl}
-use Rattle.abl_base.specs.declared.row.RowId.{RowId}
-use Rattle.abl_base.specs.declared.value.Value.{Value}
-use Rattle.row_indexes.specs.Places.{keepers_of, places_of}
-use Rattle.row_keys.specs.Reserved.{reserved_at}
+use Rattle.std.proofs.Common.{length, refl, sym, ap, ◌∙◌, subst, le_refl}
 use Rattle.indexed_rows.specs.Moved.{moved_in}
-use Rattle.record_store.proofs.Calls.{asked_err, asked_indexed, asked_same, asked_time, asked_values}
 use Rattle.abl_values.specs.Schema.{SchemaData}
 use Rattle.database_meaning.specs.Setting.{FitsTable, HasTable}
 use Rattle.database_meaning.specs.Waiting.{row_in}
-use Rattle.key_index.specs.Index.{Keys}
-use Rattle.row_keys.specs.Numbers.{HasOrder, index_count}
+use Rattle.row_keys.specs.Numbers.{index_count}
 use Rattle.record_store.specs.State.{store_state}
-use Rattle.record_store.proofs.Calls.{rests_same}
 use Rattle.record_store.proofs.Asked.{duplicate_of, memory_err, on_any}
+use Rattle.record_store.proofs.Timed.{store_waits}
 use Rattle.record_store.proofs.row_store.RecordStoreRowStore.duplicate.Goals as goal
 
 pub least_duplicate-requires-clause-table : goal.least_duplicate-requires-clause-table
@@ -54,4 +48,4 @@ returns-clause-time g c =
     let store = c.args.self.now in
     let rows = store.rows in
     let s = g.S.Slots.state rows.chains.slots in
-    rests_same (store_state rows.schema store.indexes.items store.sequences.items s rows.opens.items) (store_state rows.schema store.indexes.items store.sequences.items s rows.opens.items) refl
+    store_waits rows.schema store.indexes.items store.sequences.items s rows.opens.items (g.S.Slots.stop rows.chains.slots) (g.met.S.Slots.stop_known rows.chains.slots)

@@ -1,11 +1,11 @@
-use Rattle.std.proofs.Common.{◌≡◌, ◌≢◌, ℕ, ◌<◌, ◌≤◌, List, length, Option, Some, None, Result, Ok, Err, IfOk, OnOk, OnErr, MatchOption, IsTrue, ℤ, refl, sym, ap, ◌∙◌, subst, arith}
-use Rattle.abl_base.specs.declared.row.RowId.{RowId}
+use Rattle.std.proofs.Common.{List, Option}
 use Rattle.abl_base.specs.declared.value.Value.{Value}
-use Rattle.row_indexes.specs.Places.{keepers_of, places_of}
+use Rattle.row_indexes.specs.Places.{keepers_of}
 use Rattle.row_keys.specs.Reserved.{reserved_at}
 use Rattle.indexed_rows.specs.Moved.{moved_in}
-use Rattle.record_store.proofs.Calls.{asked_err, asked_indexed, asked_same, asked_time, asked_values}
+use Rattle.record_store.proofs.Calls.{asked_err, asked_indexed, asked_same, asked_values}
 use Rattle.record_store.proofs.Known.{read_found}
+use Rattle.record_store.proofs.Timed.{store_held, store_rests}
 use Rattle.record_store.proofs.row_store.RecordStoreRowStore.get.Goals as goal
 
 pub returns-clause-found : goal.returns-clause-found
@@ -61,7 +61,7 @@ returns-clause-time g c =
     let t = g.S.Slots.state new.chains.slots in
     let e = c.read.ensures in
     let err = e.err (reserved_at rows.schema (keepers_of store.indexes.items)) store.sequences.items in
-    asked_time rows.schema new.schema store.indexes.items store.sequences.items s t rows.opens.items new.opens.items e.schema {T = Option (List Value)} c.read.result (asked_same rows.schema new.schema store.indexes.items store.sequences.items s t rows.opens.items new.opens.items e.schema {T = Option (List Value)} c.read.result e.same) (asked_err rows.schema new.schema store.indexes.items store.sequences.items s t rows.opens.items new.opens.items e.schema {T = Option (List Value)} c.read.result err)
+    store_rests rows.schema new.schema store.indexes.items store.sequences.items s t rows.opens.items (g.S.Slots.stop rows.chains.slots) (g.S.Slots.stop new.chains.slots) e.schema store.values store.held e.keeps e.time (g.met.S.Slots.stop_known new.chains.slots)
 
 pub invariant_of-self-clause-values : goal.invariant_of-self-clause-values
 invariant_of-self-clause-values g c =
@@ -84,3 +84,14 @@ invariant_of-self-clause-indexed g c =
     let e = c.read.ensures in
     let err = e.err (reserved_at rows.schema (keepers_of store.indexes.items)) store.sequences.items in
     asked_indexed rows.schema new.schema store.indexes.items store.sequences.items s t rows.opens.items new.opens.items e.schema {T = Option (List Value)} c.read.result (asked_same rows.schema new.schema store.indexes.items store.sequences.items s t rows.opens.items new.opens.items e.schema {T = Option (List Value)} c.read.result e.same) (asked_err rows.schema new.schema store.indexes.items store.sequences.items s t rows.opens.items new.opens.items e.schema {T = Option (List Value)} c.read.result err) (moved_in store.clients.items) store.indexed
+
+pub invariant_of-self-clause-held : goal.invariant_of-self-clause-held
+invariant_of-self-clause-held g c =
+    let store = c.args.self.now in
+    let rows = store.rows in
+    let new = c.read.new.rows in
+    let s = g.S.Slots.state rows.chains.slots in
+    let t = g.S.Slots.state new.chains.slots in
+    let e = c.read.ensures in
+    let err = e.err (reserved_at rows.schema (keepers_of store.indexes.items)) store.sequences.items in
+    store_held s t store.sequences.items e.keeps store.held

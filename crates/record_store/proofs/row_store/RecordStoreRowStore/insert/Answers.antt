@@ -1,12 +1,8 @@
-use Rattle.std.proofs.Common.{◌≡◌, ◌≢◌, ℕ, ◌<◌, ◌≤◌, List, length, Option, Some, None, Result, Ok, Err, IfOk, OnOk, OnErr, MatchOption, IsTrue, ℤ, refl, sym, ap, ◌∙◌, subst, arith}
-use Rattle.abl_base.specs.declared.row.RowId.{RowId}
-use Rattle.abl_base.specs.declared.value.Value.{Value}
+use Rattle.std.proofs.Common.{ℕ, ◌<◌, length, None, refl, sym, ap, ◌∙◌, subst}
 use Rattle.row_indexes.specs.Places.{keepers_of, places_of}
 use Rattle.row_keys.specs.Reserved.{reserved_at}
 use Rattle.indexed_rows.specs.Moved.{moved_in}
-use Rattle.record_store.proofs.Calls.{asked_err, asked_indexed, asked_same, asked_time, asked_values}
 use Rattle.std.proofs.Common.{drop}
-use Rattle.abl_storage.specs.Slots.{IsReadable}
 use Rattle.abl_values.specs.Schema.{SchemaData}
 use Rattle.database_meaning.specs.Setting.{FitsTable, HasTable}
 use Rattle.database_meaning.specs.Waiting.{row_in}
@@ -18,9 +14,10 @@ use Rattle.row_keys.specs.Moves.{AreMovesOf}
 use Rattle.stored_rows.specs.Decoded.{decoded}
 use Rattle.stored_rows.proofs.Changed.{rows_known}
 use Rattle.record_store.specs.State.{store_state}
-use Rattle.record_store.proofs.Calls.{no_disk, out_of_memory, rests_base, rests_by_error}
+use Rattle.record_store.proofs.Calls.{no_disk, out_of_memory}
 use Rattle.record_store.proofs.StoreChanges.{refused_err, refused_store, row_changes, row_indexed}
 use Rattle.stored_rows.specs.State.{state_of}
+use Rattle.record_store.proofs.Timed.{store_held, store_rests, store_waits}
 use Rattle.record_store.proofs.row_store.RecordStoreRowStore.insert.Goals as goal
 
 pub prepare-requires-clause-client : goal.prepare-requires-clause-client
@@ -80,7 +77,7 @@ returns-in-Ok-insert-clause-time g c =
     let e = c.insert.ensures in
     let started = c.in-Ok.started in
     let u = c.finish.ensures in
-    rests_base (store_state rows.schema store.indexes.items store.sequences.items s rows.opens.items) (store_state new.schema c.finish.new.indexes.items store.sequences.items t new.opens.items) (row_changes rows.schema new.schema store.indexes.items c.prepare.new.indexes.items c.finish.new.indexes.items store.sequences.items s t rows.opens.items new.opens.items (moved_in store.clients.items) (moved_in c.prepare.new.clients.items) (moved_in c.finish.new.clients.items) c.args.client started.enters c.args.row.0 (record { row = started.row; moves = started.moves }) started.before.items None (row_in c.args.table c.args.values.now) c.in-Ok.ensures.of_row e.schema store.indexed c.in-Ok.ensures.started (subst (λ (x : SchemaData). AreMovesOf x None (row_in c.args.table c.args.values.now) started.moves.items) c.schema.ensures c.in-Ok.ensures.moves) u.places u.keepers p.count u.count p.same_clients u.own u.others c.requires.free.empty (c.requires.table, c.requires.fits) c.in-Ok-insert.ensures.ok new.stored).base
+    store_rests rows.schema new.schema store.indexes.items store.sequences.items s t rows.opens.items (g.S.Slots.stop rows.chains.slots) (g.S.Slots.stop new.chains.slots) e.schema store.values store.held e.keeps e.time (g.met.S.Slots.stop_known new.chains.slots)
 
 pub returns-in-Ok-insert-clause-cause : goal.returns-in-Ok-insert-clause-cause
 returns-in-Ok-insert-clause-cause g c =
@@ -119,7 +116,7 @@ returns-in-Err-insert-clause-time g c =
     let e = c.insert.ensures in
     let started = c.in-Ok.ensures.started in
     let gone = c.cancel.ensures.forgotten (places_of store.indexes.items) (keepers_of store.indexes.items) started.was started.places started.keepers in
-    rests_by_error {T = Unit {0}} (store_state rows.schema store.indexes.items store.sequences.items s rows.opens.items) (store_state new.schema c.cancel.new.indexes.items store.sequences.items t new.opens.items) c.in-Err-insert.error (refused_err {T = Unit {0}} rows.schema new.schema store.indexes.items c.cancel.new.indexes.items store.sequences.items s t rows.opens.items new.opens.items (moved_in store.clients.items) (moved_in c.prepare.new.clients.items) e.schema gone.0 gone.1 (c.cancel.ensures.count ∙ p.count) p.same_clients c.in-Err-insert.error c.in-Err-insert.ensures.err)
+    store_rests rows.schema new.schema store.indexes.items store.sequences.items s t rows.opens.items (g.S.Slots.stop rows.chains.slots) (g.S.Slots.stop new.chains.slots) e.schema store.values store.held e.keeps e.time (g.met.S.Slots.stop_known new.chains.slots)
 
 pub returns-in-Err-insert-clause-cause : goal.returns-in-Err-insert-clause-cause
 returns-in-Err-insert-clause-cause g c =
@@ -148,7 +145,7 @@ returns-in-Err-clause-time g c =
     let rows = store.rows in
     let s = g.S.Slots.state rows.chains.slots in
     let p = c.prepare.ensures in
-    rests_by_error {T = Unit {0}} (store_state rows.schema store.indexes.items store.sequences.items s rows.opens.items) (store_state rows.schema c.prepare.new.indexes.items store.sequences.items s rows.opens.items) NoMemory (refused_err {T = Unit {0}} rows.schema rows.schema store.indexes.items c.prepare.new.indexes.items store.sequences.items s s rows.opens.items rows.opens.items (moved_in store.clients.items) (moved_in c.prepare.new.clients.items) refl c.in-Err.ensures.same_places c.in-Err.ensures.same_keepers p.count p.same_clients NoMemory (λ reserved values. out_of_memory (state_of rows.schema reserved values s rows.opens.items)))
+    store_waits rows.schema store.indexes.items store.sequences.items s rows.opens.items (g.S.Slots.stop rows.chains.slots) (g.met.S.Slots.stop_known rows.chains.slots)
 
 pub returns-in-Err-clause-cause : goal.returns-in-Err-clause-cause
 returns-in-Err-clause-cause g c =
@@ -171,6 +168,19 @@ invariant_of-self-in-Ok-insert-clause-indexed g c =
     let u = c.finish.ensures in
     row_indexed rows.schema new.schema store.indexes.items c.prepare.new.indexes.items c.finish.new.indexes.items store.sequences.items s t rows.opens.items new.opens.items (moved_in store.clients.items) (moved_in c.prepare.new.clients.items) (moved_in c.finish.new.clients.items) c.args.client started.enters c.args.row.0 (record { row = started.row; moves = started.moves }) started.before.items None (row_in c.args.table c.args.values.now) c.in-Ok.ensures.of_row e.schema store.indexed c.in-Ok.ensures.started (subst (λ (x : SchemaData). AreMovesOf x None (row_in c.args.table c.args.values.now) started.moves.items) c.schema.ensures c.in-Ok.ensures.moves) u.places u.keepers p.count u.count p.same_clients u.own u.others c.requires.free.empty (c.requires.table, c.requires.fits) c.in-Ok-insert.ensures.ok new.stored
 
+pub invariant_of-self-in-Ok-insert-clause-held : goal.invariant_of-self-in-Ok-insert-clause-held
+invariant_of-self-in-Ok-insert-clause-held g c =
+    let store = c.args.self.now in
+    let rows = store.rows in
+    let s = g.S.Slots.state rows.chains.slots in
+    let p = c.prepare.ensures in
+    let new = c.insert.new.self in
+    let t = g.S.Slots.state new.chains.slots in
+    let e = c.insert.ensures in
+    let started = c.in-Ok.started in
+    let u = c.finish.ensures in
+    store_held s t store.sequences.items e.keeps store.held
+
 pub invariant_of-self-in-Err-insert-clause-indexed : goal.invariant_of-self-in-Err-insert-clause-indexed
 invariant_of-self-in-Err-insert-clause-indexed g c =
     let store = c.args.self.now in
@@ -184,6 +194,19 @@ invariant_of-self-in-Err-insert-clause-indexed g c =
     let gone = c.cancel.ensures.forgotten (places_of store.indexes.items) (keepers_of store.indexes.items) started.was started.places started.keepers in
     refused_store {T = Unit {0}} rows.schema new.schema store.indexes.items c.cancel.new.indexes.items store.sequences.items s t rows.opens.items new.opens.items (moved_in store.clients.items) (moved_in c.prepare.new.clients.items) e.schema gone.0 gone.1 (c.cancel.ensures.count ∙ p.count) p.same_clients c.in-Err-insert.error c.in-Err-insert.ensures.err store.indexed
 
+pub invariant_of-self-in-Err-insert-clause-held : goal.invariant_of-self-in-Err-insert-clause-held
+invariant_of-self-in-Err-insert-clause-held g c =
+    let store = c.args.self.now in
+    let rows = store.rows in
+    let s = g.S.Slots.state rows.chains.slots in
+    let p = c.prepare.ensures in
+    let new = c.insert.new.self in
+    let t = g.S.Slots.state new.chains.slots in
+    let e = c.insert.ensures in
+    let started = c.in-Ok.ensures.started in
+    let gone = c.cancel.ensures.forgotten (places_of store.indexes.items) (keepers_of store.indexes.items) started.was started.places started.keepers in
+    store_held s t store.sequences.items e.keeps store.held
+
 pub invariant_of-self-clause-indexed : goal.invariant_of-self-clause-indexed
 invariant_of-self-clause-indexed g c =
     let store = c.args.self.now in
@@ -191,6 +214,14 @@ invariant_of-self-clause-indexed g c =
     let s = g.S.Slots.state rows.chains.slots in
     let p = c.prepare.ensures in
     refused_store {T = Unit {0}} rows.schema rows.schema store.indexes.items c.prepare.new.indexes.items store.sequences.items s s rows.opens.items rows.opens.items (moved_in store.clients.items) (moved_in c.prepare.new.clients.items) refl c.in-Err.ensures.same_places c.in-Err.ensures.same_keepers p.count p.same_clients NoMemory (λ reserved values. out_of_memory (state_of rows.schema reserved values s rows.opens.items)) store.indexed
+
+pub invariant_of-self-clause-held : goal.invariant_of-self-clause-held
+invariant_of-self-clause-held g c =
+    let store = c.args.self.now in
+    let rows = store.rows in
+    let s = g.S.Slots.state rows.chains.slots in
+    let p = c.prepare.ensures in
+    store.held
 
 pub invariant_of-self-in-Ok-insert-clause-values : goal.invariant_of-self-in-Ok-insert-clause-values
 invariant_of-self-in-Ok-insert-clause-values g c = c.args.self.now.values ∙ ap (λ (x : SchemaData). length x.sequences) (sym c.insert.ensures.schema)

@@ -1,17 +1,6 @@
-use Rattle.std.proofs.Common.{◌≡◌, ◌≢◌, ℕ, ◌<◌, ◌≤◌, List, length, Option, Some, None, Result, Ok, Err, IfOk, OnOk, OnErr, MatchOption, IsTrue, ℤ, refl, sym, ap, ◌∙◌, subst, arith}
-use Rattle.abl_base.specs.declared.row.RowId.{RowId}
-use Rattle.abl_base.specs.declared.value.Value.{Value}
-use Rattle.row_indexes.specs.Places.{keepers_of, places_of}
-use Rattle.row_keys.specs.Reserved.{reserved_at}
-use Rattle.indexed_rows.specs.Moved.{moved_in}
-use Rattle.record_store.proofs.Calls.{asked_err, asked_indexed, asked_same, asked_time, asked_values}
+use Rattle.std.proofs.Common.{ℕ, MatchOption, sym, subst}
 use Rattle.abl_values.specs.Schema.{SchemaData}
-use Rattle.database_meaning.specs.Setting.{FitsTable, HasTable}
-use Rattle.database_meaning.specs.Waiting.{row_in}
-use Rattle.key_index.specs.Index.{Keys}
-use Rattle.row_keys.specs.Numbers.{HasOrder, index_count}
-use Rattle.record_store.specs.State.{store_state}
-use Rattle.record_store.proofs.Calls.{rests_same}
+use Rattle.database_meaning.specs.Setting.{HasTable}
 use Rattle.abl_rows.specs.Questions.{IsLongKey}
 use Rattle.record_store.proofs.row_store.RecordStoreRowStore.long_key.Goals as goal
 

@@ -1,21 +1,17 @@
-use Rattle.std.proofs.Common.{◌≡◌, ◌≢◌, ℕ, ◌<◌, ◌≤◌, List, length, Option, Some, None, Result, Ok, Err, IfOk, OnOk, OnErr, MatchOption, IsTrue, ℤ, refl, sym, ap, ◌∙◌, subst, arith, le_refl}
-use Rattle.abl_base.specs.declared.row.RowId.{RowId}
-use Rattle.abl_base.specs.declared.value.Value.{Value}
-use Rattle.row_indexes.specs.Places.{keepers_of, places_of}
+use Rattle.std.proofs.Common.{length, Option, Err, refl, sym, ap, ◌∙◌, subst, le_refl}
+use Rattle.row_indexes.specs.Places.{keepers_of}
 use Rattle.row_keys.specs.Reserved.{reserved_at}
 use Rattle.indexed_rows.specs.Moved.{moved_in}
-use Rattle.record_store.proofs.Calls.{asked_err, asked_indexed, asked_same, asked_time, asked_values}
+use Rattle.record_store.proofs.Calls.{asked_err, asked_indexed, asked_same, asked_values}
 use Rattle.abl_values.specs.Schema.{SchemaData}
-use Rattle.database_meaning.specs.Setting.{FitsTable, HasTable}
-use Rattle.database_meaning.specs.Waiting.{row_in}
-use Rattle.key_index.specs.Index.{Keys}
+use Rattle.database_meaning.specs.Setting.{HasTable}
 use Rattle.row_keys.specs.Numbers.{HasOrder, index_count}
 use Rattle.record_store.specs.State.{store_state}
-use Rattle.record_store.proofs.Calls.{rests_same}
 use Rattle.record_store.proofs.Known.{read_at}
 use Rattle.std.specs.Option.{option_copied}
 use Rattle.abl_rows.specs.declared.store.FoundRow.{FoundRow}
 use Rattle.record_store.proofs.Asked.{FindsPlace, memory_err, none_found, order_of, row_found}
+use Rattle.record_store.proofs.Timed.{store_held, store_rests, store_waits}
 use Rattle.record_store.proofs.row_store.RecordStoreRowStore.next.Goals as goal
 
 pub place_found-requires-clause-table : goal.place_found-requires-clause-table
@@ -80,7 +76,7 @@ returns-in-Ok-Some-clause-time g c =
     let t = g.S.Slots.state new.chains.slots in
     let e = c.found.ensures in
     let err = e.err (reserved_at rows.schema (keepers_of store.indexes.items)) store.sequences.items in
-    asked_time rows.schema new.schema store.indexes.items store.sequences.items s t rows.opens.items new.opens.items e.schema {T = Option FoundRow} c.found.result (asked_same rows.schema new.schema store.indexes.items store.sequences.items s t rows.opens.items new.opens.items e.schema {T = Option FoundRow} c.found.result e.same) (asked_err rows.schema new.schema store.indexes.items store.sequences.items s t rows.opens.items new.opens.items e.schema {T = Option FoundRow} c.found.result err)
+    store_rests rows.schema new.schema store.indexes.items store.sequences.items s t rows.opens.items (g.S.Slots.stop rows.chains.slots) (g.S.Slots.stop new.chains.slots) e.schema store.values store.held e.keeps e.time (g.met.S.Slots.stop_known new.chains.slots)
 
 pub invariant_of-self-clause-values : goal.invariant_of-self-clause-values
 invariant_of-self-clause-values g c =
@@ -104,6 +100,17 @@ invariant_of-self-clause-indexed g c =
     let err = e.err (reserved_at rows.schema (keepers_of store.indexes.items)) store.sequences.items in
     asked_indexed rows.schema new.schema store.indexes.items store.sequences.items s t rows.opens.items new.opens.items e.schema {T = Option FoundRow} c.found.result (asked_same rows.schema new.schema store.indexes.items store.sequences.items s t rows.opens.items new.opens.items e.schema {T = Option FoundRow} c.found.result e.same) (asked_err rows.schema new.schema store.indexes.items store.sequences.items s t rows.opens.items new.opens.items e.schema {T = Option FoundRow} c.found.result err) (moved_in store.clients.items) store.indexed
 
+pub invariant_of-self-clause-held : goal.invariant_of-self-clause-held
+invariant_of-self-clause-held g c =
+    let store = c.args.self.now in
+    let rows = store.rows in
+    let s = g.S.Slots.state rows.chains.slots in
+    let new = c.found.new.rows in
+    let t = g.S.Slots.state new.chains.slots in
+    let e = c.found.ensures in
+    let err = e.err (reserved_at rows.schema (keepers_of store.indexes.items)) store.sequences.items in
+    store_held s t store.sequences.items e.keeps store.held
+
 pub returns-in-Ok-None-clause-found : goal.returns-in-Ok-None-clause-found
 returns-in-Ok-None-clause-found g c =
     let store = c.args.self.now in
@@ -116,7 +123,7 @@ returns-in-Ok-None-clause-time g c =
     let store = c.args.self.now in
     let rows = store.rows in
     let s = g.S.Slots.state rows.chains.slots in
-    rests_same (store_state rows.schema store.indexes.items store.sequences.items s rows.opens.items) (store_state rows.schema store.indexes.items store.sequences.items s rows.opens.items) refl
+    store_waits rows.schema store.indexes.items store.sequences.items s rows.opens.items (g.S.Slots.stop rows.chains.slots) (g.met.S.Slots.stop_known rows.chains.slots)
 
 pub returns-in-Err-clause-err : goal.returns-in-Err-clause-err
 returns-in-Err-clause-err g c =
@@ -137,4 +144,4 @@ returns-in-Err-clause-time g c =
     let store = c.args.self.now in
     let rows = store.rows in
     let s = g.S.Slots.state rows.chains.slots in
-    rests_same (store_state rows.schema store.indexes.items store.sequences.items s rows.opens.items) (store_state rows.schema store.indexes.items store.sequences.items s rows.opens.items) refl
+    store_waits rows.schema store.indexes.items store.sequences.items s rows.opens.items (g.S.Slots.stop rows.chains.slots) (g.met.S.Slots.stop_known rows.chains.slots)

@@ -1,22 +1,16 @@
-use Rattle.std.proofs.Common.{◌≡◌, ◌≢◌, ℕ, ◌<◌, ◌≤◌, List, length, Option, Some, None, Result, Ok, Err, IfOk, OnOk, OnErr, MatchOption, IsTrue, ℤ, refl, sym, ap, ◌∙◌, subst, arith}
-use Rattle.abl_base.specs.declared.row.RowId.{RowId}
+use Rattle.std.proofs.Common.{ℕ, List, length, Option, Ok, Err, refl, sym, ap, ◌∙◌, subst}
 use Rattle.abl_base.specs.declared.value.Value.{Value}
-use Rattle.row_indexes.specs.Places.{keepers_of, places_of}
+use Rattle.row_indexes.specs.Places.{keepers_of}
 use Rattle.row_keys.specs.Reserved.{reserved_at}
 use Rattle.indexed_rows.specs.Moved.{moved_in}
-use Rattle.record_store.proofs.Calls.{asked_err, asked_indexed, asked_same, asked_time, asked_values}
+use Rattle.record_store.proofs.Calls.{asked_err, asked_indexed, asked_same, asked_values}
 use Rattle.abl_values.specs.Schema.{SchemaData}
-use Rattle.database_meaning.specs.Setting.{FitsTable, HasTable}
-use Rattle.database_meaning.specs.Waiting.{row_in}
-use Rattle.key_index.specs.Index.{Keys}
-use Rattle.row_keys.specs.Numbers.{HasOrder, index_count}
+use Rattle.database_meaning.specs.Setting.{HasTable}
+use Rattle.row_keys.specs.Numbers.{index_count}
 use Rattle.record_store.specs.State.{store_state}
-use Rattle.record_store.proofs.Calls.{rests_same}
-use Rattle.database_meaning.specs.Waiting.{ListsAll}
-use Rattle.abl_rows.specs.Questions.{ReservesAgainst, replaced_at}
-use Rattle.record_store.proofs.Asked.{FindsHolders, holders_of, memory_err, on_any}
-use Rattle.record_store.proofs.Calls.{other_cause, other_error, rests_by_error}
-use Rattle.stored_rows.specs.State.{state_of}
+use Rattle.record_store.proofs.Asked.{holders_of, memory_err, on_any}
+use Rattle.record_store.proofs.Calls.{other_cause, other_error}
+use Rattle.record_store.proofs.Timed.{store_held, store_rests}
 use Rattle.record_store.proofs.row_store.RecordStoreRowStore.reserved_by.Goals as goal
 
 pub reserved_against-requires-clause-table : goal.reserved_against-requires-clause-table
@@ -79,7 +73,7 @@ returns-in-Ok-clause-time g c =
     let t = g.S.Slots.state new.chains.slots in
     let e = c.replaced.ensures in
     let err = e.err (reserved_at rows.schema (keepers_of store.indexes.items)) store.sequences.items in
-    rests_same (store_state rows.schema store.indexes.items store.sequences.items s rows.opens.items) (store_state new.schema store.indexes.items store.sequences.items t new.opens.items) (asked_same rows.schema new.schema store.indexes.items store.sequences.items s t rows.opens.items new.opens.items e.schema {T = Option (List Value)} (Ok c.in-Ok.old) c.in-Ok.ensures.same)
+    store_rests rows.schema new.schema store.indexes.items store.sequences.items s t rows.opens.items (g.S.Slots.stop rows.chains.slots) (g.S.Slots.stop new.chains.slots) e.schema store.values store.held e.keeps e.time (g.met.S.Slots.stop_known new.chains.slots)
 
 pub returns-in-Err-clause-err : goal.returns-in-Err-clause-err
 returns-in-Err-clause-err g c =
@@ -112,7 +106,7 @@ returns-in-Err-clause-time g c =
     let t = g.S.Slots.state new.chains.slots in
     let e = c.replaced.ensures in
     let err = e.err (reserved_at rows.schema (keepers_of store.indexes.items)) store.sequences.items in
-    rests_by_error {T = Option (List Value)} (store_state rows.schema store.indexes.items store.sequences.items s rows.opens.items) (store_state new.schema store.indexes.items store.sequences.items t new.opens.items) c.in-Err.error (asked_err rows.schema new.schema store.indexes.items store.sequences.items s t rows.opens.items new.opens.items e.schema {T = Option (List Value)} (Err c.in-Err.error) (c.in-Err.ensures.err (reserved_at rows.schema (keepers_of store.indexes.items)) store.sequences.items))
+    store_rests rows.schema new.schema store.indexes.items store.sequences.items s t rows.opens.items (g.S.Slots.stop rows.chains.slots) (g.S.Slots.stop new.chains.slots) e.schema store.values store.held e.keeps e.time (g.met.S.Slots.stop_known new.chains.slots)
 
 pub invariant_of-self-clause-values : goal.invariant_of-self-clause-values
 invariant_of-self-clause-values g c =
@@ -135,3 +129,14 @@ invariant_of-self-clause-indexed g c =
     let e = c.replaced.ensures in
     let err = e.err (reserved_at rows.schema (keepers_of store.indexes.items)) store.sequences.items in
     asked_indexed rows.schema new.schema store.indexes.items store.sequences.items s t rows.opens.items new.opens.items e.schema {T = Option (List Value)} c.replaced.result (asked_same rows.schema new.schema store.indexes.items store.sequences.items s t rows.opens.items new.opens.items e.schema {T = Option (List Value)} c.replaced.result e.same) (asked_err rows.schema new.schema store.indexes.items store.sequences.items s t rows.opens.items new.opens.items e.schema {T = Option (List Value)} c.replaced.result err) (moved_in store.clients.items) store.indexed
+
+pub invariant_of-self-clause-held : goal.invariant_of-self-clause-held
+invariant_of-self-clause-held g c =
+    let store = c.args.self.now in
+    let rows = store.rows in
+    let new = c.replaced.new.rows in
+    let s = g.S.Slots.state rows.chains.slots in
+    let t = g.S.Slots.state new.chains.slots in
+    let e = c.replaced.ensures in
+    let err = e.err (reserved_at rows.schema (keepers_of store.indexes.items)) store.sequences.items in
+    store_held s t store.sequences.items e.keeps store.held

@@ -1,10 +1,10 @@
-use Rattle.std.proofs.Common.{◌≡◌, ℕ, None, length, sym, ap, ◌∙◌, subst}
-use Rattle.abl_storage.specs.Slots.{IsReadable}
+use Rattle.std.proofs.Common.{◌≡◌, ℤ, List, length, sym, ap, ◌∙◌, subst, arith}
 use Rattle.abl_values.specs.Schema.{SchemaData}
 use Rattle.row_keys.specs.Numbers.{index_count}
 use Rattle.indexed_rows.specs.Moved.{moved_in}
-use Rattle.stored_rows.specs.Decoded.{decoded}
-use Rattle.record_store.specs.State.{IsNewStore, initial_values, store_state}
+use Rattle.sequence_slots.specs.Values.{HoldValues}
+use Rattle.stored_rows.specs.State.{state_of}
+use Rattle.record_store.specs.State.{IsNewStore, no_reserved}
 use Rattle.record_store.proofs.NewStore.{length_initial, new_indexed, new_store}
 use Rattle.record_store.proofs.store.RecordStore.new.Goals as goal
 
@@ -12,29 +12,29 @@ pub invariant_of-result : goal.invariant_of-result
 invariant_of-result g c =
     let rows = c.in_ok-rows.rows in
     let e = c.in_ok-rows.ensures in
-    let i = c.in_ok-indexes.ensures in
+    let i = c.in-Ok.ensures in
+    let values = c.in-Ok-first_values.sequences.items in
+    let s = g.S.Slots.state rows.chains.slots in
+    let is : c.as_slice.result.now ≡ values = c.as_slice.ensures.value in
+    let same : length c.as_slice.result.now ≡ length values = ap length is in
+    let long = c.as_slice.ensures.len in
+    let len = c.len.ensures in
+    let few = c.if-len-gt-MAX_SEQUENCES.false in
     record {
-      sixteen = c.in_ok-clients.ensures.sixteen;
-      values = ap length c.in_ok-sequences.ensures ∙ (length_initial c.args.schema.sequences ∙ ap (λ (x : SchemaData). length x.sequences) (sym e.schema));
+      sixteen = c.in-Ok-idle_clients.ensures.sixteen;
+      values = ap length c.in-Ok-first_values.ensures ∙ (length_initial c.args.schema.sequences ∙ ap (λ (x : SchemaData). length x.sequences) (sym e.schema));
+      few = omega (arith, same, long, len, few);
+      held = λ seen. subst (HoldValues s.committed) is (e.held seen);
       indexed =
-          new_indexed rows.schema c.in_ok-indexes.indexes.items c.in_ok-sequences.sequences.items (g.S.Slots.state rows.chains.slots) rows.opens.items (moved_in c.in_ok-clients.clients.items) e.none
-          (subst (λ (x : SchemaData). (k : ℕ) → IsReadable (g.S.Slots.state rows.chains.slots) → decoded x (g.S.Slots.state rows.chains.slots).reads k ≡ None) (sym e.schema)
-          (subst (λ x. (k : ℕ) → IsReadable (g.S.Slots.state x) → decoded c.args.schema (g.S.Slots.state x).reads k ≡ None) (sym e.same) e.rows))
-          (i.count ∙ ap index_count (sym e.schema)) i.places i.keepers c.in_ok-clients.ensures.idle;
+          new_indexed rows.schema c.args.schema c.in-Ok.indexes.items values s rows.opens.items (moved_in c.in-Ok-idle_clients.clients.items)
+          (subst (λ (v : List ℤ). IsNewStore (state_of rows.schema no_reserved v s rows.opens.items) c.args.schema) is e.new) (i.count ∙ ap index_count (sym e.schema)) i.places i.keepers c.in-Ok-idle_clients.ensures.idle;
     }
 
-pub returns-clause-new : goal.returns-clause-new
-returns-clause-new g c =
+pub returns : goal.returns
+returns g c =
     let rows = c.in_ok-rows.rows in
     let e = c.in_ok-rows.ensures in
-    let i = c.in_ok-indexes.ensures in
+    let i = c.in-Ok.ensures in
     let s = g.S.Slots.state rows.chains.slots in
-    subst (λ (x : SchemaData). IsNewStore (store_state rows.schema c.in_ok-indexes.indexes.items c.in_ok-sequences.sequences.items s rows.opens.items) x) e.schema
-    (new_store rows.schema c.in_ok-indexes.indexes.items c.in_ok-sequences.sequences.items s rows.opens.items (moved_in c.in_ok-clients.clients.items) e.none
-    (subst (λ (x : SchemaData). (k : ℕ) → IsReadable s → decoded x s.reads k ≡ None) (sym e.schema)
-    (subst (λ x. (k : ℕ) → IsReadable (g.S.Slots.state x) → decoded c.args.schema (g.S.Slots.state x).reads k ≡ None) (sym e.same) e.rows))
-    (i.count ∙ ap index_count (sym e.schema)) i.places i.keepers c.in_ok-clients.ensures.idle rows.stored
-    (ap (λ x. (g.S.Slots.state x).failed) e.same ∙ c.requires.fine) (λ d. ap (λ x. ((g.S.Slots.state x).transaction d).begun) e.same ∙ c.requires.idle d)
-    (subst (λ (x : SchemaData). (k : ℕ) → IsReadable s → decoded x s.committed k ≡ None) (sym e.schema)
-    (subst (λ x. (k : ℕ) → IsReadable (g.S.Slots.state x) → decoded c.args.schema (g.S.Slots.state x).committed k ≡ None) (sym e.same) e.committed))
-    (c.in_ok-sequences.ensures ∙ ap initial_values (sym e.schema)))
+    new_store rows.schema c.args.schema c.in-Ok.indexes.items c.in-Ok-first_values.sequences.items s rows.opens.items (moved_in c.in-Ok-idle_clients.clients.items)
+    (subst (λ (v : List ℤ). IsNewStore (state_of rows.schema no_reserved v s rows.opens.items) c.args.schema) c.as_slice.ensures.value e.new) (i.count ∙ ap index_count (sym e.schema)) i.places i.keepers c.in-Ok-idle_clients.ensures.idle

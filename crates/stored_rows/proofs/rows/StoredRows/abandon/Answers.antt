@@ -3,6 +3,7 @@ use Rattle.std.specs.BinaryHeap.{heap_items}
 use Rattle.free_slots.specs.Free.{free_in}
 use Rattle.stored_rows.proofs.Methods.{abandon_keeps, abandon_says}
 use Rattle.stored_rows.proofs.Counting.{counted_keeps}
+use Rattle.stored_rows.proofs.Quiet.{quiet_ends}
 use Rattle.stored_rows.proofs.rows.StoredRows.abandon.Goals as goal
 
 pub invariant_of-self-clause-stored : goal.invariant_of-self-clause-stored
@@ -28,3 +29,8 @@ invariant_of-self-clause-counted g c =
     let rows = c.args.self.now in
     let ended = c.abandon.ensures.ended in
     counted_keeps rows.schema (g.S.Slots.state rows.chains.slots) (g.S.Slots.state c.abandon.new.chains.slots) rows.used ended.keeps (λ fine. sym ended.failed ∙ fine) rows.counted
+
+pub invariant_of-self-clause-quiet : goal.invariant_of-self-clause-quiet
+invariant_of-self-clause-quiet g c =
+    let rows = c.args.self.now in
+    quiet_ends (g.S.Slots.state rows.chains.slots) (g.S.Slots.state c.abandon.new.chains.slots) c.args.client c.abandon.ensures.ended rows.quiet

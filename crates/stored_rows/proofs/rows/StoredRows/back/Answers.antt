@@ -7,6 +7,7 @@ use Rattle.stored_rows.specs.State.{state_of}
 use Rattle.stored_rows.proofs.Errors.{after_refusal}
 use Rattle.stored_rows.proofs.Methods.{back_keeps, back_says, begun_rests, mark_within, same_all}
 use Rattle.stored_rows.proofs.Counting.{back_keeps as back_committed, counted_keeps}
+use Rattle.stored_rows.proofs.Quiet.{quiet_back}
 use Rattle.stored_rows.proofs.rows.StoredRows.back.Goals as goal
 
 pub back-requires-clause-mark : goal.back-requires-clause-mark
@@ -60,3 +61,9 @@ invariant_of-self-clause-counted g c =
     let t = g.S.Slots.state c.back.new.chains.slots in
     let e = c.back.ensures in
     counted_keeps rows.schema s t rows.used (back_committed s t c.args.client _ c.back.result e.ok e.err) (λ _. c.requires.fine) rows.counted
+
+pub invariant_of-self-clause-quiet : goal.invariant_of-self-clause-quiet
+invariant_of-self-clause-quiet g c =
+    let rows = c.args.self.now in
+    let e = c.back.ensures in
+    quiet_back (g.S.Slots.state rows.chains.slots) (g.S.Slots.state c.back.new.chains.slots) c.args.client _ c.back.result c.requires.begun e.ok e.err e.cause rows.quiet

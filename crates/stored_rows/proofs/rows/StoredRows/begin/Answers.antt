@@ -7,6 +7,7 @@ use Rattle.stored_rows.specs.State.{state_of}
 use Rattle.stored_rows.proofs.Errors.{after_refusal}
 use Rattle.stored_rows.proofs.Methods.{begin_keeps, begin_says, begun_rests, same_all}
 use Rattle.stored_rows.proofs.Counting.{begins_keeps, counted_keeps}
+use Rattle.stored_rows.proofs.Quiet.{quiet_begins}
 use Rattle.stored_rows.proofs.rows.StoredRows.begin.Goals as goal
 
 pub invariant_of-self-clause-stored : goal.invariant_of-self-clause-stored
@@ -51,3 +52,9 @@ invariant_of-self-clause-counted g c =
     let t = g.S.Slots.state c.begin.new.chains.slots in
     let e = c.begin.ensures in
     counted_keeps rows.schema s t rows.used (begins_keeps s t c.args.client c.begin.result e.ok e.err) (λ _. c.requires.fine) rows.counted
+
+pub invariant_of-self-clause-quiet : goal.invariant_of-self-clause-quiet
+invariant_of-self-clause-quiet g c =
+    let rows = c.args.self.now in
+    let e = c.begin.ensures in
+    quiet_begins (g.S.Slots.state rows.chains.slots) (g.S.Slots.state c.begin.new.chains.slots) c.args.client c.begin.result e.ok e.err e.cause rows.quiet

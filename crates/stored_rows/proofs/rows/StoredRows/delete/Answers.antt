@@ -8,6 +8,7 @@ use Rattle.stored_rows.proofs.Errors.{after_refusal}
 use Rattle.stored_rows.proofs.Methods.{begun_touched, same_all}
 use Rattle.stored_rows.proofs.Replaced.{replace_keeps, replace_says, row_there}
 use Rattle.stored_rows.proofs.Counting.{counted_keeps}
+use Rattle.stored_rows.proofs.Quiet.{quiet_changes}
 use Rattle.stored_rows.proofs.rows.StoredRows.delete.Goals as goal
 
 pub delete-requires-clause-there : goal.delete-requires-clause-there
@@ -57,3 +58,9 @@ pub invariant_of-self-clause-counted : goal.invariant_of-self-clause-counted
 invariant_of-self-clause-counted g c =
     let rows = c.args.self.now in
     counted_keeps rows.schema (g.S.Slots.state rows.chains.slots) (g.S.Slots.state c.delete.new.chains.slots) rows.used c.delete.ensures.touched.keeps (λ _. c.requires.fine) rows.counted
+
+pub invariant_of-self-clause-quiet : goal.invariant_of-self-clause-quiet
+invariant_of-self-clause-quiet g c =
+    let rows = c.args.self.now in
+    let e = c.delete.ensures in
+    quiet_changes _ (g.S.Slots.state rows.chains.slots) (g.S.Slots.state c.delete.new.chains.slots) (g.S.Slots.stop rows.chains.slots) (g.S.Slots.stop c.delete.new.chains.slots) c.args.client c.args.row.0 None c.delete.result c.requires.begun e.ok e.touched e.refused rows.quiet

@@ -11,6 +11,7 @@ use Rattle.stored_rows.proofs.Errors.{after_refusal}
 use Rattle.stored_rows.proofs.Methods.{begun_touched, encoded_is, same_all}
 use Rattle.stored_rows.proofs.Replaced.{few_fragments, put_reads, replace_keeps, replace_says}
 use Rattle.stored_rows.proofs.Counting.{counted_keeps}
+use Rattle.stored_rows.proofs.Quiet.{quiet_changes}
 use Rattle.stored_rows.proofs.rows.StoredRows.insert.Goals as goal
 
 pub invariant_of-self-2-clause-stored : goal.invariant_of-self-2-clause-stored
@@ -73,3 +74,9 @@ pub invariant_of-self-2-clause-counted : goal.invariant_of-self-2-clause-counted
 invariant_of-self-2-clause-counted g c =
     let rows = c.args.self.now in
     counted_keeps rows.schema (g.S.Slots.state rows.chains.slots) (g.S.Slots.state c.insert.new.chains.slots) rows.used c.insert.ensures.touched.keeps (λ _. c.requires.fine) rows.counted
+
+pub invariant_of-self-2-clause-quiet : goal.invariant_of-self-2-clause-quiet
+invariant_of-self-2-clause-quiet g c =
+    let rows = c.args.self.now in
+    let e = c.insert.ensures in
+    quiet_changes _ (g.S.Slots.state rows.chains.slots) (g.S.Slots.state c.insert.new.chains.slots) (g.S.Slots.stop rows.chains.slots) (g.S.Slots.stop c.insert.new.chains.slots) c.args.client c.args.row.0 (Some (record { table = c.args.table; bytes = c.as_slice.result.now })) c.insert.result c.requires.begun e.ok e.touched e.refused rows.quiet

@@ -4,6 +4,7 @@ use Rattle.stored_rows.specs.Counted.{AreCounted}
 use Rattle.stored_rows.specs.Decoded.{decoded}
 use Rattle.stored_rows.proofs.Counting.{counted_none}
 use Rattle.stored_rows.proofs.Opening.{holds_no_row, no_row_read, opened_stored, stored_nowhere}
+use Rattle.stored_rows.proofs.Quiet.{quiet_opened}
 use Rattle.stored_rows.proofs.rows.StoredRows.new.Goals as goal
 
 pub invariant_of-result-clause-stored : goal.invariant_of-result-clause-stored
@@ -28,3 +29,7 @@ pub returns-clause-committed : goal.returns-clause-committed
 returns-clause-committed g c = λ k readable.
     let s = g.S.Slots.state c.args.slots in
     ap (λ (f : ℕ → List ℕ). decoded c.args.schema f k) (fun_ext (c.requires.settled readable)) ∙ holds_no_row c.args.schema s.reads (c.requires.empty readable) k
+
+pub invariant_of-result-clause-quiet : goal.invariant_of-result-clause-quiet
+invariant_of-result-clause-quiet g c =
+    rw c.in_ok-chains.ensures.same (quiet_opened (g.S.Slots.state c.args.slots) c.requires.idle c.requires.certain)

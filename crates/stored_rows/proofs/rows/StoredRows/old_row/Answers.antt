@@ -7,6 +7,7 @@ use Rattle.stored_rows.proofs.Errors.{after_refusal, state_rests}
 use Rattle.stored_rows.proofs.Looked.{looked_stored}
 use Rattle.stored_rows.proofs.Methods.{begun_rests}
 use Rattle.stored_rows.proofs.Counting.{counted_keeps, failed_before}
+use Rattle.stored_rows.proofs.Quiet.{quiet_looked}
 use Rattle.stored_rows.proofs.rows.StoredRows.old_row.Goals as goal
 
 pub invariant_of-self-clause-stored : goal.invariant_of-self-clause-stored
@@ -38,3 +39,8 @@ invariant_of-self-clause-counted g c =
     let t = g.S.Slots.state c.find.new.chains.slots in
     let l = c.find.ensures.looked in
     counted_keeps rows.schema s t rows.used l.rests.keeps (failed_before s t _ l.cause) rows.counted
+
+pub invariant_of-self-clause-quiet : goal.invariant_of-self-clause-quiet
+invariant_of-self-clause-quiet g c =
+    let rows = c.args.self.now in
+    quiet_looked (g.S.Slots.state rows.chains.slots) (g.S.Slots.state c.find.new.chains.slots) (g.S.Slots.stop rows.chains.slots) (g.S.Slots.stop c.find.new.chains.slots) c.find.result c.find.ensures.looked rows.quiet

@@ -6,6 +6,7 @@ use Rattle.chain_store.proofs.Reading.{still_both, still_looked}
 use Rattle.stored_rows.specs.Counted.{AreCounted}
 use Rattle.stored_rows.specs.Decoded.{AreRead, decoded}
 use Rattle.stored_rows.proofs.Opening.{all_read, opened_stored, stored_nowhere}
+use Rattle.stored_rows.proofs.Quiet.{quiet_opened, quiet_rests}
 use Rattle.stored_rows.proofs.rows.StoredRows.open.Goals as goal
 
 pub returns-in-Ok-count_rows-clause-same : goal.returns-in-Ok-count_rows-clause-same
@@ -64,3 +65,13 @@ invariant_of-result-clause-counted g c = λ h.
     ap (λ (f : ℕ → List ℕ). f k) (l.rests.keeps.committed back.0)
     ∙ (ap (λ (f : ℕ → List ℕ). f k) (first.rests.keeps.committed start.0) ∙ (c.requires.settled start k ∙ sym (ap (λ (f : ℕ → List ℕ). f k) (first.rests.reads start)))) in
     subst (λ (f : ℕ → List ℕ). AreCounted (decoded c.args.schema f) c.in-Ok-count_rows.used) (sym (fun_ext settled)) (c.in-Ok-count_rows.ensures.counted back)
+
+pub invariant_of-result-clause-quiet : goal.invariant_of-result-clause-quiet
+invariant_of-result-clause-quiet g c =
+    let r = g.S.Slots.state c.args.slots in
+    let s = g.S.Slots.state c.in-Ok-open.chains.slots in
+    let t = g.S.Slots.state c.count_rows.new.chains.slots in
+    let l = c.in-Ok-count_rows.ensures.looked in
+    let first = c.in-Ok-open.ensures.same in
+    let same : t.failed ≡ s.failed = l.cause.stays (λ e. cc e) in
+    quiet_rests s t (λ fine. sym same ∙ fine) l.rests (quiet_rests r s (λ fine. c.requires.fine) first.rests (quiet_opened r c.requires.idle c.requires.certain))

@@ -13,6 +13,7 @@ use Rattle.stored_rows.proofs.Errors.{after_refusal}
 use Rattle.stored_rows.proofs.Methods.{begun_touched, same_all}
 use Rattle.stored_rows.proofs.Replaced.{few_fragments, put_is, put_reads, replace_keeps, replace_says, row_there}
 use Rattle.stored_rows.proofs.Counting.{counted_keeps}
+use Rattle.stored_rows.proofs.Quiet.{quiet_changes}
 use Rattle.stored_rows.proofs.rows.StoredRows.put.Goals as goal
 
 pub put-requires-clause-there : goal.put-requires-clause-there
@@ -82,3 +83,9 @@ pub invariant_of-self-2-clause-counted : goal.invariant_of-self-2-clause-counted
 invariant_of-self-2-clause-counted g c =
     let rows = c.args.self.now in
     counted_keeps rows.schema (g.S.Slots.state rows.chains.slots) (g.S.Slots.state c.put.new.chains.slots) rows.used c.put.ensures.touched.keeps (λ _. c.requires.fine) rows.counted
+
+pub invariant_of-self-2-clause-quiet : goal.invariant_of-self-2-clause-quiet
+invariant_of-self-2-clause-quiet g c =
+    let rows = c.args.self.now in
+    let e = c.put.ensures in
+    quiet_changes _ (g.S.Slots.state rows.chains.slots) (g.S.Slots.state c.put.new.chains.slots) (g.S.Slots.stop rows.chains.slots) (g.S.Slots.stop c.put.new.chains.slots) c.args.client c.args.row.0 _ c.put.result c.requires.begun e.ok e.touched e.refused rows.quiet
