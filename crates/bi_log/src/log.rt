@@ -1,6 +1,6 @@
 //! The log: its area, and the notes that are in no batch yet.
 
-ghost use Rattle.std.specs.Prelude.{◌≡◌, ◌≢◌, ◌⊎◌, ◌↔◌, ◌+◌, ◌<◌, ◌≤◌, ◌^◌, ◌++◌, ◌∷◌, [], ℕ, List, length, IsTrue, OnOk, OnErr, is_ok};
+ghost use Rattle.std.specs.Prelude.{◌≡◌, ◌≢◌, ◌⊎◌, ◌↔◌, ◌+◌, ◌<◌, ◌≤◌, ◌^◌, ◌++◌, ◌∷◌, [], ℕ, List, length, IsTrue, IfOk, OnOk, is_ok};
 ghost use Rattle.abl_storage.specs.Disk.{Others, HasCause};
 ghost use Rattle.disk_steps.specs.Steps.{Image, Run, Any};
 ghost use Rattle.log_meaning.specs.declared.note.Note.{Note as LogNote};
@@ -15,20 +15,55 @@ use crate::note_buffer::NoteBuffer;
 use crate::settle;
 use abl_storage::{Disk, DiskFailed};
 use log_meaning::Note;
+use std::alloc::{AllocError, Global};
 
-/// The log of a disk, while notes are appended.
+/// The log of a disk, while notes are appended: its area, the place of its next gate, the notes that
+/// are in no batch yet, and how many notes were appended and how many of them are in open batches.
 #[derive(Drop)]
 pub struct Log {
-    pub(crate) area: u8,
-    pub(crate) gate: u64,
-    pub(crate) buffer: NoteBuffer,
-    pub(crate) appended: u64,
-    pub(crate) settled: u64,
+    pub area: u8,
+    pub gate: u64,
+    pub buffer: NoteBuffer,
+    pub appended: u64,
+    pub settled: u64,
 }
 
 impl Log {
+    /// The log of a generation whose next gate is at this place. It takes the memory for its buffer;
+    /// no other call takes any.
+    pub fn new(area: u8, gate: u64, alloc: Global) -> Result<Log, AllocError>
+        ensures place { IfOk result (λ log. (log.area ≡ area) × (log.gate ≡ gate)) }
+        ensures counts { IfOk result (λ log. (log.appended ≡ 0) × (log.settled ≡ 0)) }
+        ensures notes { IfOk result (λ log. HasNotes log.buffer []) }
+    {
+        let buffer = NoteBuffer::new(alloc)?;
+        Ok(Log {
+            area,
+            gate,
+            buffer,
+            appended: 0,
+            settled: 0,
+        })
+    }
+
+    /// How many notes were appended.
+    pub fn appended(&self) -> u64
+        ensures { result ≡ self.now.appended }
+    {
+        self.appended
+    }
+
+    /// How many of the notes that were appended, the first ones, are in open batches.
+    pub fn settled(&self) -> u64
+        ensures { result ≡ self.now.settled }
+    {
+        self.settled
+    }
+
     /// Whether the buffer has no room for one note more.
-    pub fn is_full(&self) -> bool {
+    pub fn is_full(&self) -> bool
+        ensures { IsTrue result ↔ (1048576 < length (content self.now.buffer) + 525) }
+    {
         self.buffer.len() + 525 > MAX_BATCH_BYTES
     }
 
@@ -52,6 +87,8 @@ impl Log {
         requires few { self.old.appended + 1 < 2 ^ 64 }
         ensures notes { (notes : List LogNote) → HasNotes self.old.buffer notes → IsNote note.now → HasNotes self.new.buffer (notes ++ note.now ∷ []) }
         ensures place { (self.new.area ≡ self.old.area) × (self.new.gate ≡ self.old.gate) }
+        ensures counts { (self.new.appended ≡ self.old.appended + 1) × (self.new.settled ≡ self.old.settled) }
+        ensures some { 0 < length (content self.new.buffer) }
     {
         self.buffer.push(note);
         self.appended += 1;
@@ -63,6 +100,8 @@ impl Log {
         requires few { self.old.appended + 1 < 2 ^ 64 }
         ensures notes { (notes : List LogNote) → HasNotes self.old.buffer notes → HasNotes self.new.buffer (notes ++ Committed tx ∷ []) }
         ensures place { (self.new.area ≡ self.old.area) × (self.new.gate ≡ self.old.gate) }
+        ensures counts { (self.new.appended ≡ self.old.appended + 1) × (self.new.settled ≡ self.old.settled) }
+        ensures some { 0 < length (content self.new.buffer) }
     {
         self.append(&Note::Commit(tx));
     }
@@ -80,7 +119,8 @@ impl Log {
             → Keeps self.new (D.left disk.new (D.time disk.new)) (with_batch held notes) []) }
         ensures area { self.new.area ≡ self.old.area }
         ensures seen { IsTrue (D.observable disk.old) → Others self.old.area (D.seen disk.old) (D.seen disk.new) }
-        ensures settled { OnOk result (self.new.settled ≡ self.old.appended) }
+        ensures settled { OnOk result ((self.new.settled ≡ self.old.appended) × (self.new.appended ≡ self.old.appended)) }
+        ensures emptied { OnOk result (content self.new.buffer ≡ []) }
         ensures cause { HasCause (D.failures disk.old) (D.failures disk.new) (is_ok result) }
     {
         let n = self.buffer.len() as u64;

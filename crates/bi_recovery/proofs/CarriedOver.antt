@@ -1,15 +1,15 @@
 -- A generation that carries slots recovers to what the old one did.
-use Rattle.std.proofs.Common.{◌≡◌, ◌≢◌, inl, inr, ⊎_elim, ℕ, ◌+◌, ◌-◌, ◌*◌, ◌<◌, ◌≤◌, Bool, true, false, List, [], refl, sym, ◌∙◌, ap, subst, arith}
+use Rattle.std.proofs.Common.{◌≡◌, inl, inr, ⊎_elim, ℕ, ◌+◌, ◌-◌, ◌<◌, ◌≤◌, true, List, [], refl, sym, ◌∙◌, ap, subst, arith}
 use Rattle.std.proofs.lemmas.Bool.{cases_Bool, cases_lt}
 use Rattle.abl_storage.specs.Disk.{Others}
 use Rattle.abl_storage.specs.declared.slots.Undo.{Undo}
 use Rattle.abl_storage.specs.Slots.{wrote, undone}
 use Rattle.disk_steps.specs.Steps.{Image, Run}
-use Rattle.disk_steps.proofs.Runs.{wider, traced}
+use Rattle.disk_steps.proofs.Runs.{traced}
 use Rattle.log_meaning.specs.declared.note.Note.{Note}
 use Rattle.log_meaning.specs.Images.{IsOpened, slot_of}
 use Rattle.log_meaning.specs.Recovered.{changes_of, recovered}
-use Rattle.log_meaning.specs.LogState.{notes_in, LogState, HasGate, IsFilled}
+use Rattle.log_meaning.specs.LogState.{notes_in, LogState, IsFilled}
 use Rattle.log_meaning.proofs.LoggedStarts.{Each}
 use Rattle.log_meaning.proofs.LogStates.{others_agree}
 use Rattle.log_meaning.proofs.Undone.{undone-not}

@@ -1,16 +1,15 @@
 -- The steps to a generation that carries slots.
-use Rattle.std.proofs.Common.{◌≡◌, ◌≢◌, ◌⊎◌, inl, inr, ⊎_elim, ℕ, ◌+◌, ◌-◌, ◌*◌, ◌<◌, ◌≤◌, Bool, List, [], length, get_or, refl, sym, ◌∙◌, ap, subst, arith}
+use Rattle.std.proofs.Common.{◌≡◌, ◌≢◌, inl, inr, ⊎_elim, ℕ, List, get_or, refl, sym, ◌∙◌, subst, arith}
 use Rattle.abl_storage.specs.Disk.{Others}
 use Rattle.disk_steps.specs.Steps.{Image, Run}
 use Rattle.disk_steps.proofs.Runs.{joined, wider}
 use Rattle.log_meaning.specs.declared.note.Note.{Note}
 use Rattle.log_meaning.specs.Images.{IsOpened, HoldsLog}
 use Rattle.log_meaning.specs.LogState.{notes_in}
-use Rattle.bi_log.specs.Appending.{Held, Holds, RestsAt}
-use Rattle.bi_log.specs.Generations.{Closes, IsClosed, AfterGate, Opens, IsPrepared}
+use Rattle.bi_log.specs.Appending.{Held, Holds}
+use Rattle.bi_log.specs.Generations.{Closes, IsClosed, AfterGate, Opens}
 use Rattle.bi_recovery.specs.ReadNotes.{HoldsNotes}
-use Rattle.bi_recovery.specs.Carried.{IsCarried, IsOpenLog, CarriesTo}
-use Rattle.bi_recovery.proofs.Reopening.{shut_head}
+use Rattle.bi_recovery.specs.Carried.{IsCarried, CarriesTo}
 
 -- the other areas stay, and this one has an open header only where it had one
 pub record OpensNone (area : ℕ) (old new : Image) : Type 0 where

@@ -1,5 +1,5 @@
 -- Slots carried into a new generation.
-use Rattle.std.proofs.Common.{◌≡◌, ◌≢◌, inl, inr, ⊎_elim, ℕ, zero, suc, ◌+◌, ◌-◌, ◌*◌, ◌<◌, ◌≤◌, ◌^◌, Bool, true, false, ◌==◌, ◌||◌, IsTrue, List, [], ◌∷◌, ◌++◌, length, get_or, take, refl, sym, ◌∙◌, ap, subst, arith, append_assoc}
+use Rattle.std.proofs.Common.{◌≡◌, ◌≢◌, inl, inr, ⊎_elim, ℕ, zero, suc, ◌+◌, ◌*◌, ◌<◌, ◌≤◌, Bool, false, ◌==◌, List, [], ◌∷◌, ◌++◌, length, get_or, take, refl, sym, ◌∙◌, ap, subst, arith, append_assoc}
 use Rattle.std.proofs.lemmas.List.{ext_get_or, append-nil}
 use Rattle.std.proofs.lemmas.List.Concat.{flat_map-append}
 use Rattle.std.proofs.lemmas.List.Elements.{All-nil, All-push}
@@ -11,19 +11,17 @@ use Rattle.abl_storage.specs.Slots.{wrote, undone}
 use Rattle.disk_steps.specs.Steps.{Image}
 use Rattle.log_meaning.specs.declared.note.Change.{Change}
 use Rattle.log_meaning.specs.declared.note.Note.{Note}
-use Rattle.log_meaning.specs.declared.note.Note.TheVariants.{Change as Changed}
 use Rattle.log_meaning.specs.Bytes.{note_bytes, IsNote}
 use Rattle.log_meaning.specs.Images.{slot_of}
-use Rattle.log_meaning.specs.Recovered.{changes_of, recovered}
+use Rattle.log_meaning.specs.Recovered.{changes_of}
 use Rattle.log_meaning.specs.LogState.{notes_in, IsFilled}
 use Rattle.log_meaning.proofs.Notes.{changes_of-here, changes_of-other}
 use Rattle.log_meaning.proofs.LoggedStarts.{Each}
 use Rattle.log_meaning.proofs.LogStates.{length-slot_of, get_or-slot_of}
 use Rattle.log_meaning.proofs.Undone.{put-here, put-other}
 use Rattle.bi_log.specs.declared.note_buffer.NoteBuffer.{NoteBuffer}
-use Rattle.bi_log.specs.Appending.{Held, fresh}
+use Rattle.bi_log.specs.Appending.{fresh}
 use Rattle.bi_log.specs.Buffer.{content}
-use Rattle.bi_log.specs.Logs.{HasNotes}
 use Rattle.bi_log.specs.Generations.{IsClosed, AfterGate, IsPrepared}
 use Rattle.bi_log.specs.Carrying.{Carries}
 use Rattle.bi_log.proofs.Sealed.{no_notes}

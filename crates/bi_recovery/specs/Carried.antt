@@ -1,5 +1,5 @@
 -- The notes that a new generation carries over a gap.
-use Rattle.std.specs.Prelude.{◌≡◌, ◌⊎◌, ℕ, zero, suc, Bool, List, [], ◌∷◌, ◌++◌}
+use Rattle.std.specs.Prelude.{◌≡◌, ◌⊎◌, ℕ, zero, suc, List, [], ◌∷◌, ◌++◌}
 use Rattle.abl_storage.specs.Disk.{Others}
 use Rattle.disk_steps.specs.Steps.{Image}
 use Rattle.log_meaning.specs.declared.note.Note.{Note}

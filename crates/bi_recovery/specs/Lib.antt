@@ -3,3 +3,4 @@ pub mod NoteSlots
 pub mod Reopening
 pub mod Carried
 pub mod Creating
+pub mod Causes

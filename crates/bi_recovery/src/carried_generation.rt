@@ -6,6 +6,7 @@ ghost use Rattle.abl_storage.specs.Slots.{undone};
 ghost use Rattle.disk_steps.specs.Steps.{Image, Run};
 ghost use Rattle.log_meaning.specs.Images.{slot_of};
 ghost use Rattle.bi_recovery.specs.Carried.{stills, IsOpenLog, CarriesTo};
+ghost use Rattle.bi_recovery.specs.Causes.{HasOpenCause};
 
 use crate::OpenFault;
 use crate::carried_slots::carry_slots;
@@ -34,6 +35,7 @@ pub fn carried_generation<D: Disk>(
     ensures ok { IfOk result (λ gate. IsTrue (D.observable disk.old) → IsOpenLog (D.left disk.new (D.time disk.new)) area gate generation (stills (undone slots.now (slot_of (D.seen disk.old 0))) count)) }
     ensures never { IsErrOf result OpenFault.NotCreated → ⊥ }
     ensures seen { IsTrue (D.observable disk.old) → Others area (D.seen disk.old) (D.seen disk.new) }
+    ensures cause { HasOpenCause (D.failures disk.old) (D.failures disk.new) result }
 {
     close_area(disk, area)?;
     write_header(disk, area, generation)?;

@@ -8,6 +8,7 @@ ghost use Rattle.log_meaning.specs.Images.{slot_of};
 ghost use Rattle.log_meaning.specs.Recovered.{recovered};
 ghost use Rattle.log_meaning.specs.LogState.{notes_in, LogState};
 ghost use Rattle.bi_recovery.specs.Reopening.{SameAreas, SameRecovery, NewLog};
+ghost use Rattle.bi_recovery.specs.Causes.{HasOpenCause};
 
 use crate::OpenFault;
 use crate::carried_generation::carried_generation;
@@ -63,6 +64,7 @@ pub fn reopen_carrying<D: Disk>(
         → ((image : Image) → D.left disk.old (D.time disk.old) image → LogState area generation extent batches base image) → ((below : ℕ → List ℕ) (s : ℕ) → undone slots.now below s ≡ recovered (notes_in batches) below s)
         → NewLog (D.left disk.new (D.time disk.new)) (3 - area) (generation + 1) extent gate (undone slots.now (slot_of (D.seen disk.old 0)))) }
     ensures never { IsErrOf result OpenFault.NotCreated → ⊥ }
+    ensures cause { HasOpenCause (D.failures disk.old) (D.failures disk.new) result }
 {
     let count = end_of(slots);
     carried_generation(disk, 3 - area, generation + 1, slots, count, alloc)

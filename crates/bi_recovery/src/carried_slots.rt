@@ -1,13 +1,14 @@
 //! Slots carried into a new generation, as notes of the bytes that they recover to.
 
-ghost use Rattle.std.specs.Prelude.{◌≡◌, ◌+◌, ◌-◌, ◌*◌, ◌<◌, ◌≤◌, ◌^◌, ℕ, List, length, true, false, IsTrue, IfOk, IfSome, IfNone, OnOk, IsErrOf};
-ghost use Rattle.abl_storage.specs.Disk.{Stays, Others};
+ghost use Rattle.std.specs.Prelude.{◌≡◌, ◌+◌, ◌-◌, ◌*◌, ◌<◌, ◌≤◌, ◌^◌, ℕ, List, length, true, false, IsTrue, IfOk, IfSome, IfNone, OnOk, IsErrOf, is_ok};
+ghost use Rattle.abl_storage.specs.Disk.{Stays, Others, HasCause};
 ghost use Rattle.abl_storage.specs.Slots.{wrote, undone};
 ghost use Rattle.disk_steps.specs.Steps.{Image, Run};
 ghost use Rattle.log_meaning.specs.Images.{slot_of};
 ghost use Rattle.bi_log.specs.Appending.{fresh};
 ghost use Rattle.bi_log.specs.Generations.{IsClosed, AfterGate, IsPrepared};
 ghost use Rattle.bi_recovery.specs.Carried.{stills, IsCarried};
+ghost use Rattle.bi_recovery.specs.Causes.{HasOpenCause};
 
 use crate::OpenFault;
 use abl_storage::{Disk, DiskFailed, Undo};
@@ -34,6 +35,7 @@ fn read_slot<D: Disk>(disk: &mut D, slot: u32) -> Result<[u8; 256], DiskFailed>
     requires small { slot < 2 ^ 20 }
     ensures bytes { IfOk result (λ bytes. IsTrue (D.observable disk.old) → bytes ≡ slot_of (D.seen disk.old 0) slot) }
     ensures rest { Stays (D.observable disk.old) (D.observable disk.new) (D.seen disk.old) (D.seen disk.new) (D.time disk.old) (D.time disk.new) (D.left disk.old) (D.left disk.new) }
+    ensures cause { HasCause (D.failures disk.old) (D.failures disk.new) (is_ok result) }
 {
     let mut bytes = [0u8; 256];
     disk.read(0, 256 * slot as u64, &mut bytes)?;
@@ -45,6 +47,7 @@ pub fn slot_bytes<D: Disk>(disk: &mut D, slots: &[Undo], slot: u32) -> Result<[u
     requires small { slot < 2 ^ 20 }
     ensures bytes { IfOk result (λ bytes. IsTrue (D.observable disk.old) → bytes ≡ undone slots.now (slot_of (D.seen disk.old 0)) slot) }
     ensures rest { Stays (D.observable disk.old) (D.observable disk.new) (D.seen disk.old) (D.seen disk.new) (D.time disk.old) (D.time disk.new) (D.left disk.old) (D.left disk.new) }
+    ensures cause { HasCause (D.failures disk.old) (D.failures disk.new) (is_ok result) }
 {
     match first_bytes(slots, slot) {
         Some(bytes) => Ok(bytes),
@@ -70,6 +73,7 @@ pub fn carry_slots<D: Disk>(
         → IsCarried (D.left disk.new (D.time disk.new)) area gate generation (stills (undone slots.now (slot_of (D.seen disk.old 0))) count)) }
     ensures never { IsErrOf result OpenFault.NotCreated → ⊥ }
     ensures seen { IsTrue (D.observable disk.old) → Others area (D.seen disk.old) (D.seen disk.new) }
+    ensures cause { HasOpenCause (D.failures disk.old) (D.failures disk.new) result }
 {
     let mut buffer = NoteBuffer::new(alloc)?;
     let mut gate: u64 = 32;

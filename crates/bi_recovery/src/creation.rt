@@ -1,7 +1,7 @@
 //! A new database.
 
-ghost use Rattle.std.specs.Prelude.{◌≡◌, ◌⊎◌, ◌-◌, ◌<◌, ◌≤◌, ◌^◌, ℕ, List, [], true, replicate, IsTrue, IfOk, OnOk};
-ghost use Rattle.abl_storage.specs.Disk.{Stays, Others};
+ghost use Rattle.std.specs.Prelude.{◌≡◌, ◌⊎◌, ◌-◌, ◌<◌, ◌≤◌, ◌^◌, ℕ, List, [], true, replicate, IsTrue, IfOk, OnOk, is_ok};
+ghost use Rattle.abl_storage.specs.Disk.{Stays, Others, HasCause};
 ghost use Rattle.abl_storage.specs.Slots.{wrote, undone};
 ghost use Rattle.disk_steps.specs.Steps.{Image, Run};
 ghost use Rattle.log_meaning.specs.Images.{IsOpened, slot_of};
@@ -19,6 +19,7 @@ fn older_area<D: Disk>(disk: &mut D) -> Result<u8, DiskFailed>
     ensures place { IfOk result (λ r. (1 ≤ r) × (r ≤ 2)) }
     ensures older { IfOk result (λ r. IsTrue (D.observable disk.old) → (g h : ℕ) → IsOpened (D.seen disk.old (3 - r)) g → IsOpened (D.seen disk.old r) h → (h < g) ⊎ ((h ≡ g) × (3 - r ≡ 1))) }
     ensures rest { Stays (D.observable disk.old) (D.observable disk.new) (D.seen disk.old) (D.seen disk.new) (D.time disk.old) (D.time disk.new) (D.left disk.old) (D.left disk.new) }
+    ensures cause { HasCause (D.failures disk.old) (D.failures disk.new) (is_ok result) }
 {
     match find(disk)? {
         None => Ok(1),
@@ -31,6 +32,7 @@ fn close_logs<D: Disk>(disk: &mut D) -> Result<(), DiskFailed>
     ensures same_observable { D.observable disk.new ≡ D.observable disk.old }
     ensures time { Run (D.time disk.old) (D.time disk.new) (D.left disk.old) (D.left disk.new) Back }
     ensures ok { OnOk result ((image : Image) → D.left disk.new (D.time disk.new) image → IsClosed (image 1) × IsClosed (image 2)) }
+    ensures cause { HasCause (D.failures disk.old) (D.failures disk.new) (is_ok result) }
 {
     sync_all(disk)?;
     let first = older_area(disk)?;
@@ -45,6 +47,7 @@ fn write_zeros<D: Disk>(disk: &mut D, count: u32) -> Result<(), DiskFailed>
     ensures time { Run (D.time disk.old) (D.time disk.new) (D.left disk.old) (D.left disk.new) (Others 0) }
     ensures laid { OnOk result (IsTrue (D.observable disk.old) → (s : ℕ) → s < count → slot_of (D.seen disk.new 0) s ≡ zeros) }
     ensures left { OnOk result (IsTrue (D.observable disk.old) → (s : ℕ) → count ≤ s → slot_of (D.seen disk.new 0) s ≡ slot_of (D.seen disk.old 0) s) }
+    ensures cause { HasCause (D.failures disk.old) (D.failures disk.new) (is_ok result) }
 {
     let mut k: u32 = 0;
     'zeros: while k < count {
@@ -63,6 +66,7 @@ fn zero_count<D: Disk>(disk: &mut D) -> Result<u32, DiskFailed>
     ensures small { IfOk result (λ n. (8192 ≤ n) × (n ≤ 2 ^ 20)) }
     ensures all { IfOk result (λ n. IsTrue (D.observable disk.old) → (s : ℕ) → n ≤ s → s < 2 ^ 20 → slot_of (D.seen disk.old 0) s ≡ zeros) }
     ensures rest { Stays (D.observable disk.old) (D.observable disk.new) (D.seen disk.old) (D.seen disk.new) (D.time disk.old) (D.time disk.new) (D.left disk.old) (D.left disk.new) }
+    ensures cause { HasCause (D.failures disk.old) (D.failures disk.new) (is_ok result) }
 {
     let length = disk.length(0)?;
     let slots = length / 256;
@@ -81,6 +85,7 @@ fn fill_area<D: Disk>(disk: &mut D, slots: &[Undo]) -> Result<(), DiskFailed>
     ensures same_observable { D.observable disk.new ≡ D.observable disk.old }
     ensures time { Run (D.time disk.old) (D.time disk.new) (D.left disk.old) (D.left disk.new) (Others 0) }
     ensures ok { OnOk result ((image : Image) → D.left disk.new (D.time disk.new) image → (s : ℕ) → s < 2 ^ 20 → slot_of (image 0) s ≡ undone slots.now (λ k. zeros) s) }
+    ensures cause { HasCause (D.failures disk.old) (D.failures disk.new) (is_ok result) }
 {
     let count = zero_count(disk)?;
     write_zeros(disk, count)?;
@@ -95,6 +100,7 @@ pub fn create<D: Disk>(disk: &mut D, slots: &[Undo]) -> Result<(), DiskFailed>
     ensures time { Run (D.time disk.old) (D.time disk.new) (D.left disk.old) (D.left disk.new) (Creates slots.now) }
     ensures ok { OnOk result ((image : Image) → D.left disk.new (D.time disk.new) image → LogState 1 1 0 [] (slot_of (image 0)) image) }
     ensures are { OnOk result ((image : Image) → D.left disk.new (D.time disk.new) image → (s : ℕ) → s < 2 ^ 20 → slot_of (image 0) s ≡ undone slots.now (λ k. zeros) s) }
+    ensures cause { HasCause (D.failures disk.old) (D.failures disk.new) (is_ok result) }
 {
     close_logs(disk)?;
     fill_area(disk, slots)?;

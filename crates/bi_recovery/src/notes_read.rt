@@ -5,6 +5,7 @@ ghost use Rattle.abl_storage.specs.Disk.{Stays};
 ghost use Rattle.log_meaning.specs.Bytes.{note_bytes, IsNote};
 ghost use Rattle.log_meaning.specs.Images.{IsOpened};
 ghost use Rattle.bi_recovery.specs.ReadNotes.{ReadAnswer};
+ghost use Rattle.bi_recovery.specs.Causes.{HasOpenCause};
 
 use crate::OpenFault;
 use abl_storage::Disk;
@@ -35,6 +36,7 @@ pub fn read_notes<D: Disk>(
     ensures sound { IfOk result (λ r. IfSome r (λ notes. All IsNote notes.items)) }
     ensures never { IsErrOf result OpenFault.NotCreated → ⊥ }
     ensures rest { Stays (D.observable disk.old) (D.observable disk.new) (D.seen disk.old) (D.seen disk.new) (D.time disk.old) (D.time disk.new) (D.left disk.old) (D.left disk.new) }
+    ensures cause { HasOpenCause (D.failures disk.old) (D.failures disk.new) result }
 {
     let mut notes: Vec<Note> = Vec::new(alloc);
     let mut at: u64 = 32;

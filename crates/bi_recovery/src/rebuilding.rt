@@ -1,7 +1,8 @@
 //! The slots of a log put back into area 0, and a new generation over them.
 
-ghost use Rattle.std.specs.Prelude.{◌≡◌, ◌+◌, ◌-◌, ◌*◌, ◌<◌, ◌≤◌, ◌^◌, ℕ, List, [], true, IsTrue, OnOk};
+ghost use Rattle.std.specs.Prelude.{◌≡◌, ◌+◌, ◌-◌, ◌*◌, ◌<◌, ◌≤◌, ◌^◌, ℕ, List, [], true, IsTrue, OnOk, is_ok};
 ghost use Rattle.abl_storage.specs.Slots.{wrote, undone};
+ghost use Rattle.abl_storage.specs.Disk.{HasCause};
 ghost use Rattle.disk_steps.specs.Steps.{Image, Run, Any};
 ghost use Rattle.log_meaning.specs.declared.note.Note.{Note as LogNote};
 ghost use Rattle.log_meaning.specs.Images.{slot_of};
@@ -36,6 +37,7 @@ pub fn rebuild<D: Disk>(
         → (image : Image) → D.left disk.new (D.time disk.new) image → LogState (3 - area) (generation + 1) extent [] (undone slots.now base) image) }
     ensures zero { OnOk result ((image : Image) → D.left disk.new (D.time disk.new) image → image 0 ≡ D.seen disk.new 0) }
     ensures rests { OnOk result ((image : Image) → D.left disk.new (D.time disk.new) image → RestsAt (image (3 - area)) (fresh (generation + 1)) 32) }
+    ensures cause { HasCause (D.failures disk.old) (D.failures disk.new) (is_ok result) }
 {
     put_back(disk, slots)?;
     next_generation(disk, 3 - area, generation + 1)

@@ -5,6 +5,7 @@ ghost use Rattle.disk_steps.specs.Steps.{Image, Run};
 ghost use Rattle.log_meaning.specs.Bytes.{IsNote};
 ghost use Rattle.log_meaning.specs.Images.{IsNewest, IsOpened, Recovers};
 ghost use Rattle.bi_recovery.specs.Reopening.{SameAreas, SameRecovery, LogIs, Reopens};
+ghost use Rattle.bi_recovery.specs.Causes.{HasOpenCause};
 
 use crate::OpenFault;
 use crate::carried_recovery::reopen_carrying;
@@ -44,6 +45,7 @@ fn reopen_with<D: Disk>(
     ensures time { Run (D.time disk.old) (D.time disk.new) (D.left disk.old) (D.left disk.new) SameRecovery }
     ensures ok { IfOk result (λ r. IsTrue (D.observable disk.old) → Reopens (D.seen disk.old) (D.left disk.new (D.time disk.new)) r.area r.generation r.extent r.gate) }
     ensures never { IsErrOf result OpenFault.NotCreated → ⊥ }
+    ensures cause { HasOpenCause (D.failures disk.old) (D.failures disk.new) result }
 {
     let slots = recovered_slots(notes, alloc)?;
     let length = disk.length(0)?;
@@ -84,6 +86,7 @@ fn reopen<D: Disk>(
     ensures time { Run (D.time disk.old) (D.time disk.new) (D.left disk.old) (D.left disk.new) SameRecovery }
     ensures ok { IfOk result (λ r. IsTrue (D.observable disk.old) → Reopens (D.seen disk.old) (D.left disk.new (D.time disk.new)) r.area r.generation r.extent r.gate) }
     ensures none { IsErrOf result OpenFault.NotCreated → IsTrue (D.observable disk.old) → (slots : ℕ → List ℕ) → Recovers (D.seen disk.old) slots → ⊥ }
+    ensures cause { HasOpenCause (D.failures disk.old) (D.failures disk.new) result }
 {
     match read_notes(disk, area, alloc)? {
         None => Err(OpenFault::NotCreated),
@@ -100,6 +103,7 @@ pub fn recover<D: Disk>(disk: &mut D, alloc: Global) -> Result<Reopened, OpenFau
     ensures time { Run (D.time disk.old) (D.time disk.new) (D.left disk.old) (D.left disk.new) SameRecovery }
     ensures ok { IfOk result (λ r. IsTrue (D.observable disk.old) → Reopens (D.seen disk.old) (D.left disk.new (D.time disk.new)) r.area r.generation r.extent r.gate) }
     ensures none { IsErrOf result OpenFault.NotCreated → IsTrue (D.observable disk.old) → (slots : ℕ → List ℕ) → Recovers (D.seen disk.old) slots → ⊥ }
+    ensures cause { HasOpenCause (D.failures disk.old) (D.failures disk.new) result }
 {
     sync_all(disk)?;
     match find(disk)? {

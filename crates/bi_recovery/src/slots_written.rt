@@ -1,7 +1,7 @@
 //! Slots written to area 0.
 
-ghost use Rattle.std.specs.Prelude.{◌≡◌, ◌*◌, ◌<◌, ◌≤◌, ◌^◌, ℕ, List, length, true, IsTrue, OnOk};
-ghost use Rattle.abl_storage.specs.Disk.{Others};
+ghost use Rattle.std.specs.Prelude.{◌≡◌, ◌*◌, ◌<◌, ◌≤◌, ◌^◌, ℕ, List, length, true, IsTrue, OnOk, is_ok};
+ghost use Rattle.abl_storage.specs.Disk.{Others, HasCause};
 ghost use Rattle.abl_storage.specs.Slots.{put, wrote, undone};
 ghost use Rattle.disk_steps.specs.Steps.{Image, Run};
 ghost use Rattle.log_meaning.specs.declared.note.Note.{Note as LogNote};
@@ -21,6 +21,7 @@ pub fn write_slot<D: Disk>(disk: &mut D, slot: &Undo) -> Result<(), DiskFailed>
         → MayWrite extent batches (256 * slot.now.slot) 256 → Run (D.time disk.old) (D.time disk.new) (D.left disk.old) (D.left disk.new) (WritesNoted batches) }
     ensures reads { OnOk result (IsTrue (D.observable disk.old) → (s : ℕ) → slot_of (D.seen disk.new 0) s ≡ put (slot_of (D.seen disk.old 0)) slot.now.slot slot.now.old s) }
     ensures others { IsTrue (D.observable disk.old) → Others 0 (D.seen disk.old) (D.seen disk.new) }
+    ensures cause { HasCause (D.failures disk.old) (D.failures disk.new) (is_ok result) }
 {
     disk.write(0, 256 * slot.slot as u64, &slot.old)
 }
@@ -34,6 +35,7 @@ pub fn write_slots<D: Disk>(disk: &mut D, slots: &[Undo]) -> Result<(), DiskFail
         → ((s : ℕ) → wrote slots.now s ≡ true → MayWrite extent batches (256 * s) 256) → Run (D.time disk.old) (D.time disk.new) (D.left disk.old) (D.left disk.new) (WritesNoted batches) }
     ensures reads { OnOk result (IsTrue (D.observable disk.old) → (s : ℕ) → slot_of (D.seen disk.new 0) s ≡ undone slots.now (slot_of (D.seen disk.old 0)) s) }
     ensures others { IsTrue (D.observable disk.old) → Others 0 (D.seen disk.old) (D.seen disk.new) }
+    ensures cause { HasCause (D.failures disk.old) (D.failures disk.new) (is_ok result) }
 {
     let mut i = slots.len();
     'slots: while i > 0 {
@@ -53,6 +55,7 @@ pub fn put_back<D: Disk>(disk: &mut D, slots: &[Undo]) -> Result<(), DiskFailed>
     ensures ok { OnOk result ((image : Image) → D.left disk.new (D.time disk.new) image → image 0 ≡ D.seen disk.new 0) }
     ensures reads { OnOk result (IsTrue (D.observable disk.old) → (s : ℕ) → slot_of (D.seen disk.new 0) s ≡ undone slots.now (slot_of (D.seen disk.old 0)) s) }
     ensures others { IsTrue (D.observable disk.old) → Others 0 (D.seen disk.old) (D.seen disk.new) }
+    ensures cause { HasCause (D.failures disk.old) (D.failures disk.new) (is_ok result) }
 {
     write_slots(disk, slots)?;
     disk.sync(0)
@@ -64,6 +67,7 @@ pub fn sync_all<D: Disk>(disk: &mut D) -> Result<(), DiskFailed>
     ensures time { Run (D.time disk.old) (D.time disk.new) (D.left disk.old) (D.left disk.new) (λ old new. new ≡ old) }
     ensures seen { IsTrue (D.observable disk.old) → D.seen disk.new ≡ D.seen disk.old }
     ensures ok { OnOk result ((image : Image) → D.left disk.new (D.time disk.new) image → SameAreas (D.seen disk.new) image) }
+    ensures cause { HasCause (D.failures disk.old) (D.failures disk.new) (is_ok result) }
 {
     disk.sync(0)?;
     disk.sync(1)?;

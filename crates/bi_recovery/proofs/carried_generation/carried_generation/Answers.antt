@@ -1,12 +1,11 @@
-use Rattle.std.proofs.Common.{◌≡◌, ◌≢◌, ℕ, Bool, IsTrue, List, refl, sym, ◌∙◌, ap, subst, arith}
+use Rattle.std.proofs.Common.{◌≡◌, ◌≢◌, ℕ, Bool, IsTrue, List, sym, ◌∙◌, subst, arith}
 use Rattle.abl_storage.specs.Disk.{Others}
 use Rattle.abl_storage.specs.Slots.{undone}
-use Rattle.disk_steps.specs.Steps.{Image, Run, Any}
+use Rattle.disk_steps.specs.Steps.{Image, Run}
 use Rattle.disk_steps.proofs.Runs.{joined, wider}
 use Rattle.log_meaning.specs.declared.note.Note.{Note}
 use Rattle.log_meaning.specs.Images.{slot_of}
-use Rattle.bi_log.specs.Generations.{IsClosed, Closes, AfterGate}
-use Rattle.bi_log.proofs.Preparing.{ok_then}
+use Rattle.bi_log.specs.Generations.{Closes, AfterGate}
 use Rattle.bi_recovery.specs.Carried.{stills, IsCarried, CarriesTo}
 use Rattle.bi_recovery.proofs.CarriedRun.{OpensNone, none_closes, none_to, run_none, run_after, run_carried}
 use Rattle.bi_recovery.proofs.carried_generation.carried_generation.Goals as goal

@@ -1,4 +1,4 @@
-use Rattle.std.proofs.Common.{◌≡◌, ⊎_elim, List, [], true, take, length, get_or, ◌∙◌, ap, arith}
+use Rattle.std.proofs.Common.{◌≡◌, ⊎_elim, List, [], true, take, get_or, ◌∙◌, ap, arith}
 use Rattle.std.proofs.lemmas.List.{take_all}
 use Rattle.abl_storage.specs.declared.slots.Undo.{Undo}
 use Rattle.abl_storage.specs.Slots.{wrote}

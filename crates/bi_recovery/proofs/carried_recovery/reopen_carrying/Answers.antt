@@ -1,8 +1,8 @@
 use Rattle.std.specs.Prelude.{IfOk}
-use Rattle.std.proofs.Common.{◌≡◌, ◌+◌, ◌-◌, ℕ, List, IsTrue, Result, Ok, Err, refl, sym, ◌∙◌, ap, subst, arith}
+use Rattle.std.proofs.Common.{◌+◌, ◌-◌, Result, Ok, Err, arith}
 use Rattle.abl_storage.specs.Disk.{Others}
 use Rattle.abl_storage.specs.Slots.{undone}
-use Rattle.disk_steps.specs.Steps.{Image, Any}
+use Rattle.disk_steps.specs.Steps.{Any}
 use Rattle.disk_steps.proofs.Runs.{wider}
 use Rattle.log_meaning.specs.Images.{slot_of}
 use Rattle.bi_recovery.specs.Carried.{stills, CarriesTo}

@@ -1,19 +1,16 @@
-use Rattle.std.proofs.Common.{◌≡◌, ◌≢◌, ◌+◌, ◌*◌, ◌-◌, ◌<◌, ◌≤◌, ◌^◌, ℕ, List, [], ◌∷◌, ◌++◌, length, Bool, IsTrue, refl, sym, ◌∙◌, ap, subst, arith, length-append}
-use Rattle.abl_storage.specs.Disk.{Others}
+use Rattle.std.proofs.Common.{◌≡◌, ◌≢◌, ℕ, List, length, Bool, IsTrue, refl, sym, ◌∙◌, ap, subst, arith, length-append}
 use Rattle.abl_storage.specs.Slots.{undone}
 use Rattle.disk_steps.specs.Steps.{Image, Run}
 use Rattle.disk_steps.proofs.Runs.{started, joined, stayed, traced}
-use Rattle.log_meaning.specs.declared.note.Note.{Note}
 use Rattle.log_meaning.specs.declared.note.Note.TheVariants.{Change as Changed}
 use Rattle.log_meaning.specs.Bytes.{note_bytes, IsNote}
 use Rattle.log_meaning.specs.Images.{slot_of}
-use Rattle.bi_log.specs.Appending.{fresh}
 use Rattle.bi_log.specs.Buffer.{content}
-use Rattle.bi_log.specs.Generations.{IsClosed, AfterGate, IsPrepared}
+use Rattle.bi_log.specs.Generations.{IsClosed, AfterGate}
 use Rattle.bi_log.proofs.Preparing.{after_none, after_twice}
 use Rattle.bi_log.proofs.NoteBytes.{length-change}
 use Rattle.bi_log.specs.Carrying.{Carries}
-use Rattle.bi_recovery.specs.Carried.{still, stills}
+use Rattle.bi_recovery.specs.Carried.{stills}
 use Rattle.bi_recovery.proofs.Carrying.{carries_note, carries_stay, carries_start, carries_end, closed_step}
 use Rattle.bi_recovery.proofs.carried_slots.carry_slots.Goals as goal
 
@@ -33,6 +30,7 @@ slots-init g c = record {
   place = (let e = ap (length {A = ℕ}) c.in_ok-buffer.ensures.empty in omega (arith, e));
   same_observable = refl;
   time = started _ _ (AfterGate c.args.area) (λ m image left. (g.met.D.Disk.image_known c.args.disk.now m image left).past);
+  failures = refl;
   closed = c.requires.closed;
   carries = λ known generation prepared. carries_start _ c.args.area c.in_ok-buffer.buffer generation (undone c.args.slots.now (slot_of (g.D.Disk.seen c.args.disk.now 0))) c.in_ok-buffer.ensures.empty prepared;
   seen = λ known k other. refl;
@@ -75,6 +73,7 @@ slots-preserved g c =
       place = omega (arith, place, grown, ap (length {A = ℕ}) c.push.ensures, length-append (content c.make_room.new.buffer) (note_bytes (Changed (record { tx = 0; slot = c.slots.n; old = c.in_ok-bytes.bytes; new = c.in_ok-bytes.bytes }))), size);
       same_observable = c.slot_bytes.ensures.rest.same_observable ∙ c.make_room.ensures.same_observable ∙ c.slots.invariant.same_observable;
       time = then_after _ _ _ _ _ _ c.args.area after_room (stayed _ _ _ _ _ _ _ _ (AfterGate c.args.area) c.slot_bytes.ensures.rest (λ m image left. (g.met.D.Disk.image_known c.make_room.new.disk m image left).past));
+      failures = c.in_ok-bytes.ensures.cause.stays refl ∙ c.in_ok-at.ensures.cause.stays refl ∙ c.slots.invariant.failures;
       closed = λ image left. closed_run _ _ _ _ c.args.area c.make_room.ensures.time c.slots.invariant.closed image (subst (λ (m : ℕ). g.D.Disk.left c.make_room.new.disk m image) c.slot_bytes.ensures.rest.moment (c.slot_bytes.ensures.rest.nothing_else _ image left));
       carries = λ known generation prepared.
           let known1 : IsTrue (g.D.Disk.observable c.slots.disk) = subst (λ (b : Bool). IsTrue b) (sym c.slots.invariant.same_observable) known in

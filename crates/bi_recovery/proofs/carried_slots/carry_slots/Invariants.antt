@@ -1,4 +1,4 @@
-use Rattle.std.proofs.Common.{◌≡◌, ◌+◌, ◌*◌, ◌-◌, ◌<◌, ◌≤◌, ℕ, length, IsTrue}
+use Rattle.std.proofs.Common.{◌≡◌, ◌+◌, ◌*◌, ◌-◌, ◌≤◌, ℕ, length, IsTrue}
 use Rattle.abl_storage.specs.Disk.{Others}
 use Rattle.abl_storage.specs.Slots.{undone}
 use Rattle.disk_steps.specs.Steps.{Image, Run}
@@ -20,6 +20,7 @@ invariant-slots g l = record {
   place : l.gate + 6 * length (content l.buffer) ≤ 32 + 3150 * l.n;
   same_observable : g.D.Disk.observable l.disk ≡ g.D.Disk.observable l.fn.disk;
   time : Run (g.D.Disk.time l.fn.disk) (g.D.Disk.time l.disk) (g.D.Disk.left l.fn.disk) (g.D.Disk.left l.disk) (AfterGate l.fn.area);
+  failures : g.D.Disk.failures l.disk ≡ g.D.Disk.failures l.fn.disk;
   closed : (image : Image) → g.D.Disk.left l.disk (g.D.Disk.time l.disk) image → IsClosed (image l.fn.area);
   carries : IsTrue (g.D.Disk.observable l.fn.disk) → (generation : ℕ) → ((image : Image) → g.D.Disk.left l.fn.disk (g.D.Disk.time l.fn.disk) image → IsPrepared (image l.fn.area) (fresh generation) 32)
       → Carries (g.D.Disk.left l.disk (g.D.Disk.time l.disk)) l.fn.area l.gate l.buffer generation (stills (undone l.fn.slots (slot_of (g.D.Disk.seen l.fn.disk 0))) l.n);

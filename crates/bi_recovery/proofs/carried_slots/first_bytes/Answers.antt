@@ -1,4 +1,4 @@
-use Rattle.std.proofs.Common.{ℕ, List, [], sym, arith}
+use Rattle.std.proofs.Common.{[], arith}
 use Rattle.abl_storage.specs.declared.slots.Undo.{Undo}
 use Rattle.bi_recovery.proofs.Filled.{wrote_not}
 use Rattle.bi_recovery.proofs.Carrying.{undone_first}

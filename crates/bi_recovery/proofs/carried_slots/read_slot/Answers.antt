@@ -1,4 +1,4 @@
-use Rattle.std.proofs.Common.{◌*◌, length, arith}
+use Rattle.std.proofs.Common.{arith}
 use Rattle.bi_recovery.proofs.Carrying.{bytes_read}
 use Rattle.bi_recovery.proofs.carried_slots.read_slot.Goals as goal
 

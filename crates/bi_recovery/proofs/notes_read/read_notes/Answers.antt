@@ -33,6 +33,7 @@ note_says was seen area at left r s same is log part has inside says =
 pub notes-init : goal.notes-init
 notes-init g c = record {
   rest = record { same_observable = refl; same = λ known. refl; moment = refl; nothing_else = λ m image left. left; stays = λ m image left. left };
+  failures = refl;
   same_area = refl;
   sound = subst (All IsNote) (sym c.new-notes.ensures.items) (All-nil IsNote);
   place = omega arith;
@@ -68,6 +69,7 @@ few_at r n is few = (subst IsFewBytes is few).1
 pub notes-preserved-in-Open : goal.notes-preserved-in-Open
 notes-preserved-in-Open g c = record {
   rest = stays_twice _ _ _ _ _ _ _ _ _ _ _ _ c.notes.invariant.rest c.look_at_gate.ensures.rest;
+  failures = c.in_ok-look_at_gate.ensures.cause.stays refl ∙ c.notes.invariant.failures;
   same_area = refl;
   sound = c.notes.invariant.sound;
   place = (let few = few_at c.in_ok-look_at_gate.field-0 c.in-Open.n c.in-Open.is c.in_ok-look_at_gate.ensures.few in let near = c.if-at.false in omega (arith, few, near));
@@ -94,6 +96,7 @@ notes-preserved g c =
     let fits : c.note_len-n.result ≤ c.notes.left = (let within = sound.1 in omega (arith, is, within)) in
     record {
       rest = stays_twice _ _ _ _ _ _ _ _ _ _ _ _ c.notes.invariant.rest c.note_at.ensures.rest;
+      failures = c.in_ok-note_at.ensures.cause.stays refl ∙ c.notes.invariant.failures;
       same_area = refl;
       sound = subst (All IsNote) (sym c.in_ok-push-in-Some.ensures.items) (All-push IsNote c.notes.notes.items c.in-Some.note c.notes.invariant.sound (sound.0));
       place = (let place = c.notes.invariant.place in omega (arith, place, fits));

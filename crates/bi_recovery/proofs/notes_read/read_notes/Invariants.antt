@@ -9,6 +9,7 @@ use Rattle.bi_recovery.proofs.notes_read.read_notes.Given as goal
 abbrev pub invariant-notes : goal.invariant-notes
 invariant-notes g l = record {
   rest : Stays (g.D.Disk.observable l.fn.disk) (g.D.Disk.observable l.disk) (g.D.Disk.seen l.fn.disk) (g.D.Disk.seen l.disk) (g.D.Disk.time l.fn.disk) (g.D.Disk.time l.disk) (g.D.Disk.left l.fn.disk) (g.D.Disk.left l.disk);
+  failures : g.D.Disk.failures l.disk ≡ g.D.Disk.failures l.fn.disk;
   same_area : l.area ≡ l.fn.area;
   sound : All IsNote l.notes.items;
   place : l.at + l.left ≤ 2 ^ 40 + 2 ^ 20 + 5;

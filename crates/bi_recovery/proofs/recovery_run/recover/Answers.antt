@@ -1,11 +1,11 @@
-use Rattle.std.proofs.Common.{◌≡◌, ◌≤◌, ℕ, List, Bool, IsTrue, Result, Ok, Err, refl, sym, ◌∙◌, ap, subst}
+use Rattle.std.proofs.Common.{◌≡◌, ◌≤◌, ℕ, List, Bool, IsTrue, Result, Ok, Err, sym, ◌∙◌, subst}
 use Rattle.std.specs.Prelude.{Option, Some, None, IfOk, IfSome}
 use Rattle.disk_steps.specs.Steps.{Image}
 use Rattle.disk_steps.proofs.Runs.{wider, stayed}
 use Rattle.log_meaning.specs.Images.{IsNewest, IsOpened, Recovers}
 use Rattle.bi_log.specs.declared.header.Header.{Header}
 use Rattle.bi_log.specs.Outcomes.{FindAnswer}
-use Rattle.bi_recovery.specs.Reopening.{SameRecovery, SameAreas, Reopens}
+use Rattle.bi_recovery.specs.Reopening.{SameRecovery, Reopens}
 use Rattle.bi_recovery.proofs.Recovery.{after_same, after_stay, stay_synced, none_opened}
 use Rattle.bi_recovery.proofs.Reopening.{keeps_none}
 use Rattle.bi_recovery.proofs.recovery_run.recover.Goals as goal

@@ -1,5 +1,5 @@
 use Rattle.std.proofs.Common.{List, Bool, IsTrue, sym, subst}
-use Rattle.std.specs.Prelude.{All, Option, Some, None, IfSome, Vec}
+use Rattle.std.specs.Prelude.{All, Option, Some, IfSome, Vec}
 use Rattle.log_meaning.specs.Bytes.{IsNote}
 use Rattle.bi_recovery.proofs.Recovery.{no_recovery}
 use Rattle.std.specs.declared.alloc.Global.{Global}

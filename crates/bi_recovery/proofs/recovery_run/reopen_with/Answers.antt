@@ -1,4 +1,4 @@
-use Rattle.std.proofs.Common.{◌/◌, ◌+◌, ◌-◌, ℕ, Bool, IsTrue, List, [], length, refl, sym, ◌∙◌, ap, subst}
+use Rattle.std.proofs.Common.{◌/◌, ◌+◌, ◌-◌, ℕ, Bool, IsTrue, [], length, refl, sym, ◌∙◌, ap, subst}
 use Rattle.abl_storage.specs.Slots.{undone}
 use Rattle.disk_steps.specs.Steps.{Image}
 use Rattle.log_meaning.specs.Images.{slot_of, Recovers}

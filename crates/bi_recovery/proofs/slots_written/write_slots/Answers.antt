@@ -26,6 +26,7 @@ slots-preserved g c =
       reads = λ known. reads_more c.args.slots.now (c.slots.i - 1) no_slot (slot_of (g.D.Disk.seen c.args.disk.now 0)) (slot_of (g.D.Disk.seen c.slots.disk 0)) (slot_of (g.D.Disk.seen c.write_slot.new.disk 0)) lt
           (λ s. subst (λ (k : ℕ). slot_of (g.D.Disk.seen c.slots.disk 0) s ≡ undone (drop k c.args.slots.now) (slot_of (g.D.Disk.seen c.args.disk.now 0)) s) (sym next) (c.slots.invariant.reads known s))
           (c.in_ok-write_slot.ensures.reads (known_at known));
+      failures = c.in_ok-write_slot.ensures.cause.stays refl ∙ c.slots.invariant.failures;
       others = λ known k other. c.write_slot.ensures.others (known_at known) k other ∙ c.slots.invariant.others known k other;
     }
 

@@ -16,6 +16,7 @@ invariant-slots g l = record {
   time : (extent : ℕ) (batches : List (List Note)) → ((image : Image) → g.D.Disk.left l.fn.disk (g.D.Disk.time l.fn.disk) image → 256 * extent ≤ length (image 0))
       → ((s : ℕ) → wrote l.slots s ≡ true → MayWrite extent batches (256 * s) 256) → Run (g.D.Disk.time l.fn.disk) (g.D.Disk.time l.disk) (g.D.Disk.left l.fn.disk) (g.D.Disk.left l.disk) (WritesNoted batches);
   reads : IsTrue (g.D.Disk.observable l.fn.disk) → (s : ℕ) → slot_of (g.D.Disk.seen l.disk 0) s ≡ undone (drop l.i l.slots) (slot_of (g.D.Disk.seen l.fn.disk 0)) s;
+  failures : g.D.Disk.failures l.disk ≡ g.D.Disk.failures l.fn.disk;
   others : IsTrue (g.D.Disk.observable l.fn.disk) → Others 0 (g.D.Disk.seen l.fn.disk) (g.D.Disk.seen l.disk);
 }
 

@@ -1,8 +1,7 @@
-use Rattle.std.proofs.Common.{ℕ, List, ◌≡◌, ◌≢◌, ◌≤◌, ◌∷◌, [], ◌++◌, length, refl, ◌∙◌, ap, subst, arith, length-append}
-use Rattle.std.specs.List.{flat_map}
+use Rattle.std.proofs.Common.{ℕ, List, ◌≡◌, ◌≢◌, ◌≤◌, ◌∷◌, [], ◌++◌, length, ap, subst, arith, length-append}
 use Rattle.std.proofs.lemmas.List.Elements.{All-nil}
 use Rattle.log_meaning.specs.declared.note.Note.{Note}
-use Rattle.log_meaning.specs.Bytes.{four, note_bytes, after_gate, IsNote}
+use Rattle.log_meaning.specs.Bytes.{four, IsNote}
 use Rattle.log_meaning.proofs.Areas.{length-after_gate}
 use Rattle.bi_log.specs.Appending.{Held, RestsAt, with_batch, IsToBe}
 use Rattle.disk_steps.specs.Steps.{Image}
