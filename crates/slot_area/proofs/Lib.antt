@@ -1,0 +1,4 @@
+pub mod FrameLists
+pub mod AreaRuns
+pub mod AreaViews
+pub mod Laws
