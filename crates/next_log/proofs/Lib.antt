@@ -1,0 +1,3 @@
+pub mod CarriedNotes
+pub mod Opening
+pub mod Opened
