@@ -1,0 +1,3 @@
+pub mod NewSlots
+pub mod Births
+pub mod SmallImages
