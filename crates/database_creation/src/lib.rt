@@ -1,0 +1,10 @@
+//! A database is made on a disk from a schema: `create_database`. It depends on `new_slots` for the
+//! slots and on `bi_recovery` for laying them on the disk. What it does to every image is in
+//! `specs/Created.antt`.
+#![tactic(auto)]
+
+mod fault;
+mod making;
+
+pub use fault::CreateFault;
+pub use making::create_database;
