@@ -30,17 +30,25 @@ class Client:
         self.log, self.touched = [], set()
 
 
+FIRST, END = 8192, 1048576
+
+
 class Model:
     def __init__(self):
         self.rows, self.taken = {}, set()
         self.clients = [Client() for _ in range(16)]
+        self.lowest = FIRST  # no slot below it is free
+
+    def is_full(self, count):
+        return END - FIRST - len(self.taken) < count
 
     def free(self, count):
-        found, slot = [], 8192
+        found, slot = [], self.lowest
         while len(found) < count:
             if slot not in self.taken:
                 found.append(slot)
             slot += 1
+        self.lowest = found[0]
         return found
 
     def change(self, c, row, new, written, fresh):
@@ -60,16 +68,33 @@ class Model:
 
     def insert(self, c, table, content):
         count = max(1, (len(content) + 239) // 240)
+        if self.is_full(count):
+            return "full"
         if self.clients[c].written + count > 7989:
             return "transaction full"
         fresh = self.free(count)
         self.change(c, fresh[0], (table, content, fresh), count, fresh)
         return f"row {fresh[0]}"
 
+    def many(self, c, table, content, count):
+        last = 0
+        for made in range(count):
+            answer = self.insert(c, table, content)
+            if answer == "transaction full":
+                self.end(c)
+                self.clients[c].begun = True
+                answer = self.insert(c, table, content)
+            if not answer.startswith("row"):
+                return f"{made} rows, the last {last}, then {answer}"
+            last = int(answer[4:])
+        return f"{count} rows, the last {last}"
+
     def put(self, c, row, content):
         table, _, chain = self.rows[row]
         count = max(1, (len(content) + 239) // 240)
         written = max(count, len(chain))
+        if self.is_full(count - len(chain)):
+            return "full"
         if self.clients[c].written + written > 7989:
             return "transaction full"
         fresh = self.free(count - len(chain)) if count > len(chain) else []
@@ -98,6 +123,7 @@ class Model:
         for _, _, chain in self.rows.values():
             live.update(chain)
         self.taken -= {slot for slot in client.touched if slot not in live}
+        self.lowest = FIRST
         self.clients[c] = Client()
 
     def get(self, row):
@@ -123,6 +149,10 @@ class Rows:
         answer = self.model.insert(c, table, data(length, seed))
         self.say(f"insert {c} {table} {length} {seed}", answer)
         return int(answer[4:]) if answer.startswith("row") else None
+
+    def many(self, c, table, length, seed, count):
+        answer = self.model.many(c, table, data(length, seed), count)
+        self.say(f"many {c} {table} {length} {seed} {count}", answer)
 
     def put(self, c, row, length, seed):
         self.say(f"put {c} {row} {length} {seed}", self.model.put(c, row, data(length, seed)))
@@ -285,11 +315,56 @@ def crowded(rows):
     rows.abandon(4)
 
 
+# 100,000 rows, and then rows of 125 fragments until all 1,040,384 slots are taken
+def filled(rows):
+    model = rows.model
+    rows.begin(6)
+    rows.many(6, 7, 40, 1, 100000)
+    rows.many(6, 8, 30000, 2, 9000)
+    left = END - FIRST - len(model.taken)
+    rows.insert(6, 9, 240 * left + 1, 3)
+    row = rows.insert(6, 9, 240 * (left - 1), 3)
+    rows.put(6, row, 240 * (left + 1), 4)
+    last = rows.insert(6, 10, 240, 5)
+    assert last == END - 1
+    for at in [row, last - 1, last, last + 1]:
+        rows.get(at)
+        rows.there(at)
+    rows.insert(6, 11, 0, 6)
+    rows.put(6, last, 241, 7)
+    rows.put(6, last, 239, 8)
+    rows.get(last)
+    rows.delete(6, row)
+    rows.insert(6, 11, 0, 6)
+    rows.put(6, last, 241, 7)
+    rows.counts(6)
+    rows.commit(6)
+    # the slots that it freed may be drawn now, each once
+    rows.begin(7)
+    rows.put(7, last, 241, 9)
+    rows.get(last)
+    rows.insert(7, 12, 240 * (left - 1), 9)
+    rows.insert(7, 12, 240 * (left - 2), 9)
+    rows.insert(7, 12, 0, 9)
+    rows.delete(7, last)
+    rows.insert(7, 12, 0, 9)
+    rows.counts(7)
+    rows.abandon(7)
+    rows.get(last)
+    rows.begin(7)
+    rows.delete(7, last)
+    rows.commit(7)
+    rows.begin(8)
+    rows.many(8, 13, 0, 1, 200)
+    rows.abandon(8)
+
+
 def main():
     rows = Rows()
     fixed(rows)
     chance(rows, 26, 1500)
     crowded(rows)
+    filled(rows)
     folder = pathlib.Path(__file__).resolve().parent.parent / "crates" / "chain_tables"
     (folder / "stdin").write_text("".join(line + "\n" for line in rows.lines))
     (folder / "stdout").write_text("".join(answer + "\n" for answer in rows.answers))

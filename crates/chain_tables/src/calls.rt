@@ -141,9 +141,66 @@ fn client_answer(
             chains.abandon(client);
             String::from_str(alloc, "done")
         }
+        "many" => many(alloc, chains, client, numbers),
         "counts" => counts(alloc, chains, client),
         _ => String::from_str(alloc, "begun"),
     }
+}
+
+/// Inserts rows with the same bytes, at most the number asked for, in as many transactions as they
+/// take.
+fn many(
+    alloc: Global,
+    chains: &mut Chains<MemSlots>,
+    client: u16,
+    numbers: &[u32],
+) -> Result<String, AllocError>
+    requires { client < 16 }
+{
+    let bytes = data(alloc, number(numbers, 2), number(numbers, 3))?;
+    if bytes.len() > 30_000 {
+        return String::from_str(alloc, "too long");
+    }
+    let table = (number(numbers, 1) % 65_536) as u16;
+    let mut last = 0u32;
+    for made in 0..number(numbers, 4) {
+        match insert_next(chains, client, table, bytes.as_slice()) {
+            Ok(row) => last = row.0,
+            Err(fault) => {
+                let why = name(fault);
+                return format!(in alloc; "{made} rows, the last {last}, then {why}");
+            }
+        }
+    }
+    format!(in alloc; "{} rows, the last {last}", number(numbers, 4))
+}
+
+/// Inserts a row; where the client's transaction is full, in its next one.
+fn insert_next(
+    chains: &mut Chains<MemSlots>,
+    client: u16,
+    table: u16,
+    bytes: &[u8],
+) -> Result<RowId, ChainFault>
+    requires client { client < 16 }
+    requires size { length bytes.now ≤ 30000 }
+{
+    if chains.is_begun(client) {
+        match chains.insert(client, table, bytes) {
+            Err(ChainFault::Slot(SlotFault::TxFull)) => {}
+            answer => return answer,
+        }
+    }
+    if chains.is_begun(client) {
+        chains.commit(client)?;
+    }
+    if !chains.is_begun(client) {
+        chains.begin(client)?;
+    }
+    if !chains.is_begun(client) {
+        return Err(ChainFault::Slot(SlotFault::TxFull));
+    }
+    chains.insert(client, table, bytes)
 }
 
 /// The answer to a change of a row.
