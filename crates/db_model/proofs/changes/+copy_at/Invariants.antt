@@ -1,5 +1,0 @@
-use Rattle.std.proofs.Common.{length}
-use Rattle.db_model.proofs.changes.+copy_at.Given as goal
-
-abbrev pub decreases-copy_at : goal.decreases-copy_at
-decreases-copy_at l = length l.keys.now

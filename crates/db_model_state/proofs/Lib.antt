@@ -1,4 +1,0 @@
-pub mod Outcomes
-pub mod Sizes
-pub mod Agreeing
-pub mod MapEntries
