@@ -1,1 +1,3 @@
 pub mod Bank
+pub mod Total
+pub mod Examples

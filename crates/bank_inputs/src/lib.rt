@@ -6,8 +6,11 @@
 pub mod bank;
 pub mod draws;
 pub mod inputs;
+pub mod laws;
+pub mod sources;
 pub mod transfer;
 
 pub use bank::Bank;
 pub use inputs::{client_input, setup_input};
+pub use sources::{BANK_SCHEMA, SETUP_SOURCE, TOTAL_SOURCE, TRANSFER_SOURCE};
 pub use transfer::Transfer;
