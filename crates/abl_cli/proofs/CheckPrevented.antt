@@ -14,12 +14,15 @@ use Rattle.abl_source.specs.Sources.{BreaksRule}
 use Rattle.abl_source.proofs.Violations.{one_rule, one_tree_of, trees_break_none}
 use Rattle.abl_arguments.specs.CommandLine.{Check, check_arguments}
 use Rattle.abl_arguments.proofs.CheckForms.{other_command}
-use Rattle.abl_cli.specs.declared.refusal.Refusal.{Refusal}
-use Rattle.abl_cli.specs.declared.refusal.Refusal.TheVariants.{File, TooLong, Schema, Source, NoMemory}
-use Rattle.abl_cli.specs.declared.command.Report.{Report}
-use Rattle.abl_cli.specs.declared.load.TheConstants.{MAX_FILE_BYTES}
+use Rattle.run_report.specs.declared.refusal.Refusal.{Refusal}
+use Rattle.run_report.specs.declared.refusal.Refusal.TheVariants.{File, TooLong, Schema, Source, NoMemory}
+use Rattle.run_report.specs.declared.ending.Report.{Report}
+use Rattle.source_files.specs.declared.files.TheConstants.{MAX_FILE_BYTES}
 use Rattle.abl_cli.specs.Check.{IsListing, HaveListings, OneBreaks, this_breaks, later_breaks, program_breaks, program_wants, check_text}
-use Rattle.abl_cli.specs.Command.{schema_in, HaveTexts, IsNotRead, OneIsNotRead, this_one, later_one, CheckTexts, PreventsCheck, no_schema_file, no_program, schema_is_broken, one_breaks, AreListed, HasChecked, WritesStatus, output_refusal, status_after, wrong_argument, prevented, check_prevented, CommandResult, Refused, Ran, Checked, IsRefusal, AreThere}
+use Rattle.source_files.specs.Compiled.{schema_in}
+use Rattle.source_files.specs.Files.{HaveTexts, IsNotRead, OneIsNotRead, this_one, later_one}
+use Rattle.abl_cli.specs.Command.{CheckTexts, PreventsCheck, no_schema_file, no_program, schema_is_broken, one_breaks, AreListed, HasChecked, wrong_argument, prevented, check_prevented, CommandResult, Refused, Ran, Checked, IsRefusal, AreThere}
+use Rattle.run_report.specs.Ending.{WritesStatus, output_refusal, status_after}
 use Rattle.abl_cli.specs.CheckFiles.{AreThereWith, NamesSources, check_files}
 use Rattle.abl_cli.proofs.FileCauses.{wants, same_text, same_texts, have_none, have_long, unread, none_unread, one_missing, one_long, same_violation, no_violation}
 use Rattle.abl_cli.proofs.Judged.{wrong_or_formed, rose_in_check}

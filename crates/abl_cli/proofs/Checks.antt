@@ -5,11 +5,13 @@ use Rattle.std.proofs.lemmas.List.Elements.{All-cons, All-nil}
 use Rattle.abl_schema.specs.Rules.{violation_of}
 use Rattle.abl_outside.specs.Files.{FileState}
 use Rattle.abl_values.specs.Schema.{SchemaData}
-use Rattle.abl_cli.specs.declared.load.TheConstants.{MAX_FILE_BYTES}
-use Rattle.abl_cli.specs.declared.refusal.Refusal.{Refusal}
+use Rattle.source_files.specs.declared.files.TheConstants.{MAX_FILE_BYTES}
+use Rattle.run_report.specs.declared.refusal.Refusal.{Refusal}
 use Rattle.abl_arguments.specs.CommandLine.{Check}
 use Rattle.abl_cli.specs.Check.{IsListing, HaveListings, BreaksProgram, OneBreaks, this_breaks, later_breaks}
-use Rattle.abl_cli.specs.Command.{schema_in, HasText, HaveTexts, BreaksSchema, CheckTexts, PreventsCheck, schema_is_broken, one_breaks, AreListed}
+use Rattle.source_files.specs.Compiled.{schema_in, BreaksSchema}
+use Rattle.source_files.specs.Files.{HasText, HaveTexts}
+use Rattle.abl_cli.specs.Command.{CheckTexts, PreventsCheck, schema_is_broken, one_breaks, AreListed}
 
 -- one more of the texts is listed
 pub listings_more : (schema : SchemaData) (texts listings : List (List ℕ)) (i : ℕ) (text lines : List ℕ) → i < length texts → HaveListings schema (take i texts) listings → text ≡ get_or texts i text → IsListing schema text lines →

@@ -7,11 +7,15 @@ use Rattle.block_clients.specs.Ran.{ClientTask}
 use Rattle.abl_arguments.specs.CommandLine.{Names, ClientFiles, number_of}
 use Rattle.abl_arguments.specs.declared.run.RunArguments.{RunArguments}
 use Rattle.abl_arguments.specs.declared.parts.Mode.{Mode}
-use Rattle.abl_cli.specs.declared.command.Report.{Report}
-use Rattle.abl_cli.specs.declared.refusal.Refusal.{Refusal}
-use Rattle.abl_cli.specs.declared.refusal.Refusal.TheVariants.{NoMemory}
-use Rattle.abl_cli.specs.Command.{CommandResult, Refused, Ran, HasRun, IsRefused, Prevents, prevented, run_wants, Work, client_names, schema_in}
-use Rattle.abl_cli.specs.Inside.{AreToDo, IsReady}
+use Rattle.run_report.specs.declared.ending.Report.{Report}
+use Rattle.run_report.specs.declared.refusal.Refusal.{Refusal}
+use Rattle.run_report.specs.declared.refusal.Refusal.TheVariants.{NoMemory}
+use Rattle.abl_cli.specs.Command.{CommandResult, Refused, Ran, Prevents, prevented, run_wants, client_names}
+use Rattle.run_works.specs.Works.{HasRun, Work}
+use Rattle.run_report.specs.Ending.{IsRefused}
+use Rattle.source_files.specs.Compiled.{schema_in}
+use Rattle.run_works.specs.Inside.{AreToDo}
+use Rattle.abl_cli.specs.Inside.{IsReady}
 
 -- a refusal for out of memory is the same for any client names
 pub nameless : (names : List (List ℕ)) (old new : OutState) (report : Report) → IsRefused [] NoMemory old new report → IsRefused names NoMemory old new report

@@ -5,10 +5,12 @@ use Rattle.abl_base.specs.declared.rule.Rule.{Rule}
 use Rattle.abl_outside.specs.Files.{FileState, IsLonger}
 use Rattle.abl_schema.specs.declared.violation.Violation.{Violation}
 use Rattle.abl_schema.specs.Rules.{violation_of}
-use Rattle.abl_cli.specs.declared.refusal.Refusal.{Refusal}
-use Rattle.abl_cli.specs.declared.refusal.Refusal.TheVariants.{File, TooLong, Schema, NoMemory}
-use Rattle.abl_cli.specs.declared.load.TheConstants.{MAX_FILE_BYTES}
-use Rattle.abl_cli.specs.Command.{HasText, HaveTexts, IsNotRead, is_missing, is_too_long, reading_wants, OneIsNotRead, this_one, later_one, BreaksSchema, breaks_f, schema_wants, IsRefusal, IsThere, AreThere}
+use Rattle.run_report.specs.declared.refusal.Refusal.{Refusal}
+use Rattle.run_report.specs.declared.refusal.Refusal.TheVariants.{File, TooLong, Schema, NoMemory}
+use Rattle.source_files.specs.declared.files.TheConstants.{MAX_FILE_BYTES}
+use Rattle.source_files.specs.Files.{HasText, HaveTexts, IsNotRead, is_missing, is_too_long, reading_wants, OneIsNotRead, this_one, later_one}
+use Rattle.source_files.specs.Compiled.{BreaksSchema, breaks_f, schema_wants}
+use Rattle.abl_cli.specs.Command.{IsRefusal, IsThere, AreThere}
 use Rattle.abl_cli.specs.CheckFiles.{AreThereWith}
 
 pub wants : {refusal want : Refusal} → refusal ≡ NoMemory → IsRefusal (Some refusal) want

@@ -1,22 +1,25 @@
 -- What follows from what a command did.
 use Rattle.std.proofs.Common.{◌≡◌, inl, inr, ◌≤◌, ◌+◌, ℕ, Bool, true, false, List, [], Option, Some, None, refl, sym, ap, ◌∙◌, subst, arith, take, drop}
 use Rattle.std.specs.Prelude.{IsTrue, if◌then◌else◌}
-use Rattle.abl_cli.specs.declared.load.ClientTexts.{ClientTexts}
+use Rattle.source_files.specs.declared.files.ClientTexts.{ClientTexts}
 use Rattle.std.proofs.lemmas.List.{take-append-drop}
 use Rattle.fault_count.specs.Faults.{Rose}
 use Rattle.client_database.specs.declared.ends.ClientEnd.{ClientEnd}
 use Rattle.client_output.specs.declared.section.Section.{Section}
-use Rattle.abl_cli.specs.declared.refusal.Refusal.{Refusal}
-use Rattle.abl_cli.specs.declared.refusal.Refusal.TheVariants.{Usage, File, TooLong, Schema, Source, Client, Output, NoMemory}
-use Rattle.abl_cli.specs.declared.command.Report.{Report}
+use Rattle.run_report.specs.declared.refusal.Refusal.{Refusal}
+use Rattle.run_report.specs.declared.refusal.Refusal.TheVariants.{Usage, File, TooLong, Schema, Source, Client, Output, NoMemory}
+use Rattle.run_report.specs.declared.ending.Report.{Report}
 use Rattle.abl_arguments.specs.CommandLine.{ClientFiles, Check, HaveForm, BeginForm, IsWrong, at_argument, missing}
 use Rattle.abl_values.specs.Schema.{SchemaData}
 use Rattle.abl_arguments.specs.declared.parts.Mode.{Mode}
-use Rattle.abl_cli.specs.Report.{status_of}
+use Rattle.run_report.specs.Report.{status_of}
 use Rattle.abl_outside.specs.Out.{OutState}
 use Rattle.abl_outside.specs.Files.{FileState}
 use Rattle.abl_cli.specs.Check.{OneBreaks, this_breaks, later_breaks}
-use Rattle.abl_cli.specs.Command.{IsNotRead, Prevents, no_file, schema_breaks, source_breaks, no_named_input, OneSourceBreaks, this_source, later_source, OneIsNotRead, this_one, later_one, PreventsCheck, no_schema_file, no_program, schema_is_broken, one_breaks, Cause, wrong_argument, prevented, check_prevented, IsReported, HasChecked, CommandResult, Refused, Ran, Checked, output_refusal, WritesStatus, refusal_after, failure_refusal, first_failure, one_lacks_memory, client_names, status_after, schema_in, IsUsage, HasWholeText, of_run, of_check}
+use Rattle.source_files.specs.Files.{IsNotRead, OneIsNotRead, this_one, later_one}
+use Rattle.abl_cli.specs.Command.{Prevents, no_file, schema_breaks, source_breaks, no_named_input, PreventsCheck, no_schema_file, no_program, schema_is_broken, one_breaks, Cause, wrong_argument, prevented, check_prevented, HasChecked, CommandResult, Refused, Ran, Checked, client_names, IsUsage, HasWholeText, of_run, of_check}
+use Rattle.source_files.specs.Compiled.{OneSourceBreaks, this_source, later_source, schema_in}
+use Rattle.run_report.specs.Ending.{IsReported, output_refusal, WritesStatus, refusal_after, failure_refusal, first_failure, one_lacks_memory, status_after}
 
 -- ---- arguments
 

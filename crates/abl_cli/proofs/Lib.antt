@@ -1,14 +1,8 @@
-pub mod Causes
 pub mod CheckPrevented
 pub mod Checks
 pub mod Commands
-pub mod Databases
-pub mod Endings
 pub mod FileCauses
 pub mod Judged
 pub mod Loads
 pub mod Named
 pub mod Prevented
-pub mod Runs
-pub mod TraceLines
-pub mod Writing

@@ -12,13 +12,19 @@ use Rattle.bound_tree.specs.Tree.{Source as Tree}
 use Rattle.block_code.specs.declared.code.Code.{Code}
 use Rattle.block_clients.specs.Ran.{ClientTask}
 use Rattle.abl_arguments.specs.CommandLine.{ClientFiles}
-use Rattle.abl_cli.specs.declared.load.ClientTexts.{ClientTexts}
-use Rattle.abl_cli.specs.declared.load.TheConstants.{MAX_FILE_BYTES}
-use Rattle.abl_cli.specs.declared.refusal.Refusal.{Refusal}
-use Rattle.abl_cli.specs.declared.refusal.Refusal.TheVariants.{NoMemory}
-use Rattle.abl_cli.specs.Command.{schema_in, HasText, HasInput, HaveTexts, HaveClients, BreaksSchema, OneIsNotRead, later_one, OneSourceBreaks, AreSame, Texts, AreTrees, AreWorks, Work, Prevents, no_file, schema_breaks, source_breaks, no_named_input, run_wants, named_inputs, client_files}
-use Rattle.abl_cli.specs.Inside.{AreBegun, AreToDo, HaveCodes, IsReady, inputs_of}
-use Rattle.abl_cli.proofs.Causes.{still_have, still_one, unread_first, unread_later, input_texts}
+use Rattle.source_files.specs.declared.files.ClientTexts.{ClientTexts}
+use Rattle.source_files.specs.declared.files.TheConstants.{MAX_FILE_BYTES}
+use Rattle.run_report.specs.declared.refusal.Refusal.{Refusal}
+use Rattle.run_report.specs.declared.refusal.Refusal.TheVariants.{NoMemory}
+use Rattle.source_files.specs.Compiled.{schema_in, BreaksSchema, OneSourceBreaks}
+use Rattle.source_files.specs.Files.{HasText, HasInput, HaveTexts, HaveClients, OneIsNotRead, later_one, AreSame, client_files}
+use Rattle.abl_cli.specs.Command.{Texts, AreTrees, AreWorks, Prevents, no_file, schema_breaks, source_breaks, no_named_input, run_wants, named_inputs}
+use Rattle.run_works.specs.Works.{Work}
+use Rattle.abl_cli.specs.Inside.{AreBegun, IsReady, inputs_of}
+use Rattle.run_works.specs.Inside.{AreToDo}
+use Rattle.source_files.specs.Compiled.{HaveCodes}
+use Rattle.run_works.proofs.Runs.{as_many_tasks}
+use Rattle.source_files.proofs.Causes.{still_have, still_one, unread_first, unread_later, input_texts}
 
 -- ---- numbers of clients
 
@@ -40,12 +46,6 @@ as_many_works files schema [] (w ∷ ws) are = absurd are
 as_many_works files schema (t ∷ ts) [] are = absurd are
 as_many_works files schema (t ∷ ts) (w ∷ ws) are = ap (λ k. suc k) (as_many_works files schema ts ws are.1)
 
-pub as_many_tasks : {D : Type 0} (units : ℕ) (works : List Work) (tasks : List (ClientTask D)) → AreToDo units works tasks → length tasks ≡ length works
-as_many_tasks units [] [] are = refl
-as_many_tasks units [] (t ∷ ts) are = absurd are
-as_many_tasks units (w ∷ ws) [] are = absurd are
-as_many_tasks units (w ∷ ws) (t ∷ ts) are = ap (λ k. suc k) (as_many_tasks units ws ts are.1)
-
 -- there is a task for each client
 pub tasks_of : {D : Type 0} (files : FileState) (schema : List ℕ) (cs : List ClientFiles) (units : ℕ) (denoted : SchemaData) (tasks : List (ClientTask D)) → IsReady files schema cs units denoted tasks → length tasks ≡ length cs
 tasks_of files schema cs units denoted tasks ready =
@@ -57,19 +57,6 @@ short_sources files [] [] have = All-nil (λ (t : ClientTexts). length t.source 
 short_sources files [] (t ∷ ts) have = absurd have
 short_sources files (c ∷ cs) [] have = absurd have
 short_sources files (c ∷ cs) (t ∷ ts) have = All-cons (λ (t : ClientTexts). length t.source ≤ MAX_FILE_BYTES) t ts have.0.0.short (short_sources files cs ts have.1)
-
--- ---- the files of the clients
-
-module _ (files : FileState) (faults : ℕ) (c : ClientFiles) (cs : List ClientFiles) {refusal : Refusal} where
-  -- the files of the first client are not read
-  pub unread_client : OneIsNotRead files faults (client_files c) refusal → OneIsNotRead files faults (flat_map client_files (c ∷ cs)) refusal
-  unread_client h = unread_first files faults (client_files c) (flat_map client_files cs) h
-
-  -- those of a later one are not
-  pub unread_clients : (t : ClientTexts) → HasText files c.program t.source → HasInput files c.input t.input → OneIsNotRead files faults (flat_map client_files cs) refusal → OneIsNotRead files faults (flat_map client_files (c ∷ cs)) refusal
-  unread_clients t has input h =
-      let more = input_texts files c.input t.input input in
-      unread_later files faults (client_files c) (flat_map client_files cs) (t.source ∷ more.0) (has, more.1) h
 
 -- ---- what the codes denote
 
@@ -170,10 +157,3 @@ module _ (files : FileState) (schema : List ℕ) (clients : List ClientFiles) (d
       is_ready units denoted tasks schema_is begun =
           let done = begun_works files (schema_in df) units ts codes tasks are_codes (still_begun files later same sound_observable units (schema_in df).tables codes ts tasks (subst (λ t. AreBegun later units (schema_in t).tables codes ts tasks) is_df begun)) in
           record { texts = texts_of; clean = is_clean; schema_is = schema_is ∙ ap (λ (t : List ℕ). schema_in t) is_df; works = done.works; are = done.are; to_do = done.to_do }
-
--- ---- vectors that are used up
-
--- the first element, and the others
-pub first_removed : {A : Type 0} (xs ys : List A) (x : A) → 0 < length xs → x ≡ slice_index_or xs 0 x → ys ≡ remove xs 0 → xs ≡ x ∷ ys
-first_removed [] ys x some value items = absurd (omega (arith, some))
-first_removed (y ∷ xs) ys x some value items = ap (λ z. z ∷ xs) (sym value) ∙ ap (λ zs. x ∷ zs) (sym items)

@@ -1,6 +1,6 @@
 -- The clients that arguments name, one after the other.
 use Rattle.std.proofs.Common.{◌≡◌, ℕ, suc, List, [], ◌∷◌, ◌++◌, refl, sym, ap, ◌∙◌, arith, length, get_or, append_assoc}
-use Rattle.std.specs.Prelude.{All, map, Result, Ok, Err, OnOk, IfErr}
+use Rattle.std.specs.Prelude.{All, map}
 use Rattle.std.proofs.lemmas.List.{map_push}
 use Rattle.std.proofs.lemmas.List.Elements.{All-head, All-tail}
 use Rattle.abl_arguments.specs.CommandLine.{ClientFiles, IsClientFiles, client_argument, client_in}
@@ -40,12 +40,3 @@ pub one_more : (old pushed new : List ClientArgument) (client : ClientArgument) 
 one_more old pushed new client first others cs is same both e =
     e ∙ ap (λ (xs : List ClientArgument). map client_in xs ++ others) is ∙ ap (λ (xs : List ClientFiles). xs ++ others) (map_push client_in old client)
     ∙ append_assoc (map client_in old) (client_in client ∷ []) others ∙ ap (λ (c : ClientFiles). map client_in old ++ c ∷ others) same ∙ ap (λ (xs : List ClientFiles). map client_in old ++ xs) (sym both)
-
--- what follows from what holds of a result
-pub on_ok : {A E : Type 0} (r : Result A E) (P Q : Type 0) → (P → Q) → OnOk r P → OnOk r Q
-on_ok (Ok a) P Q f h = f h
-on_ok (Err e) P Q f h = h
-
-pub if_err : {A E : Type 0} (r : Result A E) (P Q : E → Type 0) → ((e : E) → P e → Q e) → IfErr r P → IfErr r Q
-if_err (Ok a) P Q f h = h
-if_err (Err e) P Q f h = f e h

@@ -16,14 +16,18 @@ use Rattle.abl_arguments.specs.declared.parts.Mode.{Mode}
 use Rattle.abl_arguments.specs.declared.parts.Mode.TheVariants.{Trace, Quiet}
 use Rattle.abl_arguments.proofs.Clients.{same_clients}
 use Rattle.abl_arguments.proofs.CheckForms.{other_command}
-use Rattle.abl_cli.specs.declared.refusal.Refusal.{Refusal}
-use Rattle.abl_cli.specs.declared.refusal.Refusal.TheVariants.{File, TooLong, Schema, Source, NoMemory}
-use Rattle.abl_cli.specs.declared.command.Report.{Report}
-use Rattle.abl_cli.specs.declared.load.TheConstants.{MAX_FILE_BYTES}
-use Rattle.abl_cli.specs.declared.load.ClientTexts.{ClientTexts}
+use Rattle.run_report.specs.declared.refusal.Refusal.{Refusal}
+use Rattle.run_report.specs.declared.refusal.Refusal.TheVariants.{File, TooLong, Schema, Source, NoMemory}
+use Rattle.run_report.specs.declared.ending.Report.{Report}
+use Rattle.source_files.specs.declared.files.TheConstants.{MAX_FILE_BYTES}
+use Rattle.source_files.specs.declared.files.ClientTexts.{ClientTexts}
 use Rattle.abl_source.specs.Sources.{BreaksRule, IsTreeOf}
-use Rattle.abl_cli.specs.Command.{schema_in, HaveTexts, HaveClients, OneIsNotRead, breaks_rule, source_wants, OneSourceBreaks, this_source, later_source, AreTrees, Texts, Prevents, no_file, schema_breaks, source_breaks, no_named_input, run_wants, Work, AreWorks, named_inputs, client_files, input_file, run_files, client_names, wrong_argument, prevented, check_prevented, HasRun, CommandResult, Refused, Ran, Checked, refusal_after, failure_refusal, first_failure, one_lacks_memory, status_after, IsRefusal, IsInputThere, AreThere, ClientsThere, AllThere, AreSources, NamesRun}
-use Rattle.abl_cli.proofs.Causes.{input_texts}
+use Rattle.source_files.specs.Compiled.{schema_in, breaks_rule, source_wants, OneSourceBreaks, this_source, later_source}
+use Rattle.source_files.specs.Files.{HaveTexts, HaveClients, OneIsNotRead, client_files, input_file}
+use Rattle.abl_cli.specs.Command.{AreTrees, Texts, Prevents, no_file, schema_breaks, source_breaks, no_named_input, run_wants, AreWorks, named_inputs, run_files, client_names, wrong_argument, prevented, check_prevented, CommandResult, Refused, Ran, Checked, IsRefusal, IsInputThere, AreThere, ClientsThere, AllThere, AreSources, NamesRun}
+use Rattle.run_works.specs.Works.{Work, HasRun}
+use Rattle.run_report.specs.Ending.{refusal_after, failure_refusal, first_failure, one_lacks_memory, status_after}
+use Rattle.source_files.proofs.Causes.{input_texts}
 use Rattle.abl_cli.proofs.FileCauses.{wants, same_text, have_none, have_long, none_lacks, one_missing, one_long, same_violation, no_violation}
 use Rattle.abl_source.proofs.Violations.{one_rule, one_tree_of, trees_break_none}
 use Rattle.abl_cli.proofs.Judged.{wrong_or_formed, rose_in_report}

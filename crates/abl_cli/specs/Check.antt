@@ -5,9 +5,9 @@ use Rattle.abl_base.specs.declared.place.Place.{Place}
 use Rattle.abl_values.specs.Schema.{SchemaData}
 use Rattle.bound_tree.specs.Tree.{Source as Tree}
 use Rattle.block_listing.specs.Listing.{listing}
-use Rattle.abl_cli.specs.declared.refusal.Refusal.{Refusal}
-use Rattle.abl_cli.specs.declared.refusal.Refusal.TheVariants.{Source, NoMemory}
-use Rattle.abl_cli.specs.Report.{part_of}
+use Rattle.run_report.specs.declared.refusal.Refusal.{Refusal}
+use Rattle.run_report.specs.declared.refusal.Refusal.TheVariants.{Source, NoMemory}
+use Rattle.run_report.specs.Report.{part_of}
 use Rattle.abl_source.specs.Sources.{BreaksRule, IsTreeOf}
 
 -- the text breaks no rule over the schema, and these are the lines of its blocks

@@ -25,76 +25,27 @@ use Rattle.block_meaning.specs.Program.{Program}
 use Rattle.block_meaning.specs.Meaning.{run}
 use Rattle.client_database.specs.declared.event.Event.{Event}
 use Rattle.client_output.specs.declared.section.Section.{Section}
-use Rattle.abl_cli.specs.declared.refusal.Refusal.{Refusal}
-use Rattle.abl_cli.specs.declared.refusal.Refusal.TheVariants.{Usage, File, TooLong, Schema, Source, Client, Output, NoMemory}
-use Rattle.abl_cli.specs.declared.command.Report.{Report}
-use Rattle.abl_cli.specs.declared.load.TheConstants.{MAX_FILE_BYTES}
-use Rattle.abl_cli.specs.declared.load.ClientTexts.{ClientTexts}
+use Rattle.run_report.specs.declared.refusal.Refusal.{Refusal}
+use Rattle.run_report.specs.declared.refusal.Refusal.TheVariants.{Usage, File, TooLong, Schema, Source, Client, Output, NoMemory}
+use Rattle.run_report.specs.declared.ending.Report.{Report}
+use Rattle.source_files.specs.declared.files.TheConstants.{MAX_FILE_BYTES}
+use Rattle.source_files.specs.declared.files.ClientTexts.{ClientTexts}
 use Rattle.abl_arguments.specs.CommandLine.{Run, ClientFiles, IsRun, arguments_of, Check, IsCheck, check_arguments, IsWrong, number_of}
+use Rattle.source_files.specs.Files.{HasText, HaveClients, HaveTexts, IsNotRead, OneIsNotRead, client_files}
+use Rattle.source_files.specs.Compiled.{BreaksSchema, OneSourceBreaks, schema_in}
+use Rattle.run_report.specs.Ending.{IsRefused, WritesStatus, output_refusal, status_after}
+use Rattle.run_works.specs.Works.{HasRun, Work}
 use Rattle.abl_cli.specs.Check.{HaveListings, OneBreaks, check_text}
 use Rattle.abl_arguments.specs.declared.parts.Mode.{Mode}
 use Rattle.abl_values.specs.declared.schema.TableDef.{TableDef}
 use Rattle.abl_values.specs.Schema.{SchemaData}
-use Rattle.abl_cli.specs.Report.{run_text, status_lines, status_of}
-use Rattle.abl_cli.specs.ClientRun.{ClientOutcome, own_events}
+use Rattle.run_report.specs.Report.{run_text, status_lines, status_of}
+use Rattle.run_works.specs.ClientRun.{ClientOutcome, own_events}
 use Rattle.abl_outside.specs.Out.{OutState, Writes, appended}
-
--- the files have this text under the name, where they are observable, and it is not too long
-pub record HasText (files : FileState) (name text : List ℕ) : Type 0 where
-  pub content : IsTrue files.observable → files.file name ≡ Some text
-  pub short : length text ≤ MAX_FILE_BYTES
-
--- the client's input is this text: that of its file, and empty without one
-abbrev pub HasInput : FileState → Option (List ℕ) → List ℕ → Type 0
-HasInput files None text = text ≡ []
-HasInput files (Some name) text = HasText files name text
-
--- the files of these names have these texts
-abbrev pub HaveTexts : FileState → List (List ℕ) → List (List ℕ) → Type 0
-HaveTexts files [] [] = Unit {0}
-HaveTexts files [] (text ∷ texts) = ⊥
-HaveTexts files (name ∷ names) [] = ⊥
-HaveTexts files (name ∷ names) (text ∷ texts) = HasText files name text × HaveTexts files names texts
-
--- why the file of this name was not read; the files' count of faults is now `faults`
-pub data IsNotRead (files : FileState) (faults : ℕ) (name : List ℕ) : Refusal → Type 0 where
-  is_missing : Rose files.faults faults → (IsTrue files.sound → files.file name ≡ None) → IsNotRead files faults name (File name)
-  is_too_long : (IsTrue files.observable → IsLonger (files.file name) MAX_FILE_BYTES) → IsNotRead files faults name (TooLong name MAX_FILE_BYTES)
-  reading_wants : IsNotRead files faults name NoMemory
-
--- why the first of these files that was not read was not
-pub data OneIsNotRead (files : FileState) (faults : ℕ) : List (List ℕ) → Refusal → Type 0 where
-  this_one : {name : List ℕ} {names : List (List ℕ)} {refusal : Refusal} → IsNotRead files faults name refusal → OneIsNotRead files faults (name ∷ names) refusal
-  later_one : {name text : List ℕ} {names : List (List ℕ)} {refusal : Refusal} → HasText files name text → OneIsNotRead files faults names refusal → OneIsNotRead files faults (name ∷ names) refusal
-
--- why the text of a schema file is refused: the first rule that it breaks, or out of memory
-pub data BreaksSchema (text : List ℕ) : Refusal → Type 0 where
-  breaks_f : {rule : Rule} {line : ℕ} → violation_of text ≡ Some (record { rule = rule; line = line }) → BreaksSchema text (Schema rule line)
-  schema_wants : BreaksSchema text NoMemory
-
--- the schema that the text of a schema file denotes
-abbrev pub schema_in : List ℕ → SchemaData
-schema_in text = schema_of (items_of text)
-
--- the file that is a client's input, if it has one
-abbrev pub input_file : Option (List ℕ) → List (List ℕ)
-input_file None = []
-input_file (Some name) = name ∷ []
-
--- the files of a client: its source, and its input
-abbrev pub client_files : ClientFiles → List (List ℕ)
-client_files c = c.program ∷ input_file c.input
 
 -- the files that a run reads before the rules are looked at, in order
 abbrev pub run_files : List ℕ → List ClientFiles → List (List ℕ)
 run_files schema clients = schema ∷ flat_map client_files clients
-
--- the files of these clients have these texts
-abbrev pub HaveClients : FileState → List ClientFiles → List ClientTexts → Type 0
-HaveClients files [] [] = Unit {0}
-HaveClients files [] (t ∷ ts) = ⊥
-HaveClients files (c ∷ cs) [] = ⊥
-HaveClients files (c ∷ cs) (t ∷ ts) = (HasText files c.program t.source × HasInput files c.input t.input) × HaveClients files cs ts
 
 -- the texts that were read for a run, before the rules were looked at
 pub record Texts (files : FileState) (schema : List ℕ) (clients : List ClientFiles) : Type 0 where
@@ -102,16 +53,6 @@ pub record Texts (files : FileState) (schema : List ℕ) (clients : List ClientF
   pub texts : List ClientTexts
   pub has_schema : HasText files schema df
   pub have : HaveClients files clients texts
-
--- why the text of the source of this number is refused over the schema, likewise
-pub data BreaksSource (schema : SchemaData) (number : ℕ) (text : List ℕ) : Refusal → Type 0 where
-  breaks_rule : {rule : Rule} {place : Place} → BreaksRule schema text rule place → BreaksSource schema number text (Source number rule place)
-  source_wants : BreaksSource schema number text NoMemory
-
--- why the first of these sources that is refused is; they have the numbers from this one on
-pub data OneSourceBreaks (schema : SchemaData) : ℕ → List ClientTexts → Refusal → Type 0 where
-  this_source : {number : ℕ} {t : ClientTexts} {ts : List ClientTexts} {refusal : Refusal} → BreaksSource schema number t.source refusal → OneSourceBreaks schema number (t ∷ ts) refusal
-  later_source : {number : ℕ} {t : ClientTexts} {ts : List ClientTexts} {refusal : Refusal} (tree : Tree) → IsTreeOf schema t.source tree → OneSourceBreaks schema (number + 1) ts refusal → OneSourceBreaks schema number (t ∷ ts) refusal
 
 -- the sources denote these trees
 abbrev pub AreTrees : SchemaData → List ClientTexts → List Tree → Type 0
@@ -156,19 +97,6 @@ pub record AreListed (files : FileState) (check : Check) (listings : List (List 
   pub clean : violation_of texts.df ≡ None
   pub have : HaveListings (schema_in texts.df) texts.sources listings
 
--- the code is that of the text over the schema
-pub record IsCodeOf (schema : SchemaData) (text : List ℕ) (code : Code) : Type 0 where
-  pub bound : Bound
-  pub form : IsTreeOf schema text (source_of bound)
-  pub compiled : IsCompiled code bound
-
--- what a client runs: the tables of the schema, its source, its own input and the named ones
-pub record Work : Type 0 where
-  pub tables : List TableDef
-  pub tree : Tree
-  pub input : List ℕ
-  pub inputs : List (List ℕ)
-
 -- the works of clients whose sources and inputs have these texts
 abbrev pub AreWorks : FileState → SchemaData → List ClientTexts → List Work → Type 0
 AreWorks files schema [] [] = Unit {0}
@@ -185,98 +113,6 @@ pub data Cause (arguments : List (List ℕ)) (files : FileState) (faults : ℕ) 
   wrong_argument : {names : List (List ℕ)} {arg : ℕ} → IsWrong arguments arg → Cause arguments files faults names (Usage arg)
   prevented : {refusal : Refusal} (run : Run) → IsRun run → arguments ≡ arguments_of run → Prevents files faults run.schema run.clients refusal → Cause arguments files faults (client_names run) refusal
   check_prevented : {refusal : Refusal} (check : Check) → IsCheck check → arguments ≡ check_arguments check → PreventsCheck files faults check refusal → Cause arguments files faults check.programs refusal
-
--- the lines of the status of a refusal were appended to standard error, or a prefix of them where a write failed;
--- standard output is as it was
-abbrev pub WritesStatus : List (List ℕ) → List ClientEnd → Option Refusal → OutState → OutState → Type 0
-WritesStatus names ends None old new = new ≡ old
-WritesStatus names ends (Some refusal) old new = (whole : Bool) × Writes whole Diagnostics (status_lines names ends refusal) old new
-
--- the status of a refusal, and 0 without one
-abbrev pub status_after : Option Refusal → ℕ
-status_after None = 0
-status_after (Some refusal) = status_of refusal
-
--- the report of a command that was refused before a run began
-pub record IsRefused (names : List (List ℕ)) (cause : Refusal) (old new : OutState) (report : Report) : Type 0 where
-  pub refusal : report.refusal ≡ Some cause
-  pub status : report.status ≡ status_of cause
-  pub trace : report.trace ≡ []
-  pub ends : report.ends ≡ []
-  pub lines : WritesStatus names [] (Some cause) old new
-
--- Output, where the report was not written whole
-abbrev pub output_refusal : Bool → Option Refusal
-output_refusal true = None
-output_refusal false = Some Output
-
--- whether a client was out of memory
-abbrev pub is_no_memory : ClientEnd → Bool
-is_no_memory end.NoMemory = true
-is_no_memory how = false
-
--- whether a client ended in Error or Stop
-abbrev pub is_failure : ClientEnd → Bool
-is_failure (end.Error text) = true
-is_failure (end.Stop why) = true
-is_failure how = false
-
--- whether one of the clients was out of memory
-abbrev pub one_lacks_memory : List ClientEnd → Bool
-one_lacks_memory [] = false
-one_lacks_memory (how ∷ ends) = if is_no_memory how then true else one_lacks_memory ends
-
--- the number of the first client that ended in Error or Stop; they have the numbers from this one on
-abbrev pub first_failure : ℕ → List ClientEnd → Option ℕ
-first_failure number [] = None
-first_failure number (how ∷ ends) = if is_failure how then Some number else first_failure (number + 1) ends
-
-abbrev pub failure_refusal : Option ℕ → Bool → Option Refusal
-failure_refusal None whole = output_refusal whole
-failure_refusal (Some first) whole = Some (Client first)
-
--- the refusal of a run whose clients ended so: out of memory, an end in Error or Stop, and then a fault of the output
-abbrev pub refusal_after : List ClientEnd → Bool → Option Refusal
-refusal_after ends whole = if one_lacks_memory ends then Some NoMemory else failure_refusal (first_failure 0 ends) whole
-
--- the report of a run over this schema whose clients ended so and wrote these sections: its text is on standard output, or a prefix where a
--- write failed, and then the lines on standard error
-pub record IsReported (mode : Mode) (schema : SchemaData) (names : List (List ℕ)) (ends : List ClientEnd) (parts : List (List Section)) (old new : OutState) (report : Report) : Type 0 where
-  pub ends_are : report.ends ≡ ends
-  pub whole : Bool
-  pub between : OutState
-  pub text : Writes whole Standard (run_text mode schema names parts report.trace) old between
-  pub refusal : report.refusal ≡ refusal_after ends whole
-  pub status : report.status ≡ status_after report.refusal
-  pub lines : WritesStatus names report.ends report.refusal between new
-
--- a program that is this work, with the forms of values in texts that `docs/formats.md` has
-pub record IsProgram (work : Work) (p : Program) : Type 0 where
-  pub tables : p.tables ≡ work.tables
-  pub source : p.source ≡ work.tree
-  pub input_is : p.input ≡ work.input
-  pub inputs_are : p.inputs ≡ work.inputs
-  pub forms : AreForms p.forms
-  pub lines : p.forms.line_at ≡ line_at
-
--- what each client did, with this number of units: as its source means under the answers to its own events. The clients have the numbers
--- from this one on, and came to these ends and wrote these sections
-abbrev pub DidAsMeant : ℕ → List Event → ℕ → List Work → List ClientEnd → List (List Section) → Type 0
-DidAsMeant units trace number [] [] [] = Unit {0}
-DidAsMeant units trace number (w ∷ ws) (how ∷ ends) (sections ∷ parts) =
-    ((p : Program) → IsProgram w p → ClientOutcome w.tree.outputs (run p units) (own_events number trace) how sections) × DidAsMeant units trace (number + 1) ws ends parts
-DidAsMeant units trace number works ends parts = ⊥
-
--- A RUN of the clients of these names and works over a new database of this schema in this mode, and its report. Each client did as its source
--- means under its own answers, whatever the schedule. The trace is of these clients alone, and legal for a database that has no row at first
--- and each sequence at its initial value
-pub record HasRun (mode : Mode) (schema : SchemaData) (names : List (List ℕ)) (units : ℕ) (works : List Work) (old new : OutState) (report : Report) : Type 0 where
-  pub ends : List ClientEnd
-  pub parts : List (List Section)
-  pub did : DidAsMeant units report.trace 0 works ends parts
-  pub clients : All (λ (e : Event). e.client < length works) report.trace
-  pub legal : IsLegal (record { schema = schema; clients = length works }) (new_contents schema) report.trace
-  pub reported : IsReported mode schema names ends parts old new report
 
 -- the report of a check of the sources of these names with these listings: its text is on standard output, or a prefix where a write
 -- failed, and then the line on standard error
@@ -363,10 +199,3 @@ AreSources schema [] [] = Unit {0}
 AreSources schema [] (tree ∷ trees) = ⊥
 AreSources schema (text ∷ texts) [] = ⊥
 AreSources schema (text ∷ texts) (tree ∷ trees) = IsTreeOf schema text tree × AreSources schema texts trees
-
--- what holds inside of a call: no read has failed, and what is known of the files is as it was
-pub record AreSame (old new : FileState) : Type 0 where
-  pub observable : new.observable ≡ old.observable
-  pub sound : new.sound ≡ old.sound
-  pub file : IsTrue old.observable → new.file ≡ old.file
-  pub faults : new.faults ≡ old.faults

@@ -6,13 +6,9 @@ ghost use Rattle.abl_outside.specs.Out.{Writes};
 ghost use Rattle.abl_schema.specs.Rules.{violation_of};
 ghost use Rattle.abl_cli.specs.Check.{BreaksProgram, HaveListings, IsListing, OneBreaks, check_text};
 ghost use Rattle.abl_arguments.specs.CommandLine.{NamesCheck, check_of};
-ghost use Rattle.abl_cli.specs.Command.{AreListed, BreaksSchema, CommandResult, HasChecked, PreventsCheck, schema_in};
+ghost use Rattle.abl_cli.specs.Command.{AreListed, CommandResult, HasChecked, PreventsCheck};
+ghost use Rattle.source_files.specs.Compiled.{BreaksSchema, schema_in};
 
-use crate::command::{Ends, Report, refused};
-use crate::execute::{output_refusal, status_of, write_refusal};
-use crate::load::{MAX_FILE_BYTES, read, read_named, schema_of};
-use crate::refusal::Refusal;
-use crate::report::{line_end, write_part};
 use abl_arguments::{Arg, CheckArguments};
 use abl_base::Bytes;
 use abl_outside::{Files, Out, OutFailed};
@@ -20,6 +16,10 @@ use abl_source::{SourceFault, read_source};
 use abl_values::Schema;
 use block_listing::listing;
 use client_database::Trace;
+use run_report::{
+    Ends, Refusal, Report, line_end, output_refusal, refused, status_of, write_part, write_refusal,
+};
+use source_files::{MAX_FILE_BYTES, read, read_named, schema_of};
 use std::alloc::Global;
 
 /// Lists the blocks of the sources that the arguments name. It reads no input and opens no database.

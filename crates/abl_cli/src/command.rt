@@ -1,37 +1,18 @@
 //! One run, from the arguments to the report.
 
-ghost use Rattle.std.specs.Prelude.{◌≡◌, length, IsTrue};
 ghost use Rattle.abl_arguments.specs.CommandLine.{Names};
-ghost use Rattle.abl_cli.specs.Command.{CommandResult, IsRefused};
+ghost use Rattle.abl_cli.specs.Command.{CommandResult};
 
 use crate::check::check_sources;
 use crate::clients::{clients_of, names_of};
-use crate::execute::execute;
 use crate::load::{Loaded, load};
-use crate::refusal::Refusal;
-use crate::report::{ReportForm, write_status};
 use abl_arguments::{Arg, Command, RunArguments, read_command};
-use abl_base::{Bytes, Items};
 use abl_outside::{Files, Gate, Out};
-use client_database::{ClientEnd, Trace};
+use run_report::{Refusal, Report, ReportForm, refused};
+use run_works::execute;
 use std::alloc::Global;
 use std::sync::Wait;
 use std::thread::Threads;
-
-/// How clients ended, in client order.
-pub type Ends = Items<ClientEnd>;
-
-/// What a command did.
-#[derive(Drop)]
-pub struct Report {
-    /// The status that the program ends with: 0, or that of the refusal.
-    pub status: u8,
-    /// What the clients requested and were answered; empty where no run began.
-    pub trace: Trace,
-    /// One end a client; empty where no run began.
-    pub ends: Ends,
-    pub refusal: Option<Refusal>,
-}
 
 /// Does what the arguments say. `run` reads the schema file, the sources and the inputs, compiles the
 /// sources, and runs each client on a thread of its own over one new database. `check` reads the schema
@@ -89,18 +70,5 @@ fn run_sources<R: Threads + Wait + Sync, F: Files, O: Out, G: Gate + Sync>(
             };
             execute(rt, alloc, out, gate, &form, database, tasks)
         }
-    }
-}
-
-/// The report of a command that was refused before a run began.
-pub fn refused<O: Out>(alloc: Global, out: &mut O, names: &[Bytes], refusal: Refusal) -> Report
-    ensures { IsRefused names.now refusal (O.state out.old) (O.state out.new) result }
-{
-    let _ = write_status(out, names, &[], &refusal);
-    Report {
-        status: refusal.status(),
-        trace: Trace::empty(alloc),
-        ends: Ends::empty(alloc),
-        refusal: Some(refusal),
     }
 }

@@ -6,9 +6,9 @@ ghost use Rattle.bound_tree.specs.Tree.{Source as Tree};
 ghost use Rattle.abl_base.specs.declared.rule.Rule.{Rule as TheRule};
 ghost use Rattle.abl_base.specs.declared.place.Place.{Place as ThePlace};
 ghost use Rattle.abl_schema.specs.Rules.{violation_of};
-ghost use Rattle.abl_cli.specs.declared.refusal.Refusal.TheVariants.{Usage, File, TooLong, Schema, Source, Output};
-ghost use Rattle.abl_cli.specs.declared.command.Report.{Report as Told};
-ghost use Rattle.abl_cli.specs.declared.load.TheConstants.{MAX_FILE_BYTES as MOST};
+ghost use Rattle.run_report.specs.declared.refusal.Refusal.TheVariants.{Usage, File, TooLong, Schema, Source, Output};
+ghost use Rattle.run_report.specs.declared.ending.Report.{Report as Told};
+ghost use Rattle.source_files.specs.declared.files.TheConstants.{MAX_FILE_BYTES as MOST};
 ghost use Rattle.abl_outside.specs.Out.{appended};
 ghost use Rattle.abl_outside.specs.declared.out.Stream.TheVariants.{Output as Standard};
 ghost use Rattle.abl_source.specs.Sources.{BreaksRule};
@@ -16,7 +16,8 @@ ghost use Rattle.abl_arguments.specs.CommandLine.{Check, Run, HaveForm, IsWrong}
 ghost use Rattle.abl_cli.specs.Check.{HaveListings, check_text};
 ghost use Rattle.abl_outside.specs.Out.{OutState};
 ghost use Rattle.abl_outside.specs.Files.{FileState};
-ghost use Rattle.abl_cli.specs.Command.{AllThere, AreSources, AreThere, CommandResult, HasWholeText, IsRefusal, IsThere, IsUsage, NamesRun, named_inputs, run_files, schema_in};
+ghost use Rattle.abl_cli.specs.Command.{AllThere, AreSources, AreThere, CommandResult, HasWholeText, IsRefusal, IsThere, IsUsage, NamesRun, named_inputs, run_files};
+ghost use Rattle.source_files.specs.Compiled.{schema_in};
 ghost use Rattle.abl_cli.specs.CheckFiles.{AreThereWith, NamesSources, check_files};
 
 /// The refusal is Usage, with the number of the wrong argument, exactly where the arguments have no

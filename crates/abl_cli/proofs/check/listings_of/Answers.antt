@@ -5,10 +5,11 @@ use Rattle.std.proofs.lemmas.Result.{err_from_is_err_and}
 use Rattle.abl_schema.specs.Rules.{violation_of}
 use Rattle.abl_outside.specs.Files.{FileState}
 use Rattle.abl_arguments.specs.CommandLine.{check_of}
-use Rattle.abl_cli.specs.declared.load.TheConstants.{MAX_FILE_BYTES}
+use Rattle.source_files.specs.declared.files.TheConstants.{MAX_FILE_BYTES}
 use Rattle.abl_cli.specs.Check.{HaveListings, OneBreaks}
-use Rattle.abl_cli.specs.Command.{BreaksSchema, no_schema_file, no_program, schema_in}
-use Rattle.abl_cli.proofs.Causes.{of_error, still_have, still_one}
+use Rattle.source_files.specs.Compiled.{BreaksSchema, schema_in}
+use Rattle.abl_cli.specs.Command.{no_schema_file, no_program}
+use Rattle.source_files.proofs.Causes.{of_error, still_have, still_one}
 use Rattle.abl_cli.proofs.Checks.{short_texts, as_many, check_prevented_by, are_listed}
 use Rattle.abl_cli.proofs.check.listings_of.Goals as goal
 

@@ -1,6 +1,6 @@
 -- The sources are listed one after the other.
 use Rattle.std.proofs.Common.{◌≡◌, ◌+◌, ◌++◌, ◌∷◌, [], List, ℕ, suc, add-one, arith, subst, sym, take}
-use Rattle.abl_cli.specs.declared.refusal.Refusal.TheVariants.{NoMemory}
+use Rattle.run_report.specs.declared.refusal.Refusal.TheVariants.{NoMemory}
 use Rattle.abl_cli.specs.Check.{BreaksProgram, HaveListings, IsListing, program_wants}
 use Rattle.abl_cli.proofs.Checks.{listings_more, one_is_broken}
 use Rattle.abl_cli.proofs.check.listings_over.Goals as goal

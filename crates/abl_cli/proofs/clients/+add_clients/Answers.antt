@@ -1,7 +1,8 @@
 use Rattle.std.proofs.Common.{◌≡◌, ◌++◌, sym, ◌∙◌}
 use Rattle.std.specs.Prelude.{map}
 use Rattle.abl_arguments.specs.CommandLine.{client_in}
-use Rattle.abl_cli.proofs.Named.{parted, one_more, on_ok}
+use Rattle.abl_cli.proofs.Named.{parted, one_more}
+use Rattle.source_files.proofs.Causes.{on_ok}
 use Rattle.abl_cli.proofs.clients.+add_clients.Goals as goal
 
 pub returns-in_default-client_of : goal.returns-in_default-client_of

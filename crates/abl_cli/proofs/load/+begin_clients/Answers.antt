@@ -4,14 +4,16 @@ use Rattle.std.proofs.lemmas.Result.{err_from_is_err_and}
 use Rattle.abl_outside.specs.Files.{FileState}
 use Rattle.block_code.specs.declared.code.Code.{Code}
 use Rattle.block_clients.specs.Ran.{ClientTask}
-use Rattle.abl_cli.specs.declared.load.ClientTexts.{ClientTexts}
-use Rattle.abl_cli.specs.declared.refusal.Refusal.{Refusal}
-use Rattle.abl_cli.specs.declared.refusal.Refusal.TheVariants.{NoMemory}
-use Rattle.abl_cli.specs.Command.{OneIsNotRead, schema_in}
+use Rattle.source_files.specs.declared.files.ClientTexts.{ClientTexts}
+use Rattle.run_report.specs.declared.refusal.Refusal.{Refusal}
+use Rattle.run_report.specs.declared.refusal.Refusal.TheVariants.{NoMemory}
+use Rattle.source_files.specs.Files.{OneIsNotRead}
+use Rattle.source_files.specs.Compiled.{schema_in}
 use Rattle.abl_cli.specs.Inside.{AreBegun, inputs_of}
-use Rattle.abl_cli.proofs.Causes.{of_error, still_one, unread_first, unread_later}
-use Rattle.abl_cli.proofs.Loads.{first_removed, still_begun}
-use Rattle.abl_cli.proofs.Named.{on_ok, if_err}
+use Rattle.source_files.proofs.Causes.{of_error, still_one, unread_first, unread_later}
+use Rattle.run_works.proofs.Runs.{first_removed}
+use Rattle.abl_cli.proofs.Loads.{still_begun}
+use Rattle.source_files.proofs.Causes.{on_ok, if_err}
 use Rattle.abl_cli.proofs.load.+begin_clients.Goals as goal
 
 pub returns-in_err-add_client-clause-refused : goal.returns-in_err-add_client-clause-refused

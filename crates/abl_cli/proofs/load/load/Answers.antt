@@ -7,13 +7,16 @@ use Rattle.abl_schema.specs.Rules.{violation_of}
 use Rattle.abl_outside.specs.Files.{FileState}
 use Rattle.abl_arguments.specs.CommandLine.{ClientFiles, client_in}
 use Rattle.block_clients.specs.Ran.{ClientTask}
-use Rattle.abl_cli.specs.declared.load.ClientTexts.{ClientTexts}
-use Rattle.abl_cli.specs.declared.load.TheConstants.{MAX_FILE_BYTES}
-use Rattle.abl_cli.specs.declared.refusal.Refusal.TheVariants.{NoMemory}
-use Rattle.abl_cli.specs.Command.{BreaksSchema, HaveClients, OneSourceBreaks, no_file, this_one, run_wants, schema_in}
-use Rattle.abl_cli.specs.Inside.{AreBegun, HaveCodes}
-use Rattle.abl_cli.proofs.Causes.{of_error, same_further, still_one, still_clients}
-use Rattle.abl_cli.proofs.Databases.{as_new}
+use Rattle.source_files.specs.declared.files.ClientTexts.{ClientTexts}
+use Rattle.source_files.specs.declared.files.TheConstants.{MAX_FILE_BYTES}
+use Rattle.run_report.specs.declared.refusal.Refusal.TheVariants.{NoMemory}
+use Rattle.source_files.specs.Compiled.{BreaksSchema, OneSourceBreaks, schema_in}
+use Rattle.source_files.specs.Files.{HaveClients, this_one}
+use Rattle.abl_cli.specs.Command.{no_file, run_wants}
+use Rattle.abl_cli.specs.Inside.{AreBegun}
+use Rattle.source_files.specs.Compiled.{HaveCodes}
+use Rattle.source_files.proofs.Causes.{of_error, same_further, still_one, still_clients}
+use Rattle.run_works.proofs.Databases.{as_new}
 use Rattle.abl_cli.proofs.Loads.{as_many_texts, as_many_codes, short_sources, files_prevent, rules_prevent, named_prevents, is_ready, tasks_of}
 use Rattle.abl_cli.proofs.load.load.Goals as goal
 

@@ -1,5 +1,0 @@
-use Rattle.std.proofs.Common.{length}
-use Rattle.abl_cli.proofs.execute.+first_failure.Given as goal
-
-abbrev pub decreases-first_failure : goal.decreases-first_failure
-decreases-first_failure l = length l.ends.now

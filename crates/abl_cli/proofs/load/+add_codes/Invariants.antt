@@ -1,5 +1,0 @@
-use Rattle.std.proofs.Common.{length}
-use Rattle.abl_cli.proofs.load.+add_codes.Given as goal
-
-abbrev pub decreases-add_codes : goal.decreases-add_codes
-decreases-add_codes l = length l.texts.now

@@ -1,5 +1,0 @@
-use Rattle.std.proofs.Common.{length}
-use Rattle.abl_cli.proofs.report.+write_ends.Given as goal
-
-abbrev pub decreases-write_ends : goal.decreases-write_ends
-decreases-write_ends g l = length l.names.now

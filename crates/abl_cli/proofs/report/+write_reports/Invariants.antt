@@ -1,5 +1,0 @@
-use Rattle.std.proofs.Common.{length}
-use Rattle.abl_cli.proofs.report.+write_reports.Given as goal
-
-abbrev pub decreases-write_reports : goal.decreases-write_reports
-decreases-write_reports g l = length l.names.now

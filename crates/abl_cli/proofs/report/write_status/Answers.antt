@@ -1,6 +1,0 @@
-use Rattle.std.proofs.Common.{append-nil}
-use Rattle.abl_cli.proofs.report.write_status.Goals as goal
-
-pub returns-in-File : goal.returns-in-File
-returns-in-File g c =
-    rw (c.in-File.is, ← c.as_slice.ensures) (rw (append-nil c.as_slice.result.now) at c.write_line-in-File.ensures)

@@ -1,0 +1,4 @@
+pub mod Trace
+pub mod Report
+pub mod Ending
+pub mod Examples

@@ -1,0 +1,34 @@
+//! A client that is to run.
+
+ghost use Rattle.std.specs.Prelude.{IfOk};
+ghost use Rattle.run_works.specs.Inside.{IsClientOf};
+
+use crate::database::RunTask;
+use abl_base::Bytes;
+use abl_values::Schema;
+use block_code::Code;
+use block_vm::{Client, Inputs};
+use client_runner::Task;
+use client_session::ClientSession;
+use std::alloc::{AllocError, Global};
+
+/// The client that is to run this code over this schema, with its own input and these named ones. It
+/// may spend this number of units.
+pub fn client_to_run(
+    alloc: Global,
+    schema: Schema,
+    units: u64,
+    code: Code,
+    input: Bytes,
+    named: Vec<Bytes>,
+) -> Result<RunTask, AllocError>
+    ensures { IfOk result (IsClientOf units schema.tables code input named.items) }
+{
+    let inputs = Inputs {
+        schema,
+        own: input,
+        named,
+    };
+    let client = Client::new(alloc, code, inputs, units)?;
+    Ok(Task::new(ClientSession { client }))
+}

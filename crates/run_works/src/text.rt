@@ -1,0 +1,47 @@
+//! The text that a run writes to standard output.
+
+ghost use Rattle.std.specs.Prelude.{List, is_ok};
+ghost use Rattle.client_output.specs.declared.section.Section.{Section as Written};
+ghost use Rattle.abl_outside.specs.declared.out.Stream.{Stream};
+ghost use Rattle.abl_outside.specs.Out.{Writes};
+ghost use Rattle.run_report.specs.Report.{reports, run_text};
+ghost use Rattle.run_works.specs.Inside.{HaveSections};
+
+use crate::database::RunTask;
+use abl_arguments::Mode;
+use abl_base::Bytes;
+use abl_outside::{Out, OutFailed};
+use client_database::Event;
+use run_report::{ReportForm, write_report, write_trace};
+
+/// Writes the text of a run: the part of each client, and in mode trace the trace.
+pub fn write_run<O: Out>(
+    out: &mut O,
+    form: &ReportForm<'_>,
+    tasks: &[RunTask],
+    trace: &[Event],
+) -> Result<(), OutFailed>
+    ensures { (parts : List (List Written)) × HaveSections tasks.now parts × Writes (is_ok result) Stream.Output (run_text form.now.mode form.now.schema.now form.now.names.now parts trace.now) (O.state out.old) (O.state out.new) }
+{
+    match form.mode {
+        Mode::Quiet => write_reports(out, form.names, tasks),
+        Mode::Trace => {
+            write_reports(out, form.names, tasks)?;
+            write_trace(out, form.schema, form.names, trace)
+        }
+    }
+}
+
+/// Writes the part of each client, in order.
+fn write_reports<O: Out>(out: &mut O, names: &[Bytes], tasks: &[RunTask]) -> Result<(), OutFailed>
+    ensures { (parts : List (List Written)) × HaveSections tasks.now parts × Writes (is_ok result) Stream.Output (reports names.now parts) (O.state out.old) (O.state out.new) }
+{
+    let Some((name, names)) = names.split_first() else {
+        return Ok(());
+    };
+    let Some((task, tasks)) = tasks.split_first() else {
+        return Ok(());
+    };
+    write_report(out, name.as_slice(), task.client.client.output())?;
+    write_reports(out, names, tasks)
+}

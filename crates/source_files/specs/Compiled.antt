@@ -1,0 +1,49 @@
+-- The schema and the codes that texts denote, and which rule the first text that breaks one breaks first.
+use Rattle.std.specs.Prelude.{◌≡◌, ◌+◌, ℕ, List, [], ◌∷◌, Some}
+use Rattle.abl_base.specs.declared.rule.Rule.{Rule}
+use Rattle.abl_base.specs.declared.place.Place.{Place}
+use Rattle.abl_values.specs.Schema.{SchemaData}
+use Rattle.abl_schema.specs.Rules.{violation_of}
+use Rattle.abl_schema.specs.Meaning.{schema_of}
+use Rattle.schema_lines.specs.Files.{items_of}
+use Rattle.bound_tree.specs.Tree.{Source as Tree}
+use Rattle.bound_tree.specs.Bound.{source_of}
+use Rattle.bound_tree.specs.declared.procedure.Bound.{Bound}
+use Rattle.abl_source.specs.Sources.{BreaksRule, IsTreeOf}
+use Rattle.block_code.specs.declared.code.Code.{Code}
+use Rattle.block_code.specs.Code.{IsCompiled}
+use Rattle.run_report.specs.declared.refusal.Refusal.{Refusal}
+use Rattle.run_report.specs.declared.refusal.Refusal.TheVariants.{Schema, Source, NoMemory}
+use Rattle.source_files.specs.declared.files.ClientTexts.{ClientTexts}
+
+-- why the text of a schema file is refused: the first rule that it breaks, or out of memory
+pub data BreaksSchema (text : List ℕ) : Refusal → Type 0 where
+  breaks_f : {rule : Rule} {line : ℕ} → violation_of text ≡ Some (record { rule = rule; line = line }) → BreaksSchema text (Schema rule line)
+  schema_wants : BreaksSchema text NoMemory
+
+-- the schema that the text of a schema file denotes
+abbrev pub schema_in : List ℕ → SchemaData
+schema_in text = schema_of (items_of text)
+
+-- why the text of the source of this number is refused over the schema, likewise
+pub data BreaksSource (schema : SchemaData) (number : ℕ) (text : List ℕ) : Refusal → Type 0 where
+  breaks_rule : {rule : Rule} {place : Place} → BreaksRule schema text rule place → BreaksSource schema number text (Source number rule place)
+  source_wants : BreaksSource schema number text NoMemory
+
+-- why the first of these sources that is refused is; they have the numbers from this one on
+pub data OneSourceBreaks (schema : SchemaData) : ℕ → List ClientTexts → Refusal → Type 0 where
+  this_source : {number : ℕ} {t : ClientTexts} {ts : List ClientTexts} {refusal : Refusal} → BreaksSource schema number t.source refusal → OneSourceBreaks schema number (t ∷ ts) refusal
+  later_source : {number : ℕ} {t : ClientTexts} {ts : List ClientTexts} {refusal : Refusal} (tree : Tree) → IsTreeOf schema t.source tree → OneSourceBreaks schema (number + 1) ts refusal → OneSourceBreaks schema number (t ∷ ts) refusal
+
+-- the code is that of the text over the schema
+pub record IsCodeOf (schema : SchemaData) (text : List ℕ) (code : Code) : Type 0 where
+  pub bound : Bound
+  pub form : IsTreeOf schema text (source_of bound)
+  pub compiled : IsCompiled code bound
+
+-- the codes are those of these sources
+abbrev pub HaveCodes : SchemaData → List ClientTexts → List Code → Type 0
+HaveCodes schema [] [] = Unit {0}
+HaveCodes schema [] (code ∷ codes) = ⊥
+HaveCodes schema (t ∷ ts) [] = ⊥
+HaveCodes schema (t ∷ ts) (code ∷ codes) = IsCodeOf schema t.source code × HaveCodes schema ts codes

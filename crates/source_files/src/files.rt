@@ -1,0 +1,121 @@
+//! The files that a command reads before the rules are looked at.
+
+ghost use Rattle.std.specs.Prelude.{◌≡◌, ◌⊎◌, ◌++◌, List, IfErr, IfOk, OnOk, map, option_copied};
+ghost use Rattle.std.specs.List.{flat_map};
+ghost use Rattle.abl_arguments.specs.CommandLine.{client_in};
+ghost use Rattle.run_report.specs.declared.refusal.Refusal.TheVariants.{NoMemory};
+ghost use Rattle.source_files.specs.Files.{AreSame, HasInput, HasText, HaveClients, HaveTexts, IsNotRead, OneIsNotRead, client_files, input_file};
+
+use abl_arguments::ClientArgument;
+use abl_base::Bytes;
+use abl_outside::{FileFault, Files};
+use run_report::Refusal;
+use std::alloc::Global;
+
+/// The most bytes that a schema file, a source or an input may have.
+pub const MAX_FILE_BYTES: u64 = 1_048_576;
+
+/// The texts of a client that are read before the rules are checked.
+#[derive(Drop)]
+pub struct ClientTexts {
+    pub source: Bytes,
+    pub input: Bytes,
+}
+
+/// Reads the source and the input of each client, and adds their texts.
+pub fn read_clients<F: Files>(
+    alloc: Global,
+    files: &mut F,
+    clients: &[ClientArgument<'_>],
+    texts: &mut Vec<ClientTexts>,
+) -> Result<(), Refusal>
+    ensures read { OnOk result ((more : List ClientTexts) × (texts.new.items ≡ texts.old.items ++ more) × HaveClients (F.state files.old) (map client_in clients.now) more) }
+    ensures same { OnOk result (AreSame (F.state files.old) (F.state files.new)) }
+    ensures refused { IfErr result (λ refusal. (refusal ≡ NoMemory) ⊎ OneIsNotRead (F.state files.old) (F.state files.new).faults (flat_map client_files (map client_in clients.now)) refusal) }
+{
+    let Some((client, rest)) = clients.split_first() else {
+        return Ok(());
+    };
+    let read = read_client(alloc, files, client)?;
+    let Ok(()) = texts.push(read) else {
+        return Err(Refusal::NoMemory);
+    };
+    read_clients(alloc, files, rest, texts)
+}
+
+/// The texts of the client's source and input.
+fn read_client<F: Files>(
+    alloc: Global,
+    files: &mut F,
+    client: &ClientArgument<'_>,
+) -> Result<ClientTexts, Refusal>
+    ensures source { IfOk result (λ texts. HasText (F.state files.old) client.now.program.now texts.source) }
+    ensures input { IfOk result (λ texts. HasInput (F.state files.old) (option_copied client.now.input) texts.input) }
+    ensures same { OnOk result (AreSame (F.state files.old) (F.state files.new)) }
+    ensures refused { IfErr result (OneIsNotRead (F.state files.old) (F.state files.new).faults (client_files (client_in client.now))) }
+{
+    let source = read(alloc, files, client.program)?;
+    match read_input(alloc, files, client.input) {
+        Ok(input) => Ok(ClientTexts { source, input }),
+        Err(refusal) => Err(refusal),
+    }
+}
+
+/// The text of the client's input: that of its file, and empty without one.
+fn read_input<F: Files>(
+    alloc: Global,
+    files: &mut F,
+    input: Option<&[u8]>,
+) -> Result<Bytes, Refusal>
+    ensures text { IfOk result (HasInput (F.state files.old) (option_copied input.entry)) }
+    ensures refused { IfErr result (OneIsNotRead (F.state files.old) (F.state files.new).faults (input_file (option_copied input.entry))) }
+    ensures same { OnOk result (AreSame (F.state files.old) (F.state files.new)) }
+{
+    match input {
+        Some(name) => read(alloc, files, name),
+        None => Ok(Bytes::empty(alloc)),
+    }
+}
+
+/// The texts of the files of these names, in order.
+pub fn read_named<F: Files>(
+    alloc: Global,
+    files: &mut F,
+    names: &[Bytes],
+) -> Result<Vec<Bytes>, Refusal>
+    ensures texts { IfOk result (λ texts. HaveTexts (F.state files.old) names.now texts.items) }
+    ensures refused { IfErr result (OneIsNotRead (F.state files.old) (F.state files.new).faults names.now) }
+    ensures same { OnOk result (AreSame (F.state files.old) (F.state files.new)) }
+{
+    let mut texts = Vec::new(alloc);
+    for name in names {
+        match read(alloc, files, name.as_slice()) {
+            Ok(text) => match texts.push(text) {
+                Ok(()) => {}
+                Err(_) => return Err(Refusal::NoMemory),
+            },
+            Err(refusal) => return Err(refusal),
+        }
+    }
+    Ok(texts)
+}
+
+/// The text of the file of this name.
+pub fn read<F: Files>(alloc: Global, files: &mut F, name: &[u8]) -> Result<Bytes, Refusal>
+    ensures text { IfOk result (HasText (F.state files.old) name.now) }
+    ensures refused { IfErr result (IsNotRead (F.state files.old) (F.state files.new).faults name.now) }
+    ensures same { OnOk result (AreSame (F.state files.old) (F.state files.new)) }
+{
+    let Ok(name) = Bytes::of(alloc, name) else {
+        return Err(Refusal::NoMemory);
+    };
+    match files.read(&name, MAX_FILE_BYTES) {
+        Ok(text) => Ok(text),
+        Err(FileFault::Failed) => Err(Refusal::File { name }),
+        Err(FileFault::TooLong) => Err(Refusal::TooLong {
+            name,
+            most: MAX_FILE_BYTES,
+        }),
+        Err(FileFault::NoMemory) => Err(Refusal::NoMemory),
+    }
+}
