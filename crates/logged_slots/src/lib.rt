@@ -10,6 +10,7 @@ mod ending;
 mod filling;
 mod generation;
 mod logged_slots;
+mod putting;
 mod reading;
 mod settling;
 mod undoing;

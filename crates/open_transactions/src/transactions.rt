@@ -5,7 +5,7 @@ ghost use Rattle.abl_storage.specs.declared.slots.Undo.{Undo as Write};
 ghost use Rattle.abl_storage.specs.Slots.{Becomes, is_low, put, undone, joined, wrote};
 ghost use Rattle.open_transactions.specs.Clients.{idle, transaction_in, number_in, list_in, due_in, memory_in, lists, due, lists_but, NothingDue, AreApart, OthersStay, ListsStay};
 
-use crate::client::Client;
+use crate::client::{Client, has_low_number};
 use abl_storage::Undo;
 use std::alloc::{AllocError, Global};
 
@@ -143,6 +143,23 @@ impl Transactions {
     {
         let client = &mut self.clients[client as usize];
         client.reserve()
+    }
+
+    /// Takes memory for a write of the slot where there is none: a low slot has it from the begin. It
+    /// returns whether there is some.
+    pub fn reserve_for(&mut self, client: u16, slot: u32) -> bool
+        requires client { client < 16 }
+        ensures transactions { transaction_in self.new.clients.items ≡ transaction_in self.old.clients.items }
+        ensures yes { result ≡ true → is_low slot ≡ false → 0 < memory_in self.new.clients.items client }
+        ensures low { is_low slot ≡ true → result ≡ true }
+        ensures promised { 0 < (transaction_in self.old.clients.items client).room → result ≡ true }
+        ensures lists { ListsStay self.old.clients.items self.new.clients.items }
+        ensures due { (due self.new.clients.items ≡ due self.old.clients.items) × (due_in self.new.clients.items ≡ due_in self.old.clients.items) }
+    {
+        if has_low_number(slot) {
+            return true;
+        }
+        self.reserve(client)
     }
 
     /// Adds a write, for which there is memory, of a slot that is in no other list, where nothing
