@@ -1,0 +1,65 @@
+use Rattle.std.proofs.Common.{◌≡◌, ◌≢◌, ◌<◌, ℕ, Bool, IsTrue, Option, true, false, sym, ◌∙◌, ap, subst, rules}
+use Rattle.std.proofs.lemmas.Result.{on_ok_weaker, on_err_weaker}
+use Rattle.abl_storage.specs.Slots.{Transaction, undone, is_low}
+use Rattle.open_transactions.proofs.Changed.{alone_lists}
+use Rattle.slot_area.specs.Area.{view}
+use Rattle.logged_slots.specs.State.{state_of, faults_of, in_doubt}
+use Rattle.logged_slots.proofs.Composing.{rests_twice, goes_twice, cause_twice}
+use Rattle.logged_slots.proofs.Afterwards.{then_writes}
+use Rattle.slot_txn.proofs.slots.SlotTxnSlots.write.Goals as goal
+
+pub put-requires-clause-begun : goal.put-requires-clause-begun
+put-requires-clause-begun g c = ap (λ (f : ℕ → Transaction). (f c.args.client).begun) c.ready.ensures.rest.transaction ∙ c.requires.begun
+
+pub put-requires-clause-alone : goal.put-requires-clause-alone
+put-requires-clause-alone g c = alone_lists c.ready.new.self.transactions.clients.items c.args.client c.args.slot c.ready.new.self.transactions.sixteen
+    (subst (λ (f : ℕ → Transaction). (other : ℕ) → other ≢ c.args.client → other < 16 → (f other).begun ≡ true → (f other).written c.args.slot ≡ false) (sym c.ready.ensures.rest.transaction) c.requires.alone) (c.in-Ok.ensures.ready.1)
+
+pub returns-in-Ok-clause-ok : goal.returns-in-Ok-clause-ok
+returns-in-Ok-clause-ok g c =
+    let s = c.args.self.now.slots in
+    let p = c.ready.new.self in
+    let r = c.ready.ensures.rest in
+    let q = c.put.new.self in
+    let same = c.in-Ok.ensures.cause.stays (search rules) in
+    on_ok_weaker c.put.result (then_writes (state_of (g.D.Disk.observable s.disk) (view s.slots (g.D.Disk.seen s.disk 0)) (g.D.Disk.time s.disk) (faults_of s.exhausted (g.D.Disk.failures s.disk)) s.transactions.clients.items s.failed s.doubtful s.since s.short) (state_of (g.D.Disk.observable p.disk) (view p.slots (g.D.Disk.seen p.disk 0)) (g.D.Disk.time p.disk) (faults_of p.exhausted (g.D.Disk.failures p.disk)) p.transactions.clients.items p.failed p.doubtful p.since p.short) (state_of (g.D.Disk.observable q.disk) (view q.slots (g.D.Disk.seen q.disk 0)) (g.D.Disk.time q.disk) (faults_of q.exhausted (g.D.Disk.failures q.disk)) q.transactions.clients.items q.failed q.doubtful q.since q.short) same r c.args.client c.args.slot c.args.bytes.now) c.put.ensures.ok
+
+pub returns-in-Ok-clause-err : goal.returns-in-Ok-clause-err
+returns-in-Ok-clause-err g c =
+    let s = c.args.self.now.slots in
+    let p = c.ready.new.self in
+    let r = c.ready.ensures.rest in
+    let q = c.put.new.self in
+    let same = c.in-Ok.ensures.cause.stays (search rules) in
+    on_err_weaker c.put.result (rests_twice (state_of (g.D.Disk.observable s.disk) (view s.slots (g.D.Disk.seen s.disk 0)) (g.D.Disk.time s.disk) (faults_of s.exhausted (g.D.Disk.failures s.disk)) s.transactions.clients.items s.failed s.doubtful s.since s.short) (state_of (g.D.Disk.observable p.disk) (view p.slots (g.D.Disk.seen p.disk 0)) (g.D.Disk.time p.disk) (faults_of p.exhausted (g.D.Disk.failures p.disk)) p.transactions.clients.items p.failed p.doubtful p.since p.short) (state_of (g.D.Disk.observable q.disk) (view q.slots (g.D.Disk.seen q.disk 0)) (g.D.Disk.time q.disk) (faults_of q.exhausted (g.D.Disk.failures q.disk)) q.transactions.clients.items q.failed q.doubtful q.since q.short) same r) c.put.ensures.err
+
+pub returns-in-Ok-clause-time : goal.returns-in-Ok-clause-time
+returns-in-Ok-clause-time g c =
+    let s = c.args.self.now.slots in
+    let p = c.ready.new.self in
+    let r = c.ready.ensures.rest in
+    let q = c.put.new.self in
+    let same = c.in-Ok.ensures.cause.stays (search rules) in
+    goes_twice (state_of (g.D.Disk.observable s.disk) (view s.slots (g.D.Disk.seen s.disk 0)) (g.D.Disk.time s.disk) (faults_of s.exhausted (g.D.Disk.failures s.disk)) s.transactions.clients.items s.failed s.doubtful s.since s.short) (state_of (g.D.Disk.observable p.disk) (view p.slots (g.D.Disk.seen p.disk 0)) (g.D.Disk.time p.disk) (faults_of p.exhausted (g.D.Disk.failures p.disk)) p.transactions.clients.items p.failed p.doubtful p.since p.short) (state_of (g.D.Disk.observable q.disk) (view q.slots (g.D.Disk.seen q.disk 0)) (g.D.Disk.time q.disk) (faults_of q.exhausted (g.D.Disk.failures q.disk)) q.transactions.clients.items q.failed q.doubtful q.since q.short) _ _ _ c.ready.ensures.time c.put.ensures.time r.keeps.committed
+    (λ known. r.keeps.doubt known ∙ ap (λ (d : Option ℕ). undone (in_doubt d s.transactions.clients.items) (view s.slots (g.D.Disk.seen s.disk 0))) ((s.sure (sym same ∙ c.in-Ok.ensures.ready.0)).0))
+    (λ m slots st. subst (λ (x : Bool). IsTrue x) r.keeps.observable (subst (λ (x : Bool). IsTrue x) c.put.ensures.same_observable (st.0)))
+
+pub returns-in-Ok-clause-cause : goal.returns-in-Ok-clause-cause
+returns-in-Ok-clause-cause g c =
+    let s = c.args.self.now.slots in
+    let p = c.ready.new.self in
+    let r = c.ready.ensures.rest in
+    let q = c.put.new.self in
+    let same = c.in-Ok.ensures.cause.stays (search rules) in
+    cause_twice (state_of (g.D.Disk.observable s.disk) (view s.slots (g.D.Disk.seen s.disk 0)) (g.D.Disk.time s.disk) (faults_of s.exhausted (g.D.Disk.failures s.disk)) s.transactions.clients.items s.failed s.doubtful s.since s.short) (state_of (g.D.Disk.observable p.disk) (view p.slots (g.D.Disk.seen p.disk 0)) (g.D.Disk.time p.disk) (faults_of p.exhausted (g.D.Disk.failures p.disk)) p.transactions.clients.items p.failed p.doubtful p.since p.short) (state_of (g.D.Disk.observable q.disk) (view q.slots (g.D.Disk.seen q.disk 0)) (g.D.Disk.time q.disk) (faults_of q.exhausted (g.D.Disk.failures q.disk)) q.transactions.clients.items q.failed q.doubtful q.since q.short) c.put.result c.in-Ok.ensures.cause.later same c.put.ensures.cause
+
+pub put-requires-clause-counted : goal.put-requires-clause-counted
+put-requires-clause-counted g c = λ high. subst (λ (f : ℕ → Transaction). (f c.args.client).counted < 7989) (sym c.ready.ensures.rest.transaction) (c.is_full.ensures.no c.if-is_full.false high)
+
+pub put-requires-clause-low : goal.put-requires-clause-low
+put-requires-clause-low g c = λ low.
+    let its : IsTrue (is_low c.args.slot) = search rules in
+    subst (λ (f : ℕ → Transaction). (f c.args.client).low < 10) (sym c.ready.ensures.rest.transaction) (c.requires.low its)
+
+pub returns-in-Ok-clause-room : goal.returns-in-Ok-clause-room
+returns-in-Ok-clause-room g c = λ some. c.put.ensures.room (subst (λ (f : ℕ → Transaction). 0 < (f c.args.client).room) (sym c.ready.ensures.rest.transaction) some)
