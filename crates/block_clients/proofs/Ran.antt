@@ -1,6 +1,6 @@
 -- From what the runner says of each client to what its program means.
-use Rattle.std.proofs.Common.{◌≡◌, ◌<◌, ◌++◌, ℕ, List, [], sym, ap, ◌∙◌, subst, arith}
-use Rattle.std.specs.Prelude.{Result, Ok, Err, IfOk, All}
+use Rattle.std.proofs.Common.{ℕ, List, []}
+use Rattle.std.specs.Prelude.{Result, Ok, Err, IfOk}
 use Rattle.client_database.specs.declared.event.Event.{Event}
 use Rattle.client_database.specs.declared.ends.ClientEnd.{ClientEnd}
 use Rattle.client_database.specs.declared.next_step.NextStep.{NextStep}
@@ -9,7 +9,6 @@ use Rattle.block_meaning.specs.Program.{Program}
 use Rattle.block_meaning.specs.Meaning.{run}
 use Rattle.block_vm.specs.Refines.{Refines, HasNotBegun}
 use Rattle.client_runner.specs.Meant.{Meant}
-use Rattle.client_runner.specs.Served.{GoesOnBy}
 use Rattle.client_runner.specs.Tasks.{CameToItsEnd, RanToEnd, ByItself, OutOfMemory}
 use Rattle.client_session.specs.Along.{Goes, IsCareful, IsOnLevels}
 use Rattle.client_session.specs.declared.session.ClientSession.{ClientSession}
@@ -48,9 +47,3 @@ has_run HasSetting trace k old new grows careful came =
       fits = came.fits;
       unrefused = λ names p units setting begun is. came.unrefused (record { names = names; run = run p units }) setting (begun.begins, begun.refines) (careful names p units) is tt;
     }
-
--- events after none are of these clients
-pub of_these : (clients : ℕ) (old new : List Event) → old ≡ [] → GoesOnBy 0 clients old new → All (λ (e : Event). e.client < clients) new
-of_these clients old new empty goes =
-    let are : new ≡ goes.0 = goes.1 ∙ ap (λ (events : List Event). events ++ goes.0) empty in
-    subst (All (λ (e : Event). e.client < clients)) (sym are) (λ k t less. let among = goes.2 k t less in omega (arith, among.1))

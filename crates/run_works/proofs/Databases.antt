@@ -1,5 +1,8 @@
 -- What the runner of clients says of a run, without its database; a new database for as many clients.
-use Rattle.std.proofs.Common.{◌≡◌, ℕ, List, subst}
+use Rattle.std.proofs.Common.{◌≡◌, ◌<◌, ◌++◌, ◌∙◌, ℕ, List, [], ap, sym, arith, subst}
+use Rattle.std.specs.Prelude.{All}
+use Rattle.client_runner.specs.Served.{GoesOnBy}
+use Rattle.block_clients.specs.Outcome.{own_events}
 use Rattle.client_database.specs.declared.event.Event.{Event}
 use Rattle.database_meaning.specs.Setting.{Setting}
 use Rattle.abl_values.specs.Schema.{SchemaData}
@@ -21,3 +24,13 @@ has_ended HasSetting setting trace k old new has ran =
 -- a new database of one schema and number of clients is one of an equal schema and number
 pub as_new : {R : Type 0} (rows : RowState) (db : Machine R) (schema other : SchemaData) (n m : ℕ) → IsNew rows db schema n → schema ≡ other → n ≡ m → IsNew rows db other m
 as_new rows db schema other n m fresh is count = subst (λ (k : ℕ). IsNew rows db other k) count (subst (λ (s : SchemaData). IsNew rows db s n) is fresh)
+
+-- events after none are of these clients
+pub of_these : (clients : ℕ) (old new : List Event) → old ≡ [] → GoesOnBy 0 clients old new → All (λ (e : Event). e.client < clients) new
+of_these clients old new empty goes =
+    let are : new ≡ goes.0 = goes.1 ∙ ap (λ (events : List Event). events ++ goes.0) empty in
+    subst (All (λ (e : Event). e.client < clients)) (sym are) (λ k t less. let among = goes.2 k t less in omega (arith, among.1))
+
+-- no client has an event in an empty trace
+pub none_own : (client : ℕ) (trace : List Event) → trace ≡ [] → own_events client trace ≡ []
+none_own client trace empty = ap (own_events client) empty

@@ -60,9 +60,14 @@ end_or_none (Some how) = how
 abbrev pub HasSections : ClientView → List Section → Type 0
 HasSections client sections = (names : List (List ℕ)) (pieces : List Piece) → HasWritten client names pieces → sections ≡ sections_of names pieces
 
--- and so has each of these clients
+-- what is reported of a client: the sections that it has written, and none where it has no end, since it has not begun
+abbrev pub AreReported : Option ClientEnd → ClientView → List Section → Type 0
+AreReported None client sections = sections ≡ []
+AreReported (Some how) client sections = HasSections client sections
+
+-- and so it is of each of these clients
 abbrev pub HaveSections : {D : Type 0} → List (ClientTask D) → List (List Section) → Type 0
 HaveSections [] [] = Unit {0}
 HaveSections [] (sections ∷ parts) = ⊥
 HaveSections (task ∷ tasks) [] = ⊥
-HaveSections (task ∷ tasks) (sections ∷ parts) = HasSections task.client.client sections × HaveSections tasks parts
+HaveSections (task ∷ tasks) (sections ∷ parts) = AreReported task.end task.client.client sections × HaveSections tasks parts

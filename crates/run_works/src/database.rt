@@ -61,7 +61,7 @@ pub fn run_tasks<R: Threads + Wait + Sync, G: Gate + Sync>(
     ensures clients { IfOk result (λ trace. All (λ (e : Event). e.client < length tasks.old) trace) }
     ensures ended { IfOk result (λ trace. (k : ℕ) (t : _) → k < length tasks.old → HasEnded trace k (slice_index_or tasks.old k t) (slice_index_or tasks.new k t)) }
 {
-    match run_block_clients(rt, alloc, database, tasks, gate) {
+    match run_block_clients(rt, alloc, database, 0, tasks, gate) {
         Ok(database) => {
             let (rows, trace) = database.close();
             drop(rows);

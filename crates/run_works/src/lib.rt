@@ -12,4 +12,4 @@ pub mod works;
 pub use begin::client_to_run;
 pub use database::{RunDatabase, RunStore, RunTask, open_database, run_tasks};
 pub use text::write_run;
-pub use works::execute;
+pub use works::{execute, report};

@@ -5,13 +5,14 @@ ghost use Rattle.client_output.specs.declared.section.Section.{Section as Writte
 ghost use Rattle.abl_outside.specs.declared.out.Stream.{Stream};
 ghost use Rattle.abl_outside.specs.Out.{Writes};
 ghost use Rattle.run_report.specs.Report.{reports, run_text};
-ghost use Rattle.run_works.specs.Inside.{HaveSections};
+ghost use Rattle.run_works.specs.Inside.{AreReported, HaveSections};
 
 use crate::database::RunTask;
 use abl_arguments::Mode;
 use abl_base::Bytes;
 use abl_outside::{Out, OutFailed};
 use client_database::Event;
+use client_output::Section;
 use run_report::{ReportForm, write_report, write_trace};
 
 /// Writes the text of a run: the part of each client, and in mode trace the trace.
@@ -42,6 +43,16 @@ fn write_reports<O: Out>(out: &mut O, names: &[Bytes], tasks: &[RunTask]) -> Res
     let Some((task, tasks)) = tasks.split_first() else {
         return Ok(());
     };
-    write_report(out, name.as_slice(), task.client.client.output())?;
+    write_report(out, name.as_slice(), reported(task))?;
     write_reports(out, names, tasks)
+}
+
+/// What the client has written, and nothing where it has not begun.
+fn reported(task: &RunTask) -> &[Section]
+    ensures { AreReported task.now.end task.now.client.client result.now }
+{
+    match &task.end {
+        Some(_) => task.client.client.output(),
+        None => &[],
+    }
 }

@@ -48,7 +48,7 @@ pub fn execute<R: Threads + Wait + Sync, O: Out, G: Gate + Sync>(
 
 /// Writes the report of a run whose clients ended so, and the lines of the status. Room for the ends
 /// is in `ends`.
-fn report<O: Out>(
+pub fn report<O: Out>(
     out: &mut O,
     form: &ReportForm<'_>,
     tasks: Vec<RunTask>,

@@ -29,15 +29,15 @@ pub returns-in_err-write_report : goal.returns-in_err-write_report
 returns-in_err-write_report g t c =
     let p = err_from_is_err_and c.from_residual.result c.from_residual.ensures.1 in
     let rest = have_sections c.in-Some-split_first.tasks.now in (
-      c.output.result.now ∷ rest.0,
-      subst (λ (tasks : List (ClientTask _)). HaveSections tasks (c.output.result.now ∷ rest.0)) (sym c.in-Some-split_first.ensures.cases.0) (c.output.ensures, rest.1),
+      c.reported.result.now ∷ rest.0,
+      subst (λ (tasks : List (ClientTask _)). HaveSections tasks (c.reported.result.now ∷ rest.0)) (sym c.in-Some-split_first.ensures.cases.0) (c.reported.ensures, rest.1),
       rw (p.1, c.in-Some.ensures.cases.0, ← c.as_slice.ensures) (writes_part Output _ _ _ _ c.in_err-write_report.ensures),
     )
 
 pub returns : goal.returns
 returns g t c =
     let rest = c.write_reports.ensures in (
-      c.output.result.now ∷ rest.0,
-      subst (λ (tasks : List (ClientTask _)). HaveSections tasks (c.output.result.now ∷ rest.0)) (sym c.in-Some-split_first.ensures.cases.0) (c.output.ensures, rest.1),
+      c.reported.result.now ∷ rest.0,
+      subst (λ (tasks : List (ClientTask _)). HaveSections tasks (c.reported.result.now ∷ rest.0)) (sym c.in-Some-split_first.ensures.cases.0) (c.reported.ensures, rest.1),
       rw (c.in-Some.ensures.cases.0, ← c.as_slice.ensures) (writes_then _ Output _ _ _ _ _ c.in_ok-write_report.ensures rest.2),
     )
