@@ -1,3 +1,4 @@
+pub mod BankForms
 pub mod Clients
 pub mod CheckForms
 pub mod Forms

@@ -5,8 +5,9 @@ use Rattle.abl_arguments.specs.declared.parts.Mode.TheVariants.{Trace, Quiet}
 use Rattle.abl_arguments.specs.declared.run.RunArguments.{RunArguments}
 use Rattle.abl_arguments.specs.declared.client.ClientArgument.{ClientArgument}
 use Rattle.abl_arguments.specs.declared.check.CheckArguments.{CheckArguments}
+use Rattle.abl_arguments.specs.declared.bank.BankArguments.{BankArguments}
 use Rattle.abl_arguments.specs.declared.command.Command.{Command}
-use Rattle.abl_arguments.specs.declared.command.Command.TheVariants.{Run as ToRun, Check as ToCheck}
+use Rattle.abl_arguments.specs.declared.command.Command.TheVariants.{Run as ToRun, Check as ToCheck, Bank as ToBank}
 use Rattle.std.specs.Char.{IsAsciiDigit, IsAsciiAlphanumeric}
 
 -- the number that decimal digits denote
@@ -114,9 +115,44 @@ pub record IsCheck (check : Check) : Type 0 where
 abbrev pub HaveCheckForm : List (List ℕ) → Type 0
 HaveCheckForm arguments = (check : Check) × (IsCheck check × (arguments ≡ check_arguments check))
 
+-- a number in decimal digits without a leading zero; ten digits are enough for each bound
+pub record IsDecimal (arg : List ℕ) : Type 0 where
+  pub digits : All IsAsciiDigit arg
+  pub some : 0 < length arg
+  pub short : length arg ≤ 10
+  pub first : (length arg ≡ 1) ⊎ (slice_index arg 0 ≢ 48)
+
+-- and from `least` to `most`
+pub record IsNumber (least most : ℕ) (arg : List ℕ) : Type 0 where
+  pub decimal : IsDecimal arg
+  pub enough : least ≤ number_of arg
+  pub few : number_of arg ≤ most
+
+-- what the arguments `bank START CLIENTS ACCOUNTS TRANSFERS` name, each in digits
+pub record Bank : Type 0 where
+  pub start : List ℕ
+  pub clients : List ℕ
+  pub accounts : List ℕ
+  pub transfers : List ℕ
+
+-- the arguments that name it
+abbrev pub bank_arguments : Bank → List (List ℕ)
+bank_arguments bank = codes "bank" ∷ bank.start ∷ bank.clients ∷ bank.accounts ∷ bank.transfers ∷ []
+
+-- each number is within its bounds
+pub record IsBank (bank : Bank) : Type 0 where
+  pub start : IsNumber 0 2147483647 bank.start
+  pub clients : IsNumber 1 8 bank.clients
+  pub accounts : IsNumber 2 10000 bank.accounts
+  pub transfers : IsNumber 1 50000 bank.transfers
+
+-- the arguments have the form of a bank
+abbrev pub HaveBankForm : List (List ℕ) → Type 0
+HaveBankForm arguments = (bank : Bank) × (IsBank bank × (arguments ≡ bank_arguments bank))
+
 -- THE ARGUMENTS HAVE A FORM
 abbrev pub HaveForm : List (List ℕ) → Type 0
-HaveForm arguments = HaveRunForm arguments ⊎ HaveCheckForm arguments
+HaveForm arguments = HaveRunForm arguments ⊎ (HaveCheckForm arguments ⊎ HaveBankForm arguments)
 
 -- some arguments of the form begin with these
 abbrev pub BeginForm : (List (List ℕ) → Type 0) → List (List ℕ) → Type 0
@@ -162,7 +198,18 @@ pub record NamesCheck (arguments : List (List ℕ)) (read : CheckArguments) : Ty
   pub is_check : IsCheck (check_of read)
   pub arguments_are : arguments ≡ check_arguments (check_of read)
 
+-- the arguments name the bank that was read
+pub record NamesBank (arguments : List (List ℕ)) (read : BankArguments) : Type 0 where
+  pub bank : Bank
+  pub is_bank : IsBank bank
+  pub arguments_are : arguments ≡ bank_arguments bank
+  pub start : read.start ≡ number_of bank.start
+  pub clients : read.clients ≡ number_of bank.clients
+  pub accounts : read.accounts ≡ number_of bank.accounts
+  pub transfers : read.transfers ≡ number_of bank.transfers
+
 -- the arguments name what was read
 abbrev pub NamesCommand : List (List ℕ) → Command → Type 0
 NamesCommand arguments (ToRun read) = Names arguments read
 NamesCommand arguments (ToCheck read) = NamesCheck arguments read
+NamesCommand arguments (ToBank read) = NamesBank arguments read

@@ -1,8 +1,10 @@
--- The form of the arguments of a run, argument by argument.
+-- The forms of the arguments of a run and of a bank, argument by argument.
 use Rattle.std.specs.Prelude.{◌≡◌, ℕ, ◌<◌, List, [], ◌∷◌, ◌++◌, length, codes, Option}
 use Rattle.abl_arguments.specs.declared.run.Argument.{Argument}
 use Rattle.abl_arguments.specs.declared.run.Argument.TheVariants.{Command, Schema, Steps, Mode}
-use Rattle.abl_arguments.specs.CommandLine.{IsMode, IsSteps, IsName, IsFileName, IsInput, input_part}
+use Rattle.abl_arguments.specs.declared.bank.BankPlace.{BankPlace}
+use Rattle.abl_arguments.specs.declared.bank.BankPlace.TheVariants as bank
+use Rattle.abl_arguments.specs.CommandLine.{IsMode, IsNumber, IsSteps, IsName, IsFileName, IsInput, input_part}
 
 -- the places before the clients, in order
 abbrev pub form : List Argument
@@ -36,3 +38,21 @@ abbrev pub FitAll : List Argument → List (List ℕ) → Type 0
 FitAll places [] = Unit {0}
 FitAll [] (arg ∷ arguments) = ⊥
 FitAll (argument ∷ places) (arg ∷ arguments) = Fits argument arg × FitAll places arguments
+
+-- the places of a bank, in order
+abbrev pub bank_form : List BankPlace
+bank_form = bank.Command ∷ bank.Start ∷ bank.Clients ∷ bank.Accounts ∷ bank.Transfers ∷ []
+
+-- the argument fits the place of a bank
+abbrev pub FitsBank : BankPlace → List ℕ → Type 0
+FitsBank bank.Command arg = arg ≡ codes "bank"
+FitsBank bank.Start arg = IsNumber 0 2147483647 arg
+FitsBank bank.Clients arg = IsNumber 1 8 arg
+FitsBank bank.Accounts arg = IsNumber 2 10000 arg
+FitsBank bank.Transfers arg = IsNumber 1 50000 arg
+
+-- each argument fits its place, and there are no more arguments than places
+abbrev pub FitBank : List BankPlace → List (List ℕ) → Type 0
+FitBank places [] = Unit {0}
+FitBank [] (arg ∷ arguments) = ⊥
+FitBank (place ∷ places) (arg ∷ arguments) = FitsBank place arg × FitBank places arguments

@@ -4,12 +4,14 @@
 //! to which no command line begins so (`IsWrong`).
 #![tactic(auto)]
 
-pub mod check;
+pub mod bank;
+mod check;
 pub mod client;
 pub mod command;
 pub mod parts;
 pub mod run;
 
+pub use bank::{BankArguments, read_bank};
 pub use check::CheckArguments;
 pub use client::{ClientArgument, client_of};
 pub use command::{Command, read_command};

@@ -1,7 +1,7 @@
 //! The parts of arguments: numbers, names and modes.
 
 ghost use Rattle.std.specs.Prelude.{◌≡◌, ◌≤◌, ◌<◌, ◌+◌, ◌++◌, ◌∷◌, ◌↔◌, length, take, drop, All, ◌≢◌, IsTrue, IfSome, IfNone};
-ghost use Rattle.abl_arguments.specs.CommandLine.{IsFileName, IsMode, IsName, IsSteps, mode_argument, number_of};
+ghost use Rattle.abl_arguments.specs.CommandLine.{IsDecimal, IsFileName, IsMode, IsName, IsSteps, mode_argument, number_of};
 ghost use Rattle.std.specs.Char.{IsAsciiDigit};
 
 use abl_base::Bytes;
@@ -31,7 +31,7 @@ pub(crate) fn is_steps(arg: &[u8]) -> bool
 /// The number that the digits denote.
 pub fn number_in(digits: &[u8]) -> u64
     requires digits { All IsAsciiDigit digits.now }
-    requires short { length digits.now ≤ 9 }
+    requires short { length digits.now ≤ 10 }
     ensures { result ≡ number_of digits.now }
 {
     let mut number = 0;
@@ -39,6 +39,16 @@ pub fn number_in(digits: &[u8]) -> u64
         number = 10 * number + u64::from(*digit - b'0');
     }
     number
+}
+
+/// Whether the argument is a number in 1 to 10 decimal digits, without a leading zero.
+pub(crate) fn is_decimal(arg: &[u8]) -> bool
+    ensures { IsTrue result ↔ IsDecimal arg.now }
+{
+    !arg.is_empty()
+        && arg.len() <= 10
+        && (arg.len() == 1 || arg[0] != b'0')
+        && arg.iter().all(|byte| byte.is_ascii_digit())
 }
 
 /// Whether the argument has the form of NAME.

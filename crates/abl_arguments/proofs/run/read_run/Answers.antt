@@ -55,7 +55,8 @@ pub number_in-requires-clause-short : goal.number_in-requires-clause-short
 number_in-requires-clause-short c =
     let f : Fitted c.args.arguments.now = fitted c.args.arguments.now c.first_misfit-misfit.result c.first_misfit-misfit.ensures.within c.first_misfit-misfit.ensures.fits c.if-misfit-lt4.false in
     let word : c.as_slice-3.result.now ≡ f.steps = c.as_slice-3.ensures ∙ c.index-arguments-2.is ∙ ap (λ (ws : List (List ℕ)). get_or ws 2 c.index-arguments-2.result) f.arguments_are in
-    (subst IsSteps (sym word) f.is_steps).short
+    let short = (subst IsSteps (sym word) f.is_steps).short in
+    omega (arith, short)
 
 pub returns-clause-form : goal.returns-clause-form
 returns-clause-form c =
