@@ -1,0 +1,5 @@
+pub mod Texts
+pub mod Phases
+pub mod Result
+pub mod Inside
+pub mod Examples

@@ -1,0 +1,44 @@
+-- Clients that run in three phases over one database.
+use Rattle.std.specs.Prelude.{◌≡◌, ◌+◌, ℕ, List, [], ◌∷◌}
+use Rattle.abl_values.specs.Schema.{SchemaData}
+use Rattle.abl_outside.specs.Out.{OutState}
+use Rattle.block_meaning.specs.Program.{Program}
+use Rattle.block_meaning.specs.Meaning.{run}
+use Rattle.block_meaning.specs.State.{Progress}
+use Rattle.client_database.specs.declared.answer.Answer.{Answer}
+use Rattle.client_database.specs.declared.ends.ClientEnd.{ClientEnd}
+use Rattle.client_database.specs.declared.ends.ClientEnd.TheVariants.{NoMemory}
+use Rattle.client_database.specs.declared.event.Event.{Event}
+use Rattle.client_output.specs.declared.section.Section.{Section}
+use Rattle.block_clients.specs.Phases.{AreThreePhases}
+use Rattle.database_meaning.specs.Traces.{IsLegal}
+use Rattle.new_database.specs.Contents.{new_contents}
+use Rattle.abl_arguments.specs.declared.parts.Mode.{Mode}
+use Rattle.run_report.specs.declared.ending.Report.{Report}
+use Rattle.run_report.specs.Ending.{IsReported}
+use Rattle.run_works.specs.ClientRun.{ClientOutcome, own_events}
+use Rattle.run_works.specs.Works.{IsProgram, Work}
+
+-- What a client of a phase did: as its source means under the answers to its own events. Or there was no memory to begin the phase, and
+-- the client has requested nothing and written nothing
+pub data PhaseOutcome (outputs : List (List ℕ)) (m : List Answer → Progress) (own : List Event) : ClientEnd → List Section → Type 0 where
+  Did : {how : ClientEnd} {sections : List Section} → ClientOutcome outputs m own how sections → PhaseOutcome outputs m own how sections
+  NotBegun : own ≡ [] → PhaseOutcome outputs m own NoMemory []
+
+-- what each client did, with this number of units. The clients have the numbers from this one on, and came to these ends and wrote these
+-- sections
+abbrev pub DidInPhases : ℕ → List Event → ℕ → List Work → List ClientEnd → List (List Section) → Type 0
+DidInPhases units trace number [] [] [] = Unit {0}
+DidInPhases units trace number (w ∷ ws) (how ∷ ends) (sections ∷ parts) =
+    ((p : Program) → IsProgram w p → PhaseOutcome w.tree.outputs (run p units) (own_events number trace) how sections) × DidInPhases units trace (number + 1) ws ends parts
+DidInPhases units trace number works ends parts = ⊥
+
+-- A RUN IN THREE PHASES of the clients of these names and works over a new database of this schema, and its report: each client did as its
+-- source means under its own answers, or could not begin. The phases are one trace over one database, which is legal
+pub record HasRunPhases (mode : Mode) (schema : SchemaData) (names : List (List ℕ)) (units clients : ℕ) (works : List Work) (old new : OutState) (report : Report) : Type 0 where
+  pub ends : List ClientEnd
+  pub parts : List (List Section)
+  pub did : DidInPhases units report.trace 0 works ends parts
+  pub phases : AreThreePhases clients report.trace
+  pub legal : IsLegal (record { schema = schema; clients = clients + 2 }) (new_contents schema) report.trace
+  pub reported : IsReported mode schema names ends parts old new report

@@ -1,0 +1,42 @@
+-- The result of a bank: it was refused, or its three phases ran.
+use Rattle.std.specs.Prelude.{◌≡◌, ℕ, List, [], ◌∷◌}
+use Rattle.abl_values.specs.Schema.{SchemaData}
+use Rattle.abl_outside.specs.Out.{OutState}
+use Rattle.abl_arguments.specs.declared.parts.Mode.TheVariants.{Quiet}
+use Rattle.abl_source.specs.Sources.{IsTreeOf}
+use Rattle.bank_inputs.specs.declared.bank.Bank.{Bank}
+use Rattle.bank_inputs.specs.declared.sources.TheConstants.{BANK_SCHEMA}
+use Rattle.run_report.specs.declared.ending.Report.{Report}
+use Rattle.run_report.specs.declared.refusal.Refusal.{Refusal}
+use Rattle.run_report.specs.declared.refusal.Refusal.TheVariants.{NoMemory}
+use Rattle.run_report.specs.Ending.{IsRefused}
+use Rattle.source_files.specs.declared.files.ClientTexts.{ClientTexts}
+use Rattle.source_files.specs.Compiled.{BreaksSchema, OneSourceBreaks, schema_in}
+use Rattle.run_works.specs.Works.{Work}
+use Rattle.bank_run.specs.declared.bank.TheConstants.{BANK_UNITS}
+use Rattle.bank_run.specs.Texts.{bank_names, bank_texts}
+use Rattle.bank_run.specs.Phases.{HasRunPhases}
+
+-- the schema of a bank
+abbrev pub bank_schema : SchemaData
+bank_schema = schema_in BANK_SCHEMA.now
+
+-- why a bank is refused before its first phase: the rule that the schema or the first source that breaks one breaks first, or out of memory
+pub data PreventsBank (bank : Bank) : Refusal → Type 0 where
+  schema_breaks : {refusal : Refusal} → BreaksSchema BANK_SCHEMA.now refusal → PreventsBank bank refusal
+  source_breaks : {refusal : Refusal} → OneSourceBreaks bank_schema 0 (bank_texts bank) refusal → PreventsBank bank refusal
+  bank_wants : PreventsBank bank NoMemory
+
+-- the works of clients with these texts, which read no further file
+abbrev pub AreTextWorks : SchemaData → List ClientTexts → List Work → Type 0
+AreTextWorks schema [] [] = Unit {0}
+AreTextWorks schema [] (w ∷ ws) = ⊥
+AreTextWorks schema (t ∷ ts) [] = ⊥
+AreTextWorks schema (t ∷ ts) (w ∷ ws) = (IsTreeOf schema t.source w.tree × ((w.tables ≡ schema.tables) × ((w.input ≡ t.input) × (w.inputs ≡ [])))) × AreTextWorks schema ts ws
+
+-- THE RESULT OF A BANK
+pub data BankResult (bank : Bank) (old new : OutState) (report : Report) : Type 0 where
+  -- it was refused before its first phase
+  BankPrevented : (refusal : Refusal) → PreventsBank bank refusal → IsRefused (bank_names bank.clients) refusal old new report → BankResult bank old new report
+  -- its clients ran: the one that sets up the accounts, then those that make transfers, then the one that adds up
+  BankRan : (works : List Work) → AreTextWorks bank_schema (bank_texts bank) works → HasRunPhases Quiet bank_schema (bank_names bank.clients) BANK_UNITS bank.clients works old new report → BankResult bank old new report
