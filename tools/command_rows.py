@@ -2,7 +2,7 @@
 """Writes `stdout` of crates/command_tables, the answers to the rows of its `stdin`.
 
 Each row that runs sources without records is answered by tools/abl_reference.py, each row that runs one
-source over a schema by tools/abl_records.py, and each row of `check` that lists sources by the reference of
+source over a schema by tools/abl_records.py, each row of `bank` by the balances that its transfers leave, and each row of `check` that lists sources by the reference of
 scopes in tools/scope_rows.py, where it reads the source; none knows anything of the program. The answers to other rows (wrong arguments, files that cannot be read, rules that are
 broken, faults of the outside) were worked by hand; they are in `stdout` and stay. Run it at the
 top of the repository; with `--check` it only says which committed answers the reference denies."""
@@ -22,6 +22,7 @@ CLIENT = re.compile(r" ([^=]+)=([^ <]+)(?:<([^ <]+))?")
 BY_CLIENT, WHOLE = "clients", "whole"
 CHECK = re.compile(r"check s\.df( [^ ]+){1,16}$")
 SCHEMA_LINE = re.compile(r'ADD (?:TABLE|FIELD "(\w+)" OF) "(\w+)"')
+BANK = re.compile(r"bank (0|[1-9]\d*) ([1-9]\d*) ([1-9]\d*) ([1-9]\d*)$")
 KEPT = re.compile(r"(1|2|3|4|6|7|10) ")
 
 
@@ -69,6 +70,9 @@ def answered(row, schema_before):
     files.setdefault("s.df", schema)
     if CHECK.match(arguments) and not faults:
         return listed(arguments.split()[2:], schema, files)
+    bank = BANK.match(arguments)
+    if bank and not faults:
+        return banked(*(int(number) for number in bank.groups()))
     command = COMMAND.match(arguments)
     if not command or faults not in ("", BY_CLIENT, WHOLE):
         return None
@@ -77,6 +81,29 @@ def answered(row, schema_before):
     if schema:
         return ran_over_records(int(command[1]), command[2], clients, files, faults == WHOLE) if len(clients) == 1 else None
     return ran(int(command[1]), command[2], clients, files, faults == BY_CLIENT)
+
+
+def draws(state):
+    """The draws of a bank, one after the other, from this state."""
+    while True:
+        state = (state * 1103515245 + 12345) % 2**31
+        yield state // 65536
+
+
+def banked(start, clients, accounts, transfers):
+    """The answer to a bank: each transfer is made, in whatever order."""
+    balances, drawn = [1000] * (accounts + 1), draws(start)
+    for _ in range(transfers):
+        giver = next(drawn) % accounts + 1
+        taker = next(drawn) % (accounts - 1) + 1
+        taker += taker >= giver
+        amount = next(drawn) % 100 + 1
+        balances[giver] -= amount
+        balances[taker] += amount
+    weighted = sum(number * balances[number] for number in range(1, accounts + 1))
+    names = ["setup", *(f"c{number + 1}" for number in range(clients)), "total"]
+    out = "".join(f"== {name} ==\n" for name in names) + f"total {sum(balances[1:])} weighted {weighted}\n"
+    return f"0 {shown(out.encode())} "
 
 
 def ran_over_records(units, mode, clients, files, whole):

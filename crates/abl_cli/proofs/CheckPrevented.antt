@@ -13,7 +13,7 @@ use Rattle.block_listing.specs.Listing.{listing}
 use Rattle.abl_source.specs.Sources.{BreaksRule}
 use Rattle.abl_source.proofs.Violations.{one_rule, one_tree_of, trees_break_none}
 use Rattle.abl_arguments.specs.CommandLine.{Check, check_arguments}
-use Rattle.abl_arguments.proofs.CheckForms.{other_command}
+use Rattle.abl_arguments.proofs.CheckForms.{bank_or_check, other_command}
 use Rattle.run_report.specs.declared.refusal.Refusal.{Refusal}
 use Rattle.run_report.specs.declared.refusal.Refusal.TheVariants.{File, TooLong, Schema, Source, NoMemory}
 use Rattle.run_report.specs.declared.ending.Report.{Report}
@@ -21,7 +21,7 @@ use Rattle.source_files.specs.declared.files.TheConstants.{MAX_FILE_BYTES}
 use Rattle.abl_cli.specs.Check.{IsListing, HaveListings, OneBreaks, this_breaks, later_breaks, program_breaks, program_wants, check_text}
 use Rattle.source_files.specs.Compiled.{schema_in}
 use Rattle.source_files.specs.Files.{HaveTexts, IsNotRead, OneIsNotRead, this_one, later_one}
-use Rattle.abl_cli.specs.Command.{CheckTexts, PreventsCheck, no_schema_file, no_program, schema_is_broken, one_breaks, AreListed, HasChecked, wrong_argument, prevented, check_prevented, CommandResult, Refused, Ran, Checked, IsRefusal, AreThere}
+use Rattle.abl_cli.specs.Command.{CheckTexts, PreventsCheck, no_schema_file, no_program, schema_is_broken, one_breaks, AreListed, HasChecked, wrong_argument, prevented, check_prevented, CommandResult, Refused, Ran, Checked, Banked, IsRefusal, AreThere}
 use Rattle.run_report.specs.Ending.{WritesStatus, output_refusal, status_after}
 use Rattle.abl_cli.specs.CheckFiles.{AreThereWith, NamesSources, check_files}
 use Rattle.abl_cli.proofs.FileCauses.{wants, same_text, same_texts, have_none, have_long, unread, none_unread, one_missing, one_long, same_violation, no_violation}
@@ -93,11 +93,12 @@ module _ (arguments : List (List ℕ)) (files : FileState) (faults : ℕ) (old n
     had_listed : (listings : List (List ℕ)) → AreListed files check listings → HasChecked check.programs listings old new report → Outcome
 
   outcome : CommandResult arguments files faults old new report → Outcome
-  outcome (Refused name refusal (wrong_argument wrong) is) = absurd (wrong_or_formed arguments _ wrong (inr (check, (names.is_check, names.arguments_are))))
+  outcome (Refused name refusal (wrong_argument wrong) is) = absurd (wrong_or_formed arguments _ wrong (inr (inl (check, (names.is_check, names.arguments_are)))))
   outcome (Refused name refusal (prevented run is_run are prevents) is) = absurd (other_command (sym are ∙ names.arguments_are))
   outcome (Refused name refusal (check_prevented other is_other are prevents) is) =
       was_prevented refusal is.refusal is.status (subst (λ (c : Check). PreventsCheck files faults c refusal) (one_check other check (sym are ∙ names.arguments_are)) prevents)
   outcome (Ran named is_named are texts clean works are_works ran) = absurd (other_command (sym are ∙ names.arguments_are))
+  outcome (Banked bank is_bank are result) = absurd (bank_or_check (sym are ∙ names.arguments_are))
   outcome (Checked other is_other are listings listed told) =
       let same = one_check other check (sym are ∙ names.arguments_are) in
       had_listed listings (subst (λ (c : Check). AreListed files c listings) same listed) (subst (λ (c : Check). HasChecked c.programs listings old new report) same told)

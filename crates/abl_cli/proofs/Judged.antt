@@ -9,15 +9,19 @@ use Rattle.client_output.specs.declared.section.Section.{Section}
 use Rattle.run_report.specs.declared.refusal.Refusal.{Refusal}
 use Rattle.run_report.specs.declared.refusal.Refusal.TheVariants.{Usage, File, TooLong, Schema, Source, Client, Output, NoMemory}
 use Rattle.run_report.specs.declared.ending.Report.{Report}
-use Rattle.abl_arguments.specs.CommandLine.{ClientFiles, Check, HaveForm, BeginForm, IsWrong, at_argument, missing}
+use Rattle.abl_arguments.specs.CommandLine.{Bank, ClientFiles, Check, HaveForm, BeginForm, IsWrong, at_argument, missing, number_of}
+use Rattle.bank_run.specs.Texts.{bank_names}
+use Rattle.bank_run.specs.Result.{BankResult, BankPrevented, BankRan, PreventsBank, bank_schema}
+use Rattle.abl_cli.proofs.Banks.{no_bank_output, no_bank_usage}
 use Rattle.abl_values.specs.Schema.{SchemaData}
 use Rattle.abl_arguments.specs.declared.parts.Mode.{Mode}
+use Rattle.abl_arguments.specs.declared.parts.Mode.TheVariants.{Quiet}
 use Rattle.run_report.specs.Report.{status_of}
 use Rattle.abl_outside.specs.Out.{OutState}
 use Rattle.abl_outside.specs.Files.{FileState}
 use Rattle.abl_cli.specs.Check.{OneBreaks, this_breaks, later_breaks}
 use Rattle.source_files.specs.Files.{IsNotRead, OneIsNotRead, this_one, later_one}
-use Rattle.abl_cli.specs.Command.{Prevents, no_file, schema_breaks, source_breaks, no_named_input, PreventsCheck, no_schema_file, no_program, schema_is_broken, one_breaks, Cause, wrong_argument, prevented, check_prevented, HasChecked, CommandResult, Refused, Ran, Checked, client_names, IsUsage, HasWholeText, of_run, of_check}
+use Rattle.abl_cli.specs.Command.{Prevents, no_file, schema_breaks, source_breaks, no_named_input, PreventsCheck, no_schema_file, no_program, schema_is_broken, one_breaks, Cause, wrong_argument, prevented, check_prevented, HasChecked, CommandResult, Refused, Ran, Checked, Banked, bank_of, client_names, IsUsage, HasWholeText, of_run, of_bank, of_check}
 use Rattle.source_files.specs.Compiled.{OneSourceBreaks, this_source, later_source, schema_in}
 use Rattle.run_report.specs.Ending.{IsReported, output_refusal, WritesStatus, refusal_after, failure_refusal, first_failure, one_lacks_memory, status_after}
 
@@ -125,22 +129,28 @@ module _ (arguments : List (List ℕ)) (files : FileState) (faults : ℕ) (old n
   no_usage_checked true arg e = cc e
   no_usage_checked false arg e = cc e
 
+  no_usage_banked : (bank : Bank) (arg : ℕ) → BankResult (bank_of bank) old new report → report.refusal ≡ Some (Usage arg) → ⊥
+  no_usage_banked bank arg (BankPrevented refusal prevents is) given = let same : refusal ≡ Usage arg = cc (is.refusal, given) in no_bank_usage (bank_of bank) (subst (λ r. PreventsBank (bank_of bank) r) same prevents)
+  no_usage_banked bank arg (BankRan works are ran) given = no_usage ran.reported.whole ran.ends arg (sym ran.reported.refusal ∙ given)
+
   pub wrong_is_reported : (arg : ℕ) → CommandResult arguments files faults old new report → report.refusal ≡ Some (Usage arg) → IsWrong arguments arg
   wrong_is_reported arg (Refused name refusal cause is) given =
       let same : refusal ≡ Usage arg = cc (is.refusal, given) in usage_is_wrong name arg (subst (λ r. Cause arguments files faults name r) same cause)
   wrong_is_reported arg (Ran named is_run are texts clean works are_works ran) given =
       absurd (no_usage ran.reported.whole ran.ends arg (sym ran.reported.refusal ∙ given))
   wrong_is_reported arg (Checked check is_check are listings listed told) given = absurd (no_usage_checked told.whole arg (sym told.refusal ∙ given))
+  wrong_is_reported arg (Banked bank is_bank are result) given = absurd (no_usage_banked bank arg result given)
 
   formless_is_usage : (name : List (List ℕ)) (refusal : Refusal) → Cause arguments files faults name refusal → (HaveForm arguments → ⊥) → IsUsage (Some refusal)
   formless_is_usage name refusal (wrong_argument wrong) formless = tt
   formless_is_usage name refusal (prevented run is_run are prevents) formless = absurd (formless (inl (run, (is_run, are))))
-  formless_is_usage name refusal (check_prevented check is_check are prevents) formless = absurd (formless (inr (check, (is_check, are))))
+  formless_is_usage name refusal (check_prevented check is_check are prevents) formless = absurd (formless (inr (inl (check, (is_check, are)))))
 
   pub formless_is_reported : CommandResult arguments files faults old new report → (HaveForm arguments → ⊥) → IsUsage report.refusal
   formless_is_reported (Refused name refusal cause is) formless = subst IsUsage (sym is.refusal) (formless_is_usage name refusal cause formless)
   formless_is_reported (Ran named is_run are texts clean works are_works ran) formless = absurd (formless (inl (named, (is_run, are))))
-  formless_is_reported (Checked check is_check are listings listed told) formless = absurd (formless (inr (check, (is_check, are))))
+  formless_is_reported (Checked check is_check are listings listed told) formless = absurd (formless (inr (inl (check, (is_check, are)))))
+  formless_is_reported (Banked bank is_bank are result) formless = absurd (formless (inr (inr (bank, (is_bank, are)))))
 
   pub formed_is_no_usage : CommandResult arguments files faults old new report → HaveForm arguments → IsUsage report.refusal → ⊥
   formed_is_no_usage did form usage = let arg = is_usage report.refusal usage in wrong_or_formed arguments arg.0 (wrong_is_reported arg.0 did arg.1) form
@@ -183,6 +193,12 @@ module _ (arguments : List (List ℕ)) (files : FileState) (faults : ℕ) (old n
       breaks_checked : (whole : Bool) → output_refusal whole ≡ Some Output → whole ≡ false
       breaks_checked true e = absurd (cc e)
       breaks_checked false e = refl
+  output_rose (Banked bank is_bank are result) given = by_bank result
+    where
+      by_bank : BankResult (bank_of bank) old new report → Rose old.faults new.faults
+      by_bank (BankPrevented refusal prevents is) = let same : refusal ≡ Output = cc (is.refusal, given) in absurd (no_bank_output (bank_of bank) (subst (λ r. PreventsBank (bank_of bank) r) same prevents))
+      by_bank (BankRan works are_works ran) =
+          rose_in_report Quiet bank_schema (bank_names (number_of bank.clients)) ran.ends ran.parts ran.reported (output_breaks ran.reported.whole ran.ends (sym ran.reported.refusal ∙ given))
 
   -- ---- status 0
 
@@ -221,3 +237,12 @@ module _ (arguments : List (List ℕ)) (files : FileState) (faults : ℕ) (old n
       let ok = status_of_check told.whole (ap status_after (sym told.refusal) ∙ sym told.status ∙ zero) in
       let same : new ≡ told.between = subst (λ refusal. WritesStatus [] [] refusal told.between new) (told.refusal ∙ ok.1) told.lines in
       of_check check are listings listed (ap (λ (w : OutState). w.texts) same ∙ told.text.all ok.0 given)
+  whole_at_0 (Banked bank is_bank are result) zero given = by_bank result
+    where
+      by_bank : BankResult (bank_of bank) old new report → HasWholeText arguments files report old new
+      by_bank (BankPrevented refusal prevents is) = absurd (no_status_0 refusal (sym is.status ∙ zero))
+      by_bank (BankRan works are_works ran) =
+          let r = ran.reported in
+          let ok = status_of_run r.whole ran.ends (ap status_after (sym r.refusal) ∙ sym r.status ∙ zero) in
+          let same : new ≡ r.between = subst (λ refusal. WritesStatus (bank_names (number_of bank.clients)) report.ends refusal r.between new) (r.refusal ∙ ok.1) r.lines in
+          of_bank bank are ran.parts (ap (λ (w : OutState). w.texts) same ∙ r.text.all ok.0 given)

@@ -1,3 +1,4 @@
+pub mod Banks
 pub mod CheckPrevented
 pub mod Checks
 pub mod Commands

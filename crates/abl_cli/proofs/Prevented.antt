@@ -15,7 +15,7 @@ use Rattle.abl_arguments.specs.CommandLine.{Run, ClientFiles, arguments_of, clie
 use Rattle.abl_arguments.specs.declared.parts.Mode.{Mode}
 use Rattle.abl_arguments.specs.declared.parts.Mode.TheVariants.{Trace, Quiet}
 use Rattle.abl_arguments.proofs.Clients.{same_clients}
-use Rattle.abl_arguments.proofs.CheckForms.{other_command}
+use Rattle.abl_arguments.proofs.CheckForms.{bank_or_run, other_command}
 use Rattle.run_report.specs.declared.refusal.Refusal.{Refusal}
 use Rattle.run_report.specs.declared.refusal.Refusal.TheVariants.{File, TooLong, Schema, Source, NoMemory}
 use Rattle.run_report.specs.declared.ending.Report.{Report}
@@ -24,7 +24,7 @@ use Rattle.source_files.specs.declared.files.ClientTexts.{ClientTexts}
 use Rattle.abl_source.specs.Sources.{BreaksRule, IsTreeOf}
 use Rattle.source_files.specs.Compiled.{schema_in, breaks_rule, source_wants, OneSourceBreaks, this_source, later_source}
 use Rattle.source_files.specs.Files.{HaveTexts, HaveClients, OneIsNotRead, client_files, input_file}
-use Rattle.abl_cli.specs.Command.{AreTrees, Texts, Prevents, no_file, schema_breaks, source_breaks, no_named_input, run_wants, AreWorks, named_inputs, run_files, client_names, wrong_argument, prevented, check_prevented, CommandResult, Refused, Ran, Checked, IsRefusal, IsInputThere, AreThere, ClientsThere, AllThere, AreSources, NamesRun}
+use Rattle.abl_cli.specs.Command.{AreTrees, Texts, Prevents, no_file, schema_breaks, source_breaks, no_named_input, run_wants, AreWorks, named_inputs, run_files, client_names, wrong_argument, prevented, check_prevented, CommandResult, Refused, Ran, Checked, Banked, IsRefusal, IsInputThere, AreThere, ClientsThere, AllThere, AreSources, NamesRun}
 use Rattle.run_works.specs.Works.{Work, HasRun}
 use Rattle.run_report.specs.Ending.{refusal_after, failure_refusal, first_failure, one_lacks_memory, status_after}
 use Rattle.source_files.proofs.Causes.{input_texts}
@@ -216,6 +216,7 @@ module _ (arguments : List (List ℕ)) (files : FileState) (faults : ℕ) (old n
       (subst (λ (r : Run). Prevents files faults r.schema r.clients refusal) (one_run other run is_other names.is_run (sym are ∙ names.arguments_are)) prevents)
   outcome (Refused given refusal (check_prevented check is_check are prevents) is) = absurd (other_command (sym names.arguments_are ∙ are))
   outcome (Checked check is_check are listings listed told) = absurd (other_command (sym names.arguments_are ∙ are))
+  outcome (Banked bank is_bank are result) = absurd (bank_or_run (sym are ∙ names.arguments_are))
   outcome (Ran named is_named are texts clean works worked ran) =
       moved named (one_run named run is_named names.is_run (sym are ∙ names.arguments_are)) texts clean works worked (done_well named (schema_in texts.df) _ works ran)
 

@@ -30,7 +30,10 @@ use Rattle.run_report.specs.declared.refusal.Refusal.TheVariants.{Usage, File, T
 use Rattle.run_report.specs.declared.ending.Report.{Report}
 use Rattle.source_files.specs.declared.files.TheConstants.{MAX_FILE_BYTES}
 use Rattle.source_files.specs.declared.files.ClientTexts.{ClientTexts}
-use Rattle.abl_arguments.specs.CommandLine.{Run, ClientFiles, IsRun, arguments_of, Check, IsCheck, check_arguments, IsWrong, number_of}
+use Rattle.abl_arguments.specs.CommandLine.{Run, ClientFiles, IsRun, arguments_of, Check, IsCheck, check_arguments, Bank, IsBank, bank_arguments, IsWrong, number_of}
+use Rattle.bank_inputs.specs.declared.bank.Bank.{Bank as BankNumbers}
+use Rattle.bank_run.specs.Texts.{bank_names}
+use Rattle.bank_run.specs.Result.{BankResult}
 use Rattle.source_files.specs.Files.{HasText, HaveClients, HaveTexts, IsNotRead, OneIsNotRead, client_files}
 use Rattle.source_files.specs.Compiled.{BreaksSchema, OneSourceBreaks, schema_in}
 use Rattle.run_report.specs.Ending.{IsRefused, WritesStatus, output_refusal, status_after}
@@ -39,7 +42,7 @@ use Rattle.abl_cli.specs.Check.{HaveListings, OneBreaks, check_text}
 use Rattle.abl_arguments.specs.declared.parts.Mode.{Mode}
 use Rattle.abl_values.specs.declared.schema.TableDef.{TableDef}
 use Rattle.abl_values.specs.Schema.{SchemaData}
-use Rattle.run_report.specs.Report.{run_text, status_lines, status_of}
+use Rattle.run_report.specs.Report.{reports, run_text, status_lines, status_of}
 use Rattle.run_works.specs.ClientRun.{ClientOutcome, own_events}
 use Rattle.abl_outside.specs.Out.{OutState, Writes, appended}
 
@@ -126,6 +129,10 @@ pub record HasChecked (names listings : List (List ℕ)) (old new : OutState) (r
   pub status : report.status ≡ status_after report.refusal
   pub lines : WritesStatus [] [] report.refusal between new
 
+-- the numbers of the bank that the arguments name
+abbrev pub bank_of : Bank → BankNumbers
+bank_of bank = record { start = number_of bank.start; clients = number_of bank.clients; accounts = number_of bank.accounts; transfers = number_of bank.transfers }
+
 -- the result of a command: the arguments, the files before it and their count of faults after it, the streams before and after it,
 -- and its report
 pub data CommandResult (arguments : List (List ℕ)) (files : FileState) (faults : ℕ) (old new : OutState) (report : Report) : Type 0 where
@@ -139,6 +146,8 @@ pub data CommandResult (arguments : List (List ℕ)) (files : FileState) (faults
   -- it listed the sources that the arguments name, over a schema that breaks no rule
   Checked : (check : Check) → IsCheck check → arguments ≡ check_arguments check → (listings : List (List ℕ)) → AreListed files check listings → HasChecked check.programs listings old new report →
       CommandResult arguments files faults old new report
+  -- it was a bank, whatever the files are
+  Banked : (bank : Bank) → IsBank bank → arguments ≡ bank_arguments bank → BankResult (bank_of bank) old new report → CommandResult arguments files faults old new report
 
 -- ---- for laws
 
@@ -151,11 +160,13 @@ abbrev pub IsUsage : Option Refusal → Type 0
 IsUsage (Some (Usage arg)) = Unit {0}
 IsUsage refusal = ⊥
 
--- the whole text of a command was appended to standard output, and nothing to standard error: that of the run or of the check that the
--- arguments name
+-- the whole text of a command was appended to standard output, and nothing to standard error: that of the run, the bank or the check that
+-- the arguments name
 pub data HasWholeText (arguments : List (List ℕ)) (files : FileState) (report : Report) (old new : OutState) : Type 0 where
   of_run : (run : Run) → arguments ≡ arguments_of run → (texts : Texts files run.schema run.clients) → (parts : List (List Section)) →
       new.texts ≡ appended Standard (run_text run.mode (schema_in texts.df) (client_names run) parts report.trace) old.texts → HasWholeText arguments files report old new
+  of_bank : (bank : Bank) → arguments ≡ bank_arguments bank → (parts : List (List Section)) →
+      new.texts ≡ appended Standard (reports (bank_names (number_of bank.clients)) parts) old.texts → HasWholeText arguments files report old new
   of_check : (check : Check) → arguments ≡ check_arguments check → (listings : List (List ℕ)) → AreListed files check listings → new.texts ≡ appended Standard (check_text check.programs listings) old.texts →
       HasWholeText arguments files report old new
 

@@ -3,6 +3,7 @@
 /// The text of `abl --help`.
 pub const HELP: &str = "abl DATABASE run SCHEMA STEPS MODE CLIENT...
 abl DATABASE check SCHEMA PROG...
+abl DATABASE bank START CLIENTS ACCOUNTS TRANSFERS
 
 run reads the schema file SCHEMA, compiles the ABL source of each CLIENT, and runs
 1 to 16 clients at the same time over one database in memory. It is new: it has no
@@ -19,6 +20,13 @@ answered too; in MODE quiet nothing else.
 check lists the blocks of 1 to 16 sources and runs nothing. Each block has a
 line: its line number, what it is, `transaction` if it starts one, else `sub` if
 it can be undone, else `plain`, and the buffers scoped to it.
+
+bank measures the database with a built-in workload, and reads no file. A client
+creates ACCOUNTS accounts (2 to 10000) of 1000 each; then CLIENTS clients (1 to 8)
+make TRANSFERS transfers (1 to 50000) between them at the same time, which a
+generator draws from START (0 to 2147483647); then a client prints the total, and
+the sum of each balance times the number of its account. Both are the same at each
+run of the same arguments.
 
 How a command ended goes to standard error, with the status:
 
