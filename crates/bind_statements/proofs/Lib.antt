@@ -3,3 +3,4 @@ pub mod Alone
 pub mod Arguments
 pub mod Numbered
 pub mod Within
+pub mod Past

@@ -18,7 +18,8 @@ use Rattle.abl_syntax.specs.declared.definition.VariableOption.{VariableOption}
 use Rattle.abl_syntax.specs.declared.definition.VariableOption.TheVariants as opt
 use Rattle.bind_names.specs.declared.names.NamedBuffer.{NamedBuffer}
 use Rattle.bind_names.specs.declared.names.NamingKind.TheVariants as naming_kind
-use Rattle.bind_names.specs.Judged.{Judged, unless, fine, broken, made, breaking, naming}
+use Rattle.bind_names.specs.declared.violation.Violation.{Violation}
+use Rattle.bind_names.specs.Judged.{Judged, is_before, unless, fine, broken, made, breaking, naming}
 use Rattle.bind_names.specs.Sorts.{fits, sort_of_value}
 use Rattle.bind_statements.specs.declared.definitions.Options.{Options}
 use Rattle.bind_names.specs.declared.names.Defined.{Defined}
@@ -31,6 +32,11 @@ abbrev pub is_taken : Defined → List ℕ → Bool
 is_taken d name =
     is_some (number_of_name 0 (map (λ v. v.name) d.variables) name)
     || (is_some (number_of_name 0 (map (λ b. b.name) d.buffers) name) || is_some (number_of_name 0 (map (λ s. s.name) d.streams) name))
+
+-- the first violation so far is before this place
+abbrev pub is_past : Option Violation → Place → Bool
+is_past None place = false
+is_past (Some v) place = is_before v.place place
 
 -- the options of a variable before any is read; the first of each kind counts
 abbrev pub no_options : Options

@@ -1,13 +1,14 @@
 //! Definitions of variables, parameters, buffers and streams.
 
 ghost use Rattle.std.specs.Option.{is_some};
-ghost use Rattle.std.specs.Prelude.{◌≡◌, ◌++◌, ◌∷◌, [], IfOk, OnOk, if◌then◌else◌, length, true, unwrap_or};
+ghost use Rattle.std.specs.Prelude.{◌≡◌, ◌&&◌, ◌||◌, ◌++◌, ◌∷◌, [], IfOk, OnOk, if◌then◌else◌, length, not, true, unwrap_or};
 ghost use Rattle.abl_values.specs.Fit.{default_initial, fitted};
-ghost use Rattle.abl_base.specs.declared.rule.Rule.TheVariants.{Y11};
+ghost use Rattle.abl_values.specs.Schema.{table_named};
+ghost use Rattle.abl_base.specs.declared.rule.Rule.TheVariants.{Y11, Y3};
 ghost use Rattle.abl_syntax.specs.Syntax.{Buffer as TheBuffer, Stream as TheStream};
 ghost use Rattle.abl_syntax.specs.Typed.{definition_of};
-ghost use Rattle.bind_names.specs.Judged.{Judged, breaking, unless};
-ghost use Rattle.bind_statements.specs.Definitions.{default_mask, define, initial_value, is_taken, may_have_parameters, no_options, option, options, variable, with_buffer, with_initial, with_mask, with_variable};
+ghost use Rattle.bind_names.specs.Judged.{Judged, breaking, first_of, is_before, unless};
+ghost use Rattle.bind_statements.specs.Definitions.{buffer_for, default_mask, define, initial_value, is_past, is_taken, may_have_parameters, no_options, option, options, variable, with_buffer, with_initial, with_mask, with_variable};
 ghost use Rattle.bind_expressions.specs.Parts.{IsAfter, nothing_done};
 ghost use Rattle.bind_names.specs.Views.{IsJudged, scene_of};
 
@@ -17,6 +18,7 @@ use abl_values::{ArithFault, fit, mask_fits};
 use bind_names::meaning::{Buffer, names_it, number_named};
 use bind_names::{
     BindFault, Defined, NamedBuffer, NamedStream, NamedVariable, NamingKind, Notes, Scene, Sort,
+    Violation,
 };
 use bound_tree::Variable;
 use std::alloc::Global;
@@ -159,6 +161,48 @@ fn is_taken(defined: &Defined, name: &[u8]) -> bool
         || number_named(defined.streams.as_slice(), name).is_some()
 }
 
+/// Whether a place is before another in the text.
+fn is_before(p: Place, q: Place) -> bool
+    ensures { result ≡ is_before p q }
+{
+    p.line < q.line || (p.line == q.line && p.column < q.column)
+}
+
+/// Whether the first violation so far is before this place.
+fn is_past(first: Option<Violation>, place: Place) -> bool
+    ensures { result ≡ is_past first place }
+{
+    match first {
+        None => false,
+        Some(violation) => is_before(violation.place, place),
+    }
+}
+
+/// Y3 at a name that is taken in the procedure. After the first violation the name is not compared
+/// with the others, since no violation there can be the first: a source with more variables than
+/// it may have is read in time linear in it.
+#[tactic(auto, using(crate::proofs::Past::stays_first))]
+fn note_taken(defined: &Defined, name: &Word, notes: &mut Notes)
+    ensures first { notes.new.first ≡ first_of notes.old.first (unless (not (is_taken defined.now name.now.spelling)) Y3 name.now.at) }
+    ensures names { notes.new.names ≡ notes.old.names }
+{
+    if is_past(notes.first, name.at) {
+        return;
+    }
+    let taken = is_taken(defined, name.spelling.as_slice());
+    notes.unless(!taken, Rule::Y3, name.at);
+}
+
+/// Whether Y3 has to be noted at the name of a buffer: where it is taken in the procedure or that of
+/// a table, and not after the first violation.
+fn is_newly_taken(scene: &Scene<'_>, first: Option<Violation>, name: &Word) -> bool
+    ensures { let w = scene_of scene.now in result ≡ (not (is_past first name.now.at) && (is_some (table_named w.context.schema name.now.spelling) || is_taken w.known.own name.now.spelling)) }
+{
+    let spelling = name.spelling.as_slice();
+    !is_past(first, name.at)
+        && (scene.schema.table(spelling).is_some() || is_taken(&scene.known.own, spelling))
+}
+
 /// Adds a value at the end, and returns the number of those before it.
 fn added(values: &mut Row, value: Value) -> Result<u32, BindFault>
     ensures count { IfOk result (λ count. count ≡ length values.old) }
@@ -270,8 +314,7 @@ fn variable(
     ensures scene { OnOk result (IsAfter scene.old scene.new) }
 {
     let options = all_options(alloc, kind, given, notes)?;
-    let taken = is_taken(&scene.known.own, name.spelling.as_slice());
-    notes.unless(!taken, Rule::Y3, name.at);
+    note_taken(&scene.known.own, name, notes);
     notes.unless(scene.known.variables < 1024, Rule::Y14, name.at);
     let Some(variables) = scene.known.variables.checked_add(1) else {
         return Err(BindFault);
@@ -288,8 +331,35 @@ fn variable(
     Ok(())
 }
 
+/// One more buffer of the procedure: Y1 at an unknown table.
+fn add_buffer(
+    alloc: Global,
+    scene: &mut Scene<'_>,
+    name: &Word,
+    table: &Word,
+    notes: &mut Notes,
+) -> Result<(), BindFault>
+    ensures judged { OnOk result (IsJudged (buffer_for (scene_of scene.old) name.now table.now (table_named scene.old.schema.now table.now.spelling)) (nothing_done (scene_of scene.new)) notes.old notes.new) }
+    ensures scene { OnOk result (IsAfter scene.old scene.new) }
+{
+    match scene.schema.table(table.spelling.as_slice()) {
+        None => notes.broken(Rule::Y1, table.at),
+        Some(number) => {
+            let named = Buffer {
+                name: name.spelling.as_slice(),
+                table: number,
+            };
+            notes.named(names_it(alloc, scene, named, NamingKind::Definition, true, name.at)?)?;
+            scene.known.own.buffers.push(NamedBuffer {
+                name: name.spelling.copy()?,
+                table: number,
+            })?;
+        }
+    }
+    Ok(())
+}
+
 /// DEFINE BUFFER: Y1 at an unknown table, Y3 at a name that is taken or that of a table.
-#[tactic(auto, using(bind_names::proofs::Joined::first_of_append))]
 fn buffer(
     alloc: Global,
     scene: &mut Scene<'_>,
@@ -300,22 +370,8 @@ fn buffer(
     ensures judged { OnOk result (IsJudged (define (scene_of scene.old) (TheBuffer name.now table.now)) (nothing_done (scene_of scene.new)) notes.old notes.new) }
     ensures scene { OnOk result (IsAfter scene.old scene.new) }
 {
-    let spelling = name.spelling.as_slice();
-    let taken = scene.schema.table(spelling).is_some() || is_taken(&scene.known.own, spelling);
-    match scene.schema.table(table.spelling.as_slice()) {
-        None => notes.broken(Rule::Y1, table.at),
-        Some(number) => {
-            let named = Buffer {
-                name: spelling,
-                table: number,
-            };
-            notes.named(names_it(alloc, scene, named, NamingKind::Definition, true, name.at)?)?;
-            scene.known.own.buffers.push(NamedBuffer {
-                name: name.spelling.copy()?,
-                table: number,
-            })?;
-        }
-    }
+    let taken = is_newly_taken(scene, notes.first, name);
+    add_buffer(alloc, scene, name, table, notes)?;
     notes.unless(!taken, Rule::Y3, name.at);
     Ok(())
 }
@@ -353,8 +409,7 @@ fn stream(scene: &mut Scene<'_>, name: &Word, notes: &mut Notes) -> Result<(), B
     ensures judged { OnOk result (IsJudged (define (scene_of scene.old) (TheStream name.now)) (nothing_done (scene_of scene.new)) notes.old notes.new) }
     ensures scene { OnOk result (IsAfter scene.old scene.new) }
 {
-    let taken = is_taken(&scene.known.own, name.spelling.as_slice());
-    notes.unless(!taken, Rule::Y3, name.at);
+    note_taken(&scene.known.own, name, notes);
     notes.unless(scene.known.streams < 16, Rule::Y14, name.at);
     let Some(number) = scene.known.streams.checked_add(1) else {
         return Err(BindFault);
