@@ -12,14 +12,14 @@ use Rattle.abl_values.proofs.SameNames.{same_name-length}
 use Rattle.abl_types.specs.declared.taken.ProcedureName.{ProcedureName}
 use Rattle.abl_types.specs.Taken.{Finds}
 
-equal : (m n : ℕ) → (m == n) ≡ true → m ≡ n
+pub equal : (m n : ℕ) → (m == n) ≡ true → m ≡ n
 equal m n e = grind (arith, nat_tests)
 
-both_left : (p q : Bool) → (p && q) ≡ true → p ≡ true
+pub both_left : (p q : Bool) → (p && q) ≡ true → p ≡ true
 both_left true q e = refl
 both_left false q e = absurd cc
 
-both_right : (p q : Bool) → (p && q) ≡ true → q ≡ true
+pub both_right : (p q : Bool) → (p && q) ≡ true → q ≡ true
 both_right true q e = e
 both_right false q e = absurd cc
 
@@ -32,7 +32,7 @@ same_is (x ∷ xs) (y ∷ ys) h =
     let f : xs ≡ ys = same_is xs ys (both_right (x == y) _ h) in
     cc
 
-alike : (a b c : List ℕ) → same_name a b ≡ true → same_name c a ≡ same_name c b
+pub alike : (a b c : List ℕ) → same_name a b ≡ true → same_name c a ≡ same_name c b
 alike a b c h = ap (same_bytes (folded c)) (same_is (folded a) (folded b) h)
 
 number_alike : (k : ℕ) (xs : List (List ℕ)) (a b : List ℕ) → same_name a b ≡ true → number_of_name k xs a ≡ number_of_name k xs b

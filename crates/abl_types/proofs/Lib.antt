@@ -9,3 +9,4 @@ pub mod Limits
 pub mod Inside
 pub mod Formals
 pub mod Finding
+pub mod Grouped

@@ -1,6 +1,7 @@
 pub mod Statements
 pub mod Sources
 pub mod Taken
+pub mod Groups
 pub mod Items
 pub mod Counted
 pub mod Views

@@ -9,7 +9,7 @@ ghost use Rattle.abl_types.specs.Sources.{bound, judged, signatures};
 use crate::counting::with_too_many;
 use crate::signatures::signatures;
 use crate::sources::judged;
-use abl_base::Items;
+use abl_base::{Items, Place, Rule};
 use abl_syntax::Program;
 use abl_values::Schema;
 use bind_names::{BindFault, Naming, Notes, Signature, Violation};
@@ -36,7 +36,8 @@ impl From<BindFault> for TypeRefusal {
     }
 }
 
-/// The namings of buffers in a source, where these were known before.
+/// The namings of buffers in a source, where these were known before. It begins with a violation before
+/// each place of a source, since past the first one no name is compared for rule Y3.
 fn namings(
     alloc: Global,
     schema: &Schema,
@@ -46,8 +47,12 @@ fn namings(
 ) -> Result<Items<Naming>, BindFault>
     ensures { procedures.now ≡ signatures (program_of program.now) → IfOk result (λ r. r ≡ (judged schema.now (program_of program.now) said.now).names) }
 {
+    let before_all = Violation {
+        rule: Rule::Y1,
+        place: Place { line: 0, column: 0 },
+    };
     let mut notes = Notes {
-        first: None,
+        first: Some(before_all),
         names: Items::empty(alloc),
     };
     let _ = judged(alloc, schema, program, said, procedures, &mut notes)?;

@@ -4,25 +4,33 @@ ghost use Rattle.std.specs.Prelude.{◌≡◌, ◌∷◌, ◌++◌, [], IfOk, On
 ghost use Rattle.bind_names.specs.Names.{buffers_in, distinct, named_in};
 ghost use Rattle.abl_types.specs.Sources.{buffer_def, kind_of_reference, reference, references_in};
 
+use crate::taken::TakenNames;
 use abl_base::Items;
 use bind_names::meaning::number_named;
 use bind_names::{BindFault, NamedBuffer, Naming, NamingKind};
 use bound_tree::{BufferDef, Reference, ReferenceKind};
 use std::alloc::Global;
 
-/// Adds the buffer of a naming, unless it is there.
-#[tactic(auto, using(crate::proofs::Named::is_there))]
-fn add(found: &mut Items<NamedBuffer>, naming: &Naming) -> Result<(), BindFault>
-    ensures { OnOk result (found.new ≡ distinct found.old (naming.now ∷ [])) }
+/// Adds the buffer of a naming, unless it is there, where these are the names of the buffers so far.
+/// It returns their names with that of the buffer.
+#[tactic(auto, using(crate::proofs::Named::is_there, crate::proofs::Named::one_more_name))]
+fn add(
+    found: &mut Items<NamedBuffer>,
+    names: TakenNames,
+    naming: &Naming,
+) -> Result<TakenNames, BindFault>
+    ensures found { names ≡ map (λ b. b.name) found.old → OnOk result (found.new ≡ distinct found.old (naming.now ∷ [])) }
+    ensures names { names ≡ map (λ b. b.name) found.old → IfOk result (λ more. more ≡ map (λ b. b.name) found.new) }
 {
-    if number_named(found.as_slice(), naming.name.as_slice()).is_some() {
-        return Ok(());
+    if names.has(naming.name.as_slice()) {
+        return Ok(names);
     }
+    let more = names.with(&naming.name)?;
     found.push(NamedBuffer {
         name: naming.name.copy()?,
         table: naming.table,
     })?;
-    Ok(())
+    Ok(more)
 }
 
 /// The buffers of a procedure, in the order of their first namings.
@@ -34,9 +42,10 @@ pub fn buffers_in(
     ensures { IfOk result (λ r. r ≡ buffers_in procedure said.now) }
 {
     let mut found = Items::empty(alloc);
+    let mut names = TakenNames::empty(alloc);
     for naming in said {
         if naming.procedure == procedure {
-            add(&mut found, naming)?;
+            names = add(&mut found, names, naming)?;
         }
     }
     Ok(found)
@@ -51,9 +60,10 @@ pub fn named_in(
     ensures { IfOk result (λ r. r ≡ named_in procedure said.now) }
 {
     let mut found = Items::empty(alloc);
+    let mut names = TakenNames::empty(alloc);
     for naming in said {
         if naming.explicit && naming.procedure == procedure {
-            add(&mut found, naming)?;
+            names = add(&mut found, names, naming)?;
         }
     }
     Ok(found)

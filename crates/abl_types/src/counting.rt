@@ -4,11 +4,11 @@ ghost use Rattle.std.specs.List.{list_any};
 ghost use Rattle.std.specs.Prelude.{◌≡◌, ◌≤◌, ◌++◌, ◌∷◌, [], IfOk, List, OnOk, Option};
 ghost use Rattle.bind_names.specs.declared.names.Naming.{Naming as TheNaming};
 ghost use Rattle.bind_names.specs.declared.violation.Violation.{Violation as TheViolation};
-ghost use Rattle.bind_names.specs.Judged.{first_of};
-ghost use Rattle.abl_types.specs.Counted.{Stands};
+ghost use Rattle.bind_names.specs.Judged.{first_of, is_before};
+ghost use Rattle.abl_types.specs.Counted.{Stands, is_past};
 ghost use Rattle.abl_types.specs.Sources.{is_same_buffer, too_many_buffers};
 
-use abl_base::{Items, Rule};
+use abl_base::{Items, Place, Rule};
 use abl_values::same_name;
 use bind_names::violation::earlier;
 use bind_names::{BindFault, Naming, Violation};
@@ -26,7 +26,7 @@ pub struct Counted {
 }
 
 /// A naming as it is.
-fn copy_of(naming: &Naming) -> Result<Naming, BindFault>
+pub fn copy_of(naming: &Naming) -> Result<Naming, BindFault>
     ensures { IfOk result (λ n. n ≡ naming.now) }
 {
     Ok(Naming {
@@ -59,10 +59,32 @@ fn is_named(naming: &Naming, before: &[Naming]) -> bool
     false
 }
 
-/// One more naming.
+/// Whether a place is before another in the text.
+fn is_before(p: Place, q: Place) -> bool
+    ensures { result ≡ is_before p q }
+{
+    p.line < q.line || (p.line == q.line && p.column < q.column)
+}
+
+/// Whether the first violation so far is before this place.
+fn is_past(first: Option<Violation>, place: Place) -> bool
+    ensures { result ≡ is_past first place }
+{
+    match first {
+        None => false,
+        Some(violation) => is_before(violation.place, place),
+    }
+}
+
+/// One more naming. Past the 64th buffer a naming after the first violation is not compared with
+/// those before it, since no violation there can be the first.
 fn count(counted: &mut Counted, naming: &Naming) -> Result<(), BindFault>
     ensures { (first : Option TheViolation) (all left : List TheNaming) → Stands first all (naming.now ∷ left) counted.old → OnOk result (Stands first all left counted.new) }
 {
+    if counted.count == MAX_BUFFERS && is_past(counted.first, naming.place) {
+        counted.before.push(copy_of(naming)?)?;
+        return Ok(());
+    }
     if is_named(naming, counted.before.as_slice()) {
         return Ok(());
     }
@@ -80,7 +102,6 @@ fn count(counted: &mut Counted, naming: &Naming) -> Result<(), BindFault>
 }
 
 /// The first violation, where Y14 is broken at the first naming of each buffer after the 64th.
-/// It compares each naming with those of the buffers before it.
 pub fn with_too_many(
     alloc: Global,
     first: Option<Violation>,

@@ -5,6 +5,7 @@
 mod binding;
 mod buffers;
 mod counting;
+mod groups;
 mod procedures;
 mod signatures;
 mod sources;

@@ -9,6 +9,7 @@ ghost use Rattle.bind_names.specs.Names.{Scene as TheScene};
 ghost use Rattle.bind_names.specs.Views.{IsJudged, scene_of};
 ghost use Rattle.bind_blocks.specs.Headers.{header};
 ghost use Rattle.bind_expressions.specs.Parts.{IsAfter};
+ghost use Rattle.abl_types.specs.Groups.{own_namings};
 ghost use Rattle.abl_types.specs.Sources.{inside_procedure, nothing_defined, outside_again, procedure_block, procedure_with};
 ghost use Rattle.abl_types.specs.Views.{IsFrame, internal, procedured};
 
@@ -82,15 +83,16 @@ pub struct Frame {
     pub references: Vec<Reference>,
 }
 
-/// The frame of the procedure that the scene is in.
-pub fn frame_of(alloc: Global, scene: &Scene<'_>) -> Result<Frame, BindFault>
-    ensures { IfOk result (λ r. IsFrame (scene_of scene.now) r) }
+/// The frame of the procedure that the scene is in, where these are its own namings.
+#[tactic(auto, using(crate::proofs::Grouped::own_references))]
+pub fn frame_of(alloc: Global, scene: &Scene<'_>, own: &[Naming]) -> Result<Frame, BindFault>
+    ensures { own.now ≡ own_namings scene.now.procedure scene.now.namings.now → IfOk result (λ r. IsFrame (scene_of scene.now) r) }
 {
     let buffers = scene.buffers.as_slice();
     Ok(Frame {
         block: scene.block,
         buffers: buffer_defs(alloc, buffers)?,
-        references: references_in(alloc, scene.procedure, buffers, scene.namings)?,
+        references: references_in(alloc, scene.procedure, buffers, own)?,
     })
 }
 
@@ -196,16 +198,19 @@ fn known_after(known: Known) -> Result<(Known, Defined), BindFault>
     Ok((after, own))
 }
 
-/// At the beginning of the internal procedure of this number, where this is known before it.
+/// At the beginning of the internal procedure of this number, where this is known before it, and
+/// these are its own namings.
+#[tactic(auto, using(crate::proofs::Grouped::own_buffers, crate::proofs::Grouped::own_named))]
 fn inside_procedure<'a>(
     alloc: Global,
     schema: &'a Schema,
     said: &'a [Naming],
+    own: &[Naming],
     procedures: &'a [Signature],
     number: u32,
     known: Known,
 ) -> Result<Scene<'a>, BindFault>
-    ensures { (w : TheScene) → w.context ≡ record { schema = schema.now; namings = said.now; procedures = procedures.now } → w.known ≡ known
+    ensures { (w : TheScene) → w.context ≡ record { schema = schema.now; namings = said.now; procedures = procedures.now } → w.known ≡ known → own.now ≡ own_namings number said.now
         → IfOk result (λ r. scene_of r ≡ inside_procedure number w) }
 {
     let block = known.blocks;
@@ -218,24 +223,26 @@ fn inside_procedure<'a>(
         procedures,
         known: known_inside(alloc, known, blocks),
         procedure: number,
-        buffers: buffers_in(alloc, number, said)?,
-        named: named_in(alloc, number, said)?,
+        buffers: buffers_in(alloc, number, own)?,
+        named: named_in(alloc, number, own)?,
         around: procedure_block(alloc, block)?,
         block,
     })
 }
 
-/// An internal procedure of this number. What the external one has defined is known again after it.
+/// An internal procedure of this number, where these are its own namings. What the external one has
+/// defined is known again after it.
 pub fn internal(
     alloc: Global,
     scene: &mut Scene<'_>,
+    own: &[Naming],
     number: u32,
     line: u32,
     name: &Word,
     statements: &[Statement],
     notes: &mut Notes,
 ) -> Result<Procedure, BindFault>
-    ensures judged { IfOk result (λ r. IsJudged (internal (scene_of scene.old) number line name.now.spelling (statements_of statements.now)) (procedured (procedure_of r) scene.new.known) notes.old notes.new) }
+    ensures judged { own.now ≡ own_namings number scene.old.namings.now → IfOk result (λ r. IsJudged (internal (scene_of scene.old) number line name.now.spelling (statements_of statements.now)) (procedured (procedure_of r) scene.new.known) notes.old notes.new) }
     ensures scene { OnOk result (IsAfter scene.old scene.new) }
 {
     let known = mem::replace(&mut scene.known, nothing_known(alloc));
@@ -243,17 +250,18 @@ pub fn internal(
         alloc,
         scene.schema,
         scene.namings,
+        own,
         scene.procedures,
         number,
         known,
     )?;
-    let frame = frame_of(alloc, &inner)?;
+    let frame = frame_of(alloc, &inner, own)?;
     let bound = body(alloc, &mut inner, statements, notes)?;
     let Scene { known, .. } = inner;
     let ended = known_after(known)?;
-    let (after, own) = ended;
+    let (after, defined) = ended;
     scene.known = after;
     let spelling = name.spelling.copy()?;
-    let made = procedure_with(alloc, frame, line, spelling, own, bound)?;
+    let made = procedure_with(alloc, frame, line, spelling, defined, bound)?;
     Ok(made)
 }

@@ -7,10 +7,12 @@ ghost use Rattle.abl_values.specs.Schema.{same_name};
 ghost use Rattle.abl_syntax.specs.Typed.{item_of, program_of};
 ghost use Rattle.bind_names.specs.Views.{IsJudged, scene_of};
 ghost use Rattle.bind_expressions.specs.Parts.{IsAfter};
+ghost use Rattle.abl_types.specs.Groups.{IsGrouped, own_namings};
 ghost use Rattle.abl_types.specs.Items.{IsOneMore};
 ghost use Rattle.abl_types.specs.Sources.{beginning, judged, signatures, source_with};
 
 use crate::buffers::{buffers_in, named_in};
+use crate::groups::Groups;
 use crate::procedures::{frame_of, internal, nothing_defined, procedure_block, procedure_with};
 use crate::statements::{join, statement};
 use crate::taken::TakenNames;
@@ -31,14 +33,16 @@ pub struct Parts {
     pub names: TakenNames,
 }
 
-/// The place at the beginning of a source.
+/// The place at the beginning of a source, where these are the external procedure's own namings.
+#[tactic(auto, using(crate::proofs::Grouped::own_buffers, crate::proofs::Grouped::own_named))]
 fn beginning<'a>(
     alloc: Global,
     schema: &'a Schema,
     said: &'a [Naming],
+    own: &[Naming],
     procedures: &'a [Signature],
 ) -> Result<Scene<'a>, BindFault>
-    ensures { IfOk result (λ r. scene_of r ≡ beginning (record { schema = schema.now; namings = said.now; procedures = procedures.now })) }
+    ensures { own.now ≡ own_namings 0 said.now → IfOk result (λ r. scene_of r ≡ beginning (record { schema = schema.now; namings = said.now; procedures = procedures.now })) }
 {
     Ok(Scene {
         schema,
@@ -54,8 +58,8 @@ fn beginning<'a>(
             outputs: Items::empty(alloc),
         },
         procedure: 0,
-        buffers: buffers_in(alloc, 0, said)?,
-        named: named_in(alloc, 0, said)?,
+        buffers: buffers_in(alloc, 0, own)?,
+        named: named_in(alloc, 0, own)?,
         around: procedure_block(alloc, 0)?,
         block: 0,
     })
@@ -91,15 +95,17 @@ fn add_procedure(
     Ok(())
 }
 
-/// One more item: Y3 at the name of an internal procedure that an earlier one has.
+/// One more item, where these are the namings of the source: Y3 at the name of an internal
+/// procedure that an earlier one has.
 fn item(
     alloc: Global,
     scene: &mut Scene<'_>,
+    groups: &Groups,
     parts: &mut Parts,
     item: &Item,
     notes: &mut Notes,
 ) -> Result<(), BindFault>
-    ensures judged { OnOk result (IsOneMore (scene_of scene.old) (item_of item.now) parts.old parts.new scene.new.known notes.old notes.new) }
+    ensures judged { IsGrouped scene.old.namings.now groups.now → OnOk result (IsOneMore (scene_of scene.old) (item_of item.now) parts.old parts.new scene.new.known notes.old notes.new) }
     ensures scene { OnOk result (IsAfter scene.old scene.new) }
 {
     match item {
@@ -112,7 +118,8 @@ fn item(
             let taken = parts.names.has(name.spelling.as_slice());
             notes.unless(!taken, Rule::Y3, name.at);
             let number = next_number(parts)?;
-            let made = internal(alloc, scene, number, at.line, name, body, notes)?;
+            let own = groups.in_procedure(number);
+            let made = internal(alloc, scene, own, number, at.line, name, body, notes)?;
             add_procedure(alloc, parts, made, name)?;
             Ok(())
         }
@@ -130,16 +137,18 @@ pub fn judged(
 ) -> Result<Bound, BindFault>
     ensures { procedures.now ≡ signatures (program_of program.now) → IfOk result (λ r. IsJudged (judged schema.now (program_of program.now) said.now) (source_of r) notes.old notes.new) }
 {
-    let mut scene = beginning(alloc, schema, said, procedures)?;
+    let groups = Groups::of(alloc, said)?;
+    let own = groups.in_procedure(0);
+    let mut scene = beginning(alloc, schema, said, own, procedures)?;
     let mut parts = Parts {
         body: Vec::new(alloc),
         procedures: Vec::new(alloc),
         names: TakenNames::empty(alloc),
     };
     for one in &program.items {
-        item(alloc, &mut scene, &mut parts, one, notes)?;
+        item(alloc, &mut scene, &groups, &mut parts, one, notes)?;
     }
-    let made = source(alloc, scene, parts)?;
+    let made = source(alloc, scene, own, parts)?;
     Ok(made)
 }
 
@@ -158,14 +167,14 @@ fn all_procedures(
     Ok(all)
 }
 
-/// The source with its external procedure first.
-fn source(alloc: Global, scene: Scene<'_>, parts: Parts) -> Result<Bound, BindFault>
-    ensures { IfOk result (λ r. source_of r ≡ source_with (scene_of scene.entry) (record { body = body_of parts.body.items; procedures = map procedure_of parts.procedures.items; after = scene.entry.known })) }
+/// The source with its external procedure first, whose own namings these are.
+fn source(alloc: Global, scene: Scene<'_>, own: &[Naming], parts: Parts) -> Result<Bound, BindFault>
+    ensures { own.now ≡ own_namings scene.entry.procedure scene.entry.namings.now → IfOk result (λ r. source_of r ≡ source_with (scene_of scene.entry) (record { body = body_of parts.body.items; procedures = map procedure_of parts.procedures.items; after = scene.entry.known })) }
 {
-    let frame = frame_of(alloc, &scene)?;
+    let frame = frame_of(alloc, &scene, own)?;
     let Scene { known, .. } = scene;
     let Known {
-        own,
+        own: defined,
         streams,
         inputs,
         outputs,
@@ -176,7 +185,7 @@ fn source(alloc: Global, scene: Scene<'_>, parts: Parts) -> Result<Bound, BindFa
         procedures,
         ..
     } = parts;
-    let main = procedure_with(alloc, frame, 1, Items::empty(alloc), own, body)?;
+    let main = procedure_with(alloc, frame, 1, Items::empty(alloc), defined, body)?;
     let procedures = all_procedures(alloc, main, procedures)?;
     Ok(Bound {
         procedures,

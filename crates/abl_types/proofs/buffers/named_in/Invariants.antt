@@ -1,8 +1,11 @@
-use Rattle.std.proofs.Common.{◌≡◌, drop}
+use Rattle.std.proofs.Common.{◌≡◌, drop, map}
 use Rattle.std.specs.Prelude.{◌==◌, ◌&&◌}
 use Rattle.std.specs.List.{filter}
 use Rattle.bind_names.specs.Names.{distinct, named_in}
 use Rattle.abl_types.proofs.buffers.named_in.Given as goal
 
 abbrev pub invariant-loop-naming : goal.invariant-loop-naming
-invariant-loop-naming l = distinct l.found (filter (λ n. n.explicit && (n.procedure == l.procedure)) (drop l.naming-index l.said)) ≡ named_in l.procedure l.said
+invariant-loop-naming l = record {
+  found : distinct l.found (filter (λ n. n.explicit && (n.procedure == l.procedure)) (drop l.naming-index l.said)) ≡ named_in l.procedure l.said;
+  names : l.names ≡ map (λ b. b.name) l.found;
+}

@@ -6,6 +6,6 @@ use Rattle.abl_types.proofs.Walk.{bound_parts, source_is}
 use Rattle.abl_types.proofs.sources.source.Goals as goal
 
 pub returns : goal.returns
-returns c =
-    let main = c.in_ok-main.ensures (scene_of c.args.scene) c.in_ok-frame.ensures ∙ ap (λ (n : List ℕ). procedure_with (scene_of c.args.scene) 1 n c.args.scene.known.own (body_of c.args.parts.body.items)) c.empty.ensures in
+returns c = λ own.
+    let main = c.in_ok-main.ensures (scene_of c.args.scene) (c.in_ok-frame.ensures own) ∙ ap (λ (n : List ℕ). procedure_with (scene_of c.args.scene) 1 n c.args.scene.known.own (body_of c.args.parts.body.items)) c.empty.ensures in
     source_is (scene_of c.args.scene) (bound_parts c.args.parts c.args.scene.known) c.in_ok-main.main c.args.parts.procedures.items c.in_ok-procedures.procedures.items _ _ c.in_ok-procedures.ensures refl main c.into_vec.ensures c.into_vec-2.ensures
