@@ -73,7 +73,7 @@ body_in w ts = body_relates (λ xs ys. Each (IsIn w.procedure) xs) (λ k. Unit {
 -- ---- numbers
 
 -- the naming has, in its procedure, the number of a buffer of the table that it names
-abbrev IsPlaced : SchemaData → List Naming → Naming → Type 0
+abbrev pub IsPlaced : SchemaData → List Naming → Naming → Type 0
 IsPlaced schema said n = table_in schema (map buffer_def (buffers_in n.procedure said)) (number_in (buffers_in n.procedure said) n.name) ≡ table_at schema n.table
 
 abbrev Says : SchemaData → (ℕ → Defined) → Naming → Type 0
@@ -287,17 +287,24 @@ source_good schema program said sanity h =
     (both _ _ (all_kinds (around schema (d.parameters ∷ parameters_of it.procedures) d w.buffers d) d d.parameters refl sanity.parameters) (both _ _ refl h.body)))
     h.procedures)
 
+-- the namings of a source that breaks no rule
+pub names_placed : (schema : SchemaData) (program : Program) → (judged schema program (namings schema program)).breaks ≡ [] → Each (IsPlaced schema (namings schema program)) (judged schema program (namings schema program)).names
+names_placed schema program e =
+    let said = namings schema program in
+    let F = ends schema program said in
+    let same : (judged schema program said).names ≡ said = namings_same schema program in
+    let explicit : Each (IsFine (λ e. e) schema F) said = subst (Each (IsFine (λ e. e) schema F)) same (names_fine (λ e. e) schema program said e (λ c. absurd cc)) in
+    let fine : Each (IsFine (λ e. true) schema F) said = subst (Each (IsFine (λ e. true) schema F)) same (names_fine (λ e. true) schema program said e (λ c p. named_at_end schema F said p explicit)) in
+    let says : Each (Says schema F) said = each_map (IsFine (λ e. true) schema F) (Says schema F) said (λ n g. g refl) fine in
+    subst (Each (IsPlaced schema said)) (sym same) (all_placed schema F said says)
+
 judged_good : (schema : SchemaData) (program : Program) → is_masked schema ≡ true → (judged schema program (namings schema program)).breaks ≡ [] → is_well_kinded schema (kinds_of_source program) (judged schema program (namings schema program)).is ≡ true
 judged_good schema program masked e =
     let said = namings schema program in
     let w = start schema program said in
     let it = (items w [] program).is in
     let F = ends schema program said in
-    let same : (judged schema program said).names ≡ said = namings_same schema program in
-    let explicit : Each (IsFine (λ e. e) schema F) said = subst (Each (IsFine (λ e. e) schema F)) same (names_fine (λ e. e) schema program said e (λ c. absurd cc)) in
-    let fine : Each (IsFine (λ e. true) schema F) said = subst (Each (IsFine (λ e. true) schema F)) same (names_fine (λ e. true) schema program said e (λ c p. named_at_end schema F said p explicit)) in
-    let says : Each (Says schema F) said = each_map (IsFine (λ e. true) schema F) (Says schema F) said (λ n g. g refl) fine in
-    let placed : Each (IsPlaced schema said) (judged schema program said).names = subst (Each (IsPlaced schema said)) (sym same) (all_placed schema F said says) in
+    let placed : Each (IsPlaced schema said) (judged schema program said).names = names_placed schema program e in
     let sound : AreSane it.after.own = main_sane w [] program e none_sane in
     let at : F 0 ≡ it.after.own = final_main w [] program in
     let source : IsSource w.context (it.after.own.parameters ∷ parameters_of it.procedures) = record { masked = masked; main = it.after.own.parameters; others = parameters_of it.procedures; parameters = refl; match = items_match w [] program } in
@@ -309,7 +316,7 @@ stays : (v : Violation) (vs : List Violation) → first_of (Some v) vs ≡ None 
 stays v [] e = absurd cc
 stays v (u ∷ vs) e = stays (earlier (Some v) u) vs e
 
-no_first : (vs : List Violation) → first vs ≡ None → vs ≡ []
+pub no_first : (vs : List Violation) → first vs ≡ None → vs ≡ []
 no_first [] e = refl
 no_first (v ∷ vs) e = absurd (stays v vs e)
 
@@ -318,7 +325,7 @@ pub record IsBound (o : Option Violation) (t u : Source) : Type 0 where
   pub none : o ≡ None
   pub tree : t ≡ u
 
-is_bound : (o : Option Violation) (t tree : Source) → or_first o t ≡ Ok tree → IsBound o t tree
+pub is_bound : (o : Option Violation) (t tree : Source) → or_first o t ≡ Ok tree → IsBound o t tree
 is_bound None t tree e = record { none = refl; tree = cc }
 is_bound (Some v) t tree e = absurd cc
 
