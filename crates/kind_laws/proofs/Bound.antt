@@ -44,7 +44,7 @@ use Rattle.txn_infer.specs.Flags.{flagged_procedure, with_flags}
 use Rattle.block_meaning.specs.Frames.{is_in}
 use Rattle.bound_kinds.proofs.Parts.{both, both_left, both_right, holds, nil_left, nil_right}
 use Rattle.kind_laws.specs.Placed.{is_internal, is_own, is_placed, is_placed_body, is_placed_header, is_placed_phrase, is_placed_procedure, is_placed_statement, names_one_of, outward, undoes_one_of}
-use Rattle.kind_laws.proofs.Around.{Agree, AreDistinct, Match, first_in, from_test, label_agrees, label_around, label_is_test, named_in, no_match, number_outward, numbers, rest_outward, undo_agrees, undo_is_test}
+use Rattle.kind_laws.proofs.Around.{Agree, AreDistinct, first_in, from_test, label_agrees, label_around, label_is_test, Match, named_in, no_match, number_outward, numbers, rest_outward, undo_agrees, undo_is_test}
 use Rattle.kind_laws.proofs.Inferred.{flags_place_in, scopes_place_in}
 use Rattle.kind_laws.proofs.Parts.{not_holds}
 

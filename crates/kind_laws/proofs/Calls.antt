@@ -1,35 +1,33 @@
 -- Values that fit their targets: assignments, arguments and parameters.
-use Rattle.std.proofs.Common.{◌≡◌, ℕ, zero, suc, Bool, true, false, List, [], ◌∷◌, Some, None, map, refl, subst, Result, Ok, Err}
+use Rattle.std.proofs.Common.{◌≡◌, ℕ, zero, suc, Bool, true, false, List, [], ◌∷◌, Some, map, refl, subst, Result, Ok, Err}
 use Rattle.std.specs.Prelude.{◌&&◌, not, slice_get, slice_set, if◌then◌else◌}
 use Rattle.std.specs.List.{list_all}
 use Rattle.std.proofs.lemmas.Option.{same_Some}
 use Rattle.abl_base.specs.declared.value.Kind.{Kind}
 use Rattle.abl_base.specs.declared.value.Value.{Value}
 use Rattle.abl_values.specs.declared.arithmetic.ArithFault.{ArithFault}
-use Rattle.abl_values.specs.declared.schema.TableDef.{TableDef}
-use Rattle.abl_values.specs.Fit.{fitted}
-use Rattle.abl_values.specs.Schema.{no_table, table_at}
+use Rattle.abl_values.specs.Fit.{fitted, IsOfKind}
+use Rattle.abl_values.specs.Schema.{table_at}
 use Rattle.bound_tree.specs.declared.expression.Variable.{Variable}
 use Rattle.bound_tree.specs.declared.procedure.BufferDef.{BufferDef}
 use Rattle.bound_tree.specs.declared.statement.Target.{Target}
 use Rattle.bound_tree.specs.declared.statement.Target.TheVariants as target
 use Rattle.bound_tree.specs.Tree.{Argument, In, InOut, Out}
 use Rattle.bind_names.specs.Sorts.{same_kind}
-use Rattle.bound_kinds.specs.WellKinded.{are_arguments, are_of_kinds, begins_well, is_argument, is_of_kind, is_target, is_variable, kind_of_field}
-use Rattle.bound_kinds.proofs.Parts.{Maybe, both_left, both_right}
-use Rattle.bind_statements.specs.Definitions.{value_in as value_in_result}
-use Rattle.bound_kinds.proofs.Sane.{fitted_is}
+use Rattle.bound_kinds.specs.WellKinded.{are_arguments, are_of_kinds, begins_well, is_argument, is_of_kind, is_target, is_variable, kind_of_field, table_of}
+use Rattle.bound_kinds.proofs.Parts.{both_left, both_right}
 use Rattle.block_meaning.specs.Changes.{stored, stored_if, stored_in, stored_value, with_field}
-use Rattle.block_meaning.specs.Frames.{assigned, content_of, is_in, set_in, value_in, value_of}
+use Rattle.block_meaning.specs.Frames.{assigned, content_of, set_in, value_in, value_of}
 use Rattle.block_meaning.specs.Meaning.{argument_value, argument_values, copied_out, new_buffer, new_frame, opened_frame, params_set}
 use Rattle.block_meaning.specs.Program.{Program, procedure_at}
 use Rattle.block_meaning.specs.State.{CallFrame, Completed, Content, Empty, Pending, Record, State}
 use Rattle.block_meaning.specs.Values.{Evaluated, EvaluatedAll, Fails, FailsAll, Gives, GivesAll, bind, before_all, fit, or_range, value_now, with_value}
 use Rattle.kind_laws.specs.Placed.{is_outermost, is_own}
 use Rattle.kind_laws.specs.Reached.{Ground, kinds_at, surroundings}
-use Rattle.kind_laws.proofs.Kept.{Allowed, AreBuffers, AreFor, AreFrames, HaveKinds, IsAllowed, IsFrame, IsProcedure, IsRecord, calm_in, here, slot_here, table_here}
+use Rattle.kind_laws.proofs.Kept.{Allowed, AreBuffers, AreFor, AreFrames, HaveKinds, here, IsAllowed, IsFrame, IsProcedure, IsRecord, table_here, table_among}
 use Rattle.kind_laws.proofs.Buffers.{content_has, holding_keeps, no_buffer_is}
-use Rattle.kind_laws.proofs.States.{assigned_keeps, frame_set, same_is, set_has, kind_there, variable_kind, value_has, kinds_in}
+use Rattle.kind_laws.proofs.States.{assigned_keeps, frame_set, kind_there, kinds_in, same_is, value_has, variable_kind, of_kind}
+use Rattle.kind_laws.proofs.Rows.{IsFitted, fitted_is, row_set, field_here}
 
 -- ---- values that fit
 
@@ -37,13 +35,20 @@ abbrev pub IfGives : Evaluated → (Value → Type 0) → Type 0
 IfGives (Gives v) P = P v
 IfGives (Fails c) P = Unit {0}
 
-or_range_is : (k : Kind) (r : Result Value ArithFault) → Maybe (λ v. is_of_kind k v ≡ true) (value_in_result r) → IfGives (or_range r) (λ v. is_of_kind k v ≡ true)
+or_range_is : (k : Kind) (r : Result Value ArithFault) → IsFitted k r → IfGives (or_range r) (IsOfKind k)
 or_range_is k (Ok v) h = h
 or_range_is k (Err fault) h = tt
 
 -- a value that was converted is of its kind
+pub fit_of : (k : Kind) (v : Value) → IfGives (fit k v) (IsOfKind k)
+fit_of k v = or_range_is k (fitted v k) (fitted_is v k)
+
+if_gives : (v : Evaluated) (P Q : Value → Type 0) → ((v : Value) → P v → Q v) → IfGives v P → IfGives v Q
+if_gives (Gives v) P Q f h = f v h
+if_gives (Fails c) P Q f h = tt
+
 pub fit_is : (k : Kind) (v : Value) → IfGives (fit k v) (λ v. is_of_kind k v ≡ true)
-fit_is k v = or_range_is k (fitted v k) (fitted_is v k)
+fit_is k v = if_gives (fit k v) (IsOfKind k) (λ v. is_of_kind k v ≡ true) (λ v h. of_kind k v h) (fit_of k v)
 
 -- ---- assignments
 
@@ -55,31 +60,27 @@ stored_value_ends : (g : Ground) (ns : List ℕ) (a : Allowed) (v : Evaluated) (
 stored_value_ends g ns a (Gives v) set s h e x = record { frames = x; allowed = tt }
 stored_value_ends g ns a (Fails c) set s h e x = record { frames = h; allowed = e }
 
-if_gives : (v : Evaluated) (P Q : Value → Type 0) → ((v : Value) → P v → Q v) → IfGives v P → IfGives v Q
-if_gives (Gives v) P Q f h = f v h
-if_gives (Fails c) P Q f h = tt
-
-field_keeps : (g : Ground) (ns : List ℕ) (c : Content) (b f : ℕ) (k : Kind) (v : Value) (s : State) → AreFrames g ns s.frames → IsRecord (slot_here g ns b) c → kind_of_field (table_here g ns b) f ≡ Some k → is_of_kind k v ≡ true →
+field_keeps : (g : Ground) (ns : List ℕ) (c : Content) (b f : ℕ) (k : Kind) (v : Value) (s : State) → AreFrames g ns s.frames → IsRecord g.schema (table_here g ns b) c → kind_of_field (table_at g.schema (table_here g ns b)) f ≡ Some k → IsOfKind k v →
     AreFrames g ns (with_field f v b c s).frames
 field_keeps g ns Empty b f k v s h c e is = h
-field_keeps g ns (Record row values held made) b f k v s h c e is = holding_keeps g ns b (Record row (slice_set values f v) held made) s h (set_has (kind_of_field (table_here g ns b)) values f k v c e is)
-field_keeps g ns (Pending values since made) b f k v s h c e is = holding_keeps g ns b (Pending (slice_set values f v) (f ∷ since) made) s h (set_has (kind_of_field (table_here g ns b)) values f k v c.0 e is, c.1)
+field_keeps g ns (Record row values held made) b f k v s h c e is = holding_keeps g ns b (Record row (slice_set values f v) held made) s h (row_set g.schema (table_here g ns b) values f k v c e is)
+field_keeps g ns (Pending values since made) b f k v s h c e is = holding_keeps g ns b (Pending (slice_set values f v) (f ∷ since) made) s h (row_set g.schema (table_here g ns b) values f k v c e is)
 
-stored_in_ends : (g : Ground) (ns : List ℕ) (a : Allowed) (c : Content) (b f : ℕ) (k : Kind) (v : Value) (s : State) → AreFrames g ns s.frames → IsRecord (slot_here g ns b) c → kind_of_field (table_here g ns b) f ≡ Some k → a.faults ≡ true →
+stored_in_ends : (g : Ground) (ns : List ℕ) (a : Allowed) (c : Content) (b f : ℕ) (k : Kind) (v : Value) (s : State) → AreFrames g ns s.frames → IsRecord g.schema (table_here g ns b) c → kind_of_field (table_at g.schema (table_here g ns b)) f ≡ Some k → a.faults ≡ true →
     Ends g ns a (stored_in c b f k v s)
 stored_in_ends g ns a Empty b f k v s h c t e = record { frames = h; allowed = e }
 stored_in_ends g ns a (Record row values held made) b f k v s h c t e =
     stored_value_ends g ns a (fit k v) (λ v. with_field f v b (Record row values held made)) s h e
-    (if_gives (fit k v) (λ v. is_of_kind k v ≡ true) _ (λ v is. field_keeps g ns (Record row values held made) b f k v s h c t is) (fit_is k v))
+    (if_gives (fit k v) (IsOfKind k) _ (λ v is. field_keeps g ns (Record row values held made) b f k v s h c t is) (fit_of k v))
 stored_in_ends g ns a (Pending values since made) b f k v s h c t e =
     stored_value_ends g ns a (fit k v) (λ v. with_field f v b (Pending values since made)) s h e
-    (if_gives (fit k v) (λ v. is_of_kind k v ≡ true) _ (λ v is. field_keeps g ns (Pending values since made) b f k v s h c t is) (fit_is k v))
+    (if_gives (fit k v) (IsOfKind k) _ (λ v is. field_keeps g ns (Pending values since made) b f k v s h c t is) (fit_of k v))
 
 -- A TARGET GETS A VALUE OF ITS KIND
 pub stored_ends : (g : Ground) (ns : List ℕ) (a : Allowed) (t : Target) (v : Value) (s : State) → AreFrames g ns s.frames → is_target (here g ns) t ≡ true → a.faults ≡ true → Ends g ns a (stored t v s)
 stored_ends g ns a (target.Variable x) v s h t e =
     stored_value_ends g ns a (fit x.kind v) (assigned x) s h e (if_gives (fit x.kind v) (λ v. is_of_kind x.kind v ≡ true) _ (λ v is. assigned_keeps g ns x v s h t is) (fit_is x.kind v))
-stored_ends g ns a (target.Field b f k) v s h t e = stored_in_ends g ns a (content_of b s) b f k v s h (content_has g ns b s h) (kind_there k (kind_of_field (table_here g ns b) f) t) e
+stored_ends g ns a (target.Field b f k) v s h t e = stored_in_ends g ns a (content_of b s) b f k v s h (content_has g ns b s h) (field_here g ns b f k (kind_there k (kind_of_field (table_of (here g ns) b) f) t)) e
 
 pub stored_if_ends : (g : Ground) (ns : List ℕ) (a : Allowed) (v : Evaluated) (t : Target) (s : State) → AreFrames g ns s.frames → is_target (here g ns) t ≡ true → a.faults ≡ true → Ends g ns a (stored_if v t s)
 stored_if_ends g ns a (Gives v) t s h is e = stored_ends g ns a t v s h is e
@@ -145,13 +146,10 @@ initial_kinds (j ∷ js) (v ∷ vs) h zero k e = subst (λ (i : Kind). is_of_kin
 initial_kinds (j ∷ js) (v ∷ vs) h (suc n) k e = initial_kinds js vs (both_right (is_of_kind j v) _ h) n k e
 
 -- empty buffers of the procedure's tables
-abbrev table_among : Ground → List BufferDef → ℕ → TableDef
-table_among g ds b = elim (slice_get ds b) as (λ _. TableDef) [ None ↦ no_table | Some d ↦ table_at g.schema d.table ]
-
-new_buffers : (g : Ground) (ds : List BufferDef) (pends : ℕ → Bool) → AreBuffers g (λ b. record { table = table_among g ds b; pends = pends b }) (map new_buffer ds)
-new_buffers g [] pends b = no_buffer_is g (pends b)
-new_buffers g (d ∷ ds) pends zero = record { fields = λ f k e. e; content = tt }
-new_buffers g (d ∷ ds) pends (suc b) = new_buffers g ds (λ b. pends (suc b)) b
+new_buffers : (g : Ground) (ds : List BufferDef) → AreBuffers g (table_among ds) (map new_buffer ds)
+new_buffers g [] b = no_buffer_is g
+new_buffers g (d ∷ ds) zero = record { table = refl; content = tt }
+new_buffers g (d ∷ ds) (suc b) = new_buffers g ds b
 
 pub begins_well_kinds : (g : Ground) (n : ℕ) → IsProcedure g n → IsFrame g n (new_frame g.program n)
 begins_well_kinds g n h =
@@ -160,7 +158,7 @@ begins_well_kinds g n h =
       procedure = refl;
       undoable = initial_kinds (kinds_at g n).undoable (procedure_at g.program n).undoable (both_left (are_of_kinds (kinds_at g n).undoable (procedure_at g.program n).undoable) _ both_lists);
       no_undo = initial_kinds (kinds_at g n).no_undo (procedure_at g.program n).no_undo (both_right (are_of_kinds (kinds_at g n).undoable (procedure_at g.program n).undoable) _ both_lists);
-      buffers = new_buffers g (procedure_at g.program n).buffers (λ b. not (is_in b (calm_in g n)));
+      buffers = new_buffers g (procedure_at g.program n).buffers;
     }
 
 pub parameters_there : (g : Ground) (n : ℕ) → IsProcedure g n → list_all (is_variable (surroundings g n)) (procedure_at g.program n).parameters ≡ true

@@ -14,7 +14,7 @@ use Rattle.block_flat.specs.Machine.{again_step, before_step, called_step, closi
 use Rattle.block_flat.specs.Steps.{config}
 use Rattle.kind_laws.specs.Placed.{is_nil}
 use Rattle.kind_laws.specs.Reached.{Ground}
-use Rattle.kind_laws.proofs.Kept.{AreFrames, AreOld, CanFail, IsAllowed, IsBegun, IsCall, IsFrame, IsKept, IsOpen, IsOver, IsStack, IsTask, IsWhole, Kept, allows, in_block, nothing}
+use Rattle.kind_laws.proofs.Kept.{allows, AreFrames, AreOld, CanFail, in_block, IsAllowed, IsCall, IsFrame, IsKept, IsOpen, IsOver, IsStack, IsTask, IsWhole, Kept, nothing, IsCopy}
 use Rattle.kind_laws.proofs.Calls.{copied_keeps, parameters_own, parameters_there}
 use Rattle.kind_laws.proofs.Parts.{after_over, errs_kept, executes, false_true, true_false, unwinds}
 use Rattle.kind_laws.proofs.Buffers.{back_keeps, emptied_keeps}
@@ -77,10 +77,10 @@ in_kept : (g : Ground) (ns : List ℕ) (completion : Completion) (b : Header) (o
     Kept g ns (config (Execute (EndsWith b o completion)) ks s)
 in_kept g ns completion b o ks s h a is k = executes g ns (EndsWith b o completion) ks s h (is, a) k
 
-fetched_kept : (g : Ground) (ns : List ℕ) (completion : Completion) (b : Header) (copy : Option Copy) (t : Turn) (buffer body d : ℕ) (retry : Bool) (ks : List StackEntry) (s : State) → AreFrames g ns s.frames → IsWhole g ns (allows ks) b body → IsBegun g ns b copy →
+fetched_kept : (g : Ground) (ns : List ℕ) (completion : Completion) (b : Header) (copy : Option Copy) (t : Turn) (buffer body d : ℕ) (retry : Bool) (ks : List StackEntry) (s : State) → AreFrames g ns s.frames → IsWhole g ns (allows ks) b body → IsCopy g ns copy →
     (allows ks).again ≡ true → (allows ks).faults ≡ true → IsStack g ns ks → Kept g ns (fetched_step completion b copy t buffer body d retry ks s)
-fetched_kept g ns (Found own) b copy t buffer body d retry ks s h w c a e k = (h, ((record { kinded = w.code.kinded; placed = w.code.placed; calm = w.code.calm }, refl), (record { block = w.block; copy = c.saved; entered = c.entered; again = a }, k)))
-fetched_kept g ns (Faults c) b copy t buffer body d retry ks s h w cp a e k = (h, (cp.saved, (e, k)))
+fetched_kept g ns (Found own) b copy t buffer body d retry ks s h w c a e k = (h, ((record { kinded = w.code.kinded; placed = w.code.placed; named = w.code.named }, refl), (record { block = w.block; copy = c; again = a }, k)))
+fetched_kept g ns (Faults c) b copy t buffer body d retry ks s h w cp a e k = (h, (cp, (e, k)))
 fetched_kept g ns (Stops end) b copy t buffer body d retry ks s h w c a e k = (h, tt)
 fetched_kept g ns completion b copy t buffer body d retry ks s h w c a e k = (emptied_keeps g ns buffer s h, (tt, k))
 

@@ -19,13 +19,14 @@ use Rattle.block_flat.specs.Code.{DenotesAt, Ends, Instr, Opens, Plain, Tests}
 use Rattle.client_database.specs.declared.operation.Op.{Op}
 use Rattle.block_flat.specs.Config.{StackEntry, Acts, AssignsOne, Await, Blocks, Config, EndsWith, Execute, Iterates, Mode, OnAnswer, RunsFrom, Searches, Task, Unwind, WasNext, WasRead, WasSecond}
 use Rattle.kind_laws.specs.Evaluated.{action_expressions, answer_expressions, argument_expressions, end_expressions, expressions_if, expressions_of, instruction_expressions, item_expressions, right_expressions, start_expressions, statement_expressions, task_expressions}
-use Rattle.kind_laws.specs.Reached.{Ground, IsGround, Reached, running, surroundings}
+use Rattle.kind_laws.specs.Reached.{Ground, IsGround, ReachedOn, running, surroundings}
 use Rattle.kind_laws.proofs.Iterations.{header_to, header_while}
-use Rattle.kind_laws.proofs.Kept.{Allowed, IsAwaited, IsCode, IsGoing, IsTask, allows, here, is_right}
+use Rattle.kind_laws.proofs.Kept.{Allowed, allows, here, is_right, IsAwaited, IsCode, IsGoing, IsTask}
 use Rattle.kind_laws.proofs.Runs.{own_procedure, reached_kept}
 use Rattle.kind_laws.proofs.Statements.{code_is}
-use Rattle.kind_laws.proofs.Undone.{IsSafe, IsUndone, Undoing, undoing_frames}
+use Rattle.kind_laws.proofs.Undone.{IsSafe, IsUndone, Undoing, undoing_frames, bare}
 use Rattle.kind_laws.proofs.Undone.{acts, awaits_back, awaits_drop, awaits_get, awaits_leave, closes, drops, empties, enters, goes, has_dropped, has_emptied, has_entered, has_left, leaves, releases, restores, updated, updated_one, updates, updates_one}
+use Rattle.client_database.specs.declared.event.Event.{Event}
 
 -- ---- a place for a value is a place for any
 
@@ -152,21 +153,22 @@ mode_values : (g : Ground) (ns : List ℕ) (ks : List StackEntry) (m : Mode) →
 mode_values g ns ks (Execute (EndsWith b o (Stops end))) ok h = refl
 mode_values g ns ks (Execute t) ok h = task_values g ns (allows ks) t ok h.0
 mode_values g ns ks (Unwind completion) ok h = refl
-mode_values g ns ks (Await o k) ok h = answer_values g ns (allows ks) o k h.0
+mode_values g ns ks (Await o k) ok h = answer_values g ns (allows ks) o k h.1
 
 -- the action after an UNDO of the block of a procedure
 undoing_values : (g : Ground) (ns : List ℕ) (b : Header) (o : Iteration) (act : Action) (retry : Bool) (ks : List StackEntry) (c : Config) → IsUndone g ns b o act ks → Undoing g ns b o act retry ks c → AreValues (here g ns) (expressions_of g.code c.mode)
 undoing_values g ns b o act retry ks _ u (acts s e h) = action_values (here g ns) act u.action
+undoing_values g ns b o act retry ks _ u (bare more s e h) = refl
 undoing_values g ns b o act retry ks _ u (goes copy more s saved h) = refl
-undoing_values g ns b o act retry ks _ u (awaits_back copy more q s saved h) = refl
+undoing_values g ns b o act retry ks _ u (awaits_back copy more q s w saved h) = refl
 undoing_values g ns b o act retry ks _ u (restores copy more s saved h) = refl
 undoing_values g ns b o act retry ks _ u (updates mark places more s h) = refl
 undoing_values g ns b o act retry ks _ u (updates_one mark place places more s h) = refl
-undoing_values g ns b o act retry ks _ u (awaits_get mark places more q place row held made s suits h) = refl
+undoing_values g ns b o act retry ks _ u (awaits_get mark places more q place row held made s w suits h) = refl
 undoing_values g ns b o act retry ks _ u (updated_one mark places more s h) = refl
 undoing_values g ns b o act retry ks _ u (updated more s h) = refl
 undoing_values g ns b o act retry ks _ u (leaves more s h) = refl
-undoing_values g ns b o act retry ks _ u (awaits_leave more q s h) = refl
+undoing_values g ns b o act retry ks _ u (awaits_leave more q s w h) = refl
 undoing_values g ns b o act retry ks _ u (has_left more s h) = refl
 undoing_values g ns b o act retry ks _ u (empties more s h) = refl
 undoing_values g ns b o act retry ks _ u (has_emptied s e h) = refl
@@ -175,7 +177,7 @@ undoing_values g ns b o act retry ks _ u (releases bs out s i e h) = refl
 undoing_values g ns b o act retry ks _ u (enters n bs out s i e h) = refl
 undoing_values g ns b o act retry ks _ u (has_entered n bs out s i e h) = refl
 undoing_values g ns b o act retry ks _ u (drops n bs out s i e h) = refl
-undoing_values g ns b o act retry ks _ u (awaits_drop bs out q s i e h) = refl
+undoing_values g ns b o act retry ks _ u (awaits_drop bs out q s w i e h) = refl
 undoing_values g ns b o act retry ks _ u (has_dropped bs out s i e h) = refl
 
 safe_values : (g : Ground) (c : Config) → IsGround g → IsSafe g c → AreValues (running g c.state) (expressions_of g.code c.mode)
@@ -185,5 +187,5 @@ safe_values g c ok (inr r) =
     subst (λ (n : ℕ). AreValues (surroundings g n) (expressions_of g.code c.mode)) (own_procedure g r.0 r.1 c.state.frames f)
     (undoing_values g (r.0 ∷ r.1) r.2.block r.2.iteration r.2.action r.2.retry r.2.below c r.2.undone r.2.undoing)
 
-pub evaluated_good : (g : Ground) → IsGround g → (units : ℕ) (c : Config) → Reached g units c → list_all (is_value (running g c.state)) (expressions_of g.code c.mode) ≡ true
-evaluated_good g ok units c r = safe_values g c ok (reached_kept g units c ok r)
+pub evaluated_good : (g : Ground) → IsGround g → (units : ℕ) (own : List Event) (c : Config) → ReachedOn g units own c → list_all (is_value (running g c.state)) (expressions_of g.code c.mode) ≡ true
+evaluated_good g ok units own c r = safe_values g c ok (reached_kept g units own c ok r)

@@ -11,8 +11,8 @@ use Rattle.block_flat.specs.Config.{Closes, Execute, Passes, StackEntry, UndoCom
 use Rattle.block_flat.specs.Steps.{act_step, config, config_if, endkey_step, ends_step, error_step}
 use Rattle.kind_laws.specs.Placed.{is_placed_phrase, names_one_of}
 use Rattle.kind_laws.specs.Reached.{Ground}
-use Rattle.kind_laws.proofs.Kept.{Allowed, AreFrames, CanFail, IsAllowed, IsBlock, IsCopy, IsOpen, IsOver, IsStack, Kept, MayRelease, allows, here, in_block}
-use Rattle.kind_laws.proofs.Parts.{IsOuter, after_over, clash, covers, first_copy, in_self, kept_if, undoes_self, unwinds}
+use Rattle.kind_laws.proofs.Kept.{Allowed, allows, AreFrames, CanFail, here, in_block, IsAllowed, IsBlock, IsCopy, IsOpen, IsOver, IsStack, Kept}
+use Rattle.kind_laws.proofs.Parts.{after_over, clash, covers, first_copy, in_self, IsOuter, kept_if, undoes_self, unwinds}
 
 -- ---- parts of a header
 
@@ -47,7 +47,7 @@ instead_over true n bs = in_self n bs
 instead_over false n bs = in_self n bs
 
 pub act_kept : (g : Ground) (ns : List ℕ) (p : Program) (act : Action) (b : Header) (o : Iteration) (retry : Bool) (ks : List StackEntry) (s : State) → AreFrames g ns s.frames → IsOpen g ns (allows ks) b o → is_action (here g ns) act ≡ true →
-    names_one_of (b.number ∷ (allows ks).blocks) act ≡ true → MayRelease g ns (allows ks) b.scoped → IsStack g ns ks → Kept g ns (act_step p act b o retry ks s)
+    names_one_of (b.number ∷ (allows ks).blocks) act ≡ true → (allows ks).faults ≡ true → IsStack g ns ks → Kept g ns (act_step p act b o retry ks s)
 act_kept g ns p ThenRetry b o retry ks s h is a n r k =
     kept_if g ns b.flags.retry_seen (config (Unwind (Again (next_turn true o.turn))) ks s) (config (Execute (Closes b o (instead_of_retry (iterates b) b.number))) ks s)
     (λ _. (h, (is.again, k))) (λ _. (h, ((is, instead_over (iterates b) b.number (allows ks).blocks, r), k)))
@@ -59,10 +59,10 @@ act_kept g ns p ThenError b o retry ks s h is a n r k = (h, ((is, tt, r), k))
 -- ---- ERROR and ENDKEY
 
 -- ERROR or ENDKEY passes an iteration whose block does not handle it
-inside_of : (g : Ground) (ns : List ℕ) (a : Allowed) (b : Header) → IsBlock g ns a b → (IsOuter g ns a b → ⊥) → CanFail a
+inside_of : (g : Ground) (ns : List ℕ) (a : Allowed) (b : Header) → IsBlock g ns a b → (IsOuter a b → ⊥) → CanFail a
 inside_of g ns a b h x = go (covers g ns a b h)
   where
-    go : CanFail a ⊎ IsOuter g ns a b → CanFail a
+    go : CanFail a ⊎ IsOuter a b → CanFail a
     go (inl f) = f
     go (inr o) = absurd (x o)
 
@@ -79,7 +79,7 @@ error_kept g ns b o passed ks s h is c k =
     kept_if g ns b.flags.undo (error_step b.on_error b o passed ks s) (config (Execute (Passes b (Raises passed) (Raises (passed_with b o passed)))) ks s)
     (λ e. error_at g ns b.on_error b o passed ks s h is (both_left (is_placed_phrase (b.number ∷ (allows ks).blocks) b.on_error) _ is.block.placed) (header_error (here g ns) b is.block.kinded) c k)
     (λ e. let f = inside_of g ns (allows ks) b is.block (λ x. clash b.flags.undo x.undo e) in
-    (h, ((inl f.faults, (f.inside, c), (f.inside, first_copy g ns o.copy passed.first is.copy c)), k)))
+    (h, ((f.faults, (f.inside, c), (f.inside, first_copy g ns o.copy passed.first is.copy c)), k)))
 
 -- ---- ENDKEY
 
@@ -90,7 +90,7 @@ endkey_at g ns None b o passed ks s h is p a c k =
     (config (Execute (Passes b (EndKeys passed) (EndKeys (passed_with b o passed)))) ks s)
     (λ e. (h, ((is, undoes_self b.number (allows ks).blocks (ThenLeave b.number) (in_self b.number (allows ks).blocks), refl, c), k)))
     (λ e. let f = inside_of g ns (allows ks) b is.block (λ x. clash (handles_endkey b) x.endkey e) in
-    (h, ((inl f.faults, (f.inside, c), (f.inside, first_copy g ns o.copy passed.first is.copy c)), k)))
+    (h, ((f.faults, (f.inside, c), (f.inside, first_copy g ns o.copy passed.first is.copy c)), k)))
 endkey_at g ns (Some on) b o passed ks s h is p a c k = (h, ((is, p, a, c), k))
 
 pub endkey_kept : (g : Ground) (ns : List ℕ) (b : Header) (o : Iteration) (passed : Passed) (ks : List StackEntry) (s : State) → AreFrames g ns s.frames → IsOpen g ns (allows ks) b o → IsCopy g ns passed.first → IsStack g ns ks →
@@ -118,11 +118,11 @@ ends_kept g ns (Stops end) b o ks s h is a k = (h, tt)
 
 -- the iteration is closed after an UNDO
 pub closes_kept : (g : Ground) (ns : List ℕ) (b : Header) (o : Iteration) (completion : Completion) (ks : List StackEntry) (s : State) → AreFrames g ns s.frames → IsOpen g ns (allows ks) b o → IsOver (b.number ∷ (allows ks).blocks) completion →
-    MayRelease g ns (allows ks) b.scoped → IsStack g ns ks → Kept g ns (config (Execute (Releases b.scoped)) (ThenDo (Completes (after_iteration b o completion)) ∷ ks) s)
+    (allows ks).faults ≡ true → IsStack g ns ks → Kept g ns (config (Execute (Releases b.scoped)) (ThenDo (Completes (after_iteration b o completion)) ∷ ks) s)
 closes_kept g ns b o completion ks s h is c r k = (h, (r, (after_over g ns (allows ks) b o completion c is.again, k)))
 
 -- an iteration is passed: where no level is open it ends here
-pub passes_kept : (g : Ground) (ns : List ℕ) (b : Header) (ended_way left_way : Completion) (ks : List StackEntry) (s : State) → AreFrames g ns s.frames → MayRelease g ns (allows ks) b.scoped → IsAllowed g ns (allows ks) ended_way →
+pub passes_kept : (g : Ground) (ns : List ℕ) (b : Header) (ended_way left_way : Completion) (ks : List StackEntry) (s : State) → AreFrames g ns s.frames → (allows ks).faults ≡ true → IsAllowed g ns (allows ks) ended_way →
     IsAllowed g ns (allows ks) left_way → IsStack g ns ks → Kept g ns (config_if (s.level == 0) (config (Execute (Releases b.scoped)) (ThenDo (Completes ended_way) ∷ ks) s) (config (Unwind left_way) ks s))
 passes_kept g ns b ended_way left_way ks s h r e l k =
     kept_if g ns (s.level == 0) (config (Execute (Releases b.scoped)) (ThenDo (Completes ended_way) ∷ ks) s) (config (Unwind left_way) ks s)

@@ -1,5 +1,6 @@
 pub mod Kept
 pub mod States
+pub mod Rows
 pub mod Buffers
 pub mod Calls
 pub mod Parts
@@ -9,6 +10,7 @@ pub mod Statements
 pub mod Tasks
 pub mod Answers
 pub mod Undone
+pub mod Quiet
 pub mod Completions
 pub mod Runs
 pub mod Evaluated

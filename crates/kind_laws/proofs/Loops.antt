@@ -1,5 +1,5 @@
 -- Blocks: TO, WHILE, levels and the record of a FOR.
-use Rattle.std.proofs.Common.{◌≡◌, ℕ, zero, suc, Bool, true, false, List, Option, Some, None, refl, inl, inr}
+use Rattle.std.proofs.Common.{◌≡◌, ℕ, Bool, true, false, List, Option, Some, None, refl, inl, inr}
 use Rattle.std.specs.Prelude.{◌&&◌, ◌⊎◌, pos}
 use Rattle.abl_base.specs.declared.value.Value.{Value}
 use Rattle.abl_base.specs.declared.value.Value.TheVariants.{Int64}
@@ -17,11 +17,12 @@ use Rattle.block_meaning.specs.Values.{Evaluated, Fails, Gives, fit, value_now}
 use Rattle.block_flat.specs.Config.{Begins, Config, EntersLevel, Execute, StackEntry, Turns, Unwind, WasEntered}
 use Rattle.block_flat.specs.Steps.{advance_step, ask, begins_step, block_step, by_step, config, config_if, given_step, loop_step, reach_step, set_step, turn_step, while_step}
 use Rattle.kind_laws.specs.Reached.{Ground}
-use Rattle.kind_laws.proofs.Kept.{Allowed, AreFrames, CanFail, IsApart, IsBegun, IsBlock, IsEntered, IsStack, IsWhole, Kept, allows, here}
-use Rattle.kind_laws.proofs.Calls.{IfGives, fit_is}
+use Rattle.kind_laws.proofs.Kept.{Allowed, allows, AreFrames, CanFail, here, IsApart, IsBlock, IsStack, IsWhole, Kept, IsCopy}
+use Rattle.kind_laws.proofs.Calls.{fit_is, IfGives}
 use Rattle.kind_laws.proofs.Iterations.{header_fetch, header_to}
-use Rattle.kind_laws.proofs.Parts.{ask_kept, clash, given_kept, kept_if, lacked}
+use Rattle.kind_laws.proofs.Parts.{ask_kept, given_kept, kept_if, lacked}
 use Rattle.kind_laws.proofs.States.{assigned_keeps}
+use Rattle.schema_laws.specs.Named.{has_fetch}
 
 -- ---- where another iteration is allowed too
 
@@ -29,39 +30,34 @@ again_fails : (a : Allowed) → CanFail a → CanFail (record a { again = true }
 again_fails a f = record { faults = f.faults; inside = f.inside }
 
 pub again_block : (g : Ground) (ns : List ℕ) (a : Allowed) (b : Header) → IsBlock g ns a b → IsBlock g ns (record a { again = true }) b
-again_block g ns a b h = record { kinded = h.kinded; placed = h.placed; covered = go h.covered }
+again_block g ns a b h = record { kinded = h.kinded; placed = h.placed; named = h.named; covered = go h.covered }
   where
-    go : CanFail a ⊎ IsApart g ns a b → CanFail (record a { again = true }) ⊎ IsApart g ns (record a { again = true }) b
+    go : CanFail a ⊎ IsApart a b → CanFail (record a { again = true }) ⊎ IsApart (record a { again = true }) b
     go (inl f) = inl (again_fails a f)
-    go (inr e) = inr (record { outermost = e.outermost; alone = e.alone; within = e.within })
+    go (inr e) = inr (record { outermost = e.outermost; alone = e.alone })
 
 pub again_whole : (g : Ground) (ns : List ℕ) (a : Allowed) (b : Header) (body : ℕ) → IsWhole g ns a b body → IsWhole g ns (record a { again = true }) b body
-again_whole g ns a b body h = record { block = again_block g ns a b h.block; code = record { kinded = h.code.kinded; placed = h.code.placed; calm = h.code.calm } }
+again_whole g ns a b body h = record { block = again_block g ns a b h.block; code = record { kinded = h.code.kinded; placed = h.code.placed; named = h.code.named } }
 
 -- ---- an iteration begins
 
-begins_at : (g : Ground) (ns : List ℕ) (f : Option Fetch) (b : Header) (copy : Option Copy) (t : Turn) (retry : Bool) (body d : ℕ) (ks : List StackEntry) (s : State) → AreFrames g ns s.frames → IsWhole g ns (allows ks) b body → IsBegun g ns b copy →
-    (allows ks).again ≡ true → if_there (λ (f : Fetch). is_reading (here g ns) f.reading) f ≡ true → CanFail (allows ks) ⊎ (is_given f ≡ false) → IsStack g ns ks → Kept g ns (begins_step f b copy t retry body d ks s)
-begins_at g ns None b copy t retry body d ks s h w c a r x k = (h, ((record { kinded = w.code.kinded; placed = w.code.placed; calm = w.code.calm }, refl), (record { block = w.block; copy = c.saved; entered = c.entered; again = a }, k)))
-begins_at g ns (Some f) b copy t retry body d ks s h w c a r (inl x) k = (h, ((record { reading = r; faults = refl }, refl), ((w, c, a, x.faults), k)))
-begins_at g ns (Some f) b copy t retry body d ks s h w c a r (inr e) k = absurd cc
+begins_at : (g : Ground) (ns : List ℕ) (f : Option Fetch) (b : Header) (copy : Option Copy) (t : Turn) (retry : Bool) (body d : ℕ) (ks : List StackEntry) (s : State) → AreFrames g ns s.frames → IsWhole g ns (allows ks) b body → IsCopy g ns copy →
+    (allows ks).again ≡ true → if_there (λ (f : Fetch). is_reading (here g ns) f.reading) f ≡ true → has_fetch g.schema (here g ns).buffers f ≡ true → CanFail (allows ks) ⊎ (is_given f ≡ false) → IsStack g ns ks → Kept g ns (begins_step f b copy t retry body d ks s)
+begins_at g ns None b copy t retry body d ks s h w c a r nd x k = (h, ((record { kinded = w.code.kinded; placed = w.code.placed; named = w.code.named }, refl), (record { block = w.block; copy = c; again = a }, k)))
+begins_at g ns (Some f) b copy t retry body d ks s h w c a r nd (inl x) k = (h, ((record { reading = r; named = nd; faults = refl }, refl), ((w, c, a, x.faults), k)))
+begins_at g ns (Some f) b copy t retry body d ks s h w c a r nd (inr e) k = absurd cc
 
-pub begins_kept : (g : Ground) (ns : List ℕ) (b : Header) (copy : Option Copy) (t : Turn) (retry : Bool) (body d : ℕ) (ks : List StackEntry) (s : State) → AreFrames g ns s.frames → IsWhole g ns (allows ks) b body → IsBegun g ns b copy →
+pub begins_kept : (g : Ground) (ns : List ℕ) (b : Header) (copy : Option Copy) (t : Turn) (retry : Bool) (body d : ℕ) (ks : List StackEntry) (s : State) → AreFrames g ns s.frames → IsWhole g ns (allows ks) b body → IsCopy g ns copy →
     (allows ks).again ≡ true → IsStack g ns ks → Kept g ns (begins_step b.fetch b copy t retry body d ks s)
 begins_kept g ns b copy t retry body d ks s h w c a k =
-    begins_at g ns b.fetch b copy t retry body d ks s h w c a (header_fetch (here g ns) b w.block.kinded) (lacked g ns (allows ks) b b.fetch w.block (λ o. o.fetch)) k
-
--- an iteration has no level only where its block starts no transaction, or cannot be undone
-not_entered : (b : Header) (level : ℕ) → enters_at b level ≡ false → IsEntered b None
-not_entered b zero e = λ starts undo. absurd (clash b.flags.starts starts e)
-not_entered b (suc n) e = λ starts undo. absurd (clash b.flags.undo undo e)
+    begins_at g ns b.fetch b copy t retry body d ks s h w c a (header_fetch (here g ns) b w.block.kinded) w.block.named (lacked g ns (allows ks) b b.fetch w.block (λ o. o.fetch)) k
 
 -- a level is opened where the header says so
 pub level_kept : (g : Ground) (ns : List ℕ) (b : Header) (t : Turn) (retry : Bool) (body d : ℕ) (ks : List StackEntry) (s : State) → AreFrames g ns s.frames → IsWhole g ns (allows ks) b body → (allows ks).again ≡ true → IsStack g ns ks →
     Kept g ns (config_if (enters_at b s.level) (ask op.Enter (WasEntered b t retry body d) ks s) (config (Execute (Begins b None t retry body d)) ks s))
 level_kept g ns b t retry body d ks s h w a k =
     kept_if g ns (enters_at b s.level) (ask op.Enter (WasEntered b t retry body d) ks s) (config (Execute (Begins b None t retry body d)) ks s)
-    (λ _. ask_kept g ns op.Enter (WasEntered b t retry body d) ks s h (w, a) k) (λ e. (h, ((w, record { saved = tt; entered = not_entered b s.level e }, a), k)))
+    (λ _. ask_kept g ns op.Enter (WasEntered b t retry body d) ks s h tt (w, a) k) (λ e. (h, ((w, tt, a), k)))
 
 -- ---- WHILE and TO
 

@@ -18,9 +18,10 @@ use Rattle.block_flat.specs.Config.{Config, EndsWith, Execute, OnAnswer, StackEn
 use Rattle.block_flat.specs.Steps.{ask, asked_from, config, config_if, costing, ends_as, errs_step, given_all_step, given_step, judge_step, test_step}
 use Rattle.kind_laws.specs.Placed.{is_nil, names_one_of, outward, undoes_one_of}
 use Rattle.kind_laws.specs.Reached.{Ground}
-use Rattle.kind_laws.proofs.Kept.{Allowed, AreFrames, CanFail, IsAllowed, IsApart, IsAwaited, IsBlock, IsCopy, IsOver, IsStack, IsTask, Kept, MayRelease, allows}
+use Rattle.kind_laws.proofs.Kept.{Allowed, allows, AreFrames, CanFail, IsAllowed, IsApart, IsAwaited, IsBlock, IsCopy, IsOver, IsStack, IsTask, Kept}
 use Rattle.kind_laws.proofs.Calls.{Ends}
 use Rattle.kind_laws.proofs.Buffers.{emptied_keeps}
+use Rattle.kind_laws.specs.Operations.{IsOfSchema}
 
 -- ---- tests
 
@@ -62,12 +63,12 @@ pub kept_if : (g : Ground) (ns : List ℕ) (c : Bool) (one other : Config) → (
 kept_if g ns true one other x y = x refl
 kept_if g ns false one other x y = y refl
 
-asked_kept : (g : Ground) (ns : List ℕ) (n : ℕ) (op : Op) (on : OnAnswer) (ks : List StackEntry) (s : State) → AreFrames g ns s.frames → IsAwaited g ns (allows ks) op on → IsStack g ns ks → Kept g ns (asked_from n op on ks s)
-asked_kept g ns zero op on ks s h a k = (h, tt)
-asked_kept g ns (suc n) op on ks s h a k = (h, (a, k))
+asked_kept : (g : Ground) (ns : List ℕ) (n : ℕ) (op : Op) (on : OnAnswer) (ks : List StackEntry) (s : State) → AreFrames g ns s.frames → IsOfSchema g.schema op → IsAwaited g ns (allows ks) op on → IsStack g ns ks → Kept g ns (asked_from n op on ks s)
+asked_kept g ns zero op on ks s h w a k = (h, tt)
+asked_kept g ns (suc n) op on ks s h w a k = (h, (w, a, k))
 
-pub ask_kept : (g : Ground) (ns : List ℕ) (op : Op) (on : OnAnswer) (ks : List StackEntry) (s : State) → AreFrames g ns s.frames → IsAwaited g ns (allows ks) op on → IsStack g ns ks → Kept g ns (ask op on ks s)
-ask_kept g ns op on ks s h a k = asked_kept g ns s.units op on ks s h a k
+pub ask_kept : (g : Ground) (ns : List ℕ) (op : Op) (on : OnAnswer) (ks : List StackEntry) (s : State) → AreFrames g ns s.frames → IsOfSchema g.schema op → IsAwaited g ns (allows ks) op on → IsStack g ns ks → Kept g ns (ask op on ks s)
+ask_kept g ns op on ks s h w a k = asked_kept g ns s.units op on ks s h w a k
 
 pub costing_kept : (g : Ground) (ns : List ℕ) (n : ℕ) (go : State → Config) (ks : List StackEntry) (s : State) → AreFrames g ns s.frames → ((t : State) → AreFrames g ns t.frames → Kept g ns (go t)) → Kept g ns (costing n go ks s)
 costing_kept g ns zero go ks s h x = (h, tt)
@@ -157,17 +158,16 @@ undoes_self n bs act h = go (n == n) (equal_self n)
 
 -- ---- the block of a procedure
 
-pub record IsOuter (g : Ground) (ns : List ℕ) (a : Allowed) (b : Header) : Type 0 where
+pub record IsOuter (a : Allowed) (b : Header) : Type 0 where
   pub undo : b.flags.undo ≡ true
   pub endkey : handles_endkey b ≡ true
   pub to : is_given b.to ≡ false
   pub while_test : is_given b.while_test ≡ false
   pub fetch : is_given b.fetch ≡ false
   pub alone : is_nil a.blocks ≡ true
-  pub within : MayRelease g ns a b.scoped ⊎ (b.flags.starts ≡ true)
 
-pub outer : (g : Ground) (ns : List ℕ) (a : Allowed) (b : Header) → IsApart g ns a b → IsOuter g ns a b
-outer g ns a b apart =
+pub outer : (a : Allowed) (b : Header) → IsApart a b → IsOuter a b
+outer a b apart =
     let h = apart.outermost in
     let first = both_left (b.flags.undo && handles_endkey b) _ h in
     let rest = both_right (b.flags.undo && handles_endkey b) _ h in
@@ -179,22 +179,21 @@ outer g ns a b apart =
       while_test = not_holds (is_given b.while_test) (both_left (not (is_given b.while_test)) _ second);
       fetch = not_holds (is_given b.fetch) (both_right (not (is_given b.while_test)) _ second);
       alone = apart.alone;
-      within = apart.within;
     }
 
 -- it is the block of a procedure, or a fault is handled around it
-pub covers : (g : Ground) (ns : List ℕ) (a : Allowed) (b : Header) → IsBlock g ns a b → CanFail a ⊎ IsOuter g ns a b
+pub covers : (g : Ground) (ns : List ℕ) (a : Allowed) (b : Header) → IsBlock g ns a b → CanFail a ⊎ IsOuter a b
 covers g ns a b h = go h.covered
   where
-    go : CanFail a ⊎ IsApart g ns a b → CanFail a ⊎ IsOuter g ns a b
+    go : CanFail a ⊎ IsApart a b → CanFail a ⊎ IsOuter a b
     go (inl f) = inl f
-    go (inr e) = inr (outer g ns a b e)
+    go (inr e) = inr (outer a b e)
 
 -- what a header has that the block of a procedure lacks
-pub lacked : {A : Type 0} (g : Ground) (ns : List ℕ) (a : Allowed) (b : Header) (o : Option A) → IsBlock g ns a b → (IsOuter g ns a b → is_given o ≡ false) → CanFail a ⊎ (is_given o ≡ false)
+pub lacked : {A : Type 0} (g : Ground) (ns : List ℕ) (a : Allowed) (b : Header) (o : Option A) → IsBlock g ns a b → (IsOuter a b → is_given o ≡ false) → CanFail a ⊎ (is_given o ≡ false)
 lacked g ns a b o h f = go (covers g ns a b h)
   where
-    go : CanFail a ⊎ IsOuter g ns a b → CanFail a ⊎ (is_given o ≡ false)
+    go : CanFail a ⊎ IsOuter a b → CanFail a ⊎ (is_given o ≡ false)
     go (inl x) = inl x
     go (inr x) = inr (f x)
 

@@ -22,11 +22,13 @@ use Rattle.block_meaning.specs.Values.{Evaluated, EvaluatedAll, Fails, FailsAll,
 use Rattle.block_flat.specs.Code.{DenotesAt, Ends as EndsBody, Instr, Opens, Plain, Tests, before}
 use Rattle.block_flat.specs.Config.{Blocks, Calls, Execute, Handles, RunsFrom, StackEntry, ThenDo, Completes}
 use Rattle.block_flat.specs.Steps.{choose_step, config, ends_as, export_step, given_all_step, given_text_step, import_step, instr_step, stmt_step, wrote_to}
-use Rattle.kind_laws.specs.Placed.{creates_none, creates_none_in, internal_of, is_internal, is_nil, is_placed_body, is_placed_header, is_placed_procedure, is_placed_statement, scopes_safely}
+use Rattle.kind_laws.specs.Placed.{is_internal, is_nil, is_placed_body, is_placed_header, is_placed_procedure, is_placed_statement}
 use Rattle.kind_laws.specs.Reached.{Ground, IsGround, kinds_at, no_variables}
-use Rattle.kind_laws.proofs.Kept.{AreAssigned, AreFor, AreFrames, CanFail, IsCall, IsCode, IsProcedure, IsStack, Kept, allows, calm_here, calm_of, here, is_right}
-use Rattle.kind_laws.proofs.Calls.{IfAll, arguments_are}
+use Rattle.kind_laws.proofs.Kept.{allows, AreAssigned, AreFor, AreFrames, CanFail, here, is_right, IsCall, IsCode, IsProcedure, IsStack, Kept}
+use Rattle.kind_laws.proofs.Calls.{arguments_are, IfAll}
 use Rattle.kind_laws.proofs.Parts.{costing_kept, ends_kept, errs_kept, given_all_kept, kept_if, wrote_ends}
+use Rattle.bound_tree.specs.declared.procedure.BufferDef.{BufferDef}
+use Rattle.schema_laws.specs.Named.{has_fetch, has_assignment, has_statement, has_body, has_procedure}
 
 -- ---- streams change no variable
 
@@ -49,24 +51,26 @@ right_is x t (NextOf q) h = refl
 right_is x t (CurrentOf q) h = refl
 right_is x t (Given v) h = refl
 
-assigned_all : (x : Surroundings) (as_ : List Assignment) → list_all (is_assignment x) as_ ≡ true → AreAssigned x as_
-assigned_all x [] h = tt
-assigned_all x (a ∷ as_) h =
-    let first = both_left (is_assignment x a) _ h in
-    (record { target = both_left (is_target x a.target) _ first; right = right_is x a.target a.right (both_right (is_target x a.target) _ first) }, assigned_all x as_ (both_right (is_assignment x a) _ h))
+assigned_all : (schema : SchemaData) (x : Surroundings) (as_ : List Assignment) → list_all (is_assignment x) as_ ≡ true → list_all (has_assignment schema) as_ ≡ true → AreAssigned schema x as_
+assigned_all schema x [] h n = tt
+assigned_all schema x (a ∷ as_) h n =
+    let first = both_left (is_assignment x a) _ h in (
+      record { target = both_left (is_target x a.target) _ first; right = right_is x a.target a.right (both_right (is_target x a.target) _ first); named = both_left (has_assignment schema a) _ n },
+      assigned_all schema x as_ (both_right (is_assignment x a) _ h) (both_right (has_assignment schema a) _ n),
+    )
 
-imported_all : (x : Surroundings) (ts : List (Option Target)) (vs : List (Option Value)) → list_all (if_there (is_target x)) ts ≡ true → AreAssigned x (pairs_of ts vs)
-imported_all x [] vs h = tt
-imported_all x (t ∷ ts) [] h = tt
-imported_all x (None ∷ ts) (v ∷ vs) h = imported_all x ts vs h
-imported_all x (Some t ∷ ts) (None ∷ vs) h = imported_all x ts vs (both_right (is_target x t) _ h)
-imported_all x (Some t ∷ ts) (Some v ∷ vs) h = (record { target = both_left (is_target x t) _ h; right = refl }, imported_all x ts vs (both_right (is_target x t) _ h))
+imported_all : (schema : SchemaData) (x : Surroundings) (ts : List (Option Target)) (vs : List (Option Value)) → list_all (if_there (is_target x)) ts ≡ true → AreAssigned schema x (pairs_of ts vs)
+imported_all schema x [] vs h = tt
+imported_all schema x (t ∷ ts) [] h = tt
+imported_all schema x (None ∷ ts) (v ∷ vs) h = imported_all schema x ts vs h
+imported_all schema x (Some t ∷ ts) (None ∷ vs) h = imported_all schema x ts vs (both_right (is_target x t) _ h)
+imported_all schema x (Some t ∷ ts) (Some v ∷ vs) h = (record { target = both_left (is_target x t) _ h; right = refl; named = refl }, imported_all schema x ts vs (both_right (is_target x t) _ h))
 
 pub import_kept : (g : Ground) (ns : List ℕ) (r : Imported) (n : ℕ) (ts : List (Option Target)) (retry : Bool) (ks : List StackEntry) (s : State) → AreFrames g ns s.frames → list_all (if_there (is_target (here g ns))) ts ≡ true → CanFail (allows ks) →
     IsStack g ns ks → Kept g ns (import_step r n ts retry ks s)
 import_kept g ns AtInputEnd n ts retry ks s h is f k = (h, ((f.inside, tt), k))
 import_kept g ns (BadElement number next) n ts retry ks s h is f k = (read_to_keeps g ns n next s h, (f.faults, k))
-import_kept g ns (Elements vs next) n ts retry ks s h is f k = (read_to_keeps g ns n next s h, ((imported_all (here g ns) ts vs is, f.faults), k))
+import_kept g ns (Elements vs next) n ts retry ks s h is f k = (read_to_keeps g ns n next s h, ((imported_all g.schema (here g ns) ts vs is, f.faults), k))
 
 -- ---- procedures that are run
 
@@ -74,17 +78,18 @@ import_kept g ns (Elements vs next) n ts retry ks s h is f k = (read_to_keeps g 
 pub record IsRun (x : Surroundings) (schema : SchemaData) (outer : VariableKinds) (parameters : List (List Variable)) (own : VariableKinds) (q : Procedure) (args : List Argument) : Type 0 where
   pub kinded : is_procedure schema outer parameters own q ≡ true
   pub placed : is_placed_procedure q ≡ true
+  pub named : has_procedure schema q ≡ true
   pub arguments : are_arguments x q.parameters args ≡ true
 
 run_is : (x : Surroundings) (schema : SchemaData) (outer : VariableKinds) (parameters : List (List Variable)) (kinds : List VariableKinds) (qs : List Procedure) (n : ℕ) (args : List Argument) →
-    are_procedures schema outer parameters kinds qs ≡ true → list_all is_placed_procedure qs ≡ true → is_run x (slice_get (parameters_of qs) n) args ≡ true →
+    are_procedures schema outer parameters kinds qs ≡ true → list_all is_placed_procedure qs ≡ true → list_all (has_procedure schema) qs ≡ true → is_run x (slice_get (parameters_of qs) n) args ≡ true →
     IsRun x schema outer parameters (slice_index_or kinds n no_variables) (slice_index_or qs n no_procedure) args
-run_is x schema outer parameters kinds [] n args h p r = absurd cc
-run_is x schema outer parameters [] (q ∷ qs) n args h p r = absurd cc
-run_is x schema outer parameters (own ∷ kinds) (q ∷ qs) zero args h p r =
-    record { kinded = both_left (is_procedure schema outer parameters own q) _ h; placed = both_left (is_placed_procedure q) _ p; arguments = r }
-run_is x schema outer parameters (own ∷ kinds) (q ∷ qs) (suc n) args h p r =
-    run_is x schema outer parameters kinds qs n args (both_right (is_procedure schema outer parameters own q) _ h) (both_right (is_placed_procedure q) _ p) r
+run_is x schema outer parameters kinds [] n args h p nd r = absurd cc
+run_is x schema outer parameters [] (q ∷ qs) n args h p nd r = absurd cc
+run_is x schema outer parameters (own ∷ kinds) (q ∷ qs) zero args h p nd r =
+    record { kinded = both_left (is_procedure schema outer parameters own q) _ h; placed = both_left (is_placed_procedure q) _ p; named = both_left (has_procedure schema q) _ nd; arguments = r }
+run_is x schema outer parameters (own ∷ kinds) (q ∷ qs) (suc n) args h p nd r =
+    run_is x schema outer parameters kinds qs n args (both_right (is_procedure schema outer parameters own q) _ h) (both_right (is_placed_procedure q) _ p) (both_right (has_procedure schema q) _ nd) r
 
 procedures_are : (schema : SchemaData) (kinds : List VariableKinds) (source : Source) → is_well_kinded schema kinds source ≡ true → are_procedures schema (slice_index_or kinds 0 no_variables) (parameters_of source.procedures) kinds source.procedures ≡ true
 procedures_are schema [] source h = absurd cc
@@ -94,34 +99,11 @@ parameters_here : (g : Ground) (ns : List ℕ) → (here g ns).parameters ≡ pa
 parameters_here g [] = refl
 parameters_here g (n ∷ ns) = refl
 
--- no buffer is scoped to the block of an internal one
-all_within : (qs : List Procedure) (n : ℕ) → list_all scopes_safely qs ≡ true → scopes_safely (slice_index_or qs n no_procedure) ≡ true
-all_within [] n h = refl
-all_within (q ∷ qs) zero h = both_left (scopes_safely q) _ h
-all_within (q ∷ qs) (suc n) h = all_within qs n (both_right (scopes_safely q) _ h)
-
-mutual
-  creates_one : (t : Stmt) → creates_none [] t ≡ true
-  creates_one (Inner h body) = creates_any body
-  creates_one (Choose test one other) = both (creates_none_in [] one) _ (creates_any one) (creates_any other)
-  creates_one (Create b quiet) = refl
-  creates_one t = refl
-
-  -- a record is created in none of no buffers
-  creates_any : (body : Body) → creates_none_in [] body ≡ true
-  creates_any Nothing = refl
-  creates_any (Then t ts) = both (creates_none [] t) _ (creates_one t) (creates_any ts)
-
-within_is : (qs : List Procedure) (n : ℕ) → list_all scopes_safely (internal_of qs) ≡ true → creates_none_in (calm_of n (slice_index_or qs n no_procedure)) (slice_index_or qs n no_procedure).body ≡ true
-within_is qs zero h = creates_any (slice_index_or qs 0 no_procedure).body
-within_is [] (suc n) h = refl
-within_is (q ∷ qs) (suc n) h = all_within qs n h
-
 call_is : (g : Ground) (ns : List ℕ) (n : ℕ) (args : List Argument) → IsGround g → is_internal n ≡ true → is_run (here g ns) (slice_get (here g ns).parameters n) args ≡ true → IsCall g ns n args
 call_is g ns n args ok inside r =
-    let is = run_is (here g ns) g.schema (kinds_at g 0) (parameters_of g.program.source.procedures) g.kinds g.program.source.procedures n args (procedures_are g.schema g.kinds g.program.source ok.kinded) ok.placed
+    let is = run_is (here g ns) g.schema (kinds_at g 0) (parameters_of g.program.source.procedures) g.kinds g.program.source.procedures n args (procedures_are g.schema g.kinds g.program.source ok.kinded) ok.placed ok.named
     (subst (λ (ps : List (List Variable)). is_run (here g ns) (slice_get ps n) args ≡ true) (parameters_here g ns) r) in
-    record { procedure = record { kinded = is.kinded; placed = is.placed; within = within_is g.program.source.procedures n ok.within }; internal = inside; arguments = is.arguments }
+    record { procedure = record { kinded = is.kinded; placed = is.placed; named = is.named }; internal = inside; arguments = is.arguments }
 
 first_is : (schema : SchemaData) (outer : VariableKinds) (parameters : List (List Variable)) (kinds : List VariableKinds) (qs : List Procedure) → are_procedures schema outer parameters kinds qs ≡ true → (kinds ≡ [] → ⊥) →
     is_procedure schema outer parameters (slice_index_or kinds 0 no_variables) (slice_index_or qs 0 no_procedure) ≡ true
@@ -147,7 +129,7 @@ main_is g ok =
     record {
       kinded = first_is g.schema (kinds_at g 0) (parameters_of g.program.source.procedures) g.kinds g.program.source.procedures all some;
       placed = first_passes is_placed_procedure g.schema (kinds_at g 0) (parameters_of g.program.source.procedures) g.kinds g.program.source.procedures all some ok.placed;
-      within = creates_any (procedure_at g.program 0).body;
+      named = first_passes (has_procedure g.schema) g.schema (kinds_at g 0) (parameters_of g.program.source.procedures) g.kinds g.program.source.procedures all some ok.named;
     }
 
 -- ---- statements, in a stack that goes on
@@ -167,39 +149,39 @@ run_kept g ns (GivesAll vs) d n args quiet ks s h call v i k = (h, ((call, v, re
 run_kept g ns (FailsAll c) d n args quiet ks s h call v i k = (h, (refl, (i, k)))
 
 pub stmt_kept : (g : Ground) (ns : List ℕ) (t : Stmt) (d : ℕ) (retry : Bool) (ks : List StackEntry) (s : State) → IsGround g → AreFrames g ns s.frames → is_statement (here g ns) t ≡ true → is_placed_statement (allows ks).blocks t ≡ true →
-    creates_none (calm_here g ns) t ≡ true →
+    has_statement g.schema (here g ns).buffers t ≡ true →
     is_nil (allows ks).blocks ≡ false → IsStack g ns ks → Kept g ns (stmt_step g.program t d retry ks s)
-stmt_kept g ns (Inner b body) d retry ks s ok h is pl cr i k = (h, (tt, k))
-stmt_kept g ns (Choose test then_it else_it) d retry ks s ok h is pl cr i k = (h, (tt, k))
-stmt_kept g ns (Assign pairs quiet) d retry ks s ok h is pl cr i k = (cleared_keeps g ns quiet s h, ((assigned_all (here g ns) pairs is, refl), (i, k)))
-stmt_kept g ns (Find word reading wait quiet) d retry ks s ok h is pl cr i k = (cleared_keeps g ns quiet s h, ((record { reading = is; faults = refl }, i), (refl, (i, k))))
-stmt_kept g ns (FindCurrent reading wait quiet) d retry ks s ok h is pl cr i k = (cleared_keeps g ns quiet s h, (refl, (i, k)))
-stmt_kept g ns (Create b quiet) d retry ks s ok h is pl cr i k = (cleared_keeps g ns quiet s h, ((refl, cr), (i, k)))
-stmt_kept g ns (Remove b quiet) d retry ks s ok h is pl cr i k = (cleared_keeps g ns quiet s h, (refl, (i, k)))
-stmt_kept g ns (Release b quiet) d retry ks s ok h is pl cr i k = (cleared_keeps g ns quiet s h, (inl refl, (tt, (i, k))))
-stmt_kept g ns (UndoBlock l act) d retry ks s ok h is pl cr i k = (h, ((pl, is, tt), (i, k)))
-stmt_kept g ns (LeaveBlock l) d retry ks s ok h is pl cr i k = (h, (pl, (i, k)))
-stmt_kept g ns (NextBlock l) d retry ks s ok h is pl cr i k = (h, (pl, (i, k)))
-stmt_kept g ns (Return e) d retry ks s ok h is pl cr i k = (h, (tt, (i, k)))
-stmt_kept g ns (ReturnError l e) d retry ks s ok h is pl cr i k = (h, ((both (is_in l (allows ks).blocks) _ pl refl, refl, tt), (i, k)))
-stmt_kept g ns Stop d retry ks s ok h is pl cr i k = (h, tt)
-stmt_kept g ns (Run n args quiet) d retry ks s ok h is pl cr i k =
+stmt_kept g ns (Inner b body) d retry ks s ok h is pl nd i k = (h, (tt, k))
+stmt_kept g ns (Choose test then_it else_it) d retry ks s ok h is pl nd i k = (h, (tt, k))
+stmt_kept g ns (Assign pairs quiet) d retry ks s ok h is pl nd i k = (cleared_keeps g ns quiet s h, ((assigned_all g.schema (here g ns) pairs is nd, refl), (i, k)))
+stmt_kept g ns (Find word reading wait quiet) d retry ks s ok h is pl nd i k = (cleared_keeps g ns quiet s h, ((record { reading = is; named = nd; faults = refl }, i), (refl, (i, k))))
+stmt_kept g ns (FindCurrent reading wait quiet) d retry ks s ok h is pl nd i k = (cleared_keeps g ns quiet s h, (refl, (i, k)))
+stmt_kept g ns (Create b quiet) d retry ks s ok h is pl nd i k = (cleared_keeps g ns quiet s h, ((refl, nd), (i, k)))
+stmt_kept g ns (Remove b quiet) d retry ks s ok h is pl nd i k = (cleared_keeps g ns quiet s h, (refl, (i, k)))
+stmt_kept g ns (Release b quiet) d retry ks s ok h is pl nd i k = (cleared_keeps g ns quiet s h, (refl, (tt, (i, k))))
+stmt_kept g ns (UndoBlock l act) d retry ks s ok h is pl nd i k = (h, ((pl, is, tt), (i, k)))
+stmt_kept g ns (LeaveBlock l) d retry ks s ok h is pl nd i k = (h, (pl, (i, k)))
+stmt_kept g ns (NextBlock l) d retry ks s ok h is pl nd i k = (h, (pl, (i, k)))
+stmt_kept g ns (Return e) d retry ks s ok h is pl nd i k = (h, (tt, (i, k)))
+stmt_kept g ns (ReturnError l e) d retry ks s ok h is pl nd i k = (h, ((both (is_in l (allows ks).blocks) _ pl refl, refl, tt), (i, k)))
+stmt_kept g ns Stop d retry ks s ok h is pl nd i k = (h, tt)
+stmt_kept g ns (Run n args quiet) d retry ks s ok h is pl nd i k =
     run_kept g ns (argument_values g.program args (procedure_at g.program n).parameters retry (cleared quiet s)) d n args quiet ks (cleared quiet s) (cleared_keeps g ns quiet s h) (call_is g ns n args ok pl is)
     (arguments_are g.program args (procedure_at g.program n).parameters retry (cleared quiet s)) i k
-stmt_kept g ns (Import n targets quiet) d retry ks s ok h is pl cr i k = (cleared_keeps g ns quiet s h, ((is, record { faults = refl; inside = i }), (i, k)))
-stmt_kept g ns (Export n es) d retry ks s ok h is pl cr i k =
+stmt_kept g ns (Import n targets quiet) d retry ks s ok h is pl nd i k = (cleared_keeps g ns quiet s h, ((is, record { faults = refl; inside = i }), (i, k)))
+stmt_kept g ns (Export n es) d retry ks s ok h is pl nd i k =
     given_all_kept g ns (values_now g.program es retry s) (λ vs s. ends_as (wrote_to n (export_line vs) s) (Handles false ∷ ks)) (Handles false ∷ ks) s h refl (i, k)
     (λ vs. ends_kept g ns (wrote_to n (export_line vs) s) (Handles false ∷ ks) (wrote_ends g ns (allows (Handles false ∷ ks)) (Wrote (stream_at n s).output (export_line vs)) s h) (i, k))
-stmt_kept g ns (ExportRecord n b) d retry ks s ok h is pl cr i k = export_kept g ns (content_of b s) n b (Handles false ∷ ks) s h refl (i, k)
-stmt_kept g ns (PutItems n items) d retry ks s ok h is pl cr i k = text_kept g ns (put_text g.program items retry s) n (Handles false ∷ ks) s h refl (i, k)
-stmt_kept g ns (Message es) d retry ks s ok h is pl cr i k =
+stmt_kept g ns (ExportRecord n b) d retry ks s ok h is pl nd i k = export_kept g ns (content_of b s) n b (Handles false ∷ ks) s h refl (i, k)
+stmt_kept g ns (PutItems n items) d retry ks s ok h is pl nd i k = text_kept g ns (put_text g.program items retry s) n (Handles false ∷ ks) s h refl (i, k)
+stmt_kept g ns (Message es) d retry ks s ok h is pl nd i k =
     given_all_kept g ns (values_now g.program es retry s) (λ vs s. ends_as (wrote_to 0 (message_line vs) s) (Handles false ∷ ks)) (Handles false ∷ ks) s h refl (i, k)
     (λ vs. ends_kept g ns (wrote_to 0 (message_line vs) s) (Handles false ∷ ks) (wrote_ends g ns (allows (Handles false ∷ ks)) (Wrote (stream_at 0 s).output (message_line vs)) s h) (i, k))
-stmt_kept g ns (OutputTo n output appends) d retry ks s ok h is pl cr i k =
+stmt_kept g ns (OutputTo n output appends) d retry ks s ok h is pl nd i k =
     ends_kept g ns (wrote (Opened output appends) (with_stream n (record (stream_at n s) { output = Some output }) s)) (Handles false ∷ ks) (wrote_ends g ns (allows (Handles false ∷ ks)) (Opened output appends) (with_stream n (record (stream_at n s) { output = Some output }) s) h) (i, k)
-stmt_kept g ns (OutputClose n) d retry ks s ok h is pl cr i k = (h, (tt, (i, k)))
-stmt_kept g ns (InputFrom n input) d retry ks s ok h is pl cr i k = (h, (tt, (i, k)))
-stmt_kept g ns (InputClose n) d retry ks s ok h is pl cr i k = (h, (tt, (i, k)))
+stmt_kept g ns (OutputClose n) d retry ks s ok h is pl nd i k = (h, (tt, (i, k)))
+stmt_kept g ns (InputFrom n input) d retry ks s ok h is pl nd i k = (h, (tt, (i, k)))
+stmt_kept g ns (InputClose n) d retry ks s ok h is pl nd i k = (h, (tt, (i, k)))
 
 -- ---- instructions
 
@@ -211,13 +193,13 @@ placed_before : (bs : List ℕ) (a rest : Body) → is_placed_body bs a ≡ true
 placed_before bs Nothing rest h r = r
 placed_before bs (Then t more) rest h r = both (is_placed_statement bs t) _ (both_left (is_placed_statement bs t) _ h) (placed_before bs more rest (both_right (is_placed_statement bs t) _ h) r)
 
-calm_before : (bs : List ℕ) (a rest : Body) → creates_none_in bs a ≡ true → creates_none_in bs rest ≡ true → creates_none_in bs (before a rest) ≡ true
-calm_before bs Nothing rest h r = r
-calm_before bs (Then t more) rest h r = both (creates_none bs t) _ (both_left (creates_none bs t) _ h) (calm_before bs more rest (both_right (creates_none bs t) _ h) r)
+named_before : (schema : SchemaData) (bs : List BufferDef) (a rest : Body) → has_body schema bs a ≡ true → has_body schema bs rest ≡ true → has_body schema bs (before a rest) ≡ true
+named_before schema bs Nothing rest h r = r
+named_before schema bs (Then t more) rest h r = both (has_statement schema bs t) _ (both_left (has_statement schema bs t) _ h) (named_before schema bs more rest (both_right (has_statement schema bs t) _ h) r)
 
 -- code for the body at a place
-pub code_is : (g : Ground) (ns : List ℕ) (bs : List ℕ) (k : ℕ) (body : Body) → IsCode g ns bs k → g.tree k ≡ body → (is_body (here g ns) body ≡ true) × (is_placed_body bs body ≡ true) × (creates_none_in (calm_here g ns) body ≡ true)
-code_is g ns bs k body h e = (subst (λ (t : Body). is_body (here g ns) t ≡ true) e h.kinded, subst (λ (t : Body). is_placed_body bs t ≡ true) e h.placed, subst (λ (t : Body). creates_none_in (calm_here g ns) t ≡ true) e h.calm)
+pub code_is : (g : Ground) (ns : List ℕ) (bs : List ℕ) (k : ℕ) (body : Body) → IsCode g ns bs k → g.tree k ≡ body → (is_body (here g ns) body ≡ true) × (is_placed_body bs body ≡ true) × (has_body g.schema (here g ns).buffers body ≡ true)
+code_is g ns bs k body h e = (subst (λ (t : Body). is_body (here g ns) t ≡ true) e h.kinded, subst (λ (t : Body). is_placed_body bs t ≡ true) e h.placed, subst (λ (t : Body). has_body g.schema (here g ns).buffers t ≡ true) e h.named)
 
 choose_kept : (g : Ground) (ns : List ℕ) (v : Evaluated) (one other d : ℕ) (retry : Bool) (ks : List StackEntry) (s : State) → AreFrames g ns s.frames → IsCode g ns (allows ks).blocks one → IsCode g ns (allows ks).blocks other →
     is_nil (allows ks).blocks ≡ false → IsStack g ns ks → Kept g ns (choose_step v g.program one other d retry ks s)
@@ -232,6 +214,7 @@ instr_kept g ns (Opens b body next) at d retry ks s ok den h c i k =
     let is = code_is g ns (allows ks).blocks at _ c den in
     let kinded = both_left (is_header (here g ns) b && is_body (here g ns) (g.tree body)) _ is.0 in
     let placed = both_left (is_placed_header (allows ks).blocks b && is_placed_body (b.number ∷ (allows ks).blocks) (g.tree body)) _ is.1 in
+    let named = both_left (has_fetch g.schema (here g ns).buffers b.fetch && has_body g.schema (here g ns).buffers (g.tree body)) _ is.2 in
     costing_kept g ns s.units (λ s. config (Execute (Blocks b retry body d)) (Handles false ∷ ThenDo (RunsFrom next d retry) ∷ ks) s) ks s h
     (λ t h. (
       h,
@@ -240,9 +223,10 @@ instr_kept g ns (Opens b body next) at d retry ks s ok den h c i k =
           block = record {
             kinded = both_left (is_header (here g ns) b) _ kinded;
             placed = both_left (is_placed_header (allows ks).blocks b) _ placed;
+            named = both_left (has_fetch g.schema (here g ns).buffers b.fetch) _ named;
             covered = inl (record { faults = refl; inside = i });
           };
-          code = record { kinded = both_right (is_header (here g ns) b) _ kinded; placed = both_right (is_placed_header (allows ks).blocks b) _ placed; calm = both_left (creates_none_in (calm_here g ns) (g.tree body)) _ is.2 };
+          code = record { kinded = both_right (is_header (here g ns) b) _ kinded; placed = both_right (is_placed_header (allows ks).blocks b) _ placed; named = both_right (has_fetch g.schema (here g ns).buffers b.fetch) _ named };
         },
         (
           i,
@@ -251,7 +235,7 @@ instr_kept g ns (Opens b body next) at d retry ks s ok den h c i k =
               record {
                 kinded = both_right (is_header (here g ns) b && is_body (here g ns) (g.tree body)) _ is.0;
                 placed = both_right (is_placed_header (allows ks).blocks b && is_placed_body (b.number ∷ (allows ks).blocks) (g.tree body)) _ is.1;
-                calm = both_right (creates_none_in (calm_here g ns) (g.tree body)) _ is.2;
+                named = both_right (has_fetch g.schema (here g ns).buffers b.fetch && has_body g.schema (here g ns).buffers (g.tree body)) _ is.2;
               },
               i,
             ),
@@ -269,22 +253,23 @@ instr_kept g ns (Tests test one other) at d retry ks s ok den h c i k =
     let branches = both_right (is_condition x test) _ first in
     let placed = both_left (is_placed_body bs den.then_it && is_placed_body bs den.else_it) _ is.1 in
     let placed_rest = both_right (is_placed_body bs den.then_it && is_placed_body bs den.else_it) _ is.1 in
-    let calm = both_left (creates_none_in (calm_here g ns) den.then_it && creates_none_in (calm_here g ns) den.else_it) _ is.2 in
-    let calm_rest = both_right (creates_none_in (calm_here g ns) den.then_it && creates_none_in (calm_here g ns) den.else_it) _ is.2 in
+    let bufs = x.buffers in
+    let named = both_left (has_body g.schema bufs den.then_it && has_body g.schema bufs den.else_it) _ is.2 in
+    let named_rest = both_right (has_body g.schema bufs den.then_it && has_body g.schema bufs den.else_it) _ is.2 in
     costing_kept g ns s.units (λ s. choose_step (value_now g.program test retry s) g.program one other d retry ks s) ks s h
     (λ t h. choose_kept g ns (value_now g.program test retry t) one other d retry ks t h
     (record {
       kinded = subst (λ (b : Body). is_body x b ≡ true) (sym den.first) (kinded_before x den.then_it den.rest (both_left (is_body x den.then_it) _ branches) rest);
       placed = subst (λ (b : Body). is_placed_body bs b ≡ true) (sym den.first) (placed_before bs den.then_it den.rest (both_left (is_placed_body bs den.then_it) _ placed) placed_rest);
-      calm = subst (λ (b : Body). creates_none_in (calm_here g ns) b ≡ true) (sym den.first) (calm_before (calm_here g ns) den.then_it den.rest (both_left (creates_none_in (calm_here g ns) den.then_it) _ calm) calm_rest);
+      named = subst (λ (b : Body). has_body g.schema bufs b ≡ true) (sym den.first) (named_before g.schema bufs den.then_it den.rest (both_left (has_body g.schema bufs den.then_it) _ named) named_rest);
     })
     (record {
       kinded = subst (λ (b : Body). is_body x b ≡ true) (sym den.second) (kinded_before x den.else_it den.rest (both_right (is_body x den.then_it) _ branches) rest);
       placed = subst (λ (b : Body). is_placed_body bs b ≡ true) (sym den.second) (placed_before bs den.else_it den.rest (both_right (is_placed_body bs den.then_it) _ placed) placed_rest);
-      calm = subst (λ (b : Body). creates_none_in (calm_here g ns) b ≡ true) (sym den.second) (calm_before (calm_here g ns) den.else_it den.rest (both_right (creates_none_in (calm_here g ns) den.then_it) _ calm) calm_rest);
+      named = subst (λ (b : Body). has_body g.schema bufs b ≡ true) (sym den.second) (named_before g.schema bufs den.else_it den.rest (both_right (has_body g.schema bufs den.then_it) _ named) named_rest);
     }) i k)
 instr_kept g ns (Plain t next) at d retry ks s ok den h c i k =
     let is = code_is g ns (allows ks).blocks at _ c den.1 in
     costing_kept g ns s.units (λ s. stmt_step g.program t d retry (ThenDo (RunsFrom next d retry) ∷ ks) s) ks s h
-    (λ u h. stmt_kept g ns t d retry (ThenDo (RunsFrom next d retry) ∷ ks) u ok h (both_left (is_statement (here g ns) t) _ is.0) (both_left (is_placed_statement (allows ks).blocks t) _ is.1) (both_left (creates_none (calm_here g ns) t) _ is.2) i
-    ((record { kinded = both_right (is_statement (here g ns) t) _ is.0; placed = both_right (is_placed_statement (allows ks).blocks t) _ is.1; calm = both_right (creates_none (calm_here g ns) t) _ is.2 }, i), k))
+    (λ u h. stmt_kept g ns t d retry (ThenDo (RunsFrom next d retry) ∷ ks) u ok h (both_left (is_statement (here g ns) t) _ is.0) (both_left (is_placed_statement (allows ks).blocks t) _ is.1) (both_left (has_statement g.schema (here g ns).buffers t) _ is.2) i
+    ((record { kinded = both_right (is_statement (here g ns) t) _ is.0; placed = both_right (is_placed_statement (allows ks).blocks t) _ is.1; named = both_right (has_statement g.schema (here g ns).buffers t) _ is.2 }, i), k))

@@ -14,7 +14,7 @@ use Rattle.bound_kinds.specs.WellKinded.{VariableKinds, is_kind, is_of_kind, is_
 use Rattle.block_meaning.specs.Frames.{assigned, frame_for, last_frame, set_in, value_in, value_of, with_frame_for, with_last}
 use Rattle.block_meaning.specs.State.{CallFrame, State}
 use Rattle.kind_laws.specs.Reached.{Ground, kinds_at}
-use Rattle.kind_laws.proofs.Kept.{AreFrames, HaveKinds, IsFrame, here}
+use Rattle.kind_laws.proofs.Kept.{AreFrames, HaveKinds, here, IsFrame}
 
 -- ---- values of kinds
 

@@ -1,4 +1,5 @@
 pub mod Placed
 pub mod Reached
 pub mod Evaluated
+pub mod Operations
 pub mod Texts

@@ -2,7 +2,7 @@
 use Rattle.std.specs.Prelude.{ℕ, zero, suc, ◌==◌, Bool, true, false, not, ◌&&◌, if◌then◌else◌, List, [], ◌∷◌, Option, Some, None}
 use Rattle.std.specs.List.{list_all}
 use Rattle.bound_tree.specs.declared.expression.Variable.{Variable}
-use Rattle.bound_tree.specs.Tree.{Action, ThenLeave, ThenNext, OnPhrase, Header, Stmt, Inner, Choose, Create, UndoBlock, LeaveBlock, NextBlock, ReturnError, Run, Body, Nothing, Then, Procedure, Source}
+use Rattle.bound_tree.specs.Tree.{Action, ThenLeave, ThenNext, OnPhrase, Header, Stmt, Inner, Choose, UndoBlock, LeaveBlock, NextBlock, ReturnError, Run, Body, Nothing, Then, Procedure, Source}
 use Rattle.block_meaning.specs.Blocks.{handles_endkey, is_given}
 use Rattle.block_meaning.specs.Frames.{is_in}
 
@@ -73,34 +73,3 @@ is_placed_procedure q = (list_all is_own q.parameters && is_outermost q.header) 
 -- EACH BLOCK THAT IS NAMED IS AROUND THE PLACE where it is named
 abbrev pub is_placed : Source → Bool
 is_placed source = list_all is_placed_procedure source.procedures
-
--- ---- buffers
-
-abbrev mutual
-  -- no record is created in one of these buffers
-  pub creates_none : List ℕ → Stmt → Bool
-  creates_none bs (Inner h body) = creates_none_in bs body
-  creates_none bs (Choose test then_it else_it) = creates_none_in bs then_it && creates_none_in bs else_it
-  creates_none bs (Create b quiet) = not (is_in b bs)
-  creates_none bs t = true
-
-  pub creates_none_in : List ℕ → Body → Bool
-  creates_none_in bs Nothing = true
-  creates_none_in bs (Then t ts) = creates_none bs t && creates_none_in bs ts
-
--- the buffers that are scoped to the block of a procedure, where the block starts no transaction
-abbrev pub scoped_outside : Procedure → List ℕ
-scoped_outside q = if q.header.flags.starts then [] else q.header.scoped
-
--- no record is created in one of these
-abbrev pub scopes_safely : Procedure → Bool
-scopes_safely q = creates_none_in (scoped_outside q) q.body
-
--- all procedures but the external one
-abbrev pub internal_of : List Procedure → List Procedure
-internal_of [] = []
-internal_of (q ∷ qs) = qs
-
--- NO INTERNAL PROCEDURE CREATES A RECORD in a buffer that is scoped to its block, unless this block starts a transaction
-abbrev pub has_scoped_within : Source → Bool
-has_scoped_within source = list_all scopes_safely (internal_of source.procedures)

@@ -1,20 +1,19 @@
 -- The configurations that the runs of a program reach, and what an expression there may refer to.
 use Rattle.std.specs.Prelude.{◌≡◌, ℕ, true, List, [], slice_index_or}
-use Rattle.client_database.specs.declared.answer.Answer.{Answer}
-use Rattle.client_database.specs.declared.operation.Op.{Op}
 use Rattle.abl_values.specs.Schema.{SchemaData}
 use Rattle.abl_values.specs.Sound.{IsSound}
-use Rattle.database_meaning.specs.Fits.{Fits}
+use Rattle.client_database.specs.declared.event.Event.{Event}
 use Rattle.bound_tree.specs.Tree.{Body}
 use Rattle.bound_kinds.specs.WellKinded.{Surroundings, VariableKinds, inside, is_well_kinded, parameters_of}
 use Rattle.block_meaning.specs.Frames.{own_frame}
 use Rattle.block_meaning.specs.Program.{Program, procedure_at}
 use Rattle.block_meaning.specs.State.{State}
 use Rattle.block_flat.specs.Code.{Code, IsCodeOf}
-use Rattle.block_flat.specs.Config.{Await, Config, OnAnswer, StackEntry}
-use Rattle.block_flat.specs.Machine.{answered, first_config, step}
-use Rattle.block_flat.specs.Steps.{config}
-use Rattle.kind_laws.specs.Placed.{has_scoped_within, is_placed}
+use Rattle.block_flat.specs.Config.{Config}
+use Rattle.level_laws.specs.Flagged.{IsFlaggedProgram}
+use Rattle.level_laws.specs.Reached.{Reached}
+use Rattle.schema_laws.specs.Named.{has_source}
+use Rattle.kind_laws.specs.Placed.{is_placed}
 
 -- a program with its code, its schema and the kinds of its variables, by procedure; `tree` has the body at each place of the code
 pub record Ground : Type 0 where
@@ -24,15 +23,16 @@ pub record Ground : Type 0 where
   pub schema : SchemaData
   pub kinds : List VariableKinds
 
--- THE CODE DENOTES THE PROGRAM over a sound schema. Its source is well-kinded, and names only blocks that are around. An internal
--- procedure creates no record in a buffer that is scoped to its block, unless this block starts a transaction
+-- THE CODE DENOTES THE PROGRAM over a sound schema. Its source is well-kinded, names only blocks that are around, and what the schema has, and
+-- each header says whether its block starts a transaction
 pub record IsGround (g : Ground) : Type 0 where
   pub denotes : IsCodeOf g.code g.program g.tree
+  pub flagged : IsFlaggedProgram g.program
   pub sound : IsSound g.schema
   pub tables : g.program.tables ≡ g.schema.tables
   pub kinded : is_well_kinded g.schema g.kinds g.program.source ≡ true
   pub placed : is_placed g.program.source ≡ true
-  pub within : has_scoped_within g.program.source ≡ true
+  pub named : has_source g.schema g.program.source ≡ true
 
 -- ---- places
 
@@ -53,8 +53,6 @@ running g s = surroundings g (own_frame s.frames).procedure
 
 -- ---- runs
 
--- A CONFIGURATION THAT A RUN REACHES: the first one, and each that follows by a step, or by an answer that fits the operation that is asked
-pub data Reached (g : Ground) (units : ℕ) : Config → Type 0 where
-  begins : Reached g units (first_config g.code g.program units)
-  steps : (c : Config) → Reached g units c → Reached g units (step g.code g.program c)
-  answers : (a : Answer) (op : Op) (k : OnAnswer) (ks : List StackEntry) (s : State) → Fits g.schema op a → Reached g units (config (Await op k) ks s) → Reached g units (answered g.program a op k ks s)
+-- A CONFIGURATION THAT A RUN REACHES with these own events: their answers fit their operations, and none is Refused
+abbrev pub ReachedOn : Ground → ℕ → List Event → Config → Type 0
+ReachedOn g units own c = Reached g.code g.program g.schema units own c

@@ -1,16 +1,15 @@
 -- The runs of a source text over a schema file.
-use Rattle.std.specs.Prelude.{◌≡◌, ℕ, true, List, None}
+use Rattle.std.specs.Prelude.{◌≡◌, ℕ, List, None}
 use Rattle.schema_lines.specs.Files.{items_of}
 use Rattle.abl_schema.specs.Meaning.{schema_of}
 use Rattle.abl_schema.specs.Rules.{violation_of}
 use Rattle.abl_source.specs.Sources.{IsTreeOf}
 use Rattle.bound_kinds.specs.Kinds.{kinds_of_source}
 use Rattle.block_flat.specs.Code.{IsCodeOf}
-use Rattle.kind_laws.specs.Placed.{has_scoped_within}
 use Rattle.kind_laws.specs.Reached.{Ground}
 
 -- THE CODE DENOTES THE PROGRAM OF A TEXT over the schema of a file, and neither breaks a rule. The kinds of its variables are those of its
--- definitions. An internal procedure creates no record in a buffer that is scoped to its block, unless this block starts a transaction
+-- definitions
 pub record IsOfText (file text : List ℕ) (g : Ground) : Type 0 where
   pub clean : violation_of file ≡ None
   pub schema : g.schema ≡ schema_of (items_of file)
@@ -18,4 +17,3 @@ pub record IsOfText (file text : List ℕ) (g : Ground) : Type 0 where
   pub read : IsTreeOf g.schema text g.program.source
   pub kinds : g.kinds ≡ kinds_of_source read.syntax_of
   pub denotes : IsCodeOf g.code g.program g.tree
-  pub within : has_scoped_within g.program.source ≡ true

@@ -179,7 +179,7 @@ module _ (tree : ℕ → Body) (schema : SchemaData) (p : Program) (a : Answer) 
       let done = enter_done schema a (subst (λ o. Fits schema o a) w.0 fits) unrefused heard in
       let next : levels_next k o a ≡ k + 1 = ap (λ o. levels_next k o a) w.0 ∙ ap (λ b. cond b (k + 1) k) done in
       subst (λ j. Sound tree j (answer_step p (WasEntered b t retry body d) a ks s)) (sym next)
-      (ap (λ n. n + 1) e, (record { inside = λ _. omega arith; flags = w.1.flags }, (k, (ap (λ n. n + 1) e, refl), w.2, w.3)))
+      (ap (λ n. n + 1) e, (record { inside = λ _. omega arith; flags = w.1.flags }, (k, (ap (λ n. n + 1) e, refl), w.2, w.3, tt)))
 
 -- ---- an answer
 

@@ -97,7 +97,7 @@ module _ (tree : ℕ → Body) (p : Program) (k : ℕ) (s : State) (e : s.level 
   closing_sound : (completion : Completion) (b : Header) (o : Iteration) (out : Completion) (ks : List StackEntry) → At completion (AfterClosing b o out ∷ ks) → Sound tree k (closing_step completion p b o out ks s)
   closing_sound Normal b o out ks a = (e, (a.0, a.0, over_comes (after_iteration b o out) a.0 k (after_over b o out a.3.3) a.2, a.3.1, class_fits (after_iteration b o out) ks a.3.2))
   closing_sound (Faults f) b o out ks a =
-      let below : StackAt tree (ThenDo (ErrorComes b o nothing_passed) ∷ ks) k a.0 = ((a.1, a.2, (a.0, a.3.0, a.3.1, a.3.2)), (a.0, a.3.1)) in
+      let below : StackAt tree (ThenDo (ErrorComes b o nothing_passed) ∷ ks) k a.0 = ((a.1, a.2, (a.0, a.3.0, a.3.1, a.3.2, a.3.4)), (a.0, a.3.1)) in
       let none = complained_none p f s in
       (complained_level p f s ∙ e, (k, a.0, complained_comes p f s k a.0, below, omega (arith, none)))
   closing_sound (Stops end) b o out ks a = (e, (a.0, a.0, tt, a.3.1, omega arith))
@@ -121,22 +121,22 @@ module _ (tree : ℕ → Body) (p : Program) (k : ℕ) (s : State) (e : s.level 
   handled_sound (Faults f) true ks a = (e, (a.1, a.1, a.2, a.3.1, omega arith))
   handled_sound completion quiet ks a = (e, (a.1, a.1, passed completion a.0 a.1 k a.2 a.3.0, a.3.1, class_fits completion ks a.3.2))
 
-  around_at : (copy : Option Copy) (ks : List StackEntry) (f : ℕ) → k ≡ f → Around tree (StackAt tree ks) (takes ks) copy f → Around tree (StackAt tree ks) (takes ks) copy k
-  around_at copy ks f l a = subst (Around tree (StackAt tree ks) (takes ks) copy) (sym l) a
+  around_at : (b : Header) (copy : Option Copy) (ks : List StackEntry) (f : ℕ) → k ≡ f → Around tree (StackAt tree ks) (takes ks) b copy f → Around tree (StackAt tree ks) (takes ks) b copy k
+  around_at b copy ks f l a = subst (Around tree (StackAt tree ks) (takes ks) b copy) (sym l) a
 
-  leaves : (b : Header) (copy : Option Copy) (buffer : ℕ) (ks : List StackEntry) (f : ℕ) → k ≡ f → Around tree (StackAt tree ks) (takes ks) copy f → Sound tree k (config (Execute (LeavesIf copy b.scoped)) ks (emptied buffer s))
-  leaves b copy buffer ks f l around = let a = around_at copy ks f l around in (e, (a.0, a.0, a.1, a.2))
+  leaves : (b : Header) (copy : Option Copy) (buffer : ℕ) (ks : List StackEntry) (f : ℕ) → k ≡ f → Around tree (StackAt tree ks) (takes ks) b copy f → Sound tree k (config (Execute (LeavesIf copy b.scoped)) ks (emptied buffer s))
+  leaves b copy buffer ks f l around = let a = around_at b copy ks f l around in (e, (a.0, a.0, a.1, a.2))
 
   fetched_sound : (completion : Completion) (b : Header) (copy : Option Copy) (t : Turn) (buffer body d : ℕ) (retry : Bool) (ks : List StackEntry) → At completion (FetchedAs b copy t buffer body d retry ∷ ks) → Sound tree k (fetched_step completion b copy t buffer body d retry ks s)
   fetched_sound (Found at) b copy t buffer body d retry ks a =
       let it : IsIterationAt tree b body k = subst (IsIterationAt tree b body) (sym a.2) a.3.1 in
-      (e, ((refl, around_at copy ks a.1 a.2 a.3.2), omega arith, record { inside = λ u. it.inside (or_right (fetches_exclusively b.fetch) (updates_in (tree body)) u); flags = it.flags }))
+      (e, ((refl, around_at b copy ks a.1 a.2 a.3.2), omega arith, record { inside = λ u. it.inside (or_right (fetches_exclusively b.fetch) (updates_in (tree body)) u); flags = it.flags }))
     where
       or_right : (b c : Bool) → c ≡ true → (b || c) ≡ true
       or_right true c e = refl
       or_right false c e = e
   fetched_sound (Faults f) b copy t buffer body d retry ks a =
-      let around = around_at copy ks a.1 a.2 a.3.2 in
+      let around = around_at b copy ks a.1 a.2 a.3.2 in
       (e, (around.0, around.0, first_of_below copy k around.0 around.1, ((around.0, around.0, refl, around.2, omega arith), (around.0, around.2))))
   fetched_sound (Stops end) b copy t buffer body d retry ks a = (e, (a.3.2.0, a.3.2.0, tt, a.3.2.2, omega arith))
   fetched_sound Normal b copy t buffer body d retry ks a = leaves b copy buffer ks a.1 (a.2 ∙ a.3.0) a.3.2

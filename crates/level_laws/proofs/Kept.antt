@@ -17,6 +17,11 @@ abbrev pub Below : Option Copy → ℕ → ℕ → Type 0
 Below None inside outside = inside ≡ outside
 Below (Some copy) inside outside = (copy.depth ≡ inside) × (inside ≡ outside + 1)
 
+-- an iteration of a block that can be undone has opened no level only where none is open
+abbrev pub IsBare : Header → Option Copy → ℕ → Type 0
+IsBare b None inside = b.flags.undo ≡ true → inside ≡ 0
+IsBare b (Some copy) inside = Unit {0}
+
 -- levels that were passed are still open; the first of them is the next one
 abbrev pub FirstAt : ℕ → Option Copy → ℕ → Type 0
 FirstAt k None level = level ≡ k
@@ -135,8 +140,8 @@ module _ (tree : ℕ → Body) where
   NeedsLevel t level = Unit {0}
 
   -- an iteration at the first level, over a stack
-  abbrev pub Around : (ℕ → ℕ → Type 0) → ℕ → Option Copy → ℕ → Type 0
-  Around At room copy inside = (m : ℕ) × Below copy inside m × At m m × (2 ≤ room)
+  abbrev pub Around : (ℕ → ℕ → Type 0) → ℕ → Header → Option Copy → ℕ → Type 0
+  Around At room b copy inside = (m : ℕ) × Below copy inside m × At m m × (2 ≤ room) × IsBare b copy inside
 
   -- a task begins at this level, over a stack that is reached so, and takes completions of this class
   abbrev pub TaskAt : (ℕ → ℕ → Type 0) → ℕ → Task → ℕ → Type 0
@@ -148,13 +153,13 @@ module _ (tree : ℕ → Body) where
   TaskAt At room (GoesBack copy but) level = (m : ℕ) × (f : ℕ) × FirstAt m copy level × At m f
   TaskAt At room (AfterBack copy but) level = (m : ℕ) × (f : ℕ) × (copy.depth ≡ level) × (level ≡ m + 1) × At m f
   TaskAt At room (Closing b o) level = (m : ℕ) × Below o.copy level m × At m level
-  TaskAt At room (EndsWith b o completion) level = (i : ℕ) × Arrives completion i level × Around At room o.copy i
-  TaskAt At room (UndoComes b o target act retry passed) level = (i : ℕ) × FirstAt i passed.first level × Around At room o.copy i
-  TaskAt At room (ErrorComes b o passed) level = (i : ℕ) × FirstAt i passed.first level × Around At room o.copy i
-  TaskAt At room (EndKeyComes b o passed) level = (i : ℕ) × FirstAt i passed.first level × Around At room o.copy i
+  TaskAt At room (EndsWith b o completion) level = (i : ℕ) × Arrives completion i level × Around At room b o.copy i
+  TaskAt At room (UndoComes b o target act retry passed) level = (i : ℕ) × FirstAt i passed.first level × Around At room b o.copy i
+  TaskAt At room (ErrorComes b o passed) level = (i : ℕ) × FirstAt i passed.first level × Around At room b o.copy i
+  TaskAt At room (EndKeyComes b o passed) level = (i : ℕ) × FirstAt i passed.first level × Around At room b o.copy i
   TaskAt At room (Passes b ended_way left_way) level = (m : ℕ) × Arrives left_way m level × (level ≡ 0 → Comes ended_way m m level × (level ≡ m)) × At m m × (2 ≤ room)
   TaskAt At room (Completes completion) level = (n : ℕ) × (f : ℕ) × Comes completion n f level × At n f × (class completion ≤ room)
-  TaskAt At room (Begins b copy t retry body d) level = IsIterationAt b body level × Around At room copy level
+  TaskAt At room (Begins b copy t retry body d) level = IsIterationAt b body level × Around At room b copy level
   TaskAt At room t level = At level level × (reaches t ≤ room) × NeedsLevel t level
 
   -- ---- the stack
@@ -166,11 +171,11 @@ module _ (tree : ℕ → Body) where
   StackAt (OrDo t ∷ ks) n f = (n ≡ f) × StackAt ks f f × TaskAt (StackAt ks) (takes ks) t f
   StackAt (FoundAs word b ∷ ks) n f = (n ≡ f) × StackAt ks f f × (1 ≤ takes ks)
   StackAt (AsBefore olds bs ∷ ks) n f = StackAt ks n f
-  StackAt (AfterClosing b o completion ∷ ks) n f = Below o.copy f n × StackAt ks n n × (2 ≤ takes ks) × IsOver completion
+  StackAt (AfterClosing b o completion ∷ ks) n f = Below o.copy f n × StackAt ks n n × (2 ≤ takes ks) × IsOver completion × IsBare b o.copy f
   StackAt (Quiet quiet ∷ ks) n f = (n ≡ f) × StackAt ks f f × (2 ≤ takes ks)
   StackAt (Handles quiet ∷ ks) n f = (n ≡ f) × StackAt ks f f × (2 ≤ takes ks)
-  StackAt (In b o ∷ ks) n f = (n ≡ f) × Around (StackAt ks) (takes ks) o.copy f
-  StackAt (FetchedAs b copy t buffer body d retry ∷ ks) n f = (n ≡ f) × IsIterationAt b body f × Around (StackAt ks) (takes ks) copy f
+  StackAt (In b o ∷ ks) n f = (n ≡ f) × Around (StackAt ks) (takes ks) b o.copy f
+  StackAt (FetchedAs b copy t buffer body d retry ∷ ks) n f = (n ≡ f) × IsIterationAt b body f × Around (StackAt ks) (takes ks) b copy f
   StackAt (AndAgain i b outer body d ∷ ks) n f = (n ≡ f) × IsBlockAt b body f × StackAt ks f f × (2 ≤ takes ks)
   StackAt (Called args i ∷ ks) n f = (n ≡ f) × StackAt ks f f × (2 ≤ takes ks)
 

@@ -38,7 +38,7 @@ use Rattle.block_flat.specs.Means.{contents_of}
 use Rattle.txn_infer.specs.Undo.{has_undo}
 use Rattle.txn_infer.specs.Updates.{is_field, assigns_field, block_updates, directly_updates, fetches_exclusively, reads_field, updates, updates_in}
 use Rattle.level_laws.specs.Flagged.{HaveFlags, IsFlagged, IsFlaggedProgram}
-use Rattle.level_laws.proofs.Kept.{HasLevel, class_of_first, Around, Arrives, Below, Comes, FirstAt, IfAny, IsBlockAt, IsIterationAt, IsOver, IsPlaced, Sound, StackAt, TaskAt, class, takes}
+use Rattle.level_laws.proofs.Kept.{HasLevel, class_of_first, Around, Arrives, Below, Comes, FirstAt, IfAny, IsBare, IsBlockAt, IsIterationAt, IsOver, IsPlaced, Sound, StackAt, TaskAt, class, takes}
 use Rattle.level_laws.proofs.Parts.{all_emptied_level, asks, asks_over, cleared_level, complained_class, complained_level, costs, given_all_sound, given_sound, plain_unwinds, read_to_level, sound_if, stored_class, stored_if_class, stored_if_level, stored_level, wrote_class, wrote_level}
 
 -- ---- changes
@@ -247,7 +247,7 @@ module _ (tree : ℕ → Body) (k : ℕ) where
   error_sound None b o passed ks s e a = (e, a)
   error_sound (Some on) b o passed ks s e a = (e, a)
 
-  passes : (b : Header) (o : Iteration) (passed : Passed) (ks : List StackEntry) (s : State) (ended left_way : Completion) → s.level ≡ k → ((i : ℕ) × FirstAt i passed.first k × Around tree (StackAt tree ks) (takes ks) o.copy i) →
+  passes : (b : Header) (o : Iteration) (passed : Passed) (ks : List StackEntry) (s : State) (ended left_way : Completion) → s.level ≡ k → ((i : ℕ) × FirstAt i passed.first k × Around tree (StackAt tree ks) (takes ks) b o.copy i) →
       ((m : ℕ) → FirstAt m (passed_with b o passed).first k → Arrives left_way m k) → ((m : ℕ) → FirstAt m passed.first k → Comes ended m m k) → Sound tree k (config (Execute (Passes b ended left_way)) ks s)
   passes b o passed ks s ended left_way e a x y =
       (e, (a.2.0, x a.2.0 (first_below o.copy passed.first a.0 a.2.0 k a.2.1 a.1), λ z. (let h = none_below o.copy passed.first a.0 a.2.0 k a.2.1 a.1 z in (y a.2.0 h.0, h.1)), a.2.2, a.2.3))
@@ -266,10 +266,10 @@ module _ (tree : ℕ → Body) (k : ℕ) where
   act_sound p (ThenReturn error w) b o retry ks s e st c = (e, (st, c, tt))
   act_sound p ThenError b o retry ks s e st c = (e, (st, c, tt))
 
-  ended_sound : (completion : Completion) (b : Header) (o : Iteration) (ks : List StackEntry) (s : State) (i : ℕ) → s.level ≡ k → k ≡ i → IsOver completion → Around tree (StackAt tree ks) (takes ks) o.copy i → Sound tree k (ended_step b o completion ks s)
+  ended_sound : (completion : Completion) (b : Header) (o : Iteration) (ks : List StackEntry) (s : State) (i : ℕ) → s.level ≡ k → k ≡ i → IsOver completion → Around tree (StackAt tree ks) (takes ks) b o.copy i → Sound tree k (ended_step b o completion ks s)
   ended_sound completion b o ks s i e same over a =
       let below = subst (λ j. Below o.copy j a.0) (sym same) a.1 in
-      (e, (a.0, below, (below, a.2, a.3, over)))
+      (e, (a.0, below, (below, a.2, a.3, over, subst (IsBare b o.copy) (sym same) a.4)))
 
   ends_step_sound : (completion : Completion) (b : Header) (o : Iteration) (ks : List StackEntry) (s : State) → s.level ≡ k → TaskAt tree (StackAt tree ks) (takes ks) (EndsWith b o completion) k → Sound tree k (ends_step completion b o ks s)
   ends_step_sound (Undoes target act retry passed) b o ks s e a = (e, a)
@@ -280,7 +280,7 @@ module _ (tree : ℕ → Body) (k : ℕ) where
 
   -- ---- blocks
 
-  begins_sound : (f : Option Fetch) (b : Header) (copy : Option Copy) (t : Turn) (retry : Bool) (body d : ℕ) (ks : List StackEntry) (s : State) → b.fetch ≡ f → s.level ≡ k → IsIterationAt tree b body k → Around tree (StackAt tree ks) (takes ks) copy k → Sound tree k (begins_step f b copy t retry body d ks s)
+  begins_sound : (f : Option Fetch) (b : Header) (copy : Option Copy) (t : Turn) (retry : Bool) (body d : ℕ) (ks : List StackEntry) (s : State) → b.fetch ≡ f → s.level ≡ k → IsIterationAt tree b body k → Around tree (StackAt tree ks) (takes ks) b copy k → Sound tree k (begins_step f b copy t retry body d ks s)
   begins_sound None b copy t retry body d ks s is e it a =
       (e, ((refl, a), omega arith, record { inside = λ u. it.inside (or_right (fetches_exclusively b.fetch) (updates_in (tree body)) u); flags = it.flags }))
   begins_sound (Some f) b copy t retry body d ks s is e it a = (e, ((refl, it, a), omega arith, tt))
@@ -434,6 +434,11 @@ module _ (tree : ℕ → Body) (k : ℕ) where
       costs tree k (λ s. stmt_step p t d retry (ThenDo (RunsFrom next d retry) ∷ ks) s) ks s e st
       (λ u f. stmt_sound p t d retry (ThenDo (RunsFrom next d retry) ∷ ks) u f ((st, c, rest), (k, st)) c (λ w. inside (or_left (updates t) (updates_in (tree next)) w)))
 
+  -- a level is not opened, though the block can be undone
+  bare : (b : Header) (l : ℕ) → enters_at b l ≡ false → IsBare b None l
+  bare b zero stays = λ undo. refl
+  bare b (suc n) stays = λ undo. absurd (let z : true ≡ false = sym undo ∙ stays in cc)
+
   -- ---- a task
 
   module _ (code : Code) (p : Program) (denotes : IsCodeOf code p tree) (flagged : IsFlaggedProgram p) where
@@ -558,7 +563,7 @@ module _ (tree : ℕ → Body) (k : ℕ) where
     task_sound (Begins b copy t retry body d) ks s e a = begins_sound b.fetch b copy t retry body d ks s refl e a.0 a.1
     task_sound (EntersLevel b t retry body d) ks s e a =
         sound_if tree k (enters_at b s.level) (ask op.Enter (WasEntered b t retry body d) ks s) (config (Execute (Begins b None t retry body d)) ks s) (λ _. asks tree k op.Enter (WasEntered b t retry body d) ks s e a.0 (refl, a.2, a.0, a.1))
-        (λ stays. (e, (record { inside = unentered b body k a.2 (sym (ap (enters_at b) e) ∙ stays); flags = a.2.flags }, (k, refl, a.0, a.1))))
+        (λ stays. (e, (record { inside = unentered b body k a.2 (sym (ap (enters_at b) e) ∙ stays); flags = a.2.flags }, (k, refl, a.0, a.1, bare b k (sym (ap (enters_at b) e) ∙ stays)))))
     task_sound (Turns zero b outer body d t) ks s e a = (e, (k, k, tt, a.0, omega arith))
     task_sound (Turns (suc n) b outer body d t) ks s e a = (e, ((refl, a.2, a.0, a.1), omega arith, a.2))
     task_sound (Iterates b outer body d t) ks s e a = costs tree k (λ s. turn_step p b outer body d t ks s) ks s e a.0 (λ u f. turn_sound p b outer body d t ks u f a.0 a.1 a.2)

@@ -82,7 +82,7 @@ module _ (code : Code) (p : Program) (tree : ℕ → Body) (denotes : IsCodeOf c
   mode_fits m k (Unwind completion) ks s e l a = over_fits m k tree p ks completion s l a
   mode_fits m k (Await o on) ks s e l a = a
 
-  reached_kept : (own : List Event) (c : Config) → Reached code p schema units own c → Kept (levels_left 0 own) c
+  pub reached_kept : (own : List Event) (c : Config) → Reached code p schema units own c → Kept (levels_left 0 own) c
   reached_kept _ _ begins = (0, ((((start_claims (λ made. 0 < made) p 0, tt), omega arith), λ z. (start_claims None_is p 0, tt), tt), tt))
   reached_kept _ _ (steps own c r) =
       let x = reached_kept own c r in
