@@ -1,13 +1,12 @@
 -- Phases over one database, one after the other.
-use Rattle.std.proofs.Common.{◌≡◌, ◌≤◌, ◌<◌, ◌+◌, ◌⊎◌, inl, inr, ◌++◌, ◌∙◌, ℕ, zero, suc, List, [], ◌∷◌, None, refl, sym, ap, subst, arith, length, append_assoc, append-nil, slice_index_or}
-use Rattle.std.specs.Prelude.{All}
+use Rattle.std.proofs.Common.{◌≡◌, ◌≤◌, ◌<◌, ◌+◌, inl, inr, ◌++◌, ◌∙◌, ℕ, suc, List, [], ◌∷◌, None, sym, ap, subst, arith, length, append_assoc, append-nil, slice_index_or}
 use Rattle.std.proofs.lemmas.List.Elements.{All-head, All-tail, All-nil}
 use Rattle.client_database.specs.declared.event.Event.{Event}
 use Rattle.client_database.specs.declared.operation.Op.{Op}
 use Rattle.database_meaning.specs.declared.contents.Contents.{Contents}
 use Rattle.database_meaning.specs.Setting.{Setting}
 use Rattle.block_meaning.specs.Meaning.{run}
-use Rattle.client_runner.specs.Meant.{AllFit, NoneIsRefused}
+use Rattle.client_runner.specs.Meant.{AllFit, NoneIsRefused, RefusesOnlyUnsure}
 use Rattle.client_runner.specs.Served.{GoesOnBy, IsAmong, IsKept}
 use Rattle.client_runner.proofs.Steps.{own_other}
 use Rattle.client_session.specs.Along.{IsOnLevels}
@@ -84,6 +83,7 @@ module _ {D : Type 0} (HasSetting LaterSetting : Setting → Type 0) (trace late
     ended = ran.ended;
     done = λ names p units to_run. subst (λ (own : List Event). HasDone new.client.client names (run p units) own ran.how) (sym same) (ran.done names p units to_run);
     fits = λ setting has. subst (λ (own : List Event). AllFit setting own) (sym same) (ran.fits setting (keeps setting has));
+    refused = λ setting has. subst (RefusesOnlyUnsure setting) (sym same) (ran.refused setting (keeps setting has));
     unrefused = λ names p units setting to_run has. subst (λ (own : List Event). NoneIsRefused IsOnLevels own) (sym same) (ran.unrefused names p units setting to_run (keeps setting has));
   }
 

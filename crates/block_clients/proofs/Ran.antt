@@ -45,5 +45,6 @@ has_run HasSetting trace k old new grows careful came =
       ended = came.ended;
       done = λ names p units begun. has_done new.client (record { names = names; run = run p units }) (own_events k trace) came.end (grows p units) (came.came (record { names = names; run = run p units }) (begun.begins, begun.refines));
       fits = came.fits;
+      refused = came.refused;
       unrefused = λ names p units setting begun is. came.unrefused (record { names = names; run = run p units }) setting (begun.begins, begun.refines) (careful names p units) is tt;
     }

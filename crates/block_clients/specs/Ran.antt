@@ -6,7 +6,7 @@ use Rattle.database_meaning.specs.Setting.{Setting}
 use Rattle.block_meaning.specs.Program.{Program}
 use Rattle.block_meaning.specs.Meaning.{run}
 use Rattle.block_vm.specs.Refines.{Refines, HasNotBegun}
-use Rattle.client_runner.specs.Meant.{AllFit, NoneIsRefused}
+use Rattle.client_runner.specs.Meant.{AllFit, NoneIsRefused, RefusesOnlyUnsure}
 use Rattle.client_runner.specs.declared.task.Task.{Task}
 use Rattle.client_session.specs.Along.{IsOnLevels}
 use Rattle.client_session.specs.declared.session.ClientSession.{ClientSession}
@@ -22,10 +22,12 @@ pub record IsToRun {D : Type 0} (task : ClientTask D) (names : List (List ℕ)) 
   pub refines : Refines task.client.client names (run p units) []
 
 -- The client of this number has come to its end in this trace: under the answers of its own events it did what its program means. In each
--- setting of the database the answers fit their operations, and none of those to operations on levels is Refused
+-- setting of the database the answers fit their operations, only operations are Refused that the client's own events before them do not
+-- make well formed, and so none of those on levels is
 pub record HasRunIn {D : Type 0} (HasSetting : Setting → Type 0) (trace : List Event) (number : ℕ) (old new : ClientTask D) : Type 0 where
   pub how : ClientEnd
   pub ended : new.end ≡ Some how
   pub done : (names : List (List ℕ)) (p : Program) (units : ℕ) → IsToRun old names p units → HasDone new.client.client names (run p units) (own_events number trace) how
   pub fits : (setting : Setting) → HasSetting setting → AllFit setting (own_events number trace)
+  pub refused : (setting : Setting) → HasSetting setting → RefusesOnlyUnsure setting (own_events number trace)
   pub unrefused : (names : List (List ℕ)) (p : Program) (units : ℕ) (setting : Setting) → IsToRun old names p units → HasSetting setting → NoneIsRefused IsOnLevels (own_events number trace)

@@ -7,7 +7,7 @@ use Rattle.database_meaning.specs.Setting.{Setting}
 use Rattle.turn_lock.specs.declared.view.Key.{Key}
 use Rattle.turn_lock.specs.Shared.{Lock, IsMadeOf}
 use Rattle.client_runner.specs.declared.task.Task.{Task}
-use Rattle.client_runner.specs.Meant.{Meant, NoneIsRefused, AllFit}
+use Rattle.client_runner.specs.Meant.{Meant, NoneIsRefused, AllFit, RefusesOnlyUnsure}
 use Rattle.client_runner.specs.Served.{Serving}
 use Rattle.client_runner.specs.Tasks.{RanToEnd, IsHandedOut, HasRun, HasSettingAtLock, CameToItsEnd, own_in}
 
@@ -42,5 +42,6 @@ module _ {C D : Type 0} (begins : C → Meant → Type 0) (along : C → Meant �
         ended = same.1 ∙ r.ended;
         came = λ m begun. subst (λ (y : C × List Event). RanToEnd along y.0 m y.1 r.end) (λ i. (sym same.0 i, sym events i)) (r.came m (subst (λ c. begins c m) (sym h.client) begun));
         fits = λ f has. subst (AllFit f) (sym events) (r.fits f (is f has));
+        refused = λ f has. subst (RefusesOnlyUnsure f) (sym events) (r.refused f (is f has));
         unrefused = λ m f begun mild has suit. subst (NoneIsRefused certain) (sym events) (r.unrefused m f (subst (λ c. begins c m) (sym h.client) begun) mild (is f has) (subst (λ c. suits c f) (sym h.client) suit));
       }

@@ -1,5 +1,5 @@
 -- A client during its run, and its own events.
-use Rattle.std.proofs.Common.{◌≡◌, ◌≢◌, ℕ, List, [], ◌∷◌, ◌++◌, Option, Some, None, IfSome, IsSomeAnd, refl, sym, ap, subst}
+use Rattle.std.proofs.Common.{◌≡◌, ◌≢◌, ℕ, List, [], ◌∷◌, ◌++◌, Option, Some, None, IfSome, IsSomeAnd, append_assoc, append-nil, refl, sym, ap, subst}
 use Rattle.std.proofs.lemmas.List.Elements.{All-nil, All-push}
 use Rattle.client_database.specs.declared.event.Event.{Event}
 use Rattle.client_database.specs.declared.operation.Op.{Op}
@@ -13,7 +13,7 @@ use Rattle.client_database.specs.declared.next_step.NextStep.TheVariants.{Ask, E
 use Rattle.database_meaning.specs.Setting.{Setting}
 use Rattle.database_meaning.specs.Fits.{Fits}
 use Rattle.database_interface.specs.Step.{event_of}
-use Rattle.client_runner.specs.Meant.{Meant, IsSureOf, HasNotEnded, IsOver, NoneIsRefused, AllFit}
+use Rattle.client_runner.specs.Meant.{Meant, IsSureOf, HasNotEnded, IsOver, NoneIsRefused, AllFit, RefusesOnlyUnsure, RefusesUnsureAfter}
 use Rattle.turn_lock.specs.declared.view.Key.{Key}
 use Rattle.client_runner.specs.declared.start.Start.{Start}
 use Rattle.client_runner.specs.Served.{Serving, IsOneOf}
@@ -21,12 +21,18 @@ use Rattle.turn_lock.specs.Shared.{Lock}
 use Rattle.turn_lock.specs.Passes.{ClientPass}
 use Rattle.client_runner.specs.Tasks.{RanToEnd, ByItself, OutOfMemory, client_pass}
 
--- the client agrees with its meaning under the answers of its own events; these answers fit, and none of those to certain operations is
--- Refused. `IsSetting` selects the settings of the run
+-- one event more, of an operation that was not sure if it was answered Refused
+pub refuses_more : (f : Setting) (before own : List Event) (x : Event) → RefusesUnsureAfter f before own → (x.answer ≡ Refused → ¬ IsSureOf f x.client (before ++ own) x.op) → RefusesUnsureAfter f before (own ++ x ∷ [])
+refuses_more f before [] x h is = (λ refused. subst (λ (l : List Event). ¬ IsSureOf f x.client l x.op) (append-nil before) (is refused), tt)
+refuses_more f before (e ∷ es) x h is = (h.0, refuses_more f (before ++ e ∷ []) es x h.1 (λ refused. subst (λ (l : List Event). ¬ IsSureOf f x.client l x.op) (sym (append_assoc before (e ∷ []) es)) (is refused)))
+
+-- the client agrees with its meaning under the answers of its own events; these answers fit, only operations that were not sure are
+-- Refused, and no certain one. `IsSetting` selects the settings of the run
 pub record Along {C : Type 0} (begins : C → Meant → Type 0) (along : C → Meant → List Event → NextStep → Type 0) (suits : C → Setting → Type 0) (careful : Meant → Type 0) (certain : Op → Type 0) (IsSetting : Setting → Type 0) (start now : C) (own : List Event) (wants : NextStep) : Type 0 where
   pub does : (m : Meant) → begins start m → along now m own wants
   pub suits_too : (f : Setting) → suits start f → suits now f
   pub fits : (f : Setting) → IsSetting f → AllFit f own
+  pub refused : (f : Setting) → IsSetting f → RefusesOnlyUnsure f own
   pub unrefused : (m : Meant) (f : Setting) → begins start m → careful m → IsSetting f → suits start f → NoneIsRefused certain own
 
 -- where it requests an operation, it has not ended
@@ -51,6 +57,7 @@ module _ {C : Type 0} (begins : C → Meant → Type 0) (along : C → Meant →
         does = λ m begun. first m is_none begun;
         suits_too = suits_too;
         fits = λ f is. All-nil (λ (e : Event). Fits f.schema e.op e.answer);
+        refused = λ f is. tt;
         unrefused = λ m f begun mild is suit. All-nil (λ (e : Event). certain e.op → e.answer ≢ Refused);
       }
 
@@ -69,6 +76,7 @@ module _ {C : Type 0} (begins : C → Meant → Type 0) (along : C → Meant →
         does = λ m begun. subst (λ l. along new m l wants) (sym longer) (next m own op n (h.does m begun));
         suits_too = λ f suit. suits_too f (h.suits_too f suit);
         fits = λ f is. subst (AllFit f) (sym longer) (All-push (λ (e : Event). Fits f.schema e.op e.answer) own (event_of n op a) (h.fits f is) (fit f is));
+        refused = λ f is. subst (RefusesOnlyUnsure f) (sym longer) (refuses_more f [] own (event_of n op a) (h.refused f is) (λ refused so. sure f is so refused));
         unrefused = λ m f begun mild is suit.
             subst (NoneIsRefused certain) (sym longer)
             (All-push (λ (e : Event). certain e.op → e.answer ≢ Refused) own (event_of n op a) (h.unrefused m f begun mild is suit)
@@ -79,6 +87,7 @@ module _ {C : Type 0} (begins : C → Meant → Type 0) (along : C → Meant →
 pub record Over {C : Type 0} (begins : C → Meant → Type 0) (along : C → Meant → List Event → NextStep → Type 0) (suits : C → Setting → Type 0) (careful : Meant → Type 0) (certain : Op → Type 0) (IsSetting : Setting → Type 0) (start now : C) (own : List Event) (end : ClientEnd) : Type 0 where
   pub came : (m : Meant) → begins start m → RanToEnd along now m own end
   pub fits : (f : Setting) → IsSetting f → AllFit f own
+  pub refused : (f : Setting) → IsSetting f → RefusesOnlyUnsure f own
   pub unrefused : (m : Meant) (f : Setting) → begins start m → careful m → IsSetting f → suits start f → NoneIsRefused certain own
 
 module _ {C : Type 0} (begins : C → Meant → Type 0) (along : C → Meant → List Event → NextStep → Type 0) (suits : C → Setting → Type 0) (careful : Meant → Type 0) (certain : Op → Type 0) (IsSetting : Setting → Type 0) where
@@ -87,6 +96,7 @@ module _ {C : Type 0} (begins : C → Meant → Type 0) (along : C → Meant →
       record {
         came = λ m begun. ByItself own end (h.does m begun);
         fits = h.fits;
+        refused = h.refused;
         unrefused = h.unrefused;
       }
 
@@ -96,6 +106,7 @@ module _ {C : Type 0} (begins : C → Meant → Type 0) (along : C → Meant →
       record {
         came = λ m begun. subst (λ l. RanToEnd along now m l NoMemory) (sym longer) (OutOfMemory before op n a (h.does m begun) other);
         fits = λ f is. subst (AllFit f) (sym longer) (All-push (λ (e : Event). Fits f.schema e.op e.answer) before (event_of n End a) (h.fits f is) (fit f is));
+        refused = λ f is. subst (RefusesOnlyUnsure f) (sym longer) (refuses_more f [] before (event_of n End a) (h.refused f is) (λ refused so. sure f is refused));
         unrefused = λ m f begun mild is suit. subst (NoneIsRefused certain) (sym longer) (All-push (λ (e : Event). certain e.op → e.answer ≢ Refused) before (event_of n End a) (h.unrefused m f begun mild is suit) (λ _. sure f is));
       }
 

@@ -1,5 +1,5 @@
 -- What a client is to do, and which operations are well formed whatever the database holds.
-use Rattle.std.specs.Prelude.{◌≡◌, ◌≢◌, ℕ, List}
+use Rattle.std.specs.Prelude.{◌≡◌, ◌≢◌, ℕ, List, [], ◌∷◌, ◌++◌}
 use Rattle.std.specs.List.{All}
 use Rattle.database_meaning.specs.declared.contents.Contents.{Contents}
 use Rattle.client_database.specs.declared.operation.Op.{Op}
@@ -51,3 +51,12 @@ NoneIsRefused IsCertain own = All (λ e. IsCertain e.op → e.answer ≢ Refused
 -- each answer of these events fits its operation
 abbrev pub AllFit : Setting → List Event → Type 0
 AllFit setting own = All (λ e. Fits setting.schema e.op e.answer) own
+
+-- each operation of these events that was answered Refused was not sure to be well formed after the events before it
+abbrev pub RefusesUnsureAfter : Setting → List Event → List Event → Type 0
+RefusesUnsureAfter setting before [] = Unit {0}
+RefusesUnsureAfter setting before (e ∷ es) = (e.answer ≡ Refused → ¬ IsSureOf setting e.client before e.op) × RefusesUnsureAfter setting (before ++ e ∷ []) es
+
+-- NO OPERATION OF A CLIENT WITH THESE OWN EVENTS WAS REFUSED that was sure to be well formed after the client's own events before it
+abbrev pub RefusesOnlyUnsure : Setting → List Event → Type 0
+RefusesOnlyUnsure setting own = RefusesUnsureAfter setting [] own

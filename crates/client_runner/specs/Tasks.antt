@@ -14,7 +14,7 @@ use Rattle.database_meaning.specs.Fits.{Fits}
 use Rattle.database_interface.specs.Step.{event_of}
 use Rattle.turn_lock.specs.Shared.{Lock}
 use Rattle.turn_lock.specs.Passes.{ClientPass}
-use Rattle.client_runner.specs.Meant.{Meant, NoneIsRefused, AllFit}
+use Rattle.client_runner.specs.Meant.{Meant, NoneIsRefused, AllFit, RefusesOnlyUnsure}
 use Rattle.client_runner.specs.Served.{Serving, IsOneOf}
 use Rattle.client_runner.specs.declared.task.Task.{Task}
 
@@ -87,8 +87,8 @@ module _ {C D : Type 0} where
 -- ---- a task at its end
 
 module _ {C D : Type 0} (begins : C → Meant → Type 0) (along : C → Meant → List Event → NextStep → Type 0) (suits : C → Setting → Type 0) (careful : Meant → Type 0) (certain : Op → Type 0) (has_setting : D → Setting → Type 0) where
-  -- the client has run to its end: it did what is meant under the answers of its own events, which fit; none of those to certain
-  -- operations is Refused where the meaning is careful
+  -- the client has run to its end: it did what is meant under the answers of its own events, which fit; only operations that were not
+  -- sure are Refused, and no certain one where the meaning is careful
   pub record HasRun (lock : Lock (Serving D)) (old new : Task C D) : Type 0 where
     pub number : new.number ≡ old.number
     pub own : List Event
@@ -97,14 +97,17 @@ module _ {C D : Type 0} (begins : C → Meant → Type 0) (along : C → Meant �
     pub ended : new.end ≡ Some end
     pub came : (m : Meant) → begins old.client m → RanToEnd along new.client m own end
     pub fits : (setting : Setting) → HasSettingAtLock has_setting lock setting → AllFit setting own
+    pub refused : (setting : Setting) → HasSettingAtLock has_setting lock setting → RefusesOnlyUnsure setting own
     pub unrefused : (m : Meant) (setting : Setting) → begins old.client m → careful m → HasSettingAtLock has_setting lock setting → suits old.client setting → NoneIsRefused certain own
 
 module _ {C D : Type 0} (begins : C → Meant → Type 0) (along : C → Meant → List Event → NextStep → Type 0) (suits : C → Setting → Type 0) (careful : Meant → Type 0) (certain : Op → Type 0) where
   -- The client has come to its end: it did what is meant under the answers of these events, its own. In a setting of the database these
-  -- answers fit their operations, and where the client suits the setting and its meaning is careful, none of those to certain operations is Refused
+  -- answers fit their operations, only operations that were not sure are Refused, and where the client suits the setting and its meaning
+  -- is careful, none of the certain operations is Refused
   pub record CameToItsEnd (HasSetting : Setting → Type 0) (own : List Event) (old new : Task C D) : Type 0 where
     pub end : ClientEnd
     pub ended : new.end ≡ Some end
     pub came : (m : Meant) → begins old.client m → RanToEnd along new.client m own end
     pub fits : (setting : Setting) → HasSetting setting → AllFit setting own
+    pub refused : (setting : Setting) → HasSetting setting → RefusesOnlyUnsure setting own
     pub unrefused : (m : Meant) (setting : Setting) → begins old.client m → careful m → HasSetting setting → suits old.client setting → NoneIsRefused certain own

@@ -1,12 +1,7 @@
 -- None of the answers to the operations on levels of a client of block code is Refused.
-use Rattle.std.proofs.Common.{◌≡◌, ◌≢◌, refl, sym, ap, ◌∙◌, subst, ℕ, ◌<◌, ◌≤◌, List, [], ◌∷◌, ◌++◌, Bool, true, false, append_assoc, append-nil, arith}
-use Rattle.std.specs.Prelude.{◌==◌, cond}
-use Rattle.std.specs.List.{All}
-use Rattle.std.proofs.lemmas.Bool.Decides.{nat_tests}
-use Rattle.std.proofs.lemmas.List.Elements.{All-append, All-cons, All-head, All-nil, All-tail}
-use Rattle.client_database.specs.declared.answer.Answer.{Answer}
+use Rattle.std.proofs.Common.{◌≡◌, ◌≢◌, refl, sym, ap, ◌∙◌, subst, ℕ, ◌<◌, ◌≤◌, List, [], ◌∷◌, ◌++◌, append_assoc, append-nil}
+use Rattle.std.proofs.lemmas.List.Elements.{All-append, All-cons, All-nil}
 use Rattle.client_database.specs.declared.answer.Answer.TheVariants.{Refused}
-use Rattle.client_database.specs.declared.ends.ClientEnd.{ClientEnd}
 use Rattle.client_database.specs.declared.ends.ClientEnd.TheVariants.{NoMemory}
 use Rattle.client_database.specs.declared.event.Event.{Event}
 use Rattle.client_database.specs.declared.next_step.NextStep.{NextStep}
@@ -19,9 +14,8 @@ use Rattle.database_meaning.specs.Answers.{IsWellFormed}
 use Rattle.database_meaning.specs.Fits.{Fits as HasAnswer}
 use Rattle.database_meaning.specs.State.{depth_of}
 use Rattle.database_meaning.specs.Traces.{left_by}
-use Rattle.database_interface.specs.Step.{event_of}
 use Rattle.turn_lock.specs.Journal.{own_entries}
-use Rattle.block_meaning.specs.Meaning.{asked, op_of, run}
+use Rattle.block_meaning.specs.Meaning.{asked, run}
 use Rattle.block_meaning.specs.Program.{Program}
 use Rattle.block_meaning.specs.State.{Progress}
 use Rattle.block_vm.specs.ClientView.{ClientView}
@@ -30,88 +24,8 @@ use Rattle.client_runner.specs.Meant.{AllFit, NoneIsRefused, client_in}
 use Rattle.client_session.specs.Along.{Along, AsMeant, AsksEnd, IsOnLevels, IsOpen, IsOver, answers_in, operations_in}
 use Rattle.client_session.proofs.Along.{LevelsAreOwn}
 use Rattle.run_laws.specs.Unrefused.{IsUnrefused, RefusesRightly}
-use Rattle.run_laws.proofs.Careful.{IsRun, head_same, run_after, run_is, run_is_careful}
-
--- ---- lists
-
-first_of : {A : Type 0} (P : A → Type 0) (xs ys : List A) → All P (xs ++ ys) → All P xs
-first_of P [] ys h = All-nil P
-first_of P (x ∷ xs) ys h = All-cons P x xs (All-head P x (xs ++ ys) h) (first_of P xs ys (All-tail P x (xs ++ ys) h))
-
--- ---- what was requested before an event of a client
-
-ended_asks : (m : List Answer → Progress) → IsRun m → (end : ClientEnd) → (m []).wants ≡ Ended end → (heard : List Answer) → asked m heard ≡ []
-ended_asks m r end is [] = refl
-ended_asks m r end is (a ∷ heard) =
-    ap (λ w. op_of w ++ asked (λ more. m (a ∷ more)) heard) is
-    ∙ ended_asks (λ more. m (a ∷ more)) (run_after m a r) end (ap (λ (d : Progress). d.wants) (r.stays [] (a ∷ []) end is) ∙ is) heard
-
--- the events before this one are as the run requests, and so is its operation
-record IsRequested (m : List Answer → Progress) (done : List Event) (e : Event) : Type 0 where
-  before : operations_in done ≡ asked m (answers_in done)
-  wants : (m (answers_in done)).wants ≡ Ask e.op
-
-requested_first : (m : List Answer → Progress) → IsRun m → (e : Event) (rest : List Event) (w : NextStep) → (m []).wants ≡ w → operations_in (e ∷ rest) ≡ asked m (answers_in (e ∷ rest)) → IsRequested m [] e
-requested_first m r e rest (Ended end) is same = absurd (let x : operations_in (e ∷ rest) ≡ [] = same ∙ ended_asks m r end is (answers_in (e ∷ rest)) in cc)
-requested_first m r e rest (Ask q) is same =
-    let both = head_same e.op q (operations_in rest) (asked (λ more. m (e.answer ∷ more)) (answers_in rest)) (same ∙ ap (λ w. op_of w ++ asked (λ more. m (e.answer ∷ more)) (answers_in rest)) is) in
-    record { before = refl; wants = is ∙ ap (λ o. Ask o) (sym both.0) }
-
-requested_next : (m : List Answer → Progress) → IsRun m → (x : Event) (done : List Event) (e : Event) (rest : List Event) (w : NextStep) → (m []).wants ≡ w →
-    operations_in (x ∷ (done ++ e ∷ rest)) ≡ asked m (answers_in (x ∷ (done ++ e ∷ rest))) →
-    (operations_in (done ++ e ∷ rest) ≡ asked (λ more. m (x.answer ∷ more)) (answers_in (done ++ e ∷ rest)) → IsRequested (λ more. m (x.answer ∷ more)) done e) → IsRequested m (x ∷ done) e
-requested_next m r x done e rest (Ended end) is same more = absurd (let y : operations_in (x ∷ (done ++ e ∷ rest)) ≡ [] = same ∙ ended_asks m r end is (answers_in (x ∷ (done ++ e ∷ rest))) in cc)
-requested_next m r x done e rest (Ask q) is same more =
-    let tail : List Op = asked (λ more. m (x.answer ∷ more)) (answers_in (done ++ e ∷ rest)) in
-    let both = head_same x.op q (operations_in (done ++ e ∷ rest)) tail (same ∙ ap (λ w. op_of w ++ tail) is) in
-    let it = more both.1 in
-    record {
-      before = ap (λ os. x.op ∷ os) it.before ∙ ap (λ o. o ∷ asked (λ more. m (x.answer ∷ more)) (answers_in done)) both.0 ∙ sym (ap (λ w. op_of w ++ asked (λ more. m (x.answer ∷ more)) (answers_in done)) is);
-      wants = it.wants;
-    }
-
-requested : (m : List Answer → Progress) → IsRun m → (done : List Event) (e : Event) (rest : List Event) → operations_in (done ++ e ∷ rest) ≡ asked m (answers_in (done ++ e ∷ rest)) → IsRequested m done e
-requested m r [] e rest same = requested_first m r e rest (m []).wants refl same
-requested m r (x ∷ done) e rest same =
-    requested_next m r x done e rest (m []).wants refl same (λ more. requested (λ later. m (x.answer ∷ later)) (run_after m x.answer r) done e rest more)
-
--- ---- an event of a client in a trace
-
--- the trace up to the event, in which the client's own events are those before it
-record IsIn (n : ℕ) (trace done : List Event) (e : Event) : Type 0 where
-  before : List Event
-  after : List Event
-  is : trace ≡ before ++ e ∷ after
-  own : own_entries client_in n before ≡ done
-  client : e.client ≡ n
-
-same_client : (k n : ℕ) → (k == n) ≡ true → k ≡ n
-same_client k n e = grind (arith, nat_tests)
-
-one_more : (n : ℕ) (x : Event) (trace done : List Event) (e : Event) (c : Bool) → (x.client == n) ≡ c → (first : List Event) → cond c (x ∷ done) done ≡ first → IsIn n trace done e → IsIn n (x ∷ trace) first e
-one_more n x trace done e c is first same h = record {
-  before = x ∷ h.before;
-  after = h.after;
-  is = ap (λ l. x ∷ l) h.is;
-  own = ap (λ c. cond c (x ∷ own_entries client_in n h.before) (own_entries client_in n h.before)) is ∙ (ap (λ l. cond c (x ∷ l) l) h.own ∙ same);
-  client = h.client;
-}
-
-in_by : (n : ℕ) (x : Event) (trace done : List Event) (e : Event) (rest : List Event) (c : Bool) → (x.client == n) ≡ c → cond c (x ∷ own_entries client_in n trace) (own_entries client_in n trace) ≡ done ++ e ∷ rest →
-    ((done : List Event) → own_entries client_in n trace ≡ done ++ e ∷ rest → IsIn n trace done e) → IsIn n (x ∷ trace) done e
-in_by n x trace done e rest false is same more = one_more n x trace done e false is done refl (more done same)
-in_by n x trace [] e rest true is same more =
-    let it : x ≡ e = cc in
-    record { before = []; after = trace; is = ap (λ y. y ∷ trace) it; own = refl; client = subst (λ (y : Event). y.client ≡ n) it (same_client x.client n is) }
-in_by n x trace (d ∷ done) e rest true is same more =
-    let it : x ≡ d = cc in
-    let tail : own_entries client_in n trace ≡ done ++ e ∷ rest = cc in
-    one_more n x trace done e true is (d ∷ done) (ap (λ y. y ∷ done) it) (more done tail)
-
-is_in : (n : ℕ) (trace done : List Event) (e : Event) (rest : List Event) → own_entries client_in n trace ≡ done ++ e ∷ rest → IsIn n trace done e
-is_in n [] [] e rest same = absurd cc
-is_in n [] (d ∷ done) e rest same = absurd cc
-is_in n (x ∷ trace) done e rest same = in_by n x trace done e rest (x.client == n) refl same (λ done. is_in n trace done e rest)
+use Rattle.run_laws.proofs.Careful.{run_is, run_is_careful}
+use Rattle.run_laws.proofs.OwnEvents.{first_of, goes, requested}
 
 -- ---- what is well formed
 
@@ -122,14 +36,6 @@ well_formed setting contents trace n open_levels (op.Leave keep) level depth is 
 well_formed setting contents trace n open_levels (op.Back d) level depth is = (is.0, subst (λ k. d ≤ k) (sym depth) is.1)
 well_formed setting contents trace n open_levels op.End level depth is = tt
 well_formed setting contents trace n open_levels o level depth is = absurd level
-
--- an event of the client is not refused, where its operation was well formed
-goes : (setting : Setting) (contents : Contents) (n : ℕ) (trace done : List Event) (e : Event) (rest : List Event) → RefusesRightly setting n trace → own_entries client_in n trace ≡ done ++ e ∷ rest →
-    ((before : List Event) → own_entries client_in n before ≡ done → IsWellFormed setting (left_by setting contents before) n e.op) → e.answer ≢ Refused
-goes setting contents n trace done e rest rightly same formed refused =
-    let it = is_in n trace done e rest same in
-    let event : e ≡ event_of n e.op Refused = ap (λ k. event_of k e.op e.answer) it.client ∙ ap (λ a. event_of n e.op a) refused in
-    rightly it.before it.after e.op (it.is ∙ ap (λ y. it.before ++ y ∷ it.after) event) contents (formed it.before it.own)
 
 module _ (law : LevelsAreOwn) (names : List (List ℕ)) (p : Program) (units : ℕ) (setting : Setting) (contents : Contents) (n : ℕ) where
   -- after own events as the run requests, with fitting answers and no operation on levels Refused, one that it requests is well formed

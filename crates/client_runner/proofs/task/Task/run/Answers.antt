@@ -48,6 +48,7 @@ returns-in-Ended g c =
         ended = refl;
         came = over.came;
         fits = over.fits;
+        refused = over.refused;
         unrefused = over.unrefused;
       };
     }
@@ -102,6 +103,7 @@ returns-in-None-heard g c =
         ended = refl;
         came = over.came;
         fits = over.fits;
+        refused = over.refused;
         unrefused = over.unrefused;
       };
     }
