@@ -1,5 +1,5 @@
-//! Laws of what a database answers to clients of block code: levels and locks are no reason to refuse
-//! an operation of theirs.
+//! Laws of what a database answers to clients of block code: it refuses no operation of a client of a
+//! source text that breaks no rule.
 #![tactic(auto)]
 
 pub mod laws;
