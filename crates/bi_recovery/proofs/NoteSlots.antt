@@ -1,134 +1,93 @@
--- The list of slots of notes is that of the recovered slots.
-use Rattle.std.proofs.lemmas.List.{append-nil, take_more, drop_more, take-append-drop}
-use Rattle.std.specs.Prelude.{All}
+-- The slots of a map that has the recovered bytes.
+use Rattle.std.proofs.Common.{◌≡◌, ◌≢◌, inl, inr, ℕ, ◌<◌, ◌^◌, ◌==◌, Bool, true, false, if◌then◌else◌, Option, None, Some, List, [], ◌∷◌, ◌++◌, map, refl, sym, ◌∙◌, ap, subst, arith}
+use Rattle.std.specs.Prelude.{All, unwrap_or}
+use Rattle.std.specs.Map.{lookup, keys_of}
+use Rattle.std.specs.BTreeMap.{BTreeMap, get, keys, is_at}
+use Rattle.std.specs.Ordering.{nat_cmp}
+use Rattle.std.specs.List.Sorted.{IsStrictlyIncreasing, IsStrictlySortedBy}
 use Rattle.std.proofs.lemmas.List.Elements.{All-head, All-tail}
-use Rattle.std.proofs.Common.{◌≡◌, ◌≢◌, ◌+◌, ◌<◌, ◌^◌, subst, length, get_or, take, drop, inl, inr, ℕ, ◌==◌, Bool, true, false, ◌||◌, if◌then◌else◌, List, [], ◌∷◌, ◌++◌, refl, sym, ◌∙◌, ap, arith}
-use Rattle.std.proofs.lemmas.Bool.{cases_Bool, cases_eq, cond-true, cond-false, eq-eqb, ne_eqb}
+use Rattle.std.proofs.lemmas.Map.Keys.{IsStrictlyIncreasing-from_sorted}
+use Rattle.std.proofs.lemmas.Bool.{cases_eq, cond-true, cond-false, eq-eqb, ne_eqb, true≢false}
+use Rattle.std.proofs.lemmas.Bool.Decides.{nat_tests}
 use Rattle.abl_storage.specs.declared.slots.Undo.{Undo}
 use Rattle.abl_storage.specs.Slots.{wrote, undone}
 use Rattle.log_meaning.specs.declared.note.Change.{Change}
 use Rattle.log_meaning.specs.declared.note.Note.{Note}
 use Rattle.log_meaning.specs.declared.note.Note.TheVariants.{Change as Changed, Commit}
 use Rattle.log_meaning.specs.Bytes.{IsNote}
-use Rattle.log_meaning.specs.Recovered.{changes_of, is_committed, first_old, last_new, recovered}
-use Rattle.log_meaning.proofs.Undone.{put-here, put-other}
-use Rattle.bi_recovery.specs.NoteSlots.{new_of, news, old_of, olds, note_slots}
+use Rattle.log_meaning.specs.Recovered.{changes_of, is_committed, first_old, given}
+use Rattle.log_meaning.proofs.Notes.{changes_of-here, changes_of-other, changes_of-commit, last_new-append, last_new-same}
+use Rattle.bi_recovery.specs.NoteSlots.{AreRecovered, bytes_of, HasBytes, undo_of}
 
-pub undone-append : (xs ys : List Undo) (f : ℕ → List ℕ) (s : ℕ) → undone (xs ++ ys) f s ≡ undone xs (undone ys f) s
-undone-append [] ys f s = refl
-undone-append (x ∷ xs) ys f s = ap (λ (b : List ℕ). if s == x.slot then x.old else b) (undone-append xs ys f s)
+-- ---- one note more
 
-pub wrote-both : (xs ys : List Undo) (s : ℕ) → wrote (xs ++ ys) s ≡ (wrote xs s || wrote ys s)
-wrote-both [] ys s = refl
-wrote-both (x ∷ xs) ys s = grind (arith, wrote-both xs ys s)
+bytes_more : (p : ℕ → Bool) (cs : List Change) (c : Change) → bytes_of p (cs ++ c ∷ []) ≡ Some (if p c.tx then c.new else unwrap_or (bytes_of p cs) c.old)
+bytes_more p [] c = refl
+bytes_more p (x ∷ xs) c = ap (λ (b : List ℕ). Some b) (last_new-append p x.old (x ∷ xs) c)
 
-pub olds-append : (xs ys : List Note) → olds (xs ++ ys) ≡ olds xs ++ olds ys
-olds-append [] ys = refl
-olds-append (x ∷ xs) ys = grind (arith, olds-append xs ys)
-
-pub is_committed-both : (xs ys : List Note) (t : ℕ) → is_committed (xs ++ ys) t ≡ (is_committed xs t || is_committed ys t)
-is_committed-both [] ys t = refl
-is_committed-both (Changed c ∷ xs) ys t = is_committed-both xs ys t
-is_committed-both (Commit u ∷ xs) ys t = grind (arith, is_committed-both xs ys t)
-
-changes-this : (c : Change) (notes : List Note) (s : ℕ) → c.slot ≡ s → changes_of s (Changed c ∷ notes) ≡ c ∷ changes_of s notes
-changes-this c notes s here = cond-true (c.slot == s) _ _ (eq-eqb c.slot s here)
-
-changes-that : (c : Change) (notes : List Note) (s : ℕ) → c.slot ≢ s → changes_of s (Changed c ∷ notes) ≡ changes_of s notes
-changes-that c notes s other = cond-false (c.slot == s) _ _ (ne_eqb c.slot s other)
-
-olds_give : (notes : List Note) (below : ℕ → List ℕ) (s : ℕ) → undone (olds notes) below s ≡ first_old (below s) (changes_of s notes)
-olds_give [] below s = refl
-olds_give (Commit tx ∷ notes) below s = olds_give notes below s
-olds_give (Changed c ∷ notes) below s = elim (cases_eq c.slot s) [
-  | inl here ↦ put-here (undone (olds notes) below) c.slot s c.old (sym here) ∙ sym (ap (first_old (below s)) (changes-this c notes s here))
-  | inr other ↦ put-other (undone (olds notes) below) c.slot s c.old (λ e. other (sym e)) ∙ olds_give notes below s ∙ sym (ap (first_old (below s)) (changes-that c notes s other))
+-- what a slot has after one change more
+pub change_more : (p : ℕ → Bool) (before : List Note) (c : Change) (old : BTreeMap ℕ (List ℕ)) (s : ℕ) (now : Option (List ℕ)) → HasBytes p before old → (s ≡ c.slot → now ≡ Some (if p c.tx then c.new else unwrap_or (get nat_cmp old s) c.old)) → (s ≢ c.slot → now ≡ get nat_cmp old s) → now ≡ bytes_of p (changes_of s (before ++ Changed c ∷ []))
+change_more p before c old s now has here other = elim (cases_eq c.slot s) [
+  | inl is ↦ here (sym is)
+      ∙ ap (λ (o : Option (List ℕ)). Some (if p c.tx then c.new else unwrap_or o c.old)) (has s)
+      ∙ sym (bytes_more p (changes_of s before) c)
+      ∙ ap (bytes_of p) (sym (changes_of-here s before c is))
+  | inr not ↦ other (λ e. not (sym e)) ∙ has s ∙ ap (bytes_of p) (sym (changes_of-other s before c not))
 ]
 
-news_give : (p : ℕ → Bool) (notes : List Note) (f : ℕ → List ℕ) (s : ℕ) → undone (news p notes) f s ≡ last_new p (f s) (changes_of s notes)
-news_give p [] f s = refl
-news_give p (Commit tx ∷ notes) f s = undone-append (news p notes) [] f s ∙ news_give p notes f s
-news_give p (Changed c ∷ notes) f s =
-    undone-append (news p notes) (new_of p (Changed c)) f s
-    ∙ news_give p notes (undone (new_of p (Changed c)) f) s
-    ∙ elim (cases_eq c.slot s) [
-      | inl here ↦ ap (λ (o : List ℕ). last_new p o (changes_of s notes)) (this here) ∙ sym (ap (last_new p (f s)) (changes-this c notes s here))
-      | inr other ↦ ap (λ (o : List ℕ). last_new p o (changes_of s notes)) (that other) ∙ sym (ap (last_new p (f s)) (changes-that c notes s other))
-    ]
-  where
-    this : c.slot ≡ s → undone (new_of p (Changed c)) f s ≡ (if p c.tx then c.new else f s)
-    this here = elim (cases_Bool (p c.tx)) [
-      | inl is ↦ ap (λ (us : List Undo). undone us f s) (cond-true (p c.tx) _ _ is) ∙ put-here f c.slot s c.new (sym here) ∙ sym (cond-true (p c.tx) _ _ is)
-      | inr not ↦ ap (λ (us : List Undo). undone us f s) (cond-false (p c.tx) _ _ not) ∙ sym (cond-false (p c.tx) _ _ not)
-    ]
+pub has_commit : (p : ℕ → Bool) (before : List Note) (tx : ℕ) (slots : BTreeMap ℕ (List ℕ)) → HasBytes p before slots → HasBytes p (before ++ Commit tx ∷ []) slots
+has_commit p before tx slots has s = has s ∙ ap (bytes_of p) (sym (changes_of-commit s before tx))
 
-    that : c.slot ≢ s → undone (new_of p (Changed c)) f s ≡ f s
-    that other = elim (cases_Bool (p c.tx)) [
-      | inl is ↦ ap (λ (us : List Undo). undone us f s) (cond-true (p c.tx) _ _ is) ∙ put-other f c.slot s c.new (λ e. other (sym e))
-      | inr not ↦ ap (λ (us : List Undo). undone us f s) (cond-false (p c.tx) _ _ not)
-    ]
+-- ---- the list of a map
 
--- these are the recovered slots, whatever is below
-pub slots_give : (notes : List Note) (below : ℕ → List ℕ) (s : ℕ) → undone (note_slots notes) below s ≡ recovered notes below s
-slots_give notes below s =
-    undone-append (news (is_committed notes) notes) (olds notes) below s
-    ∙ news_give (is_committed notes) notes (undone (olds notes) below) s
-    ∙ ap (λ (o : List ℕ). last_new (is_committed notes) o (changes_of s notes)) (olds_give notes below s)
+at_slot : (s k : ℕ) → is_at (nat_cmp s) k ≡ (s == k)
+at_slot s k = grind (arith, nat_tests)
 
--- each is of a slot that has a note
-wrote-new : (p : ℕ → Bool) (c : Change) (s : ℕ) → c.slot ≢ s → wrote (new_of p (Changed c)) s ≡ false
-wrote-new p c s other = elim (cases_Bool (p c.tx)) [
-  | inl is ↦ ap (λ (us : List Undo). wrote us s) (cond-true (p c.tx) _ _ is) ∙ grind (arith, ne_eqb s c.slot (λ e. other (sym e)))
-  | inr not ↦ ap (λ (us : List Undo). wrote us s) (cond-false (p c.tx) _ _ not)
+undone_map : (es : List (ℕ × List ℕ)) (below : ℕ → List ℕ) (s : ℕ) → undone (map undo_of es) below s ≡ unwrap_or (lookup (is_at (nat_cmp s)) es) (below s)
+undone_map [] below s = refl
+undone_map (e ∷ es) below s = elim (cases_eq s e.0) [
+  | inl here ↦ cond-true (s == e.0) _ _ (eq-eqb s e.0 here) ∙ sym (ap (λ (o : Option (List ℕ)). unwrap_or o (below s)) (cond-true (is_at (nat_cmp s) e.0) (Some e.1) (lookup (is_at (nat_cmp s)) es) (at_slot s e.0 ∙ eq-eqb s e.0 here)))
+  | inr other ↦ cond-false (s == e.0) _ _ (ne_eqb s e.0 other) ∙ undone_map es below s
+      ∙ sym (ap (λ (o : Option (List ℕ)). unwrap_or o (below s)) (cond-false (is_at (nat_cmp s) e.0) (Some e.1) (lookup (is_at (nat_cmp s)) es) (at_slot s e.0 ∙ ne_eqb s e.0 other)))
 ]
 
-no_change : (c : Change) (notes : List Note) (s : ℕ) → changes_of s (Changed c ∷ notes) ≡ [] → (c.slot ≢ s) × (changes_of s notes ≡ [])
-no_change c notes s none = elim (cases_eq c.slot s) [
-  | inl here ↦ absurd (filled (changes_of s notes) (sym (changes-this c notes s here) ∙ none))
-  | inr other ↦ (other, sym (changes-that c notes s other) ∙ none)
+wrote_map : (es : List (ℕ × List ℕ)) (s : ℕ) → lookup (is_at (nat_cmp s)) es ≡ None → wrote (map undo_of es) s ≡ false
+wrote_map [] s none = refl
+wrote_map (e ∷ es) s none = elim (cases_eq s e.0) [
+  | inl here ↦ absurd (filled (sym (cond-true (is_at (nat_cmp s) e.0) (Some e.1) (lookup (is_at (nat_cmp s)) es) (at_slot s e.0 ∙ eq-eqb s e.0 here)) ∙ none))
+  | inr other ↦ grind (arith, ne_eqb s e.0 other, wrote_map es s (sym (cond-false (is_at (nat_cmp s) e.0) (Some e.1) (lookup (is_at (nat_cmp s)) es) (at_slot s e.0 ∙ ne_eqb s e.0 other)) ∙ none))
 ]
   where
-    filled : (cs : List Change) → c ∷ cs ≡ [] → ⊥
-    filled cs is = cc
+    filled : Some e.1 ≡ None → ⊥
+    filled is = cc
 
-news_none : (p : ℕ → Bool) (notes : List Note) (s : ℕ) → changes_of s notes ≡ [] → wrote (news p notes) s ≡ false
-news_none p [] s none = refl
-news_none p (Commit tx ∷ notes) s none = grind (arith, wrote-both (news p notes) [] s, news_none p notes s none)
-news_none p (Changed c ∷ notes) s none = let h = no_change c notes s none in grind (arith, wrote-both (news p notes) (new_of p (Changed c)) s, news_none p notes s (h.1), wrote-new p c s (h.0))
+slots_map : (es : List (ℕ × List ℕ)) → map (λ (u : Undo). u.slot) (map undo_of es) ≡ keys_of es
+slots_map [] = refl
+slots_map (e ∷ es) = ap (λ (l : List ℕ). e.0 ∷ l) (slots_map es)
 
-olds_none : (notes : List Note) (s : ℕ) → changes_of s notes ≡ [] → wrote (olds notes) s ≡ false
-olds_none [] s none = refl
-olds_none (Commit tx ∷ notes) s none = olds_none notes s none
-olds_none (Changed c ∷ notes) s none = let h = no_change c notes s none in grind (arith, ne_eqb s c.slot (λ e. h.0 (sym e)), olds_none notes s (h.1))
+bytes_give : (p : ℕ → Bool) (below : List ℕ) (cs : List Change) → unwrap_or (bytes_of p cs) below ≡ given p below cs
+bytes_give p below [] = refl
+bytes_give p below (c ∷ cs) = refl
 
-pub slots_noted : (notes : List Note) (s : ℕ) → wrote (note_slots notes) s ≡ true → changes_of s notes ≢ []
-slots_noted notes s is none = grind (arith, is, wrote-both (news (is_committed notes) notes) (olds notes) s, news_none (is_committed notes) notes s none, olds_none notes s none)
+-- the list of a map that has the recovered bytes
+pub map_recovers : (p : ℕ → Bool) (notes : List Note) (slots : BTreeMap ℕ (List ℕ)) (list : List Undo) → ((t : ℕ) → p t ≡ is_committed notes t) → HasBytes p notes slots → IsStrictlySortedBy nat_cmp (keys slots) → list ≡ map undo_of slots.entries → AreRecovered notes list
+map_recovers p notes slots list same has sorted is = record {
+  are = λ below s. ap (λ (l : List Undo). undone l below s) is ∙ undone_map slots.entries below s ∙ ap (λ (o : Option (List ℕ)). unwrap_or o (below s)) (has s) ∙ bytes_give p (below s) (changes_of s notes)
+      ∙ last_new-same p (is_committed notes) (first_old (below s) (changes_of s notes)) (changes_of s notes) same;
+  noted = λ s wrote_s none. true≢false (sym wrote_s ∙ ap (λ (l : List Undo). wrote l s) is ∙ wrote_map slots.entries s (has s ∙ ap (bytes_of p) none));
+  ascending = subst IsStrictlyIncreasing (sym (ap (map (λ (u : Undo). u.slot)) is ∙ slots_map slots.entries)) (IsStrictlyIncreasing-from_sorted (keys slots) sorted);
+}
+
+-- ---- the slots of notes
 
 noted_small : (notes : List Note) (s : ℕ) → All IsNote notes → changes_of s notes ≢ [] → s < 2 ^ 20
 noted_small [] s sound has = absurd (has refl)
 noted_small (Commit tx ∷ notes) s sound has = noted_small notes s (All-tail IsNote (Commit tx) notes sound) has
 noted_small (Changed c ∷ notes) s sound has = elim (cases_eq c.slot s) [
   | inl here ↦ subst (λ (k : ℕ). k < 2 ^ 20) here ((All-head IsNote (Changed c) notes sound).1)
-  | inr other ↦ noted_small notes s (All-tail IsNote (Changed c) notes sound) (λ none. has (changes-that c notes s other ∙ none))
+  | inr other ↦ noted_small notes s (All-tail IsNote (Changed c) notes sound) (λ none. has (cond-false (c.slot == s) _ _ (ne_eqb c.slot s other) ∙ none))
 ]
 
--- and below 2^20
-pub slots_small : (notes : List Note) (us : List Undo) → us ≡ note_slots notes → All IsNote notes → (s : ℕ) → wrote us s ≡ true → s < 2 ^ 20
-slots_small notes us is sound s it = noted_small notes s sound (slots_noted notes s (ap (λ (l : List Undo). wrote l s) (sym is) ∙ it))
-
--- ---- steps of loops
-
-pub committed_split : (notes : List Note) (i : ℕ) (d : Note) (tx : ℕ) → i < length notes → is_committed notes tx ≡ (is_committed (take i notes) tx || (is_committed (get_or notes i d ∷ []) tx || is_committed (drop (i + 1) notes) tx))
-committed_split notes i d tx lt =
-    ap (λ (l : List Note). is_committed l tx) (sym (take-append-drop i notes) ∙ ap (λ (l : List Note). take i notes ++ l) (drop_more notes i d lt))
-    ∙ is_committed-both (take i notes) (get_or notes i d ∷ drop (i + 1) notes) tx
-    ∙ ap (λ (b : Bool). is_committed (take i notes) tx || b) (is_committed-both (get_or notes i d ∷ []) (drop (i + 1) notes) tx)
-
-pub committed_here : (notes : List Note) (i : ℕ) (d : Note) (tx : ℕ) → i < length notes → is_committed (get_or notes i d ∷ []) tx ≡ true → is_committed notes tx ≡ true
-committed_here notes i d tx lt is = grind (arith, committed_split notes i d tx lt, is)
-
-pub committed_step : (notes : List Note) (i : ℕ) (d : Note) (tx : ℕ) → i < length notes → is_committed (take i notes) tx ≡ false → is_committed (get_or notes i d ∷ []) tx ≡ false → is_committed (take (i + 1) notes) tx ≡ false
-committed_step notes i d tx lt before this = ap (λ (l : List Note). is_committed l tx) (take_more notes i d lt) ∙ is_committed-both (take i notes) (get_or notes i d ∷ []) tx ∙ grind (arith, before, this)
-
-pub olds_step : (notes : List Note) (i : ℕ) (d : Note) → i < length notes → olds (take (i + 1) notes) ≡ olds (take i notes) ++ old_of (get_or notes i d)
-olds_step notes i d lt = ap olds (take_more notes i d lt) ∙ olds-append (take i notes) (get_or notes i d ∷ []) ∙ ap (λ (l : List Undo). olds (take i notes) ++ l) (append-nil (old_of (get_or notes i d)))
+-- they are below 2^20
+pub slots_small : (notes : List Note) (us ws : List Undo) → us ≡ ws → AreRecovered notes ws → All IsNote notes → (s : ℕ) → wrote us s ≡ true → s < 2 ^ 20
+slots_small notes us ws is r sound s it = noted_small notes s sound (r.noted s (ap (λ (l : List Undo). wrote l s) (sym is) ∙ it))

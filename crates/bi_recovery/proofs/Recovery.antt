@@ -11,9 +11,8 @@ use Rattle.log_meaning.specs.Recovered.{changes_of, recovered}
 use Rattle.log_meaning.specs.LogState.{notes_in, LogState}
 use Rattle.log_meaning.proofs.LogStates.{one_area, same_newest, may_write}
 use Rattle.log_meaning.proofs.OneLog.{one_opened}
-use Rattle.bi_recovery.specs.NoteSlots.{note_slots}
+use Rattle.bi_recovery.specs.NoteSlots.{AreRecovered}
 use Rattle.bi_recovery.specs.Reopening.{SameRecovery, Gives, SameAreas, LogIs}
-use Rattle.bi_recovery.proofs.NoteSlots.{slots_give, slots_noted}
 use Rattle.bi_recovery.proofs.Reopening.{stage, keeps_none}
 
 -- a run whose steps are known where the areas are observable, as they are where there is an image
@@ -59,14 +58,14 @@ log_agrees seen image a g e notes l same there = record {
 }
 
 -- the recovered slots of its notes may be written, where they have no gap
-pub log_gives : (e : ℕ) (notes : List Note) (bs : List (List Note)) (us : List Undo) → notes ≡ notes_in bs → us ≡ note_slots notes → ((s k : ℕ) → wrote us s ≡ true → e ≤ k → k < s → wrote us k ≡ true) → Gives e bs us
-log_gives e notes bs us are is filled = record {
-  are = λ below s. ap (λ (l : List Undo). undone l below s) is ∙ slots_give notes below s ∙ ap (λ (l : List Note). recovered l below s) are;
+pub log_gives : (e : ℕ) (notes : List Note) (bs : List (List Note)) (us : List Undo) → notes ≡ notes_in bs → AreRecovered notes us → ((s k : ℕ) → wrote us s ≡ true → e ≤ k → k < s → wrote us k ≡ true) → Gives e bs us
+log_gives e notes bs us are r filled = record {
+  are = λ below s. r.are below s ∙ ap (λ (l : List Note). recovered l below s) are;
   may = λ s wrote_s. may_write e bs s (record { own = noted s wrote_s; gap = λ k from lt. noted k (filled s k wrote_s from lt) });
 }
   where
     noted : (s : ℕ) → wrote us s ≡ true → changes_of s (notes_in bs) ≢ []
-    noted s wrote_s none = slots_noted notes s (ap (λ (l : List Undo). wrote l s) (sym is) ∙ wrote_s) (ap (changes_of s) are ∙ none)
+    noted s wrote_s none = r.noted s wrote_s (ap (changes_of s) are ∙ none)
 
 -- what the image recovers to
 pub log_recovers : (seen : Image) (a g e : ℕ) (notes : List Note) (us : List Undo) (l : LogIs seen a g notes) → Gives e l.holds.batches us → Recovers seen (undone us (slot_of (seen 0)))
@@ -83,11 +82,11 @@ pub record Ready (seen : Image) (left : Image → Type 0) (a g e : ℕ) (us : Li
   pub was : Recovers seen (undone us (slot_of (seen 0)))
 
 pub ready : (a b : Bool) (x y : Image) (was now : ℕ) (before after : ℕ → Image → Type 0) (area g n : ℕ) (notes : List Note) (us vs ws : List Undo) → Stays a b x y was now before after → ((m : ℕ) (image : Image) → before m image → IsTrue a) → IsTrue a
-    → ((image : Image) → before was image → SameAreas x image) → LogIs x area g notes → n ≡ length (x 0) → ws ≡ note_slots notes → us ≡ ws → vs ≡ ws
+    → ((image : Image) → before was image → SameAreas x image) → LogIs x area g notes → n ≡ length (x 0) → AreRecovered notes ws → us ≡ ws → vs ≡ ws
     → ((s k : ℕ) → wrote vs s ≡ true → n / 256 ≤ k → k < s → wrote vs k ≡ true) → Ready y (after now) area g (n / 256) us
-ready a b x y was now before after area g n notes us vs ws s same_observable known synced log size is us_is vs_is filled =
+ready a b x y was now before after area g n notes us vs ws s same_observable known synced log size r us_is vs_is filled =
     let l = stay_log a b x y was now before after area g notes s known log in
-    let gives = log_gives (n / 256) notes l.holds.batches us l.holds.are (us_is ∙ is) (λ t k w from lt. ap (λ (v : List Undo). wrote v k) (us_is ∙ sym vs_is) ∙ filled t k (ap (λ (v : List Undo). wrote v t) (vs_is ∙ sym us_is) ∙ w) from lt) in
+    let gives = log_gives (n / 256) notes l.holds.batches us l.holds.are (subst (AreRecovered notes) (sym us_is) r) (λ t k w from lt. ap (λ (v : List Undo). wrote v k) (us_is ∙ sym vs_is) ∙ filled t k (ap (λ (v : List Undo). wrote v t) (vs_is ∙ sym us_is) ∙ w) from lt) in
     record {
       batches = l.holds.batches;
       agrees = λ image left. log_agrees y image area g (n / 256) notes l (stay_synced a b x y was now before after s same_observable synced image left) (whole n (size ∙ sym (ap (λ (i : Image). length (i 0)) (s.same known))));
@@ -106,10 +105,10 @@ pub record ReadyOver (seen : Image) (left : Image → Type 0) (a g e : ℕ) (us 
   pub was : Recovers seen (undone us (slot_of (seen 0)))
 
 pub ready_over : (a b : Bool) (x y : Image) (was now : ℕ) (before after : ℕ → Image → Type 0) (area g n : ℕ) (notes : List Note) (us ws : List Undo) → Stays a b x y was now before after → ((m : ℕ) (image : Image) → before m image → IsTrue a) → IsTrue a
-    → ((image : Image) → before was image → SameAreas x image) → LogIs x area g notes → n ≡ length (x 0) → ws ≡ note_slots notes → us ≡ ws → ReadyOver y (after now) area g (n / 256) us
-ready_over a b x y was now before after area g n notes us ws s same_observable known synced log size is us_is =
+    → ((image : Image) → before was image → SameAreas x image) → LogIs x area g notes → n ≡ length (x 0) → AreRecovered notes ws → us ≡ ws → ReadyOver y (after now) area g (n / 256) us
+ready_over a b x y was now before after area g n notes us ws s same_observable known synced log size r us_is =
     let l = stay_log a b x y was now before after area g notes s known log in
-    let are : (below : ℕ → List ℕ) (s : ℕ) → undone us below s ≡ recovered (notes_in l.holds.batches) below s = (λ below k. ap (λ (u : List Undo). undone u below k) (us_is ∙ is) ∙ slots_give notes below k ∙ ap (λ (m : List Note). recovered m below k) l.holds.are) in
+    let are : (below : ℕ → List ℕ) (s : ℕ) → undone us below s ≡ recovered (notes_in l.holds.batches) below s = (λ below k. ap (λ (u : List Undo). undone u below k) us_is ∙ r.are below k ∙ ap (λ (m : List Note). recovered m below k) l.holds.are) in
     record {
       batches = l.holds.batches;
       agrees = λ image left. log_agrees y image area g (n / 256) notes l (stay_synced a b x y was now before after s same_observable synced image left) (whole n (size ∙ sym (ap (λ (i : Image). length (i 0)) (s.same known))));

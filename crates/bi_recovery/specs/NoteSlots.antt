@@ -1,28 +1,33 @@
--- The slots that notes recover to, as a list in which the first entry of a slot counts.
-use Rattle.std.specs.Prelude.{ℕ, Bool, if◌then◌else◌, List, [], ◌∷◌, ◌++◌}
+-- The slots that notes recover to, as a list.
+use Rattle.std.specs.Prelude.{◌≡◌, ◌≢◌, ℕ, Bool, true, List, [], ◌∷◌, map, Option, None, Some}
+use Rattle.std.specs.List.Sorted.{IsStrictlyIncreasing}
+use Rattle.std.specs.BTreeMap.{BTreeMap, get}
+use Rattle.std.specs.Ordering.{nat_cmp}
 use Rattle.abl_storage.specs.declared.slots.Undo.{Undo}
+use Rattle.abl_storage.specs.Slots.{wrote, undone}
+use Rattle.log_meaning.specs.declared.note.Change.{Change}
 use Rattle.log_meaning.specs.declared.note.Note.{Note}
-use Rattle.log_meaning.specs.declared.note.Note.TheVariants.{Change as Changed, Commit}
-use Rattle.log_meaning.specs.Recovered.{is_committed}
+use Rattle.log_meaning.specs.Recovered.{changes_of, given, recovered}
 
--- the bytes after a change of one of these transactions
-abbrev pub new_of : (ℕ → Bool) → Note → List Undo
-new_of committed (Changed c) = if committed c.tx then record { slot = c.slot; old = c.new } ∷ [] else []
-new_of committed (Commit tx) = []
+-- each entry is of a higher slot than the one before it
+abbrev pub IsAscending : List Undo → Type 0
+IsAscending slots = IsStrictlyIncreasing (map (λ (u : Undo). u.slot) slots)
 
--- those of all changes, the last first
-abbrev pub news : (ℕ → Bool) → List Note → List Undo
-news committed [] = []
-news committed (n ∷ notes) = news committed notes ++ new_of committed n
+-- Over any base these slots are what the notes recover to over it. Each of them has a change, and none comes twice.
+pub record AreRecovered (notes : List Note) (slots : List Undo) : Type 0 where
+  pub are : (below : ℕ → List ℕ) (s : ℕ) → undone slots below s ≡ recovered notes below s
+  pub noted : (s : ℕ) → wrote slots s ≡ true → changes_of s notes ≢ []
+  pub ascending : IsAscending slots
 
--- the bytes before a change
-abbrev pub old_of : Note → List Undo
-old_of (Changed c) = record { slot = c.slot; old = c.old } ∷ []
-old_of (Commit tx) = []
+-- the bytes that the changes of one slot recover to, if it has any
+abbrev pub bytes_of : (ℕ → Bool) → List Change → Option (List ℕ)
+bytes_of committed [] = None
+bytes_of committed (c ∷ changes) = Some (given committed [] (c ∷ changes))
 
-abbrev pub olds : List Note → List Undo
-olds [] = []
-olds (n ∷ notes) = old_of n ++ olds notes
+-- the map has these bytes for each slot with a change, and nothing for any other
+abbrev pub HasBytes : (ℕ → Bool) → List Note → BTreeMap ℕ (List ℕ) → Type 0
+HasBytes committed notes slots = (s : ℕ) → get nat_cmp slots s ≡ bytes_of committed (changes_of s notes)
 
-abbrev pub note_slots : List Note → List Undo
-note_slots notes = news (is_committed notes) notes ++ olds notes
+-- the entry of a slot with these bytes
+abbrev pub undo_of : ℕ × List ℕ → Undo
+undo_of e = record { slot = e.0; old = e.1 }

@@ -5,6 +5,7 @@ ghost use Rattle.abl_storage.specs.Disk.{Others};
 ghost use Rattle.abl_storage.specs.Slots.{undone};
 ghost use Rattle.disk_steps.specs.Steps.{Image, Run};
 ghost use Rattle.log_meaning.specs.Images.{slot_of};
+ghost use Rattle.bi_recovery.specs.NoteSlots.{IsAscending};
 ghost use Rattle.bi_recovery.specs.Carried.{stills, IsOpenLog, CarriesTo};
 ghost use Rattle.bi_recovery.specs.Causes.{HasOpenCause};
 
@@ -27,6 +28,7 @@ pub fn carried_generation<D: Disk>(
 ) -> Result<u64, OpenFault>
     requires area { area < 3 }
     requires other { (1 ≤ area) × (count ≤ 2 ^ 20) }
+    requires ascending { IsAscending slots.now }
     requires fits { generation < 2 ^ 63 }
     requires synced { (image : Image) → D.left disk.old (D.time disk.old) image → image area ≡ D.seen disk.old area }
     ensures same_observable { D.observable disk.new ≡ D.observable disk.old }

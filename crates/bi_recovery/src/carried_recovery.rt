@@ -7,6 +7,7 @@ ghost use Rattle.log_meaning.specs.declared.note.Note.{Note as LogNote};
 ghost use Rattle.log_meaning.specs.Images.{slot_of};
 ghost use Rattle.log_meaning.specs.Recovered.{recovered};
 ghost use Rattle.log_meaning.specs.LogState.{notes_in, LogState};
+ghost use Rattle.bi_recovery.specs.NoteSlots.{IsAscending};
 ghost use Rattle.bi_recovery.specs.Reopening.{SameAreas, SameRecovery, NewLog};
 ghost use Rattle.bi_recovery.specs.Causes.{HasOpenCause};
 
@@ -54,6 +55,7 @@ pub fn reopen_carrying<D: Disk>(
     requires area { (1 ≤ area) × (area ≤ 2) }
     requires fits { generation + 1 < 2 ^ 63 }
     requires small { (s : ℕ) → wrote slots.now s ≡ true → s < 2 ^ 20 }
+    requires ascending { IsAscending slots.now }
     requires synced { (image : Image) → D.left disk.old (D.time disk.old) image → SameAreas (D.seen disk.old) image }
     ensures same_observable { D.observable disk.new ≡ D.observable disk.old }
     ensures past { Run (D.time disk.old) (D.time disk.new) (D.left disk.old) (D.left disk.new) Any }

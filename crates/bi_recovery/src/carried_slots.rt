@@ -7,6 +7,7 @@ ghost use Rattle.disk_steps.specs.Steps.{Image, Run};
 ghost use Rattle.log_meaning.specs.Images.{slot_of};
 ghost use Rattle.bi_log.specs.Appending.{fresh};
 ghost use Rattle.bi_log.specs.Generations.{IsClosed, AfterGate, IsPrepared};
+ghost use Rattle.bi_recovery.specs.NoteSlots.{IsAscending};
 ghost use Rattle.bi_recovery.specs.Carried.{stills, IsCarried};
 ghost use Rattle.bi_recovery.specs.Causes.{HasOpenCause};
 
@@ -17,17 +18,16 @@ use bi_log::carrying::{carry_buffer, make_room};
 use log_meaning::{Change, Note};
 use std::alloc::Global;
 
-/// The bytes of the first of these entries that is of the slot.
-pub fn first_bytes(slots: &[Undo], slot: u32) -> Option<[u8; 256]>
+/// The bytes of the entry of the slot, if it has one.
+pub fn entry_bytes(slots: &[Undo], slot: u32) -> Option<[u8; 256]>
+    requires ascending { IsAscending slots.now }
     ensures some { IfSome result (λ bytes. (below : ℕ → List ℕ) → undone slots.now below slot ≡ bytes) }
     ensures none { IfNone result (wrote slots.now slot ≡ false) }
 {
-    for u in slots {
-        if slot == u.slot {
-            return Some(u.old);
-        }
+    match slots.binary_search_by_key(&slot, |u| u.slot) {
+        Ok(place) => Some(slots[place].old),
+        Err(_) => None,
     }
-    None
 }
 
 /// The bytes of a slot of area 0.
@@ -45,11 +45,12 @@ fn read_slot<D: Disk>(disk: &mut D, slot: u32) -> Result<[u8; 256], DiskFailed>
 /// The bytes that the slot recovers to, where these entries are the recovered slots.
 pub fn slot_bytes<D: Disk>(disk: &mut D, slots: &[Undo], slot: u32) -> Result<[u8; 256], DiskFailed>
     requires small { slot < 2 ^ 20 }
+    requires ascending { IsAscending slots.now }
     ensures bytes { IfOk result (λ bytes. IsTrue (D.observable disk.old) → bytes ≡ undone slots.now (slot_of (D.seen disk.old 0)) slot) }
     ensures rest { Stays (D.observable disk.old) (D.observable disk.new) (D.seen disk.old) (D.seen disk.new) (D.time disk.old) (D.time disk.new) (D.left disk.old) (D.left disk.new) }
     ensures cause { HasCause (D.failures disk.old) (D.failures disk.new) (is_ok result) }
 {
-    match first_bytes(slots, slot) {
+    match entry_bytes(slots, slot) {
         Some(bytes) => Ok(bytes),
         None => read_slot(disk, slot),
     }
@@ -66,6 +67,7 @@ pub fn carry_slots<D: Disk>(
 ) -> Result<u64, OpenFault>
     requires area { area < 3 }
     requires other { (1 ≤ area) × (count ≤ 2 ^ 20) }
+    requires ascending { IsAscending slots.now }
     requires closed { (image : Image) → D.left disk.old (D.time disk.old) image → IsClosed (image area) }
     ensures same_observable { D.observable disk.new ≡ D.observable disk.old }
     ensures time { Run (D.time disk.old) (D.time disk.new) (D.left disk.old) (D.left disk.new) (AfterGate area) }

@@ -1,40 +1,22 @@
 //! Whether slots have a gap past the end of area 0.
 
-ghost use Rattle.std.specs.Prelude.{◌≡◌, ◌-◌, ◌<◌, ◌≤◌, ℕ, true};
+ghost use Rattle.std.specs.Prelude.{◌≡◌, ◌<◌, ◌≤◌, ℕ, true};
 ghost use Rattle.abl_storage.specs.Slots.{wrote};
 
 use abl_storage::Undo;
 
-/// Whether one of these is the slot.
-pub fn has_slot(slots: &[Undo], slot: u32) -> bool
-    ensures { result ≡ wrote slots.now slot }
-{
-    for u in slots {
-        if slot == u.slot {
-            return true;
-        }
-    }
-    false
-}
-
-/// Whether the slot before this one is one of these, where this one is past `extent`.
-fn follows(slots: &[Undo], extent: u64, slot: u32) -> bool
-    ensures { result ≡ true → extent < slot → wrote slots.now (slot - 1) ≡ true }
-{
-    if slot as u64 <= extent {
-        return true;
-    }
-    has_slot(slots, slot - 1)
-}
-
-/// Whether each slot from `extent` up to any of these is one of these.
+/// Whether each slot from `extent` up to any of these is one of these. It is one pass over them:
+/// where the slots do not ascend, it may miss that they have no gap.
 pub fn is_filled(slots: &[Undo], extent: u64) -> bool
     ensures { result ≡ true → (s k : ℕ) → wrote slots.now s ≡ true → extent ≤ k → k < s → wrote slots.now k ≡ true }
 {
+    let mut end = extent;
     for u in slots {
-        if !follows(slots, extent, u.slot) {
+        let slot = u.slot as u64;
+        if slot > end {
             return false;
         }
+        end = end.max(slot + 1);
     }
     true
 }

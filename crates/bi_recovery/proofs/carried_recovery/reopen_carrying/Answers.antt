@@ -14,7 +14,7 @@ pub carried_generation-requires : goal.carried_generation-requires
 carried_generation-requires g c =
     let low = c.requires.area.0 in
     let high = c.requires.area.1 in
-    record { area = omega (arith, low); other = (omega (arith, high), c.end_of-count.ensures.few); fits = c.requires.fits; synced = λ image left. c.requires.synced image left (3 - c.args.area) (omega (arith, low)) }
+    record { area = omega (arith, low); other = (omega (arith, high), c.end_of-count.ensures.few); ascending = c.requires.ascending; fits = c.requires.fits; synced = λ image left. c.requires.synced image left (3 - c.args.area) (omega (arith, low)) }
 
 pub returns-clause-past : goal.returns-clause-past
 returns-clause-past g c = wider _ _ _ _ (Others (3 - c.args.area)) Any c.carried_generation.ensures.past (λ d image there s. tt)

@@ -3,6 +3,7 @@ use Rattle.abl_storage.specs.Slots.{undone}
 use Rattle.disk_steps.specs.Steps.{Image}
 use Rattle.log_meaning.specs.Images.{slot_of, Recovers}
 use Rattle.log_meaning.proofs.Filling.{filled_none}
+use Rattle.bi_recovery.specs.NoteSlots.{IsAscending}
 use Rattle.bi_recovery.specs.Reopening.{SameRecovery}
 use Rattle.bi_recovery.proofs.NoteSlots.{slots_small}
 use Rattle.bi_recovery.proofs.Recovery.{after_stay, then_stay, with_extent, run_if, ready, ready_over}
@@ -94,7 +95,10 @@ returns-then-not-is_filled-clause-ok g c = λ known.
     }
 
 pub reopen_carrying-requires-clause-small : goal.reopen_carrying-requires-clause-small
-reopen_carrying-requires-clause-small g c = slots_small c.args.notes.now c.deref-then-not-is_filled.result.now (c.deref-then-not-is_filled.ensures.value ∙ c.in_ok-slots.ensures) c.requires.sound
+reopen_carrying-requires-clause-small g c = slots_small c.args.notes.now c.deref-then-not-is_filled.result.now c.in_ok-slots.slots.items c.deref-then-not-is_filled.ensures.value c.in_ok-slots.ensures c.requires.sound
+
+pub reopen_carrying-requires-clause-ascending : goal.reopen_carrying-requires-clause-ascending
+reopen_carrying-requires-clause-ascending g c = subst IsAscending (sym c.deref-then-not-is_filled.ensures.value) c.in_ok-slots.ensures.ascending
 
 pub rebuild-requires-clause-small : goal.rebuild-requires-clause-small
-rebuild-requires-clause-small g c = slots_small c.args.notes.now c.deref-2.result.now (c.deref-2.ensures.value ∙ c.in_ok-slots.ensures) c.requires.sound
+rebuild-requires-clause-small g c = slots_small c.args.notes.now c.deref-2.result.now c.in_ok-slots.slots.items c.deref-2.ensures.value c.in_ok-slots.ensures c.requires.sound
