@@ -20,7 +20,7 @@ use Rattle.kept_log.specs.Numbers.{is_number, is_live, undo_of, AreBelow}
 use Rattle.kept_log.specs.KeptLog.{KeptLog, IsFilledTo}
 use Rattle.kept_log.proofs.Numbered.{number_live, number_dead, number_none, undo_number, undo_dead, below_more}
 use Rattle.kept_log.proofs.Noted.{notes-more, filled_all, filled_commit, still_noted}
-use Rattle.kept_log.proofs.Flushed.{slots_of, with_more}
+use Rattle.kept_log.proofs.Flushed.{recovers_to, with_more}
 
 module _ (committed reads : ℕ → List ℕ) (was now : ℕ) (left left' : ℕ → Image → Type 0) (log log' : Log) (un : ℕ → Option ℕ) (number number' : ℕ → Option ℕ) (list list' : ℕ → List Undo) (g e f n c tx : ℕ)
     (k : KeptLog committed reads (left was) log un number list g e f n)
@@ -52,14 +52,14 @@ module _ (committed reads : ℕ → List ℕ) (was now : ℕ) (left left' : ℕ 
   recovers_all s = ap (λ (l : List Note). recovered l k.base s) all_in ∙ committed_now ((notes_in k.held.batches ++ k.buffered) ++ Commit tx ∷ []) k.base (joined (list c) reads committed) reads (is_live number') (undo_of number' list') logged s
 
   -- each image recovers to what was committed, or to that with this commit
-  pub commit_leaves : (m : ℕ) (image : Image) (slots : ℕ → List ℕ) → was < m → left' m image → Recovers image slots → (slots ≡ committed) ⊎ (slots ≡ joined (list c) reads committed)
-  commit_leaves m image slots later known r =
+  pub commit_leaves : (m : ℕ) (image : Image) → was < m → left' m image → Recovers image committed ⊎ Recovers image (joined (list c) reads committed)
+  commit_leaves m image later known =
       let h = run.here m image later known in
       ⊎_elim
-      (λ (without : Holds (image log.area) k.held). inl (slots_of log.area k.held.generation e k.held.batches k.base committed image slots
-      (relog log.area k.held.generation e k.held.batches k.held.batches k.base (h.0) image (h.2).others without (λ s none. none) (k.agrees (h.0) (h.1))) k.settled r))
-      (λ (with_it : Holds (image log.area) (with_batch k.held (k.buffered ++ Commit tx ∷ []))). inr (slots_of log.area k.held.generation e (k.held.batches ++ (k.buffered ++ Commit tx ∷ []) ∷ []) k.base (joined (list c) reads committed) image slots
-      (with_more log.area k.held.generation e k.held.batches (k.buffered ++ Commit tx ∷ []) k.base (h.0) image (h.2).others with_it (k.agrees (h.0) (h.1))) recovers_all r))
+      (λ (without : Holds (image log.area) k.held). inl (recovers_to log.area k.held.generation e k.held.batches k.base committed image
+      (relog log.area k.held.generation e k.held.batches k.held.batches k.base (h.0) image (h.2).others without (λ s none. none) (k.agrees (h.0) (h.1))) k.settled))
+      (λ (with_it : Holds (image log.area) (with_batch k.held (k.buffered ++ Commit tx ∷ []))). inr (recovers_to log.area k.held.generation e (k.held.batches ++ (k.buffered ++ Commit tx ∷ []) ∷ []) k.base (joined (list c) reads committed) image
+      (with_more log.area k.held.generation e k.held.batches (k.buffered ++ Commit tx ∷ []) k.base (h.0) image (h.2).others with_it (k.agrees (h.0) (h.1))) recovers_all))
       (h.2).log
 
   pub committed_log : Keeps log' (left' now) (with_batch k.held (k.buffered ++ Commit tx ∷ [])) [] → log'.area ≡ log.area → KeptLog (joined (list c) reads committed) reads (left' now) log' un number' list' g e f n

@@ -22,6 +22,12 @@ use Rattle.kept_log.proofs.Noted.{notes-more, filled_all}
 pub slots_of : (a g e : ℕ) (bs : List (List Note)) (base committed : ℕ → List ℕ) (image : Image) (slots : ℕ → List ℕ) → LogState a g e bs base image → ((s : ℕ) → recovered (notes_in bs) base s ≡ committed s) → Recovers image slots → slots ≡ committed
 slots_of a g e bs base committed image slots st gives r = λ i s. (one_recovery image slots (recovered (notes_in bs) base) r (stands_for a g e bs base image st) s ∙ gives s) i
 
+-- it recovers to them
+pub recovers_to : (a g e : ℕ) (bs : List (List Note)) (base committed : ℕ → List ℕ) (image : Image) → LogState a g e bs base image → ((s : ℕ) → recovered (notes_in bs) base s ≡ committed s) → Recovers image committed
+recovers_to a g e bs base committed image st gives =
+    let r = stands_for a g e bs base image st in
+    record { area = r.area; generation = r.generation; batches = r.batches; newest = r.newest; log = r.log; gives = λ s. sym (gives s) ∙ r.gives s }
+
 no_note_before : (s : ℕ) (bs : List (List Note)) (b : List Note) → changes_of s (notes_in (bs ++ b ∷ [])) ≡ [] → changes_of s (notes_in bs) ≡ []
 no_note_before s bs b none = first_empty (changes_of s (notes_in bs)) (changes_of s b) (sym (changes_of-append s (notes_in bs) b) ∙ ap (changes_of s) (sym (notes-more bs b)) ∙ none)
   where
@@ -48,14 +54,14 @@ module _ (committed reads : ℕ → List ℕ) (was now : ℕ) (left left' : ℕ 
 
   -- each image recovers to what is committed
   pub settle_leaves : Leaves was left' committed
-  settle_leaves m image slots later known r =
+  settle_leaves m image later known =
       let h = run.here m image later known in
-      ⊎_elim
-      (λ (without : Holds (image log.area) k.held). slots_of log.area k.held.generation e k.held.batches k.base committed image slots
-      (relog log.area k.held.generation e k.held.batches k.held.batches k.base (h.0) image (h.2).others without (λ s none. none) (k.agrees (h.0) (h.1))) k.settled r)
-      (λ (with_it : Holds (image log.area) (with_batch k.held k.buffered)). slots_of log.area k.held.generation e (k.held.batches ++ k.buffered ∷ []) k.base committed image slots
-      (with_more log.area k.held.generation e k.held.batches k.buffered k.base (h.0) image (h.2).others with_it (k.agrees (h.0) (h.1))) recovers_all r)
-      (h.2).log
+      ∣ ⊎_elim
+      (λ (without : Holds (image log.area) k.held). recovers_to log.area k.held.generation e k.held.batches k.base committed image
+      (relog log.area k.held.generation e k.held.batches k.held.batches k.base (h.0) image (h.2).others without (λ s none. none) (k.agrees (h.0) (h.1))) k.settled)
+      (λ (with_it : Holds (image log.area) (with_batch k.held k.buffered)). recovers_to log.area k.held.generation e (k.held.batches ++ k.buffered ∷ []) k.base committed image
+      (with_more log.area k.held.generation e k.held.batches k.buffered k.base (h.0) image (h.2).others with_it (k.agrees (h.0) (h.1))) recovers_all)
+      (h.2).log ∣₁
 
   pub settled_log : Keeps log' (left' now) (with_batch k.held k.buffered) [] → log'.area ≡ log.area → KeptLog committed reads (left' now) log' un number list g e f n
   settled_log keeps area = record {

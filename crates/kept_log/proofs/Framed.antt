@@ -9,7 +9,7 @@ use Rattle.log_meaning.proofs.Filling.{writes_none, writes_agree}
 use Rattle.bi_log.specs.declared.log.Log.{Log}
 use Rattle.bi_log.specs.Appending.{RestsAt}
 use Rattle.kept_log.specs.KeptLog.{KeptLog, Leaves, Stay}
-use Rattle.kept_log.proofs.Flushed.{slots_of}
+use Rattle.kept_log.proofs.Flushed.{recovers_to}
 use Rattle.kept_log.proofs.Noted.{changes_stay}
 
 module _ (committed reads : ℕ → List ℕ) (was now : ℕ) (left left' : ℕ → Image → Type 0) (log : Log) (un un' : ℕ → Option ℕ) (number : ℕ → Option ℕ) (list : ℕ → List Undo) (g e f n : ℕ)
@@ -22,9 +22,9 @@ module _ (committed reads : ℕ → List ℕ) (was now : ℕ) (left left' : ℕ 
   there image known = (k.agrees image known).there
 
   pub frames_leave : Run was now left left' (WritesNoted k.held.batches) → Leaves was left' committed
-  frames_leave run m image slots later known r =
+  frames_leave run m image later known =
       let h = run.here m image later known in
-      slots_of log.area k.held.generation e k.held.batches k.base committed image slots (writes_agree log.area k.held.generation e k.held.batches k.base (h.0) image (h.2) (k.agrees (h.0) (h.1))) k.settled r
+      ∣ recovers_to log.area k.held.generation e k.held.batches k.base committed image (writes_agree log.area k.held.generation e k.held.batches k.base (h.0) image (h.2) (k.agrees (h.0) (h.1))) k.settled ∣₁
 
   pub framed_log : Run was now left left' (WritesNoted k.held.batches) → Stay un un' → KeptLog committed reads (left' now) log un' number list g e f n
   framed_log run stay = record {

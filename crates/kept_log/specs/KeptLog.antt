@@ -48,6 +48,6 @@ pub record KeptLog (committed reads : ℕ → List ℕ) (left : Image → Type 0
   -- each slot that a client wrote has a note
   pub noted : (c slot : ℕ) → wrote (list c) slot ≡ true → changes_of slot (notes_in held.batches ++ buffered) ≢ []
 
--- at each moment after this one a crash leaves images that recover to these slots alone
+-- at each moment after this one each image that a crash may leave recovers to these slots
 abbrev pub Leaves : ℕ → (ℕ → Image → Type 0) → (ℕ → List ℕ) → Type 0
-Leaves was after slots = (m : ℕ) (image : Image) (recovers : ℕ → List ℕ) → was < m → after m image → Recovers image recovers → recovers ≡ slots
+Leaves was after slots = (m : ℕ) (image : Image) → was < m → after m image → ∥ Recovers image slots ∥₁

@@ -1,7 +1,6 @@
 -- Parts of a call, one after another.
 use Rattle.std.proofs.Common.{◌≡◌, ◌≢◌, inl, inr, ⊎_elim, ℕ, max, ◌+◌, ◌-◌, ◌<◌, ◌≤◌, ◌^◌, Bool, true, false, List, [], length, Option, IsTrue, refl, sym, ◌∙◌, ap, subst, arith}
-use Rattle.std.proofs.Math.Logic.{∥∥₁_map, ∥∥₁_elim}
-use Rattle.std.proofs.Props.{props}
+use Rattle.std.proofs.Math.Logic.{∥∥₁_prop, ∥∥₁_map, ∥∥₁_elim}
 use Rattle.std.proofs.lemmas.Bool.{cases_lt, true≢false}
 use Rattle.std.specs.List.{flat_map}
 use Rattle.fault_count.specs.Faults.{Rose, counted}
@@ -11,6 +10,7 @@ use Rattle.disk_steps.specs.Steps.{Image, Run, Any}
 use Rattle.disk_steps.proofs.Runs.{joined, started}
 use Rattle.log_meaning.specs.declared.note.Note.{Note}
 use Rattle.log_meaning.specs.Bytes.{note_bytes}
+use Rattle.log_meaning.specs.Images.{Recovers}
 use Rattle.bi_log.specs.declared.log.Log.{Log}
 use Rattle.bi_log.specs.Buffer.{content}
 use Rattle.bi_log.specs.Appending.{Held, with_batch, Appends}
@@ -31,7 +31,7 @@ pub calm_none : (known : Bool) (was : ℕ) (left : ℕ → Image → Type 0) (re
 calm_none known was left reads committed faults failed usable top = record {
   same_observable = refl;
   past = started was left Any top;
-  leaves = λ h m image slots later there r. absurd (let past = top m image there in omega (arith, past, later));
+  leaves = λ h m image later there. absurd (let past = top m image there in omega (arith, past, later));
   same_reads = λ h s. refl;
   later = omega arith;
   rose = λ e. absurd (true≢false e);
@@ -51,7 +51,7 @@ pub calm_exhausted : (known : Bool) (was : ℕ) (left : ℕ → Image → Type 0
 calm_exhausted known was left reads committed exhausted failures fresh top = record {
   same_observable = refl;
   past = started was left Any top;
-  leaves = λ h m image slots later there r. absurd (let past = top m image there in omega (arith, past, later));
+  leaves = λ h m image later there. absurd (let past = top m image there in omega (arith, past, later));
   same_reads = λ h s. refl;
   later = exhausted_later exhausted failures fresh;
   rose = λ e. exhausted_rose exhausted failures fresh;
@@ -84,9 +84,9 @@ pub calm_twice : (a b c : Bool) (l m n : ℕ) (x y z : ℕ → Image → Type 0)
 calm_twice a b c l m n x y z r s t committed committed' p q o failed' failed'' ok one two same = record {
   same_observable = two.same_observable ∙ one.same_observable;
   past = joined l m n x y z Any Any Any one.past two.past (λ d i k h. tt) (λ d i k h g. tt) (λ d e i k h g j. tt);
-  leaves = λ known k image slots later there rec. ⊎_elim
-      (λ (fresh : m < k). subst (λ (w : ℕ → List ℕ). slots ≡ w) (same known) (two.leaves (subst (λ (v : Bool). IsTrue v) (sym one.same_observable) known) k image slots fresh there rec))
-      (λ (past : k ≤ m). one.leaves known k image slots later (two.past.nothing_else k image past there) rec)
+  leaves = λ known k image later there. ⊎_elim
+      (λ (fresh : m < k). subst (λ (w : ℕ → List ℕ). ∥ Recovers image w ∥₁) (same known) (two.leaves (subst (λ (v : Bool). IsTrue v) (sym one.same_observable) known) k image fresh there))
+      (λ (past : k ≤ m). one.leaves known k image later (two.past.nothing_else k image past there))
       (cases_lt m k);
   same_reads = λ known i. two.same_reads (subst (λ (v : Bool). IsTrue v) (sym one.same_observable) known) i ∙ one.same_reads known i;
   later = let u = one.later in let v = two.later in omega (arith, u, v);
@@ -104,10 +104,7 @@ module _ (committed reads : ℕ → List ℕ) (was now : ℕ) (left left' : ℕ 
     (run : (held : Held) (notes : List Note) → Keeps log (left was) held notes → notes ≢ [] → Run was now left left' (Appends log.area held notes)) where
   -- a flush is calm
   pub flush_leaves : Leaves was left' committed
-  flush_leaves m image slots later there rec = ∥∥₁_elim kept (same_slots slots committed) (λ k. settle_leaves committed reads was now left left' log log' un number list g e f n k (run k.held k.buffered k.keeps (some_notes log (left was) k.held k.buffered k.keeps some)) m image slots later there rec)
-    where
-      same_slots : (x y : ℕ → List ℕ) → IsProp (x ≡ y)
-      same_slots x y = hlevel props
+  flush_leaves m image later there = ∥∥₁_elim kept ∥∥₁_prop (λ k. settle_leaves committed reads was now left left' log log' un number list g e f n k (run k.held k.buffered k.keeps (some_notes log (left was) k.held k.buffered k.keeps some)) m image later there)
 
   -- and keeps the log
   pub flush_keeps : ((held : Held) (notes : List Note) → Keeps log (left was) held notes → notes ≢ [] → Keeps log' (left' now) (with_batch held notes) []) → log'.area ≡ log.area → ∥ KeptLog committed reads (left' now) log' un number list g e f n ∥₁

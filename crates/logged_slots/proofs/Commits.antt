@@ -1,5 +1,5 @@
 -- What a commit makes of the state and of the stops.
-use Rattle.std.proofs.Common.{◌≡◌, ◌≢◌, ◌⊎◌, ℕ, ◌==◌, ◌<◌, ◌≤◌, if◌then◌else◌, Bool, List, [], ◌∷◌, ◌++◌, Option, Some, None, IsTrue, refl, sym, ◌∙◌, subst, arith}
+use Rattle.std.proofs.Common.{◌≡◌, ◌≢◌, ◌⊎◌, inl, inr, ⊎_elim, ℕ, ◌==◌, ◌<◌, ◌≤◌, if◌then◌else◌, Bool, List, [], ◌∷◌, ◌++◌, Option, Some, None, IsTrue, refl, sym, ◌∙◌, subst, arith}
 use Rattle.std.proofs.Props.{props}
 use Rattle.std.proofs.Math.Logic.{∥∥₁_map, ∥∥₁_elim}
 use Rattle.std.proofs.lemmas.Bool.{cond-true, cond-false, eq-eqb, ne_eqb}
@@ -9,6 +9,7 @@ use Rattle.disk_steps.specs.Steps.{Image, Run, Any}
 use Rattle.log_meaning.specs.declared.note.Note.{Note}
 use Rattle.log_meaning.specs.declared.note.Note.TheVariants.{Commit}
 use Rattle.log_meaning.specs.Images.{Recovers}
+use Rattle.log_meaning.proofs.LogStates.{one_recovery}
 use Rattle.bi_log.specs.declared.log.Log.{Log}
 use Rattle.bi_log.specs.Appending.{Held, with_batch, Appends}
 use Rattle.bi_log.specs.Logs.{HasNotes, Keeps}
@@ -16,7 +17,8 @@ use Rattle.kept_log.specs.KeptLog.{KeptLog}
 use Rattle.kept_log.proofs.Flushed.{slots_of}
 use Rattle.kept_log.proofs.Written.{appended}
 use Rattle.kept_log.proofs.Committed.{commit_leaves, committed_log}
-use Rattle.logged_slots.specs.Stops.{Stops, AreOne}
+use Rattle.logged_slots.specs.Stops.{Stops, IsRecoverable}
+use Rattle.logged_slots.proofs.Recoverable.{has_slots}
 
 never_empty : (xs : List Note) (x : Note) → xs ++ x ∷ [] ≢ []
 never_empty [] x is = cc
@@ -50,11 +52,19 @@ module _ (committed reads : ℕ → List ℕ) (was now : ℕ) (left left' : ℕ 
   the_run : (k : KeptLog committed reads (left was) log un number list g e f n) → Run was now left left' (Appends log.area k.held (k.buffered ++ Commit tx ∷ []))
   the_run k = subst (λ (a : ℕ). Run was now left left' (Appends a k.held (k.buffered ++ Commit tx ∷ []))) area (run k.held (k.buffered ++ Commit tx ∷ []) (with_commit k) (never_empty k.buffered (Commit tx)))
 
+  committing : (k : KeptLog committed reads (left was) log un number list g e f n) (m : ℕ) (image : Image) → was < m → left' m image → Recovers image committed ⊎ Recovers image (joined (list c) reads committed)
+  committing k m image later there = commit_leaves committed reads was now left left' log log' un number (but None c number) list (but [] c list) g e f n c tx k is
+      (but-here None c number) (but-other None c number) (but-here [] c list) (but-other [] c list) (the_run k) m image later there
+
   -- each image of a later moment recovers to what was committed, or to that with this commit
   pub commit_stops : (m : ℕ) (image : Image) (slots : ℕ → List ℕ) → was < m → left' m image → Recovers image slots → ∥ (slots ≡ committed) ⊎ (slots ≡ joined (list c) reads committed) ∥₁
-  commit_stops m image slots later there r = ∥∥₁_map kept (λ k.
-      commit_leaves committed reads was now left left' log log' un number (but None c number) list (but [] c list) g e f n c tx k is
-      (but-here None c number) (but-other None c number) (but-here [] c list) (but-other [] c list) (the_run k) m image slots later there r)
+  commit_stops m image slots later there r = ∥∥₁_map kept (λ k. ⊎_elim
+      (λ (x : Recovers image committed). inl (λ i s. one_recovery image slots committed r x s i))
+      (λ (x : Recovers image (joined (list c) reads committed)). inr (λ i s. one_recovery image slots (joined (list c) reads committed) r x s i))
+      (committing k m image later there))
+
+  pub commit_recovers : (m : ℕ) (image : Image) → was < m → left' m image → IsRecoverable image
+  commit_recovers m image later there = ∥∥₁_map kept (λ k. ⊎_elim (has_slots image committed) (has_slots image (joined (list c) reads committed)) (committing k m image later there))
 
   -- and the log is kept
   pub commit_keeps : (number' : ℕ → Option ℕ) (list' : ℕ → List Undo) → number' c ≡ None → ((d : ℕ) → d ≢ c → number' d ≡ number d) → list' c ≡ [] → ((d : ℕ) → d ≢ c → list' d ≡ list d)
@@ -72,13 +82,7 @@ goes_on old new before after run since short known past here = record {
   later = run.later;
   since = since;
   short = short;
-  nothing_else = λ m slots le st. (subst (λ (b : Bool). IsTrue b) known (st.0), subst (λ (k : ℕ). k ≤ m) since (st.1), le, one_before (subst (λ (k : ℕ). AreOne after k) since (st.3)), (st.4.0, run.nothing_else m (st.4.0) le (st.4.1), st.4.2));
-  stays = λ m slots le st. (subst (λ (b : Bool). IsTrue b) (sym known) (st.0), subst (λ (k : ℕ). k ≤ m) (sym since) (st.1), omega (arith, le, run.later), subst (λ (k : ℕ). AreOne after k) (sym since) (one_after (st.3)), (st.4.0, run.stays m (st.4.0) le (st.4.1), st.4.2));
+  nothing_else = λ m slots le st. (subst (λ (b : Bool). IsTrue b) known (st.0), subst (λ (k : ℕ). k ≤ m) since (st.1), le, (st.3.0, run.nothing_else m (st.3.0) le (st.3.1), st.3.2));
+  stays = λ m slots le st. (subst (λ (b : Bool). IsTrue b) (sym known) (st.0), subst (λ (k : ℕ). k ≤ m) (sym since) (st.1), omega (arith, le, run.later), (st.3.0, run.stays m (st.3.0) le (st.3.1), st.3.2));
   here = here;
 }
-  where
-    one_before : AreOne after old.since → AreOne before old.since
-    one_before one = ((λ image left. one.0 image (run.stays old.since image past left)), (λ a b x y la lb. one.1 a b x y (run.stays old.since a past la) (run.stays old.since b past lb)), (λ image k g left. one.2 image k g (run.stays old.since image past left)))
-
-    one_after : AreOne before old.since → AreOne after old.since
-    one_after one = ((λ image left. one.0 image (run.nothing_else old.since image past left)), (λ a b x y la lb. one.1 a b x y (run.nothing_else old.since a past la) (run.nothing_else old.since b past lb)), (λ image k g left. one.2 image k g (run.nothing_else old.since image past left)))

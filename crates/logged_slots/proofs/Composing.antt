@@ -12,7 +12,8 @@ use Rattle.open_transactions.specs.Clients.{transaction_in, lists, due, list_in,
 use Rattle.logged_slots.specs.State.{state_of, in_doubt}
 use Rattle.logged_slots.specs.Stops.{Stops}
 use Rattle.logged_slots.specs.Calls.{Calm}
-use Rattle.logged_slots.proofs.Calming.{rose_later}
+use Rattle.logged_slots.proofs.Calming.{rose_later, calm_twice}
+use Rattle.logged_slots.proofs.Recoverable.{left_only}
 use Rattle.logged_slots.proofs.Commits.{goes_on}
 use Rattle.logged_slots.proofs.States.{as_one}
 
@@ -71,7 +72,7 @@ module _ (known known' : Bool) (view view' : ℕ → List ℕ) (was now : ℕ) (
 
   pub calm_goes : since ≤ was → Goes before after (Stops known since was left) (Stops known' since' now left')
   calm_goes past = goes_on before after left left' calm.past s h calm.same_observable past
-      (λ m slots later st. ∣ inl (calm.leaves (subst (λ (x : Bool). IsTrue x) calm.same_observable (st.0)) m (st.4.0) slots later (st.4.1) (st.4.2)) ∣₁)
+      (λ m slots later st. ∣ inl (left_only (st.3.0) (undone (lists t.clients.items) view) slots (calm.leaves (subst (λ (x : Bool). IsTrue x) calm.same_observable (st.0)) m (st.3.0) later (st.3.1)) (st.3.2)) ∣₁)
 
 -- where the first part changed no count
 pub cause_after : {T : Type 0} (a b c : SlotState) (result : Result T SlotFault) → b.faults ≡ a.faults → b.failed ≡ a.failed → HasCause b c result → HasCause a c result
@@ -106,3 +107,8 @@ pub begun_number : (cs : List Client) (k : ℕ) → (transaction_in cs k).begun 
 begun_number [] k begun none = true≢false (sym begun)
 begun_number (c ∷ cs) zero begun none = true≢false (sym (c.has_number begun) ∙ ap (λ (o : Option ℕ). is_some o) none)
 begun_number (c ∷ cs) (suc k) begun none = begun_number cs k begun none
+
+-- a calm part after another
+pub calm_after : (a b c : Bool) (l m n : ℕ) (x y z : ℕ → Image → Type 0) (r s u : ℕ → List ℕ) (p q o : ℕ) (failed' failed'' ok : Bool) (t t' : Transactions)
+    → Calm a b l m x y r s (undone (lists t.clients.items) r) p q failed' true → t' ≡ t → Calm b c m n y z s u (undone (lists t'.clients.items) s) q o failed'' ok → Calm a c l n x z r u (undone (lists t.clients.items) r) p o failed'' ok
+calm_after a b c l m n x y z r s u p q o failed' failed'' ok t t' one is two = calm_twice a b c l m n x y z r s u (undone (lists t.clients.items) r) (undone (lists t'.clients.items) s) p q o failed' failed'' ok one two (λ known. committed_same t t' r s is (one.same_reads known))

@@ -1,8 +1,10 @@
 pub mod Calming
 pub mod States
+pub mod Recoverable
 pub mod Commits
 pub mod Framing
 pub mod Changing
 pub mod Fills
 pub mod Composing
 pub mod Afterwards
+pub mod Turning

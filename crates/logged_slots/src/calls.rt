@@ -11,7 +11,27 @@ use crate::logged_slots::LoggedSlots;
 use abl_storage::{Disk, SlotFault};
 
 impl<D: Disk + Drop> LoggedSlots<D> {
-    /// Undoes what is due, where no call has failed.
+    /// Makes a checkpoint where the log has grown. Nothing is due.
+    fn go_on(&mut self) -> Result<(), SlotFault>
+        requires usable { self.old.failed ≡ false }
+        requires none_due { NothingDue self.old.transactions.clients.items }
+        ensures rest { Rests (state_of (D.observable self.old.disk) (view self.old.slots (D.seen self.old.disk 0)) (D.time self.old.disk) (faults_of self.old.exhausted (D.failures self.old.disk)) self.old.transactions.clients.items self.old.failed self.old.doubtful self.old.since self.old.short)
+            (state_of (D.observable self.new.disk) (view self.new.slots (D.seen self.new.disk 0)) (D.time self.new.disk) (faults_of self.new.exhausted (D.failures self.new.disk)) self.new.transactions.clients.items self.new.failed self.new.doubtful self.new.since self.new.short) }
+        ensures time { Goes (state_of (D.observable self.old.disk) (view self.old.slots (D.seen self.old.disk 0)) (D.time self.old.disk) (faults_of self.old.exhausted (D.failures self.old.disk)) self.old.transactions.clients.items self.old.failed self.old.doubtful self.old.since self.old.short)
+            (state_of (D.observable self.new.disk) (view self.new.slots (D.seen self.new.disk 0)) (D.time self.new.disk) (faults_of self.new.exhausted (D.failures self.new.disk)) self.new.transactions.clients.items self.new.failed self.new.doubtful self.new.since self.new.short)
+            (Stops (D.observable self.old.disk) self.old.since (D.time self.old.disk) (D.left self.old.disk)) (Stops (D.observable self.new.disk) self.new.since (D.time self.new.disk) (D.left self.new.disk)) }
+        ensures cause { HasCause (state_of (D.observable self.old.disk) (view self.old.slots (D.seen self.old.disk 0)) (D.time self.old.disk) (faults_of self.old.exhausted (D.failures self.old.disk)) self.old.transactions.clients.items self.old.failed self.old.doubtful self.old.since self.old.short)
+            (state_of (D.observable self.new.disk) (view self.new.slots (D.seen self.new.disk 0)) (D.time self.new.disk) (faults_of self.new.exhausted (D.failures self.new.disk)) self.new.transactions.clients.items self.new.failed self.new.doubtful self.new.since self.new.short) result }
+        ensures only { OnlyDisk result }
+        ensures ready { OnOk result ((self.new.failed ≡ false) × NothingDue self.new.transactions.clients.items) }
+    {
+        match self.make_way() {
+            Ok(()) => Ok(()),
+            Err(_) => Err(SlotFault::Disk),
+        }
+    }
+
+    /// Undoes what is due, where no call has failed, and makes a checkpoint where the log has grown.
     pub fn ready(&mut self) -> Result<(), SlotFault>
         ensures rest { Rests (state_of (D.observable self.old.disk) (view self.old.slots (D.seen self.old.disk 0)) (D.time self.old.disk) (faults_of self.old.exhausted (D.failures self.old.disk)) self.old.transactions.clients.items self.old.failed self.old.doubtful self.old.since self.old.short)
             (state_of (D.observable self.new.disk) (view self.new.slots (D.seen self.new.disk 0)) (D.time self.new.disk) (faults_of self.new.exhausted (D.failures self.new.disk)) self.new.transactions.clients.items self.new.failed self.new.doubtful self.new.since self.new.short) }
@@ -26,7 +46,10 @@ impl<D: Disk + Drop> LoggedSlots<D> {
         if self.failed {
             return Err(SlotFault::Disk);
         }
-        self.undo_due()
+        match self.undo_due() {
+            Ok(()) => self.go_on(),
+            Err(fault) => Err(fault),
+        }
     }
 
     /// Reads the slot, where nothing is due.

@@ -5,6 +5,7 @@
 
 mod beginning;
 mod calls;
+mod checkpointing;
 mod committing;
 mod ending;
 mod filling;

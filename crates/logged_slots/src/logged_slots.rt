@@ -6,6 +6,7 @@ ghost use Rattle.bi_log.specs.Buffer.{content};
 ghost use Rattle.kept_log.specs.KeptLog.{KeptLog};
 ghost use Rattle.open_transactions.specs.Clients.{lists, list_in, number_in};
 ghost use Rattle.slot_area.specs.Area.{view, unwritten, IsKept, IsWhole};
+ghost use Rattle.logged_slots.specs.Stops.{StayRecoverable};
 
 use crate::generation::Generation;
 use abl_storage::Disk;
@@ -34,6 +35,7 @@ pub struct LoggedSlots<D: Disk + Drop> {
     /// No image of that moment had an area of the log beyond its bound.
     pub short: bool,
     ghost past: { since ≤ D.Disk.time disk },
+    ghost recoverable: { StayRecoverable (D.Disk.left disk) since },
     ghost place: { (1 ≤ log.area) × (log.area ≤ 2) },
     ghost counts: { failed ≡ false → log.settled ≤ log.appended },
     ghost emptied: { failed ≡ false → length (content log.buffer) ≡ 0 → log.settled ≡ log.appended },

@@ -1,5 +1,5 @@
 -- The log is kept once the slots are recovered and a generation without notes is open.
-use Rattle.std.proofs.Common.{◌≡◌, ℕ, ◌%◌, Bool, false, List, [], ◌∷◌, length, Option, Some, None, refl, sym, ◌∙◌, ap, subst, arith, length-append}
+use Rattle.std.proofs.Common.{◌≡◌, ℕ, ◌%◌, ◌≤◌, Bool, false, List, [], ◌∷◌, length, Option, Some, None, refl, sym, ◌∙◌, ap, subst, arith, length-append}
 use Rattle.std.proofs.lemmas.Bool.{true≢false}
 use Rattle.std.specs.List.{flat_map}
 use Rattle.abl_storage.specs.declared.slots.Undo.{Undo}
@@ -9,7 +9,7 @@ use Rattle.log_meaning.specs.declared.note.Note.{Note}
 use Rattle.log_meaning.specs.Bytes.{log_bytes, header_bytes, batch_bytes}
 use Rattle.log_meaning.specs.Images.{slot_of}
 use Rattle.log_meaning.specs.Recovered.{changes_of, given}
-use Rattle.log_meaning.specs.LogState.{notes_in, LogState}
+use Rattle.log_meaning.specs.LogState.{notes_in, LogState, IsFilled}
 use Rattle.log_meaning.specs.Logged.{Logged}
 use Rattle.log_meaning.proofs.LoggedStarts.{fresh}
 use Rattle.log_meaning.proofs.Filling.{filled_none}
@@ -39,6 +39,25 @@ module _ (slots : ℕ → List ℕ) (left : Image → Type 0) (log : Log) (un : 
     where
       of_batches : List (List Note) → ℕ → List ℕ
       of_batches bs s = given (λ t. false) (new.base s) (changes_of s (notes_in bs))
+
+  -- every image has this log, without batches, and the next gate after its header
+  pub rests_fresh : (image : Image) → left image → RestsAt (image log.area) (record { generation = g; batches = [] }) 32
+  rests_fresh image known = record {
+    log = (state image known).log;
+    at = subst (λ (bs : List (List Note)). 32 ≡ length (log_bytes g bs)) empty (new.rests image known).at;
+    there = (new.rests image known).there;
+  }
+
+  -- so it is where fewer slots of area 0 count
+  pub narrowed : (e' : ℕ) → e' ≤ e → NewLog left log.area g e' 32 slots
+  narrowed e' fewer = record {
+    batches = new.batches;
+    base = new.base;
+    agrees = λ image known. let st = new.agrees image known in let there = st.there in record { newest = st.newest; log = st.log; there = omega (arith, there, fewer); below = st.below };
+    rests = new.rests;
+    recovers = new.recovers;
+    filled = subst (λ (bs : List (List Note)). IsFilled e' (notes_in bs)) (sym empty) (filled_none e');
+  }
 
   -- area 0 has the slots
   pub reads_slots : (s : ℕ) → slot_of (seen 0) s ≡ slots s

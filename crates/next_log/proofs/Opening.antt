@@ -22,7 +22,7 @@ use Rattle.bi_recovery.specs.ReadNotes.{HoldsNotes}
 use Rattle.bi_recovery.specs.Carried.{IsOpenLog, CarriesTo}
 use Rattle.kept_log.specs.Numbers.{is_live, undo_of, AreBelow}
 use Rattle.kept_log.specs.KeptLog.{KeptLog, Leaves, IsFilledTo}
-use Rattle.kept_log.proofs.Flushed.{slots_of}
+use Rattle.kept_log.proofs.Flushed.{recovers_to}
 use Rattle.next_log.specs.Carrying.{notes_below, numbers_below}
 use Rattle.next_log.proofs.CarriedNotes.{by_numbers, each_live, all_listed, none_below, some_below, notes_under}
 
@@ -46,15 +46,15 @@ module _ (committed reads : ℕ → List ℕ) (was now : ℕ) (left left' : ℕ 
 
   -- each image of the steps to it recovers to what is committed
   pub turning_leaves : Run was now left left' (CarriesTo (3 - log.area) (g + 1) (notes_below number reads list 16)) → Leaves was left' committed
-  turning_leaves run m image slots later known r =
+  turning_leaves run m image later known =
       let h = run.here m image later known in
-      ⊎_elim
-      (λ (holds : HoldsNotes (image (3 - log.area)) (g + 1) (notes_below number reads list 16)). slots_of (3 - log.area) (g + 1) e' holds.batches reads committed image slots
+      ∣ ⊎_elim
+      (λ (holds : HoldsNotes (image (3 - log.area)) (g + 1) (notes_below number reads list 16)). recovers_to (3 - log.area) (g + 1) e' holds.batches reads committed image
       (new_state (h.0) image holds.batches (g + 1) (h.1) (h.2).others holds.log refl)
-      (λ s. ap (λ (l : List Note). recovered l reads s) (sym holds.are) ∙ recovers_all s) r)
-      (λ (less : (x : ℕ) → IsOpened (image (3 - log.area)) x → IsOpened ((h.0) (3 - log.area)) x). slots_of log.area k.held.generation e k.held.batches k.base committed image slots
-      (others_agree log.area k.held.generation e k.held.batches k.base (h.0) image (h.2).others less (k.agrees (h.0) (h.1))) k.settled r)
-      (h.2).either
+      (λ s. ap (λ (l : List Note). recovered l reads s) (sym holds.are) ∙ recovers_all s))
+      (λ (less : (x : ℕ) → IsOpened (image (3 - log.area)) x → IsOpened ((h.0) (3 - log.area)) x). recovers_to log.area k.held.generation e k.held.batches k.base committed image
+      (others_agree log.area k.held.generation e k.held.batches k.base (h.0) image (h.2).others less (k.agrees (h.0) (h.1))) k.settled)
+      (h.2).either ∣₁
 
   -- and the log is kept in the other area
   pub turned_log : Run was now left left' (Others (3 - log.area)) → IsOpenLog (left' now) (3 - log.area) gate (g + 1) (notes_below number reads list 16) → HasNotes log'.buffer [] → log'.area ≡ 3 - log.area → log'.gate ≡ gate

@@ -1,7 +1,7 @@
 //! A new area, and whether it can take a slot.
 
 ghost use Rattle.std.specs.Prelude.{◌≡◌, ◌<◌, ◌≤◌, ◌^◌, ℕ, List, true, Some, None, IfOk};
-ghost use Rattle.slot_area.specs.Area.{below, view, unwritten, is_ready};
+ghost use Rattle.slot_area.specs.Area.{below, view, unwritten, zeros, is_ready};
 
 use crate::frames::Frames;
 use crate::slot_area::SlotArea;
@@ -21,6 +21,26 @@ impl SlotArea {
             frames: Frames::new(frames, alloc)?,
             end,
         })
+    }
+
+    /// How many slots of area 0 count.
+    pub fn end(&self) -> u32
+        ensures end { result ≡ self.now.end }
+        ensures high { result ≤ 2 ^ 20 }
+    {
+        self.end
+    }
+
+    /// Whether the slot has no frame, and area 0 does not have it. It reads zeros: neither a frame nor
+    /// a call of the disk is needed for it.
+    pub fn is_blank(&self, slot: u32) -> bool
+        requires slot { slot < 2 ^ 20 }
+        ensures zeros { result ≡ true → (stored : List ℕ) → view self.now stored slot ≡ zeros }
+    {
+        if slot < self.end {
+            return false;
+        }
+        !self.frames.has(slot)
     }
 
     /// Whether the slot has a frame or can be given one, where the notes up to this number are

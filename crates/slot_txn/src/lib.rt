@@ -1,8 +1,11 @@
 //! `SlotTxn`: slots with transactions over any disk, as `Slots`. It depends on `logged_slots`, which
-//! has the parts of each call.
+//! has the parts of each call, and on `bi_recovery` to open them.
 #![tactic(auto)]
 
+mod opening;
+mod recovering;
 mod slot_txn;
 mod slots;
 
+pub use bi_recovery::OpenFault;
 pub use slot_txn::SlotTxn;

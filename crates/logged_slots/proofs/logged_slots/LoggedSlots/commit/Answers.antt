@@ -6,7 +6,8 @@ use Rattle.slot_area.specs.Area.{view, unwritten, IsKept, IsWhole}
 use Rattle.logged_slots.specs.State.{in_doubt}
 use Rattle.kept_log.specs.KeptLog.{KeptLog}
 use Rattle.logged_slots.proofs.Calming.{exhausted_later, exhausted_rose}
-use Rattle.logged_slots.proofs.Commits.{commit_stops, commit_keeps, kept_recovers, goes_on}
+use Rattle.logged_slots.proofs.Recoverable.{recoverable_run}
+use Rattle.logged_slots.proofs.Commits.{commit_stops, commit_recovers, commit_keeps, kept_recovers, goes_on}
 use Rattle.logged_slots.proofs.States.{reads_stay, committed_is, joined_are, in_doubt_is}
 use Rattle.logged_slots.proofs.logged_slots.LoggedSlots.commit.Goals as goal
 
@@ -48,7 +49,7 @@ returns-in-Ok-clause-acknowledged g c = λ slots st.
     (commit_keeps _ v _ _ _ (g.D.Disk.left c.flush.new.disk) c.args.self.now.log c.append_commit.new.self c.flush.new.self (unwritten c.args.self.now.slots) (number_in cs) (list_in cs) _ _ _ _ c.args.client c.args.number (c.args.self.now.sound known c.requires.usable) c.requires.number
     (c.append_commit.ensures.place.0) (c.append_commit.ensures.place.1) c.append_commit.ensures.notes c.flush.ensures.time
     (number_in cs') (list_in cs') c.commit.ensures.number c.commit.ensures.others.numbers c.commit.ensures.list c.commit.ensures.others.lists c.in-Ok.ensures.ok c.flush.ensures.area)
-    (st.4.0) slots (st.4.1) (st.4.2) ∙ sym (committed_is cs c.args.client v v' c.requires.none_due same cs' (c.commit.ensures.none_due c.requires.none_due) c.commit.ensures.joined)
+    (st.3.0) slots (st.3.1) (st.3.2) ∙ sym (committed_is cs c.args.client v v' c.requires.none_due same cs' (c.commit.ensures.none_due c.requires.none_due) c.commit.ensures.joined)
 
 pub returns-in-Ok-clause-time : goal.returns-in-Ok-clause-time
 returns-in-Ok-clause-time g c =
@@ -62,7 +63,7 @@ returns-in-Ok-clause-time g c =
     let known : IsTrue (g.D.Disk.observable c.args.self.now.disk) = subst (λ (b : Bool). IsTrue b) c.flush.ensures.same_observable (st.0) in
     let same = ap (view c.args.self.now.slots) (c.flush.ensures.seen known 0 other) in
     ∥∥₁_map (commit_stops _ v _ _ _ _ c.args.self.now.log c.append_commit.new.self c.flush.new.self (unwritten c.args.self.now.slots) (number_in cs) (list_in cs) _ _ _ _ c.args.client c.args.number (c.args.self.now.sound known c.requires.usable) c.requires.number
-    (c.append_commit.ensures.place.0) (c.append_commit.ensures.place.1) c.append_commit.ensures.notes c.flush.ensures.time m (st.4.0) slots later (st.4.1) (st.4.2))
+    (c.append_commit.ensures.place.0) (c.append_commit.ensures.place.1) c.append_commit.ensures.notes c.flush.ensures.time m (st.3.0) slots later (st.3.1) (st.3.2))
     (λ (either : (slots ≡ undone (lists cs) v) ⊎ (slots ≡ joined (list_in cs c.args.client) v (undone (lists cs) v))). ⊎_elim
     (λ (before : slots ≡ undone (lists cs) v). inl before)
     (λ (after : slots ≡ joined (list_in cs c.args.client) v (undone (lists cs) v)). inr (after ∙ sym (ap (λ (d : Option ℕ). undone (in_doubt d cs') v') ((c.args.self.now.sure c.requires.usable).0) ∙ committed_is cs c.args.client v v' c.requires.none_due same cs' (c.commit.ensures.none_due c.requires.none_due) c.commit.ensures.joined)))
@@ -93,7 +94,7 @@ returns-in-Err-clause-time g c =
     let known : IsTrue (g.D.Disk.observable c.args.self.now.disk) = subst (λ (b : Bool). IsTrue b) c.flush.ensures.same_observable (st.0) in
     let same = ap (view c.args.self.now.slots) (c.flush.ensures.seen known 0 other) in
     ∥∥₁_map (commit_stops _ v _ _ _ _ c.args.self.now.log c.append_commit.new.self c.flush.new.self (unwritten c.args.self.now.slots) (number_in cs) (list_in cs) _ _ _ _ c.args.client c.args.number (c.args.self.now.sound known c.requires.usable) c.requires.number
-    (c.append_commit.ensures.place.0) (c.append_commit.ensures.place.1) c.append_commit.ensures.notes c.flush.ensures.time m (st.4.0) slots later (st.4.1) (st.4.2))
+    (c.append_commit.ensures.place.0) (c.append_commit.ensures.place.1) c.append_commit.ensures.notes c.flush.ensures.time m (st.3.0) slots later (st.3.1) (st.3.2))
     (λ (either : (slots ≡ undone (lists cs) v) ⊎ (slots ≡ joined (list_in cs c.args.client) v (undone (lists cs) v))). ⊎_elim
     (λ (before : slots ≡ undone (lists cs) v). inl before)
     (λ (after : slots ≡ joined (list_in cs c.args.client) v (undone (lists cs) v)). inr (after ∙ sym (in_doubt_is cs c.args.client v v' c.requires.none_due same c.args.self.now.transactions.apart)))
@@ -154,3 +155,23 @@ invariant_of-self-in-Ok-clause-emptied g c = λ fine none. c.in-Ok.ensures.settl
 
 pub invariant_of-self-in-Ok-clause-changes : goal.invariant_of-self-in-Ok-clause-changes
 invariant_of-self-in-Ok-clause-changes g c = λ fine slot note is. let had = c.args.self.now.changes c.requires.usable slot note is in let now = c.in-Ok.ensures.settled.1 in let more = c.append_commit.ensures.counts.0 in omega (arith, had, now, more)
+
+pub invariant_of-self-in-Ok-clause-recoverable : goal.invariant_of-self-in-Ok-clause-recoverable
+invariant_of-self-in-Ok-clause-recoverable g c =
+    let cs = c.args.self.now.transactions.clients.items in
+    let v = view c.args.self.now.slots (g.D.Disk.seen c.args.self.now.disk 0) in
+    recoverable_run (g.D.Disk.observable c.args.self.now.disk) c.args.self.now.since _ _ (g.D.Disk.left c.args.self.now.disk) (g.D.Disk.left c.flush.new.disk) c.flush.ensures.past c.args.self.now.past
+    (λ m image left. subst (λ (b : Bool). IsTrue b) c.flush.ensures.same_observable (g.met.D.Disk.image_known c.flush.new.disk m image left).same_observable)
+    (λ known. commit_recovers _ v _ _ _ _ c.args.self.now.log c.append_commit.new.self c.flush.new.self (unwritten c.args.self.now.slots) (number_in cs) (list_in cs) _ _ _ _ c.args.client c.args.number (c.args.self.now.sound known c.requires.usable) c.requires.number
+    (c.append_commit.ensures.place.0) (c.append_commit.ensures.place.1) c.append_commit.ensures.notes c.flush.ensures.time)
+    c.args.self.now.recoverable
+
+pub invariant_of-self-in-Err-clause-recoverable : goal.invariant_of-self-in-Err-clause-recoverable
+invariant_of-self-in-Err-clause-recoverable g c =
+    let cs = c.args.self.now.transactions.clients.items in
+    let v = view c.args.self.now.slots (g.D.Disk.seen c.args.self.now.disk 0) in
+    recoverable_run (g.D.Disk.observable c.args.self.now.disk) c.args.self.now.since _ _ (g.D.Disk.left c.args.self.now.disk) (g.D.Disk.left c.flush.new.disk) c.flush.ensures.past c.args.self.now.past
+    (λ m image left. subst (λ (b : Bool). IsTrue b) c.flush.ensures.same_observable (g.met.D.Disk.image_known c.flush.new.disk m image left).same_observable)
+    (λ known. commit_recovers _ v _ _ _ _ c.args.self.now.log c.append_commit.new.self c.flush.new.self (unwritten c.args.self.now.slots) (number_in cs) (list_in cs) _ _ _ _ c.args.client c.args.number (c.args.self.now.sound known c.requires.usable) c.requires.number
+    (c.append_commit.ensures.place.0) (c.append_commit.ensures.place.1) c.append_commit.ensures.notes c.flush.ensures.time)
+    c.args.self.now.recoverable

@@ -9,6 +9,7 @@ use Rattle.open_transactions.specs.Clients.{lists, due, number_in, list_in}
 use Rattle.slot_area.specs.Area.{view, unwritten, is_ready}
 use Rattle.kept_log.specs.KeptLog.{KeptLog}
 use Rattle.logged_slots.specs.State.{in_doubt}
+use Rattle.logged_slots.proofs.Recoverable.{left_only, recoverable_on}
 use Rattle.logged_slots.proofs.Commits.{goes_on}
 use Rattle.logged_slots.proofs.States.{as_one}
 use Rattle.logged_slots.proofs.Framing.{to_any}
@@ -152,7 +153,7 @@ returns-in-Ok-clause-time g c =
     goes_on _ _ (g.D.Disk.left c.args.self.now.disk) (g.D.Disk.left c.put_slot.new.disk) (to_any _ _ _ _ c.put_slot.ensures.past) refl refl c.put_slot.ensures.same_observable c.args.self.now.past
     (λ m slots later st.
     let known : IsTrue (g.D.Disk.observable c.args.self.now.disk) = subst (λ (b : Bool). IsTrue b) c.put_slot.ensures.same_observable (st.0) in
-    ∣ inl (change_leaves (undone (lists cs) v) v _ _ (g.D.Disk.left c.args.self.now.disk) (g.D.Disk.left c.put_slot.new.disk) c.args.self.now.log c.append.new.self c.args.self.now.slots c.put_slot.new.self (number_in cs) (list_in cs) _ _ _ c.filled_after-self.result _ (c.args.self.now.sound known c.requires.usable) (c.args.self.now.extents.0) c.put_slot.ensures.time (c.append.ensures.counts.1) m (st.4.0) slots later (st.4.1) (st.4.2)) ∣₁)
+    ∣ inl (left_only (st.3.0) (undone (lists cs) v) slots (change_leaves (undone (lists cs) v) v _ _ (g.D.Disk.left c.args.self.now.disk) (g.D.Disk.left c.put_slot.new.disk) c.args.self.now.log c.append.new.self c.args.self.now.slots c.put_slot.new.self (number_in cs) (list_in cs) _ _ _ c.filled_after-self.result _ (c.args.self.now.sound known c.requires.usable) (c.args.self.now.extents.0) c.put_slot.ensures.time (c.append.ensures.counts.1) m (st.3.0) later (st.3.1)) (st.3.2)) ∣₁)
 
 pub returns-in-Err-clause-time : goal.returns-in-Err-clause-time
 returns-in-Err-clause-time g c =
@@ -161,4 +162,22 @@ returns-in-Err-clause-time g c =
     goes_on _ _ (g.D.Disk.left c.args.self.now.disk) (g.D.Disk.left c.put_slot.new.disk) (to_any _ _ _ _ c.put_slot.ensures.past) refl refl c.put_slot.ensures.same_observable c.args.self.now.past
     (λ m slots later st.
     let known : IsTrue (g.D.Disk.observable c.args.self.now.disk) = subst (λ (b : Bool). IsTrue b) c.put_slot.ensures.same_observable (st.0) in
-    ∣ inl (change_leaves (undone (lists cs) v) v _ _ (g.D.Disk.left c.args.self.now.disk) (g.D.Disk.left c.put_slot.new.disk) c.args.self.now.log c.append.new.self c.args.self.now.slots c.put_slot.new.self (number_in cs) (list_in cs) _ _ _ c.filled_after-self.result _ (c.args.self.now.sound known c.requires.usable) (c.args.self.now.extents.0) c.put_slot.ensures.time (c.append.ensures.counts.1) m (st.4.0) slots later (st.4.1) (st.4.2)) ∣₁)
+    ∣ inl (left_only (st.3.0) (undone (lists cs) v) slots (change_leaves (undone (lists cs) v) v _ _ (g.D.Disk.left c.args.self.now.disk) (g.D.Disk.left c.put_slot.new.disk) c.args.self.now.log c.append.new.self c.args.self.now.slots c.put_slot.new.self (number_in cs) (list_in cs) _ _ _ c.filled_after-self.result _ (c.args.self.now.sound known c.requires.usable) (c.args.self.now.extents.0) c.put_slot.ensures.time (c.append.ensures.counts.1) m (st.3.0) later (st.3.1)) (st.3.2)) ∣₁)
+
+pub invariant_of-self-clause-recoverable : goal.invariant_of-self-clause-recoverable
+invariant_of-self-clause-recoverable g c =
+    let cs = c.args.self.now.transactions.clients.items in
+    let v = view c.args.self.now.slots (g.D.Disk.seen c.args.self.now.disk 0) in
+    recoverable_on (g.D.Disk.observable c.args.self.now.disk) c.args.self.now.since _ _ (g.D.Disk.left c.args.self.now.disk) (g.D.Disk.left c.put_slot.new.disk) (undone (lists cs) v) (to_any _ _ _ _ c.put_slot.ensures.past) c.args.self.now.past
+    (λ m image left. subst (λ (b : Bool). IsTrue b) c.put_slot.ensures.same_observable (g.met.D.Disk.image_known c.put_slot.new.disk m image left).same_observable)
+    (λ known. change_leaves (undone (lists cs) v) v _ _ (g.D.Disk.left c.args.self.now.disk) (g.D.Disk.left c.put_slot.new.disk) c.args.self.now.log c.append.new.self c.args.self.now.slots c.put_slot.new.self (number_in cs) (list_in cs) _ _ _ c.filled_after-self.result _ (c.args.self.now.sound known c.requires.usable) (c.args.self.now.extents.0) c.put_slot.ensures.time (c.append.ensures.counts.1))
+    c.args.self.now.recoverable
+
+pub invariant_of-self-in-Err-clause-recoverable : goal.invariant_of-self-in-Err-clause-recoverable
+invariant_of-self-in-Err-clause-recoverable g c =
+    let cs = c.args.self.now.transactions.clients.items in
+    let v = view c.args.self.now.slots (g.D.Disk.seen c.args.self.now.disk 0) in
+    recoverable_on (g.D.Disk.observable c.args.self.now.disk) c.args.self.now.since _ _ (g.D.Disk.left c.args.self.now.disk) (g.D.Disk.left c.put_slot.new.disk) (undone (lists cs) v) (to_any _ _ _ _ c.put_slot.ensures.past) c.args.self.now.past
+    (λ m image left. subst (λ (b : Bool). IsTrue b) c.put_slot.ensures.same_observable (g.met.D.Disk.image_known c.put_slot.new.disk m image left).same_observable)
+    (λ known. change_leaves (undone (lists cs) v) v _ _ (g.D.Disk.left c.args.self.now.disk) (g.D.Disk.left c.put_slot.new.disk) c.args.self.now.log c.append.new.self c.args.self.now.slots c.put_slot.new.self (number_in cs) (list_in cs) _ _ _ c.filled_after-self.result _ (c.args.self.now.sound known c.requires.usable) (c.args.self.now.extents.0) c.put_slot.ensures.time (c.append.ensures.counts.1))
+    c.args.self.now.recoverable

@@ -5,6 +5,7 @@ use Rattle.open_transactions.specs.declared.transactions.Transactions.{Transacti
 use Rattle.open_transactions.specs.Clients.{lists, number_in, list_in}
 use Rattle.slot_area.specs.Area.{view, unwritten}
 use Rattle.kept_log.specs.KeptLog.{KeptLog}
+use Rattle.logged_slots.proofs.Recoverable.{recoverable_on}
 use Rattle.logged_slots.proofs.Calming.{calm_call, calm_twice}
 use Rattle.logged_slots.proofs.States.{as_one}
 use Rattle.logged_slots.proofs.Framing.{area_leaves, area_keeps, to_any}
@@ -63,3 +64,23 @@ returns-in-Err-clause-calm g c =
     (λ known. area_leaves _ _ _ _ (g.D.Disk.left s.disk) (g.D.Disk.left c.read_slot.new.disk) s.log s.slots (number_in s.transactions.clients.items) (list_in s.transactions.clients.items) _ _ _ _ (s.sound known usable) (s.extents.0) c.read_slot.ensures.time)
     c.read_slot.ensures.view c.in-Err.ensures.cause (λ e. refl) (λ e. absurd (true≢false (sym e))))
     (λ known. ap (λ (t : Transactions). undone (lists t.clients.items) (view s.slots (g.D.Disk.seen s.disk 0))) (c.make_frame.ensures.book.0) ∙ ap (undone (lists c.args.self.now.transactions.clients.items)) (as_one (one.same_reads known)))
+
+pub invariant_of-self-clause-recoverable : goal.invariant_of-self-clause-recoverable
+invariant_of-self-clause-recoverable g c =
+    let s = c.make_frame.new.self in
+    let one = c.in_ok-make_frame.ensures.calm in
+    let usable = (one.stays refl).0 in
+    recoverable_on (g.D.Disk.observable s.disk) s.since _ _ (g.D.Disk.left s.disk) (g.D.Disk.left c.read_slot.new.disk) _ (to_any _ _ _ _ c.read_slot.ensures.past) s.past
+    (λ m image left. subst (λ (b : Bool). IsTrue b) c.read_slot.ensures.same_observable (g.met.D.Disk.image_known c.read_slot.new.disk m image left).same_observable)
+    (λ known. area_leaves _ _ _ _ (g.D.Disk.left s.disk) (g.D.Disk.left c.read_slot.new.disk) s.log s.slots (number_in s.transactions.clients.items) (list_in s.transactions.clients.items) _ _ _ _ (s.sound known usable) (s.extents.0) c.read_slot.ensures.time)
+    s.recoverable
+
+pub invariant_of-self-in-Err-clause-recoverable : goal.invariant_of-self-in-Err-clause-recoverable
+invariant_of-self-in-Err-clause-recoverable g c =
+    let s = c.make_frame.new.self in
+    let one = c.in_ok-make_frame.ensures.calm in
+    let usable = (one.stays refl).0 in
+    recoverable_on (g.D.Disk.observable s.disk) s.since _ _ (g.D.Disk.left s.disk) (g.D.Disk.left c.read_slot.new.disk) _ (to_any _ _ _ _ c.read_slot.ensures.past) s.past
+    (λ m image left. subst (λ (b : Bool). IsTrue b) c.read_slot.ensures.same_observable (g.met.D.Disk.image_known c.read_slot.new.disk m image left).same_observable)
+    (λ known. area_leaves _ _ _ _ (g.D.Disk.left s.disk) (g.D.Disk.left c.read_slot.new.disk) s.log s.slots (number_in s.transactions.clients.items) (list_in s.transactions.clients.items) _ _ _ _ (s.sound known usable) (s.extents.0) c.read_slot.ensures.time)
+    s.recoverable

@@ -4,6 +4,7 @@ use Rattle.abl_storage.specs.Slots.{undone}
 use Rattle.open_transactions.specs.Clients.{lists, number_in, list_in}
 use Rattle.slot_area.specs.Area.{view, unwritten, IsKept, IsWhole}
 use Rattle.kept_log.specs.KeptLog.{KeptLog}
+use Rattle.logged_slots.proofs.Recoverable.{recoverable_on}
 use Rattle.logged_slots.proofs.Calming.{calm_none, calm_exhausted, calm_call, flush_leaves, flush_keeps}
 use Rattle.logged_slots.proofs.logged_slots.LoggedSlots.settle.Goals as goal
 
@@ -74,3 +75,15 @@ invariant_of-self-in-Ok-clause-emptied g c = λ fine none. c.in-Ok.ensures.settl
 
 pub invariant_of-self-in-Ok-clause-changes : goal.invariant_of-self-in-Ok-clause-changes
 invariant_of-self-in-Ok-clause-changes g c = λ fine slot note is. let had = c.args.self.now.changes c.requires.usable slot note is in let now = c.in-Ok.ensures.settled.1 in omega (arith, had, now)
+
+pub invariant_of-self-in-Ok-clause-recoverable : goal.invariant_of-self-in-Ok-clause-recoverable
+invariant_of-self-in-Ok-clause-recoverable g c = recoverable_on (g.D.Disk.observable c.args.self.now.disk) c.args.self.now.since _ _ (g.D.Disk.left c.args.self.now.disk) (g.D.Disk.left c.flush.new.disk) _ c.flush.ensures.past c.args.self.now.past
+    (λ m image left. subst (λ (b : Bool). IsTrue b) c.flush.ensures.same_observable (g.met.D.Disk.image_known c.flush.new.disk m image left).same_observable)
+    (λ known. flush_leaves _ (view c.args.self.now.slots (g.D.Disk.seen c.args.self.now.disk 0)) _ _ _ _ c.args.self.now.log c.flush.new.self (unwritten c.args.self.now.slots) _ _ _ _ _ _ (c.args.self.now.sound known c.requires.usable) (iff_false c.is_empty.ensures c.if-is_empty.false) c.flush.ensures.time)
+    c.args.self.now.recoverable
+
+pub invariant_of-self-in-Err-clause-recoverable : goal.invariant_of-self-in-Err-clause-recoverable
+invariant_of-self-in-Err-clause-recoverable g c = recoverable_on (g.D.Disk.observable c.args.self.now.disk) c.args.self.now.since _ _ (g.D.Disk.left c.args.self.now.disk) (g.D.Disk.left c.flush.new.disk) _ c.flush.ensures.past c.args.self.now.past
+    (λ m image left. subst (λ (b : Bool). IsTrue b) c.flush.ensures.same_observable (g.met.D.Disk.image_known c.flush.new.disk m image left).same_observable)
+    (λ known. flush_leaves _ (view c.args.self.now.slots (g.D.Disk.seen c.args.self.now.disk 0)) _ _ _ _ c.args.self.now.log c.flush.new.self (unwritten c.args.self.now.slots) _ _ _ _ _ _ (c.args.self.now.sound known c.requires.usable) (iff_false c.is_empty.ensures c.if-is_empty.false) c.flush.ensures.time)
+    c.args.self.now.recoverable

@@ -1,0 +1,17 @@
+use Rattle.std.proofs.Common.{◌∙◌, ℕ, Option, sym, ap}
+use Rattle.disk_steps.proofs.Runs.{started}
+use Rattle.log_meaning.specs.Images.{slot_of}
+use Rattle.bi_log.specs.Generations.{AfterGate}
+use Rattle.open_transactions.specs.Clients.{list_in}
+use Rattle.next_log.specs.Carrying.{notes_of}
+use Rattle.carried_writes.proofs.CarriedMore.{carries_same}
+use Rattle.carried_writes.proofs.carrying.carry_one.Goals as goal
+
+pub returns-in-None-clause-time : goal.returns-in-None-clause-time
+returns-in-None-clause-time g c = started _ _ (AfterGate c.args.area) (λ m image left. (g.met.D.Disk.image_known c.args.disk.now m image left).past)
+
+pub returns-in-None-clause-ok : goal.returns-in-None-clause-ok
+returns-in-None-clause-ok g c = λ known generation notes k.
+    let list = list_in c.args.transactions.now.clients.items c.args.client in
+    let reads = slot_of (g.D.Disk.seen c.args.disk.now 0) in
+    carries_same _ c.args.area c.args.first c.args.buffer.now generation notes _ (ap (λ (o : Option ℕ). notes_of o reads list) (sym c.number.ensures ∙ c.in-None.is)) k

@@ -1,0 +1,17 @@
+use Rattle.std.proofs.Common.{◌≡◌, false, is_ok, rules, ◌∙◌}
+use Rattle.logged_slots.proofs.Calming.{calm_as}
+use Rattle.logged_slots.proofs.Composing.{calm_after}
+use Rattle.logged_slots.proofs.logged_slots.LoggedSlots.checkpoint.Goals as goal
+
+pub returns-in_err-sync_both-clause-calm : goal.returns-in_err-sync_both-clause-calm
+returns-in_err-sync_both-clause-calm g c =
+    let failed : is_ok c.from_residual-in_err-sync_both.result ≡ false = search rules in
+    calm_as _ _ _ _ _ _ _ _ _ _ _ _ false _ failed (calm_after _ _ _ _ _ _ _ _ _ _ _ _ _ _ _ _ _ _ c.args.self.now.transactions c.write_out.new.self.transactions c.in_ok-write_out.ensures.calm (c.write_out.ensures.book.0) c.in_err-sync_both.ensures.calm)
+
+pub returns-clause-calm : goal.returns-clause-calm
+returns-clause-calm g c = calm_after _ _ _ _ _ _ _ _ _ _ _ _ _ _ _ _ _ _ c.args.self.now.transactions c.write_out.new.self.transactions c.in_ok-write_out.ensures.calm (c.write_out.ensures.book.0) c.in_ok-sync_both.ensures.calm
+
+pub returns-then-can_turn-clause-calm : goal.returns-then-can_turn-clause-calm
+returns-then-can_turn-clause-calm g c = calm_after _ _ _ _ _ _ _ _ _ _ _ _ _ _ _ _ _ _ c.args.self.now.transactions c.sync_both.new.self.transactions
+    (calm_after _ _ _ _ _ _ _ _ _ _ _ _ _ _ _ _ _ _ c.args.self.now.transactions c.write_out.new.self.transactions c.in_ok-write_out.ensures.calm (c.write_out.ensures.book.0) c.in_ok-sync_both.ensures.calm)
+    (c.sync_both.ensures.book.0 ∙ c.write_out.ensures.book.0) c.open_next.ensures.calm
