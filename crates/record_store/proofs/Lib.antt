@@ -7,3 +7,8 @@ pub mod NewStore
 pub mod Asked
 pub mod Replacing
 pub mod Timed
+pub mod Sound
+pub mod Entered
+pub mod Refused
+pub mod OpenedStore
+pub mod Contents

@@ -5,11 +5,15 @@
 #![tactic(auto)]
 
 pub mod changes;
+pub mod entering;
+pub mod open_error;
 pub mod opened;
 pub mod questions;
 pub mod reads;
+pub mod reopened;
 pub mod row_store;
 pub mod sequences;
 pub mod store;
 
+pub use open_error::OpenError;
 pub use store::RecordStore;

@@ -1,0 +1,45 @@
+//! Why slots were not opened as a store.
+
+ghost use Rattle.std.specs.Prelude.{◌≡◌, ◌≢◌};
+ghost use Rattle.abl_storage.specs.declared.slots.SlotFault.TheVariants.{Disk as SlotDisk};
+
+use abl_rows::RowError;
+use abl_storage::SlotFault;
+
+/// Why slots were not opened as a store.
+#[derive(Clone, Copy, Debug, PartialEq, Eq)]
+pub enum OpenError {
+    /// The disk failed.
+    Disk,
+    /// Out of memory. It comes too where a slot for rows fits no row of the schema's tables.
+    NoMemory,
+    /// The slots hold no values for the sequences of the schema, a key of a row is longer than 200
+    /// bytes, or two rows have a unique key in common.
+    Unsound,
+}
+
+impl OpenError {
+    /// The refusal of slots. Full transactions, of which there are none, count as out of memory.
+    pub(crate) fn of_slots(fault: SlotFault) -> OpenError
+        ensures disk { result ≡ OpenError.Disk → fault ≡ SlotDisk }
+        ensures fine { result ≢ OpenError.Disk → fault ≢ SlotDisk }
+        ensures sound { result ≢ OpenError.Unsound }
+    {
+        match fault {
+            SlotFault::Disk => OpenError::Disk,
+            SlotFault::TxFull | SlotFault::NoMemory => OpenError::NoMemory,
+        }
+    }
+
+    /// The error of rows.
+    pub(crate) fn of_rows(error: RowError) -> OpenError
+        ensures disk { result ≡ OpenError.Disk → error ≡ RowError.Disk }
+        ensures fine { result ≢ OpenError.Disk → error ≡ RowError.NoMemory }
+        ensures sound { result ≢ OpenError.Unsound }
+    {
+        match error {
+            RowError::Disk => OpenError::Disk,
+            RowError::NoMemory => OpenError::NoMemory,
+        }
+    }
+}
