@@ -23,3 +23,5 @@ pub mod RefusalLaws
 pub mod WriteRows
 pub mod LevelLaws
 pub mod StayLaws
+pub mod CommitCounts
+pub mod Crashes

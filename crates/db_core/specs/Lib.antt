@@ -6,3 +6,4 @@ pub mod Levels
 pub mod Known
 pub mod Keeps
 pub mod Writes
+pub mod Crashes

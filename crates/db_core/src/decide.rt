@@ -10,6 +10,7 @@ ghost use Rattle.database_meaning.specs.Waiting.{HasConflict, ListsAll};
 ghost use Rattle.record_locks.specs.Requests.{HasConflict as LockedAgainst};
 ghost use Rattle.abl_rows.specs.Rows.{AfterError, IsObservable};
 ghost use Rattle.abl_rows.specs.Questions.{table_at};
+ghost use Rattle.db_core.specs.Crashes.{StaysDurable};
 ghost use Rattle.db_core.specs.Represents.{FitsOp, IsSound, Represents, blocked_at};
 ghost use Rattle.db_core.specs.Waits.{AnswersConflict, IsKeyed, ListsWaits, MeetsReserved, WaitsByKey};
 
@@ -33,6 +34,8 @@ fn key_holders<R: RowStore>(
         (λ holders. ListsAll holders (MeetsReserved (R.RowStore.state rows.old) client op.now))) }
     ensures same { OnOk result (R.RowStore.state rows.new ≡ R.RowStore.state rows.old) }
     ensures err { AfterError (R.RowStore.state rows.old) (R.RowStore.state rows.new) result }
+    ensures durable { StaysDurable (R.RowStore.state rows.old) (R.RowStore.state rows.new) (R.RowStore.left rows.old) (R.RowStore.left rows.new) (R.RowStore.times rows.old) (R.RowStore.times rows.new) }
+    ensures since { (R.RowStore.times rows.new).since ≡ (R.RowStore.times rows.old).since }
 {
     match op {
         Op::Insert { table, values } => Ok(Some(rows.reserved_by(client, *table, None, values)?)),
@@ -65,6 +68,8 @@ fn key_wait<R: RowStore>(
         (λ holders. ListsAll holders (WaitsByKey (R.RowStore.state rows.old) client (blocked_at control.now client)))) }
     ensures same { OnOk result (R.RowStore.state rows.new ≡ R.RowStore.state rows.old) }
     ensures err { AfterError (R.RowStore.state rows.old) (R.RowStore.state rows.new) result }
+    ensures durable { StaysDurable (R.RowStore.state rows.old) (R.RowStore.state rows.new) (R.RowStore.left rows.old) (R.RowStore.left rows.new) (R.RowStore.times rows.old) (R.RowStore.times rows.new) }
+    ensures since { (R.RowStore.times rows.new).since ≡ (R.RowStore.times rows.old).since }
 {
     match control.sessions.get(usize::from(client)) {
         None => Ok(None),
@@ -88,6 +93,8 @@ fn list_key_waits<R: RowStore>(
         ListsWaits (R.RowStore.state rows.old) control.now client count list.items) }
     ensures same { OnOk result (R.RowStore.state rows.new ≡ R.RowStore.state rows.old) }
     ensures err { AfterError (R.RowStore.state rows.old) (R.RowStore.state rows.new) result }
+    ensures durable { StaysDurable (R.RowStore.state rows.old) (R.RowStore.state rows.new) (R.RowStore.left rows.old) (R.RowStore.left rows.new) (R.RowStore.times rows.old) (R.RowStore.times rows.new) }
+    ensures since { (R.RowStore.times rows.new).since ≡ (R.RowStore.times rows.old).since }
 {
     if count == 0 {
         return Ok(Vec::new(alloc));
@@ -119,6 +126,8 @@ fn decide_free<R: RowStore>(rows: &mut R, table: u16, row: RowId) -> Result<Answ
         ⊎ ((answer ≡ Answer.Gone) × (table_at (R.RowStore.state rows.old).rows row.0 ≢ Some table))) }
     ensures same { OnOk result (R.RowStore.state rows.new ≡ R.RowStore.state rows.old) }
     ensures err { AfterError (R.RowStore.state rows.old) (R.RowStore.state rows.new) result }
+    ensures durable { StaysDurable (R.RowStore.state rows.old) (R.RowStore.state rows.new) (R.RowStore.left rows.old) (R.RowStore.left rows.new) (R.RowStore.times rows.old) (R.RowStore.times rows.new) }
+    ensures since { (R.RowStore.times rows.new).since ≡ (R.RowStore.times rows.old).since }
 {
     match rows.table(row)? {
         None => Ok(Answer::Gone),
@@ -152,6 +161,8 @@ pub fn decide_lock<R: RowStore>(
         ¬ LockedAgainst control.now.locks client row.0 exclusive × (IsObservable (R.RowStore.state rows.old) → table_at (R.RowStore.state rows.old).rows row.0 ≡ Some table)) }
     ensures same { OnOk result (R.RowStore.state rows.new ≡ R.RowStore.state rows.old) }
     ensures err { AfterError (R.RowStore.state rows.old) (R.RowStore.state rows.new) result }
+    ensures durable { StaysDurable (R.RowStore.state rows.old) (R.RowStore.state rows.new) (R.RowStore.left rows.old) (R.RowStore.left rows.new) (R.RowStore.times rows.old) (R.RowStore.times rows.new) }
+    ensures since { (R.RowStore.times rows.new).since ≡ (R.RowStore.times rows.old).since }
 {
     let against = match control.locks.against(alloc, client, row, exclusive) {
         Ok(against) => against,
@@ -191,6 +202,8 @@ pub fn decide_keys<R: RowStore>(
     ensures refusal { IfOk result (λ found. IfSome found (λ answer. is_success answer ≡ false)) }
     ensures same { OnOk result (R.RowStore.state rows.new ≡ R.RowStore.state rows.old) }
     ensures err { AfterError (R.RowStore.state rows.old) (R.RowStore.state rows.new) result }
+    ensures durable { StaysDurable (R.RowStore.state rows.old) (R.RowStore.state rows.new) (R.RowStore.left rows.old) (R.RowStore.left rows.new) (R.RowStore.times rows.old) (R.RowStore.times rows.new) }
+    ensures since { (R.RowStore.times rows.new).since ≡ (R.RowStore.times rows.old).since }
 {
     let against = match key_holders(rows, client, op)? {
         Some(against) => against,
@@ -222,6 +235,8 @@ pub fn decide_get<R: RowStore>(
     ensures quiet { IfOk result (λ answer. (s : State) (c : ℕ) (op : Asked) → blocked_after s c op answer ≡ None) }
     ensures same { OnOk result (R.RowStore.state rows.new ≡ R.RowStore.state rows.old) }
     ensures err { AfterError (R.RowStore.state rows.old) (R.RowStore.state rows.new) result }
+    ensures durable { StaysDurable (R.RowStore.state rows.old) (R.RowStore.state rows.new) (R.RowStore.left rows.old) (R.RowStore.left rows.new) (R.RowStore.times rows.old) (R.RowStore.times rows.new) }
+    ensures since { (R.RowStore.times rows.new).since ≡ (R.RowStore.times rows.old).since }
 {
     match rows.get(table, row)? {
         None => Ok(Answer::Gone),

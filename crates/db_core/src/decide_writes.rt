@@ -9,6 +9,7 @@ ghost use Rattle.database_meaning.specs.Steps.{is_success};
 ghost use Rattle.database_meaning.specs.Waiting.{row_in};
 ghost use Rattle.abl_rows.specs.Rows.{AfterError, IsFree, IsObservable};
 ghost use Rattle.abl_rows.specs.Questions.{IsLongKey, table_at};
+ghost use Rattle.db_core.specs.Crashes.{StaysDurable};
 ghost use Rattle.db_core.specs.Represents.{FitsOp, IsSound, Represents};
 ghost use Rattle.db_core.specs.Waits.{IsKeyed};
 ghost use Rattle.db_core.specs.Writes.{AnswersKeys};
@@ -41,6 +42,8 @@ fn is_row_of<R: RowStore>(rows: &mut R, table: u16, row: RowId) -> Result<bool, 
     ensures found { IfOk result (λ there. IsObservable (R.RowStore.state rows.old) → (IsTrue there ↔ (table_at (R.RowStore.state rows.old).rows row.0 ≡ Some table))) }
     ensures same { OnOk result (R.RowStore.state rows.new ≡ R.RowStore.state rows.old) }
     ensures err { AfterError (R.RowStore.state rows.old) (R.RowStore.state rows.new) result }
+    ensures durable { StaysDurable (R.RowStore.state rows.old) (R.RowStore.state rows.new) (R.RowStore.left rows.old) (R.RowStore.left rows.new) (R.RowStore.times rows.old) (R.RowStore.times rows.new) }
+    ensures since { (R.RowStore.times rows.new).since ≡ (R.RowStore.times rows.old).since }
 {
     match rows.table(row)? {
         None => Ok(false),
@@ -74,6 +77,8 @@ fn decide_entry<R: RowStore>(
     ensures refusal { IfOk result (λ found. IfSome found (λ answer. is_success answer ≡ false)) }
     ensures same { OnOk result (R.RowStore.state rows.new ≡ R.RowStore.state rows.old) }
     ensures err { AfterError (R.RowStore.state rows.old) (R.RowStore.state rows.new) result }
+    ensures durable { StaysDurable (R.RowStore.state rows.old) (R.RowStore.state rows.new) (R.RowStore.left rows.old) (R.RowStore.left rows.new) (R.RowStore.times rows.old) (R.RowStore.times rows.new) }
+    ensures since { (R.RowStore.times rows.new).since ≡ (R.RowStore.times rows.old).since }
 {
     if let Some(index) = find_long_key(rows, table, values)? {
         return Ok(Some(Answer::KeyTooLong { index }));
@@ -113,6 +118,8 @@ pub fn decide_insert<R: RowStore>(
     ensures free { IfOk result (λ answer. (row : RowId) → answer ≡ Answer.Inserted row → IsFree (R.RowStore.state rows.old) row.0) }
     ensures same { OnOk result (R.RowStore.state rows.new ≡ R.RowStore.state rows.old) }
     ensures err { AfterError (R.RowStore.state rows.old) (R.RowStore.state rows.new) result }
+    ensures durable { StaysDurable (R.RowStore.state rows.old) (R.RowStore.state rows.new) (R.RowStore.left rows.old) (R.RowStore.left rows.new) (R.RowStore.times rows.old) (R.RowStore.times rows.new) }
+    ensures since { (R.RowStore.times rows.new).since ≡ (R.RowStore.times rows.old).since }
 {
     if let Some(answer) = decide_entry(alloc, rows, control, client, op, table, None, values)? {
         return Ok(answer);
@@ -148,6 +155,8 @@ pub fn decide_put<R: RowStore>(
     ensures there { IfOk result (λ answer. answer ≡ Answer.Done → IsObservable (R.RowStore.state rows.old) → table_at (R.RowStore.state rows.old).rows row.0 ≡ Some table) }
     ensures same { OnOk result (R.RowStore.state rows.new ≡ R.RowStore.state rows.old) }
     ensures err { AfterError (R.RowStore.state rows.old) (R.RowStore.state rows.new) result }
+    ensures durable { StaysDurable (R.RowStore.state rows.old) (R.RowStore.state rows.new) (R.RowStore.left rows.old) (R.RowStore.left rows.new) (R.RowStore.times rows.old) (R.RowStore.times rows.new) }
+    ensures since { (R.RowStore.times rows.new).since ≡ (R.RowStore.times rows.old).since }
 {
     let there = is_row_of(rows, table, row)?;
     if !there {
@@ -188,6 +197,8 @@ pub fn decide_delete<R: RowStore>(
     ensures there { IfOk result (λ answer. answer ≡ Answer.Done → IsObservable (R.RowStore.state rows.old) → table_at (R.RowStore.state rows.old).rows row.0 ≡ Some table) }
     ensures same { OnOk result (R.RowStore.state rows.new ≡ R.RowStore.state rows.old) }
     ensures err { AfterError (R.RowStore.state rows.old) (R.RowStore.state rows.new) result }
+    ensures durable { StaysDurable (R.RowStore.state rows.old) (R.RowStore.state rows.new) (R.RowStore.left rows.old) (R.RowStore.left rows.new) (R.RowStore.times rows.old) (R.RowStore.times rows.new) }
+    ensures since { (R.RowStore.times rows.new).since ≡ (R.RowStore.times rows.old).since }
 {
     let there = is_row_of(rows, table, row)?;
     if !there {

@@ -1,11 +1,12 @@
 //! Opening a level, going back to one, leaving one, the commit, and the end of a client.
 
-ghost use Rattle.std.specs.Prelude.{◌≡◌, ◌<◌, ◌≤◌, ◌+◌, ◌^◌, ℕ, List, [], length, true, false, OnOk, OnErr};
+ghost use Rattle.std.specs.Prelude.{◌≡◌, ◌<◌, ◌≤◌, ◌+◌, ◌^◌, ℕ, List, [], length, true, false, IfOk, OnOk, OnErr};
 ghost use Rattle.abl_base.specs.declared.row.RowId.{RowId as Kept};
 ghost use Rattle.database_meaning.specs.Setting.{Setting};
 ghost use Rattle.database_meaning.specs.State.{State};
 ghost use Rattle.database_meaning.specs.Steps.{after, is_outermost};
 ghost use Rattle.abl_rows.specs.Rows.{Abandons, AfterError, OnlyDisk, RowState};
+ghost use Rattle.db_core.specs.Crashes.{Continues, StaysDurable};
 ghost use Rattle.db_core.specs.Keeps.{Keeps, SameCounts, Stays};
 ghost use Rattle.db_core.specs.Known.{known};
 ghost use Rattle.db_core.specs.Levels.{SameLevels};
@@ -32,6 +33,8 @@ pub fn enter<R: RowStore>(rows: &mut R, control: &mut Control, client: u16) -> R
     ensures stays { OnErr result (Stays (R.RowStore.state rows.old) (R.RowStore.state rows.new) control.old control.new client) }
     ensures keeps { OnOk result (Keeps (R.RowStore.state rows.old) (R.RowStore.state rows.new) control.old control.new) }
     ensures err { AfterError (R.RowStore.state rows.old) (R.RowStore.state rows.new) result }
+    ensures durable { StaysDurable (R.RowStore.state rows.old) (R.RowStore.state rows.new) (R.RowStore.left rows.old) (R.RowStore.left rows.new) (R.RowStore.times rows.old) (R.RowStore.times rows.new) }
+    ensures since { (R.RowStore.times rows.new).since ≡ (R.RowStore.times rows.old).since }
 {
     if depth(control, client) == 0 {
         enter_outermost(rows, control, client)?;
@@ -59,6 +62,8 @@ fn enter_outermost<R: RowStore>(
     ensures stays { OnErr result (Stays (R.RowStore.state rows.old) (R.RowStore.state rows.new) control.old control.new client) }
     ensures keeps { OnOk result (Keeps (R.RowStore.state rows.old) (R.RowStore.state rows.new) control.old control.new) }
     ensures err { AfterError (R.RowStore.state rows.old) (R.RowStore.state rows.new) result }
+    ensures durable { StaysDurable (R.RowStore.state rows.old) (R.RowStore.state rows.new) (R.RowStore.left rows.old) (R.RowStore.left rows.new) (R.RowStore.times rows.old) (R.RowStore.times rows.new) }
+    ensures since { (R.RowStore.times rows.new).since ≡ (R.RowStore.times rows.old).since }
 {
     match push_mark(control, client, 0) {
         Ok(()) => {}
@@ -93,6 +98,8 @@ fn enter_inner<R: RowStore>(
     ensures stays { OnErr result (Stays (R.RowStore.state rows.old) (R.RowStore.state rows.new) control.old control.new client) }
     ensures keeps { OnOk result (Keeps (R.RowStore.state rows.old) (R.RowStore.state rows.new) control.old control.new) }
     ensures err { AfterError (R.RowStore.state rows.old) (R.RowStore.state rows.new) result }
+    ensures durable { StaysDurable (R.RowStore.state rows.old) (R.RowStore.state rows.new) (R.RowStore.left rows.old) (R.RowStore.left rows.new) (R.RowStore.times rows.old) (R.RowStore.times rows.new) }
+    ensures since { (R.RowStore.times rows.new).since ≡ (R.RowStore.times rows.old).since }
 {
     let mark = rows.mark(client);
     match push_mark(control, client, mark) {
@@ -125,6 +132,8 @@ pub fn back<R: RowStore>(
     ensures only { OnlyDisk result }
     ensures stays { OnErr result (Stays (R.RowStore.state rows.old) (R.RowStore.state rows.new) control.old control.new client) }
     ensures keeps { OnOk result (Keeps (R.RowStore.state rows.old) (R.RowStore.state rows.new) control.old control.new) }
+    ensures durable { StaysDurable (R.RowStore.state rows.old) (R.RowStore.state rows.new) (R.RowStore.left rows.old) (R.RowStore.left rows.new) (R.RowStore.times rows.old) (R.RowStore.times rows.new) }
+    ensures since { (R.RowStore.times rows.new).since ≡ (R.RowStore.times rows.old).since }
 {
     let mark = control.sessions[usize::from(client)].marks[depth as usize - 1];
     rows.back(client, mark)?;
@@ -172,6 +181,11 @@ pub fn commit<R: RowStore>(
     ensures err { AfterError (R.RowStore.state rows.old) (R.RowStore.state rows.new) result }
     ensures stays { OnErr result (Stays (R.RowStore.state rows.old) (R.RowStore.state rows.new) control.old control.new client) }
     ensures keeps { OnOk result (Keeps (R.RowStore.state rows.old) (R.RowStore.state rows.new) control.old control.new) }
+    ensures durable { IfOk result (λ moment. (keep : List Kept) → length (marks_at control.old client) ≡ 1 →
+        Continues (R.RowStore.state rows.old) (R.RowStore.state rows.new) (R.RowStore.left rows.old) (R.RowStore.left rows.new) (R.RowStore.times rows.old) (R.RowStore.times rows.new) control.old client (Op.Leave keep) (Answer.Committed moment)) }
+    ensures unanswered { OnErr result ((keep : List Kept) → length (marks_at control.old client) ≡ 1 →
+        Continues (R.RowStore.state rows.old) (R.RowStore.state rows.new) (R.RowStore.left rows.old) (R.RowStore.left rows.new) (R.RowStore.times rows.old) (R.RowStore.times rows.new) control.old client (Op.Leave keep) Answer.Closed) }
+    ensures since { (R.RowStore.times rows.new).since ≡ (R.RowStore.times rows.old).since }
 {
     let reserved = rows.has_reserved(client);
     let moment = rows.commit(client, control.sequences.as_slice())?;
@@ -184,7 +198,9 @@ pub fn commit<R: RowStore>(
 fn abandon_open<R: RowStore>(rows: &mut R, control: &Control, client: u16)
     requires client { client < 16 }
     requires sound { IsSound (R.RowStore.state rows.old) control.now }
-    ensures { Abandons (R.RowStore.state rows.old) (R.RowStore.state rows.new) client }
+    ensures abandoned { Abandons (R.RowStore.state rows.old) (R.RowStore.state rows.new) client }
+    ensures durable { StaysDurable (R.RowStore.state rows.old) (R.RowStore.state rows.new) (R.RowStore.left rows.old) (R.RowStore.left rows.new) (R.RowStore.times rows.old) (R.RowStore.times rows.new) }
+    ensures since { (R.RowStore.times rows.new).since ≡ (R.RowStore.times rows.old).since }
 {
     if depth(control, client) == 0 {
         return;
@@ -203,6 +219,8 @@ pub fn end<R: RowStore>(rows: &mut R, control: &mut Control, client: u16)
         Represents f (R.RowStore.state rows.new) control.new (after f s client Op.End Answer.Done) }
     ensures sound { IsSound (R.RowStore.state rows.new) control.new }
     ensures keeps { Keeps (R.RowStore.state rows.old) (R.RowStore.state rows.new) control.old control.new }
+    ensures durable { StaysDurable (R.RowStore.state rows.old) (R.RowStore.state rows.new) (R.RowStore.left rows.old) (R.RowStore.left rows.new) (R.RowStore.times rows.old) (R.RowStore.times rows.new) }
+    ensures since { (R.RowStore.times rows.new).since ≡ (R.RowStore.times rows.old).since }
 {
     let reserved = rows.has_reserved(client);
     abandon_open(rows, control, client);

@@ -8,6 +8,7 @@ ghost use Rattle.database_meaning.specs.Steps.{blocked_after};
 ghost use Rattle.database_meaning.specs.Setting.{HasIndex, HasTable, Setting};
 ghost use Rattle.database_meaning.specs.State.{State};
 ghost use Rattle.abl_rows.specs.Rows.{AfterError, IsObservable};
+ghost use Rattle.db_core.specs.Crashes.{StaysDurable};
 ghost use Rattle.db_core.specs.Represents.{IsSound, Represents};
 
 use crate::control::Control;
@@ -34,6 +35,8 @@ pub fn decide_next<R: RowStore>(
     ensures quiet { IfOk result (λ answer. (s : State) (c : ℕ) (op : Asked) → blocked_after s c op answer ≡ None) }
     ensures same { OnOk result (R.RowStore.state rows.new ≡ R.RowStore.state rows.old) }
     ensures err { AfterError (R.RowStore.state rows.old) (R.RowStore.state rows.new) result }
+    ensures durable { StaysDurable (R.RowStore.state rows.old) (R.RowStore.state rows.new) (R.RowStore.left rows.old) (R.RowStore.left rows.new) (R.RowStore.times rows.old) (R.RowStore.times rows.new) }
+    ensures since { (R.RowStore.times rows.new).since ≡ (R.RowStore.times rows.old).since }
 {
     match rows.next(table, index, prefix, cursor, forward)? {
         None => Ok(Answer::AtEnd),

@@ -5,6 +5,7 @@ ghost use Rattle.database_meaning.specs.Setting.{Setting};
 ghost use Rattle.database_meaning.specs.State.{State};
 ghost use Rattle.database_meaning.specs.Steps.{is_outermost};
 ghost use Rattle.abl_rows.specs.Rows.{AfterError, IsObservable};
+ghost use Rattle.db_core.specs.Crashes.{StaysDurable};
 ghost use Rattle.db_core.specs.Moves.{AreStaying, ListsPresent};
 ghost use Rattle.db_core.specs.Represents.{Represents};
 
@@ -23,6 +24,8 @@ fn list_present<R: RowStore>(
     ensures found { IfOk result (λ list. IsObservable (R.RowStore.state rows.old) → ListsPresent (R.RowStore.state rows.old).rows keep.now list.items) }
     ensures same { OnOk result (R.RowStore.state rows.new ≡ R.RowStore.state rows.old) }
     ensures err { AfterError (R.RowStore.state rows.old) (R.RowStore.state rows.new) result }
+    ensures durable { StaysDurable (R.RowStore.state rows.old) (R.RowStore.state rows.new) (R.RowStore.left rows.old) (R.RowStore.left rows.new) (R.RowStore.times rows.old) (R.RowStore.times rows.new) }
+    ensures since { (R.RowStore.times rows.new).since ≡ (R.RowStore.times rows.old).since }
 {
     match keep.split_last() {
         None => Ok(Vec::new(alloc)),
@@ -51,6 +54,8 @@ pub fn staying_rows<R: RowStore>(
         is_outermost s c ≡ true → AreStaying s c keep.now staying) }
     ensures same { OnOk result (R.RowStore.state rows.new ≡ R.RowStore.state rows.old) }
     ensures err { AfterError (R.RowStore.state rows.old) (R.RowStore.state rows.new) result }
+    ensures durable { StaysDurable (R.RowStore.state rows.old) (R.RowStore.state rows.new) (R.RowStore.left rows.old) (R.RowStore.left rows.new) (R.RowStore.times rows.old) (R.RowStore.times rows.new) }
+    ensures since { (R.RowStore.times rows.new).since ≡ (R.RowStore.times rows.old).since }
 {
     let list = list_present(alloc, rows, keep.as_slice())?;
     Ok(Items::from_vec(list))

@@ -8,6 +8,7 @@ ghost use Rattle.database_meaning.specs.Answers.{IsFresh};
 ghost use Rattle.database_meaning.specs.Steps.{after};
 ghost use Rattle.abl_rows.specs.Rows.{AfterError, IsFree, IsObservable};
 ghost use Rattle.abl_rows.specs.Questions.{table_at};
+ghost use Rattle.db_core.specs.Crashes.{StaysDurable};
 ghost use Rattle.db_core.specs.Keeps.{Keeps, Stays};
 ghost use Rattle.db_core.specs.Represents.{IsSound, Represents};
 
@@ -45,6 +46,8 @@ pub fn insert<R: RowStore>(
     ensures err { AfterError (R.RowStore.state rows.old) (R.RowStore.state rows.new) result }
     ensures stays { OnErr result (Stays (R.RowStore.state rows.old) (R.RowStore.state rows.new) control.old control.new client) }
     ensures keeps { OnOk result (Keeps (R.RowStore.state rows.old) (R.RowStore.state rows.new) control.old control.new) }
+    ensures durable { StaysDurable (R.RowStore.state rows.old) (R.RowStore.state rows.new) (R.RowStore.left rows.old) (R.RowStore.left rows.new) (R.RowStore.times rows.old) (R.RowStore.times rows.new) }
+    ensures since { (R.RowStore.times rows.new).since ≡ (R.RowStore.times rows.old).since }
 {
     if control.locks.held(client, row).is_some() {
         return Err(RowError::NoMemory);
@@ -88,6 +91,8 @@ pub fn put<R: RowStore>(
     ensures err { AfterError (R.RowStore.state rows.old) (R.RowStore.state rows.new) result }
     ensures stays { OnErr result (Stays (R.RowStore.state rows.old) (R.RowStore.state rows.new) control.old control.new client) }
     ensures keeps { OnOk result (Keeps (R.RowStore.state rows.old) (R.RowStore.state rows.new) control.old control.new) }
+    ensures durable { StaysDurable (R.RowStore.state rows.old) (R.RowStore.state rows.new) (R.RowStore.left rows.old) (R.RowStore.left rows.new) (R.RowStore.times rows.old) (R.RowStore.times rows.new) }
+    ensures since { (R.RowStore.times rows.new).since ≡ (R.RowStore.times rows.old).since }
 {
     rows.put(client, table, row, values)?;
     end_wait(control, client);
@@ -116,6 +121,8 @@ pub fn delete<R: RowStore>(
     ensures err { AfterError (R.RowStore.state rows.old) (R.RowStore.state rows.new) result }
     ensures stays { OnErr result (Stays (R.RowStore.state rows.old) (R.RowStore.state rows.new) control.old control.new client) }
     ensures keeps { OnOk result (Keeps (R.RowStore.state rows.old) (R.RowStore.state rows.new) control.old control.new) }
+    ensures durable { StaysDurable (R.RowStore.state rows.old) (R.RowStore.state rows.new) (R.RowStore.left rows.old) (R.RowStore.left rows.new) (R.RowStore.times rows.old) (R.RowStore.times rows.new) }
+    ensures since { (R.RowStore.times rows.new).since ≡ (R.RowStore.times rows.old).since }
 {
     rows.delete(client, table, row)?;
     end_wait(control, client);

@@ -5,3 +5,4 @@ pub mod Stepping
 pub mod Refusing
 pub mod Sessions
 pub mod Sends
+pub mod Crashes

@@ -2,4 +2,5 @@ pub mod OwnAnswers
 pub mod Replies
 pub mod Running
 pub mod Machine
+pub mod Crashes
 pub mod Database

@@ -1,6 +1,6 @@
 //! The database.
 
-ghost use Rattle.std.specs.Prelude.{◌≡◌, ◌≢◌, ◌⊎◌, ◌<◌, ◌≤◌, ◌+◌, ◌↔◌, ◌||◌, ◌++◌, ◌∷◌, [], ℕ, None, IfOk, IfSome, IsTrue, false, length, slice_get, vec_capacity, vec_len};
+ghost use Rattle.std.specs.Prelude.{◌≡◌, ◌≢◌, ◌⊎◌, ◌<◌, ◌≤◌, ◌+◌, ◌↔◌, ◌||◌, ◌++◌, ◌∷◌, [], ℕ, None, IfErr, IfOk, IfSome, IsTrue, false, true, length, replicate, slice_get, vec_capacity, vec_len};
 ghost use Rattle.client_database.specs.declared.answer.Answer.TheVariants.{Closed};
 ghost use Rattle.database_interface.specs.Step.{IsRefusedRightly, event_of};
 ghost use Rattle.database_meaning.specs.declared.contents.Contents.{Contents};
@@ -10,6 +10,8 @@ ghost use Rattle.database_meaning.specs.Setting.{Setting};
 ghost use Rattle.database_meaning.specs.Steps.{is_closed};
 ghost use Rattle.database_meaning.specs.Waiting.{HasNoCycle, WaitsFor};
 ghost use Rattle.database_meaning.specs.Traces.{IsLegal, IsSoundContents, left_by};
+ghost use Rattle.abl_rows.specs.Rows.{Durable};
+ghost use Rattle.db_core.specs.Crashes.{StartsFrom, Survives};
 ghost use Rattle.db_core.specs.Opening.{IsNew, IsOpened as IsStoreOpened};
 ghost use Rattle.db_core.specs.Represents.{blocked_in, marks_in};
 ghost use Rattle.db_machine.specs.Database.{HasSetting, IsActive, IsBlocked, IsOpened};
@@ -61,42 +63,45 @@ impl<R: RowStore + Drop> Model for Db<R> {
 
 impl<R: RowStore + Drop> Db<R> {
     /// The database over a store in which no transaction is begun, with these sequence values and this
-    /// number of clients, none of which has ended. An error means out of memory.
+    /// number of clients, none of which has ended. An error means out of memory, and gives the store
+    /// back.
     pub fn new(
         alloc: Global,
         rows: R,
         schema: Schema,
         sequences: Vec<i64>,
         clients: u16,
-    ) -> Result<Db<R>, AllocError>
+    ) -> Result<Db<R>, (AllocError, R)>
         requires few { clients ≤ 16 }
         requires fine { (R.RowStore.state rows).failed ≡ false }
         requires schema { (R.RowStore.state rows).schema ≡ schema }
         requires sequences { length sequences.items ≡ length schema.sequences }
         requires opened { (contents : Contents) × IsStoreOpened (R.RowStore.state rows) contents × (sequences.items ≡ contents.sequences) }
+        ensures refused { IfErr result (λ e. e.1 ≡ rows) }
         ensures rows { IfOk result (λ db. db.rows ≡ rows) }
         ensures trace { IfOk result (λ db. db.trace ≡ []) }
         ensures setting { IfOk result (λ db. HasSetting db (record { schema = schema; clients = clients })) }
         ensures opened { IfOk result (λ db. (contents : Contents) →
             IsStoreOpened (R.RowStore.state rows) contents → sequences.items ≡ contents.sequences → IsTrue (R.RowStore.state rows).observable →
             IsSoundContents (record { schema = schema; clients = clients }) contents →
-            IsOpened (R.RowStore.state db.rows) db (record { schema = schema; clients = clients }) contents) }
+            ((first : Durable) → R.RowStore.left rows (R.RowStore.times rows).since first → StartsFrom (R.RowStore.state rows) (R.RowStore.left rows) (R.RowStore.times rows) contents) →
+            IsOpened (R.RowStore.state db.rows) (R.RowStore.left db.rows) (R.RowStore.times db.rows) db (record { schema = schema; clients = clients }) contents) }
         ensures active { IfOk result (λ db. (client : ℕ) → client < clients → IsActive db client) }
     {
         a_new_database_is_represented();
-        let control = new_control(alloc, sequences, clients)?;
-        let running = Running::new(alloc, clients)?;
-        let trace = Vec::with_capacity(alloc, clients as usize)?;
-        Ok(Db {
-            alloc,
-            rows,
-            control,
-            schema,
-            size: 0,
-            closed: false,
-            running,
-            trace,
-        })
+        match Start::new(alloc, sequences, clients) {
+            Ok(start) => Ok(Db {
+                alloc,
+                rows,
+                control: start.control,
+                schema,
+                size: 0,
+                closed: false,
+                running: start.running,
+                trace: start.trace,
+            }),
+            Err(error) => Err((error, rows)),
+        }
     }
 
     /// Whether this is a client of the database that has not ended: then its operations are answered.
@@ -120,7 +125,8 @@ impl<R: RowStore + Drop> Db<R> {
         ensures active { op ≢ Op.End → IsActive self.new client }
         ensures others { (other : ℕ) → other ≢ client → IsActive self.old other → IsActive self.new other }
         ensures setting { (f : Setting) → HasSetting self.old f → HasSetting self.new f }
-        ensures opened { (f : Setting) (contents : Contents) → IsOpened (R.RowStore.state self.old.rows) self.old f contents → IsOpened (R.RowStore.state self.new.rows) self.new f contents }
+        ensures since { (R.RowStore.times self.new.rows).since ≡ (R.RowStore.times self.old.rows).since }
+        ensures opened { (f : Setting) (contents : Contents) → IsOpened (R.RowStore.state self.old.rows) (R.RowStore.left self.old.rows) (R.RowStore.times self.old.rows) self.old f contents → IsOpened (R.RowStore.state self.new.rows) (R.RowStore.left self.new.rows) (R.RowStore.times self.new.rows) self.new f contents }
     {
         if !has_room(&op, self.running.count(), &mut self.trace) {
             return None;
@@ -146,15 +152,18 @@ impl<R: RowStore + Drop> Db<R> {
         Some(reply.answer)
     }
 
-    /// The store, and the trace.
+    /// The store, and the trace. A stop of the store leaves the contents after the commits that were
+    /// acknowledged by then, or after one commit more.
     pub fn close(self) -> (R, Trace)
         ensures rows { result.0 ≡ self.rows }
         ensures trace { result.1 ≡ self.trace }
-        ensures legal { (f : Setting) (contents : Contents) → IsOpened (R.RowStore.state self.rows) self f contents → IsLegal f contents result.1 }
-        ensures no_cycle { (f : Setting) (contents : Contents) → IsOpened (R.RowStore.state self.rows) self f contents → HasNoCycle (WaitsFor f (left_by f contents result.1)) }
-        ensures locks { (f : Setting) (contents : Contents) → IsOpened (R.RowStore.state self.rows) self f contents → IsExclusive (left_by f contents result.1) }
-        ensures overlays { (f : Setting) (contents : Contents) → IsOpened (R.RowStore.state self.rows) self f contents → HasApartOverlays (left_by f contents result.1) }
-        ensures keys { (f : Setting) (contents : Contents) → IsOpened (R.RowStore.state self.rows) self f contents → HasApartKeys (left_by f contents result.1) }
+        ensures legal { (f : Setting) (contents : Contents) → IsOpened (R.RowStore.state self.rows) (R.RowStore.left self.rows) (R.RowStore.times self.rows) self f contents → IsLegal f contents result.1 }
+        ensures no_cycle { (f : Setting) (contents : Contents) → IsOpened (R.RowStore.state self.rows) (R.RowStore.left self.rows) (R.RowStore.times self.rows) self f contents → HasNoCycle (WaitsFor f (left_by f contents result.1)) }
+        ensures locks { (f : Setting) (contents : Contents) → IsOpened (R.RowStore.state self.rows) (R.RowStore.left self.rows) (R.RowStore.times self.rows) self f contents → IsExclusive (left_by f contents result.1) }
+        ensures overlays { (f : Setting) (contents : Contents) → IsOpened (R.RowStore.state self.rows) (R.RowStore.left self.rows) (R.RowStore.times self.rows) self f contents → HasApartOverlays (left_by f contents result.1) }
+        ensures keys { (f : Setting) (contents : Contents) → IsOpened (R.RowStore.state self.rows) (R.RowStore.left self.rows) (R.RowStore.times self.rows) self f contents → HasApartKeys (left_by f contents result.1) }
+        ensures crashes { (f : Setting) (contents : Contents) → IsOpened (R.RowStore.state self.rows) (R.RowStore.left self.rows) (R.RowStore.times self.rows) self f contents →
+            (first : Durable) → R.RowStore.left self.rows (R.RowStore.times self.rows).since first → Survives (R.RowStore.left self.rows) (R.RowStore.times self.rows) f contents result.1 }
         ensures serial { (f : Setting) (contents : Contents) → ReadsAsCommitted f contents }
     {
         no_cycle_ever();
@@ -172,7 +181,7 @@ impl<R: RowStore + Drop> Database for Db<R> {
 
     ghost has_setting = { λ db f. HasSetting db f };
 
-    ghost opened = { λ db f contents. IsOpened (R.RowStore.state db.rows) db f contents };
+    ghost opened = { λ db f contents. IsOpened (R.RowStore.state db.rows) (R.RowStore.left db.rows) (R.RowStore.times db.rows) db f contents };
 
     ghost trace = { λ db. db.trace };
 
@@ -198,13 +207,13 @@ impl<R: RowStore + Drop> Database for Db<R> {
         self.execute(client, op)
     }
 
-    ghost legal = { λ db f contents opened. legal (R.RowStore.state db.rows) db f contents opened };
+    ghost legal = { λ db f contents opened. legal (R.RowStore.state db.rows) (R.RowStore.left db.rows) (R.RowStore.times db.rows) db f contents opened };
 
     ghost opened_of = { λ db f contents opened. opened.setting };
 
     ghost known = { λ db f client has active. one_of db f client has active };
 
-    ghost blocked_as = { λ db f contents client opened. blocked_as (R.RowStore.state db.rows) db f contents client opened };
+    ghost blocked_as = { λ db f contents client opened. blocked_as (R.RowStore.state db.rows) (R.RowStore.left db.rows) (R.RowStore.times db.rows) db f contents client opened };
 }
 
 /// Sessions of `count` clients that have requested nothing yet.
@@ -222,6 +231,36 @@ fn new_sessions(alloc: Global, count: u16) -> Result<Vec<Session>, AllocError>
         blocked: None,
     })?;
     Ok(sessions)
+}
+
+/// What a database that was just opened has beside its store.
+#[derive(Drop)]
+struct Start {
+    control: Control,
+    running: Running,
+    trace: Vec<Event>,
+}
+
+impl Start {
+    /// No client holds anything or has ended, and there is memory for the End of each.
+    fn new(alloc: Global, sequences: Vec<i64>, clients: u16) -> Result<Start, AllocError>
+        ensures count { IfOk result (λ start. length start.control.sessions.items ≡ clients) }
+        ensures sequences { IfOk result (λ start. start.control.sequences.items ≡ sequences.items) }
+        ensures frees { IfOk result (λ start. start.control.frees ≡ 0) }
+        ensures new { IfOk result (λ start. (contents : Contents) → sequences.items ≡ contents.sequences → IsNew start.control contents) }
+        ensures running { IfOk result (λ start. start.running ≡ replicate clients true) }
+        ensures trace { IfOk result (λ start. start.trace.items ≡ []) }
+        ensures room { IfOk result (λ start. clients ≤ vec_capacity start.trace) }
+    {
+        let control = new_control(alloc, sequences, clients)?;
+        let running = Running::new(alloc, clients)?;
+        let trace = Vec::with_capacity(alloc, clients as usize)?;
+        Ok(Start {
+            control,
+            running,
+            trace,
+        })
+    }
 }
 
 /// The control data of a database that was just opened.

@@ -8,7 +8,9 @@ ghost use Rattle.database_meaning.specs.Answers.{FromGone};
 ghost use Rattle.database_meaning.specs.Steps.{blocked_after};
 ghost use Rattle.database_meaning.specs.Setting.{Setting, increment_of};
 ghost use Rattle.database_meaning.specs.State.{State};
+ghost use Rattle.database_meaning.specs.Traces.{is_committed};
 ghost use Rattle.abl_rows.specs.Rows.{AfterError, IsObservable};
+ghost use Rattle.db_core.specs.Crashes.{StaysDurable};
 ghost use Rattle.db_core.specs.Keeps.{Stays};
 ghost use Rattle.db_core.specs.Represents.{IsSound, Represents};
 ghost use Rattle.db_machine.specs.Machine.{IsSome};
@@ -41,6 +43,8 @@ fn decide_question<R: RowStore>(
     ensures quiet { IfOk result (λ answer. (s : State) (c : ℕ) (other : Asked) → blocked_after s c other answer ≡ None) }
     ensures same { OnOk result (R.RowStore.state rows.new ≡ R.RowStore.state rows.old) }
     ensures err { AfterError (R.RowStore.state rows.old) (R.RowStore.state rows.new) result }
+    ensures durable { StaysDurable (R.RowStore.state rows.old) (R.RowStore.state rows.new) (R.RowStore.left rows.old) (R.RowStore.left rows.new) (R.RowStore.times rows.old) (R.RowStore.times rows.new) }
+    ensures since { (R.RowStore.times rows.new).since ≡ (R.RowStore.times rows.old).since }
 {
     match op {
         Op::Next {
@@ -87,6 +91,9 @@ pub(crate) fn answer_question<R: RowStore>(
     ensures stays { OnErr result (Stays (R.RowStore.state rows.old) (R.RowStore.state rows.new) control.old control.new client) }
     ensures memory { IsErrOf result RowError.NoMemory → (R.RowStore.state rows.new).failed ≡ (R.RowStore.state rows.old).failed }
     ensures disk { IsErrOf result RowError.Disk → IsTrue (R.RowStore.state rows.new).failed }
+    ensures durable { StaysDurable (R.RowStore.state rows.old) (R.RowStore.state rows.new) (R.RowStore.left rows.old) (R.RowStore.left rows.new) (R.RowStore.times rows.old) (R.RowStore.times rows.new) }
+    ensures since { (R.RowStore.times rows.new).since ≡ (R.RowStore.times rows.old).since }
+    ensures uncommitted { IfOk result (λ reply. is_committed reply.answer ≡ false) }
 {
     let decided = decide_question(rows, control, op)?;
     let reply = prepare(schema, size, op, decided)?;
@@ -122,6 +129,8 @@ pub(crate) fn answer_lock<R: RowStore>(
     ensures stays { OnErr result (Stays (R.RowStore.state rows.old) (R.RowStore.state rows.new) control.old control.new client) }
     ensures memory { IsErrOf result RowError.NoMemory → (R.RowStore.state rows.new).failed ≡ (R.RowStore.state rows.old).failed }
     ensures disk { IsErrOf result RowError.Disk → IsTrue (R.RowStore.state rows.new).failed }
+    ensures durable { StaysDurable (R.RowStore.state rows.old) (R.RowStore.state rows.new) (R.RowStore.left rows.old) (R.RowStore.left rows.new) (R.RowStore.times rows.old) (R.RowStore.times rows.new) }
+    ensures since { (R.RowStore.times rows.new).since ≡ (R.RowStore.times rows.old).since }
 {
     let decided = decide_lock(alloc, rows, control, client, table, row, exclusive, wait)?;
     let reply = prepare(schema, size, op, decided)?;
@@ -169,6 +178,8 @@ pub(crate) fn answer_drop<R: RowStore>(
     ensures stays { OnErr result (Stays (R.RowStore.state rows.old) (R.RowStore.state rows.new) control.old control.new client) }
     ensures memory { IsErrOf result RowError.NoMemory → (R.RowStore.state rows.new).failed ≡ (R.RowStore.state rows.old).failed }
     ensures disk { IsErrOf result RowError.Disk → IsTrue (R.RowStore.state rows.new).failed }
+    ensures durable { StaysDurable (R.RowStore.state rows.old) (R.RowStore.state rows.new) (R.RowStore.left rows.old) (R.RowStore.left rows.new) (R.RowStore.times rows.old) (R.RowStore.times rows.new) }
+    ensures since { (R.RowStore.times rows.new).since ≡ (R.RowStore.times rows.old).since }
 {
     let reply = prepare(schema, size, op, Answer::Done)?;
     if is_refusal(&reply.answer) {
@@ -206,6 +217,8 @@ pub(crate) fn answer_next_value<R: RowStore>(
     ensures stays { OnErr result (Stays (R.RowStore.state rows.old) (R.RowStore.state rows.new) control.old control.new client) }
     ensures memory { IsErrOf result RowError.NoMemory → (R.RowStore.state rows.new).failed ≡ (R.RowStore.state rows.old).failed }
     ensures disk { IsErrOf result RowError.Disk → IsTrue (R.RowStore.state rows.new).failed }
+    ensures durable { StaysDurable (R.RowStore.state rows.old) (R.RowStore.state rows.new) (R.RowStore.left rows.old) (R.RowStore.left rows.new) (R.RowStore.times rows.old) (R.RowStore.times rows.new) }
+    ensures since { (R.RowStore.times rows.new).since ≡ (R.RowStore.times rows.old).since }
 {
     let decided = decide_next_value(control, sequence, increment);
     let reply = prepare(schema, size, op, decided)?;

@@ -7,9 +7,11 @@ ghost use Rattle.client_database.specs.declared.operation.Op.TheVariants.{End};
 ghost use Rattle.database_meaning.specs.Fits.{Fits};
 ghost use Rattle.database_meaning.specs.Setting.{increment_of};
 ghost use Rattle.database_meaning.specs.Steps.{is_closed};
+ghost use Rattle.db_core.specs.Crashes.{Continues};
 ghost use Rattle.db_core.specs.Keeps.{Stays};
 ghost use Rattle.db_core.specs.Known.{IsAllowed, known, setting_at};
 ghost use Rattle.db_core.specs.Represents.{IsSound};
+ghost use Rattle.db_machine.specs.Crashes.{StepsOn, answer_for};
 ghost use Rattle.db_machine.specs.Machine.{IsSome};
 ghost use Rattle.db_machine.specs.OwnAnswers.{IsOpenAnswer};
 ghost use Rattle.db_machine.specs.Replies.{IsReply, IsStep};
@@ -64,6 +66,8 @@ fn answer_allowed<R: RowStore>(
     ensures stays { OnErr result (Stays (R.RowStore.state rows.old) (R.RowStore.state rows.new) control.old control.new client) }
     ensures memory { IsErrOf result RowError.NoMemory → (R.RowStore.state rows.new).failed ≡ (R.RowStore.state rows.old).failed }
     ensures disk { IsErrOf result RowError.Disk → IsTrue (R.RowStore.state rows.new).failed }
+    ensures durable { Continues (R.RowStore.state rows.old) (R.RowStore.state rows.new) (R.RowStore.left rows.old) (R.RowStore.left rows.new) (R.RowStore.times rows.old) (R.RowStore.times rows.new) control.old client op.now (answer_for result) }
+    ensures since { (R.RowStore.times rows.new).since ≡ (R.RowStore.times rows.old).since }
 {
     match op {
         Op::Enter => answer_enter(rows, control, schema, size, client, op),
@@ -142,6 +146,8 @@ fn try_answer<R: RowStore>(
     ensures disk { IsErrOf result RowError.Disk → IsTrue (R.RowStore.state rows.new).failed }
     ensures unshut { OnErr result (closed ≡ false) }
     ensures shut { IfOk result (λ reply. reply.answer ≡ Closed → IsTrue closed) }
+    ensures durable { StepsOn (R.RowStore.state rows.old) (R.RowStore.state rows.new) (R.RowStore.left rows.old) (R.RowStore.left rows.new) (R.RowStore.times rows.old) (R.RowStore.times rows.new) control.old closed client op.now (answer_for result) }
+    ensures since { (R.RowStore.times rows.new).since ≡ (R.RowStore.times rows.old).since }
 {
     a_refusal_changes_nothing();
     refusals_are_known();
@@ -188,6 +194,8 @@ fn answer_other<R: RowStore>(
     ensures fits { Fits schema.now op.now result.answer }
     ensures fine { (closed || is_closed result.answer) ≡ false → (R.RowStore.state rows.new).failed ≡ false }
     ensures cause { result.answer ≡ Closed → IsTrue closed ⊎ IsTrue (R.RowStore.state rows.new).failed }
+    ensures durable { StepsOn (R.RowStore.state rows.old) (R.RowStore.state rows.new) (R.RowStore.left rows.old) (R.RowStore.left rows.new) (R.RowStore.times rows.old) (R.RowStore.times rows.new) control.old closed client op.now result.answer }
+    ensures since { (R.RowStore.times rows.new).since ≡ (R.RowStore.times rows.old).since }
 {
     refusals_are_known();
     match try_answer(alloc, rows, control, schema, size, closed, client, op) {
@@ -232,6 +240,8 @@ fn answer_end<R: RowStore>(
     ensures fits { Fits schema.now Op.End result.answer }
     ensures fine { (closed || is_closed result.answer) ≡ false → (R.RowStore.state rows.new).failed ≡ false }
     ensures cause { result.answer ≡ Closed → IsTrue closed ⊎ IsTrue (R.RowStore.state rows.new).failed }
+    ensures durable { StepsOn (R.RowStore.state rows.old) (R.RowStore.state rows.new) (R.RowStore.left rows.old) (R.RowStore.left rows.new) (R.RowStore.times rows.old) (R.RowStore.times rows.new) control.old closed client Op.End result.answer }
+    ensures since { (R.RowStore.times rows.new).since ≡ (R.RowStore.times rows.old).since }
 {
     a_refusal_changes_nothing();
     refusals_are_known();
@@ -273,6 +283,8 @@ pub(crate) fn answer<R: RowStore>(
     ensures fits { Fits schema.now op.now result.answer }
     ensures fine { (closed || is_closed result.answer) ≡ false → (R.RowStore.state rows.new).failed ≡ false }
     ensures cause { result.answer ≡ Closed → IsTrue closed ⊎ IsTrue (R.RowStore.state rows.new).failed }
+    ensures durable { StepsOn (R.RowStore.state rows.old) (R.RowStore.state rows.new) (R.RowStore.left rows.old) (R.RowStore.left rows.new) (R.RowStore.times rows.old) (R.RowStore.times rows.new) control.old closed client op.now result.answer }
+    ensures since { (R.RowStore.times rows.new).since ≡ (R.RowStore.times rows.old).since }
 {
     if is_end(op) {
         return answer_end(rows, control, schema, size, closed, client);

@@ -6,6 +6,7 @@ ghost use Rattle.database_meaning.specs.Setting.{FitsTable, HasTable, Setting, r
 ghost use Rattle.database_meaning.specs.State.{HoldsExclusively, State};
 ghost use Rattle.database_meaning.specs.Steps.{after};
 ghost use Rattle.abl_rows.specs.Rows.{RowState};
+ghost use Rattle.db_core.specs.Crashes.{StaysDurable};
 ghost use Rattle.db_core.specs.Keeps.{SameCounts, Stays};
 ghost use Rattle.db_core.specs.Known.{known};
 ghost use Rattle.db_core.specs.Represents.{FitsOp, IsSound, Represents, lock_asked, marks_at};
@@ -76,6 +77,8 @@ pub(crate) fn answer_insert<R: RowStore>(
     ensures stays { OnErr result (Stays (R.RowStore.state rows.old) (R.RowStore.state rows.new) control.old control.new client) }
     ensures memory { IsErrOf result RowError.NoMemory → (R.RowStore.state rows.new).failed ≡ (R.RowStore.state rows.old).failed }
     ensures disk { IsErrOf result RowError.Disk → IsTrue (R.RowStore.state rows.new).failed }
+    ensures durable { StaysDurable (R.RowStore.state rows.old) (R.RowStore.state rows.new) (R.RowStore.left rows.old) (R.RowStore.left rows.new) (R.RowStore.times rows.old) (R.RowStore.times rows.new) }
+    ensures since { (R.RowStore.times rows.new).since ≡ (R.RowStore.times rows.old).since }
 {
     let decided = decide_insert(alloc, rows, control, client, op, table, values)?;
     let reply = prepare(schema, size, op, decided)?;
@@ -128,6 +131,8 @@ pub(crate) fn answer_put<R: RowStore>(
     ensures stays { OnErr result (Stays (R.RowStore.state rows.old) (R.RowStore.state rows.new) control.old control.new client) }
     ensures memory { IsErrOf result RowError.NoMemory → (R.RowStore.state rows.new).failed ≡ (R.RowStore.state rows.old).failed }
     ensures disk { IsErrOf result RowError.Disk → IsTrue (R.RowStore.state rows.new).failed }
+    ensures durable { StaysDurable (R.RowStore.state rows.old) (R.RowStore.state rows.new) (R.RowStore.left rows.old) (R.RowStore.left rows.new) (R.RowStore.times rows.old) (R.RowStore.times rows.new) }
+    ensures since { (R.RowStore.times rows.new).since ≡ (R.RowStore.times rows.old).since }
 {
     let decided = decide_put(alloc, rows, control, client, op, table, row, values)?;
     let reply = prepare(schema, size, op, decided)?;
@@ -176,6 +181,8 @@ pub(crate) fn answer_delete<R: RowStore>(
     ensures stays { OnErr result (Stays (R.RowStore.state rows.old) (R.RowStore.state rows.new) control.old control.new client) }
     ensures memory { IsErrOf result RowError.NoMemory → (R.RowStore.state rows.new).failed ≡ (R.RowStore.state rows.old).failed }
     ensures disk { IsErrOf result RowError.Disk → IsTrue (R.RowStore.state rows.new).failed }
+    ensures durable { StaysDurable (R.RowStore.state rows.old) (R.RowStore.state rows.new) (R.RowStore.left rows.old) (R.RowStore.left rows.new) (R.RowStore.times rows.old) (R.RowStore.times rows.new) }
+    ensures since { (R.RowStore.times rows.new).since ≡ (R.RowStore.times rows.old).since }
 {
     let decided = decide_delete(rows, control, client, table, row)?;
     let reply = prepare(schema, size, op, decided)?;

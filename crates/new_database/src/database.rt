@@ -30,12 +30,15 @@ pub fn open(
 ) -> Result<NewDatabase, AllocError>
     requires few { clients ≤ 16 }
     requires same { schema_of_rows ≡ schema }
-    ensures { IfOk result (λ db. IsNew (⟦<NewStore as RowStore>⟧.state db.rows) db schema clients) }
+    ensures { IfOk result (λ db. IsNew (⟦<NewStore as RowStore>⟧.state db.rows) (⟦<NewStore as RowStore>⟧.left db.rows) (⟦<NewStore as RowStore>⟧.times db.rows) db schema clients) }
 {
     let sequences = initial_values(alloc, schema.sequences())?;
     let slots = MemSlots::new(alloc)?;
     match RecordStore::new(alloc, slots, schema_of_rows) {
-        Ok(rows) => Db::new(alloc, rows, schema, sequences, clients),
+        Ok(rows) => match Db::new(alloc, rows, schema, sequences, clients) {
+            Ok(database) => Ok(database),
+            Err(_) => Err(AllocError),
+        },
         Err(_) => Err(AllocError),
     }
 }

@@ -4,6 +4,7 @@ use Rattle.client_database.specs.declared.answer.Answer.{Answer}
 use Rattle.client_database.specs.declared.answer.Answer.TheVariants.{Done}
 use Rattle.db_core.specs.Writes.{AnswersRoom}
 use Rattle.db_core.proofs.WriteRows.{at_rows, delete_keys, from_room, from_success, is_there, never_ends, not_so, not_there, old_fragments, seen_rows, so_if}
+use Rattle.db_core.proofs.Crashes.{asked}
 use Rattle.db_core.proofs.decide_writes.decide_delete.Goals as goal
 
 pub returns-then-not-there-clause-answer : goal.returns-then-not-there-clause-answer
@@ -31,3 +32,12 @@ returns-in-Some-clause-answer g c = λ f s represents seen.
     let room = c.decide_removal.ensures f s (Delete c.args.table c.args.row) (at_rows f rows (g.R.RowStore.state c.fragments.new.self) c.args.control.now s same represents) (seen_rows rows (g.R.RowStore.state c.fragments.new.self) same seen) (λ h. h) tt (sym old ∙ sym c.from.ensures) in
     from_room f s c.args.client (Delete c.args.table c.args.row) c.in-Some.answer (λ gone. gone there) (delete_keys f s c.args.client c.args.table c.args.row)
     (subst (λ (o : Option Answer). AnswersRoom f s c.args.client (Delete c.args.table c.args.row) o) c.in-Some.is room)
+
+pub returns-in_err-old-clause-durable : goal.returns-in_err-old-clause-durable
+returns-in_err-old-clause-durable g c = λ f contents trace h. asked (g.R.RowStore.state c.is_row_of.new.rows) (g.R.RowStore.state c.fragments.new.self) (g.R.RowStore.left c.is_row_of.new.rows) (g.R.RowStore.left c.fragments.new.self) (g.R.RowStore.times c.is_row_of.new.rows) (g.R.RowStore.times c.fragments.new.self) (g.met.R.RowStore.left_known c.fragments.new.self) (g.met.R.RowStore.since_past c.is_row_of.new.rows) c.fragments.result c.fragments.ensures.time c.fragments.ensures.same c.fragments.ensures.err f contents trace (c.is_row_of.ensures.durable f contents trace h)
+
+pub returns-in-None-clause-durable : goal.returns-in-None-clause-durable
+returns-in-None-clause-durable g c = λ f contents trace h. asked (g.R.RowStore.state c.is_row_of.new.rows) (g.R.RowStore.state c.fragments.new.self) (g.R.RowStore.left c.is_row_of.new.rows) (g.R.RowStore.left c.fragments.new.self) (g.R.RowStore.times c.is_row_of.new.rows) (g.R.RowStore.times c.fragments.new.self) (g.met.R.RowStore.left_known c.fragments.new.self) (g.met.R.RowStore.since_past c.is_row_of.new.rows) c.fragments.result c.fragments.ensures.time c.fragments.ensures.same c.fragments.ensures.err f contents trace (c.is_row_of.ensures.durable f contents trace h)
+
+pub returns-in-Some-clause-durable : goal.returns-in-Some-clause-durable
+returns-in-Some-clause-durable g c = λ f contents trace h. asked (g.R.RowStore.state c.is_row_of.new.rows) (g.R.RowStore.state c.fragments.new.self) (g.R.RowStore.left c.is_row_of.new.rows) (g.R.RowStore.left c.fragments.new.self) (g.R.RowStore.times c.is_row_of.new.rows) (g.R.RowStore.times c.fragments.new.self) (g.met.R.RowStore.left_known c.fragments.new.self) (g.met.R.RowStore.since_past c.is_row_of.new.rows) c.fragments.result c.fragments.ensures.time c.fragments.ensures.same c.fragments.ensures.err f contents trace (c.is_row_of.ensures.durable f contents trace h)

@@ -6,6 +6,7 @@ use Rattle.abl_rows.specs.Rows.{IsObservable, RowState}
 use Rattle.abl_rows.specs.declared.store.Duplicate.{Duplicate}
 use Rattle.answer_table.proofs.TableLaws.{found_at, none_at_all}
 use Rattle.db_core.proofs.WriteRows.{first_duplicate, no_duplicates, none_long}
+use Rattle.db_core.proofs.Crashes.{asked}
 use Rattle.db_core.proofs.decide_writes.decide_entry.Goals as goal
 
 pub returns-in-Some-2-clause-answer : goal.returns-in-Some-2-clause-answer
@@ -44,3 +45,12 @@ returns-in-Some-3-clause-answer g c = λ f s represents seen.
         refl,
       ),
     ))
+
+pub returns-in_err-duplicate-clause-durable : goal.returns-in_err-duplicate-clause-durable
+returns-in_err-duplicate-clause-durable g c = λ f contents trace h. asked (g.R.RowStore.state c.decide_keys.new.rows) (g.R.RowStore.state c.duplicate.new.self) (g.R.RowStore.left c.decide_keys.new.rows) (g.R.RowStore.left c.duplicate.new.self) (g.R.RowStore.times c.decide_keys.new.rows) (g.R.RowStore.times c.duplicate.new.self) (g.met.R.RowStore.left_known c.duplicate.new.self) (g.met.R.RowStore.since_past c.decide_keys.new.rows) c.duplicate.result c.duplicate.ensures.time c.duplicate.ensures.same c.duplicate.ensures.err f contents trace (c.decide_keys.ensures.durable f contents trace h)
+
+pub returns-in-None-clause-durable : goal.returns-in-None-clause-durable
+returns-in-None-clause-durable g c = λ f contents trace h. asked (g.R.RowStore.state c.decide_keys.new.rows) (g.R.RowStore.state c.duplicate.new.self) (g.R.RowStore.left c.decide_keys.new.rows) (g.R.RowStore.left c.duplicate.new.self) (g.R.RowStore.times c.decide_keys.new.rows) (g.R.RowStore.times c.duplicate.new.self) (g.met.R.RowStore.left_known c.duplicate.new.self) (g.met.R.RowStore.since_past c.decide_keys.new.rows) c.duplicate.result c.duplicate.ensures.time c.duplicate.ensures.same c.duplicate.ensures.err f contents trace (c.decide_keys.ensures.durable f contents trace h)
+
+pub returns-in-Some-3-clause-durable : goal.returns-in-Some-3-clause-durable
+returns-in-Some-3-clause-durable g c = λ f contents trace h. asked (g.R.RowStore.state c.decide_keys.new.rows) (g.R.RowStore.state c.duplicate.new.self) (g.R.RowStore.left c.decide_keys.new.rows) (g.R.RowStore.left c.duplicate.new.self) (g.R.RowStore.times c.decide_keys.new.rows) (g.R.RowStore.times c.duplicate.new.self) (g.met.R.RowStore.left_known c.duplicate.new.self) (g.met.R.RowStore.since_past c.decide_keys.new.rows) c.duplicate.result c.duplicate.ensures.time c.duplicate.ensures.same c.duplicate.ensures.err f contents trace (c.decide_keys.ensures.durable f contents trace h)

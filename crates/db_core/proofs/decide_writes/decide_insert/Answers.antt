@@ -9,6 +9,7 @@ use Rattle.abl_rows.specs.Rows.{IsFree, RowState}
 use Rattle.db_core.specs.Writes.{AnswersKeys, AnswersRoom}
 use Rattle.db_core.proofs.Inserts.{free_is_fresh}
 use Rattle.db_core.proofs.WriteRows.{at_rows, from_keys, from_room, from_success, insert_draws, insert_writes, never_ends, never_inserted, seen_rows, some_at}
+use Rattle.db_core.proofs.Crashes.{asked}
 use Rattle.db_core.proofs.decide_writes.decide_insert.Goals as goal
 
 pub returns-in-Some-clause-answer : goal.returns-in-Some-clause-answer
@@ -57,3 +58,9 @@ returns-in-Some-clause-free g c = λ row is. absurd (never_inserted c.in-Some.an
 
 pub returns-in-Some-decide_room-clause-free : goal.returns-in-Some-decide_room-clause-free
 returns-in-Some-decide_room-clause-free g c = λ row is. absurd (never_inserted c.in-Some-decide_room.answer row (some_at c.decide_room.result c.in-Some-decide_room.answer _ c.in-Some-decide_room.is c.decide_room.ensures.refusal) is)
+
+pub returns-in_err-row-clause-durable : goal.returns-in_err-row-clause-durable
+returns-in_err-row-clause-durable g c = λ f contents trace h. asked (g.R.RowStore.state c.decide_entry.new.rows) (g.R.RowStore.state c.fresh.new.self) (g.R.RowStore.left c.decide_entry.new.rows) (g.R.RowStore.left c.fresh.new.self) (g.R.RowStore.times c.decide_entry.new.rows) (g.R.RowStore.times c.fresh.new.self) (g.met.R.RowStore.left_known c.fresh.new.self) (g.met.R.RowStore.since_past c.decide_entry.new.rows) c.fresh.result c.fresh.ensures.time c.fresh.ensures.same c.fresh.ensures.err f contents trace (c.decide_entry.ensures.durable f contents trace h)
+
+pub returns-clause-durable : goal.returns-clause-durable
+returns-clause-durable g c = λ f contents trace h. asked (g.R.RowStore.state c.decide_entry.new.rows) (g.R.RowStore.state c.fresh.new.self) (g.R.RowStore.left c.decide_entry.new.rows) (g.R.RowStore.left c.fresh.new.self) (g.R.RowStore.times c.decide_entry.new.rows) (g.R.RowStore.times c.fresh.new.self) (g.met.R.RowStore.left_known c.fresh.new.self) (g.met.R.RowStore.since_past c.decide_entry.new.rows) c.fresh.result c.fresh.ensures.time c.fresh.ensures.same c.fresh.ensures.err f contents trace (c.decide_entry.ensures.durable f contents trace h)

@@ -6,6 +6,7 @@ use Rattle.client_database.specs.declared.answer.Answer.TheVariants.{Done, Gone}
 use Rattle.database_meaning.specs.Answers.{FromGone}
 use Rattle.db_core.specs.Writes.{AnswersKeys, AnswersRoom}
 use Rattle.db_core.proofs.WriteRows.{at_rows, from_keys, from_room, from_success, is_there, never_ends, not_so, not_there, old_fragments, put_draws, put_writes, seen_rows, so_if}
+use Rattle.db_core.proofs.Crashes.{asked}
 use Rattle.db_core.proofs.decide_writes.decide_put.Goals as goal
 
 pub returns-then-not-there-clause-answer : goal.returns-then-not-there-clause-answer
@@ -68,3 +69,12 @@ returns-in-Some-decide_room-clause-answer g c = λ f s represents seen.
     (put_draws f s c.args.table c.args.row c.args.values.now c.fragments_of.result c.from.result new old) (put_writes f s c.args.table c.args.row c.args.values.now c.fragments_of.result c.from.result new old) in
     subst (λ (o : Op). FromGone f s c.args.client o c.in-Some-decide_room.answer) (sym c.requires.op)
     (from_room f s c.args.client op c.in-Some-decide_room.answer (λ gone. gone there) keys (subst (λ (o : Option Answer). AnswersRoom f s c.args.client op o) c.in-Some-decide_room.is room))
+
+pub returns-in_err-old-clause-durable : goal.returns-in_err-old-clause-durable
+returns-in_err-old-clause-durable g c = λ f contents trace h. asked (g.R.RowStore.state c.decide_entry.new.rows) (g.R.RowStore.state c.fragments.new.self) (g.R.RowStore.left c.decide_entry.new.rows) (g.R.RowStore.left c.fragments.new.self) (g.R.RowStore.times c.decide_entry.new.rows) (g.R.RowStore.times c.fragments.new.self) (g.met.R.RowStore.left_known c.fragments.new.self) (g.met.R.RowStore.since_past c.decide_entry.new.rows) c.fragments.result c.fragments.ensures.time c.fragments.ensures.same c.fragments.ensures.err f contents trace (c.decide_entry.ensures.durable f contents trace (c.is_row_of.ensures.durable f contents trace h))
+
+pub returns-in-None-clause-durable : goal.returns-in-None-clause-durable
+returns-in-None-clause-durable g c = λ f contents trace h. asked (g.R.RowStore.state c.decide_entry.new.rows) (g.R.RowStore.state c.fragments.new.self) (g.R.RowStore.left c.decide_entry.new.rows) (g.R.RowStore.left c.fragments.new.self) (g.R.RowStore.times c.decide_entry.new.rows) (g.R.RowStore.times c.fragments.new.self) (g.met.R.RowStore.left_known c.fragments.new.self) (g.met.R.RowStore.since_past c.decide_entry.new.rows) c.fragments.result c.fragments.ensures.time c.fragments.ensures.same c.fragments.ensures.err f contents trace (c.decide_entry.ensures.durable f contents trace (c.is_row_of.ensures.durable f contents trace h))
+
+pub returns-in-Some-decide_room-clause-durable : goal.returns-in-Some-decide_room-clause-durable
+returns-in-Some-decide_room-clause-durable g c = λ f contents trace h. asked (g.R.RowStore.state c.decide_entry.new.rows) (g.R.RowStore.state c.fragments.new.self) (g.R.RowStore.left c.decide_entry.new.rows) (g.R.RowStore.left c.fragments.new.self) (g.R.RowStore.times c.decide_entry.new.rows) (g.R.RowStore.times c.fragments.new.self) (g.met.R.RowStore.left_known c.fragments.new.self) (g.met.R.RowStore.since_past c.decide_entry.new.rows) c.fragments.result c.fragments.ensures.time c.fragments.ensures.same c.fragments.ensures.err f contents trace (c.decide_entry.ensures.durable f contents trace (c.is_row_of.ensures.durable f contents trace h))

@@ -2,6 +2,7 @@ use Rattle.std.proofs.Common.{◌≡◌, ◌-◌, get_or, arith}
 use Rattle.db_core.specs.Represents.{marks_at}
 use Rattle.db_core.proofs.Backs.{back_represents, back_sound, within_mark, mark_found}
 use Rattle.db_core.proofs.StayLaws.{counts_of, keeps_based, next_of}
+use Rattle.db_core.proofs.Crashes.{based, failed}
 use Rattle.db_core.proofs.levels.back.Goals as goal
 
 pub back-requires-clause-mark : goal.back-requires-clause-mark
@@ -29,3 +30,9 @@ returns-clause-keeps g c =
     let backs = c.back_to_level.ensures in
     keeps_based (g.R.RowStore.state c.args.rows.now) (g.R.RowStore.state c.back.new.self) c.args.control.now c.back_to_level.new.control c.in_ok-back.ensures.ok.base
     (next_of c.args.control.now c.back_to_level.new.control (counts_of c.args.control.now c.back_to_level.new.control backs.client.count backs.sequences backs.frees))
+
+pub returns-clause-durable : goal.returns-clause-durable
+returns-clause-durable g c = based (g.R.RowStore.state c.args.rows.now) (g.R.RowStore.state c.back.new.self) (g.R.RowStore.left c.args.rows.now) (g.R.RowStore.left c.back.new.self) (g.R.RowStore.times c.args.rows.now) (g.R.RowStore.times c.back.new.self) (g.met.R.RowStore.left_known c.back.new.self) (g.met.R.RowStore.since_past c.args.rows.now) c.back.ensures.time c.in_ok-back.ensures.ok.base
+
+pub returns-in_err-back-clause-durable : goal.returns-in_err-back-clause-durable
+returns-in_err-back-clause-durable g c = failed (g.R.RowStore.state c.args.rows.now) (g.R.RowStore.state c.back.new.self) (g.R.RowStore.left c.args.rows.now) (g.R.RowStore.left c.back.new.self) (g.R.RowStore.times c.args.rows.now) (g.R.RowStore.times c.back.new.self) (g.met.R.RowStore.left_known c.back.new.self) (g.met.R.RowStore.since_past c.args.rows.now) _ c.back.ensures.time c.in_err-back.ensures.err

@@ -3,6 +3,7 @@ use Rattle.abl_rows.specs.Rows.{RowTransaction}
 use Rattle.db_core.specs.Represents.{is_open}
 use Rattle.db_core.proofs.LevelMoves.{begins_opens, enter_represents, enter_sound, enters_of, popped_same}
 use Rattle.db_core.proofs.StayLaws.{counts_of, keeps_based, next_of, stays_same}
+use Rattle.db_core.proofs.Crashes.{based, failed}
 use Rattle.db_core.proofs.levels.enter_outermost.Goals as goal
 
 pub begin-requires-clause-idle : goal.begin-requires-clause-idle
@@ -42,3 +43,9 @@ pub returns-in-Err-begin-clause-stays : goal.returns-in-Err-begin-clause-stays
 returns-in-Err-begin-clause-stays g c =
     stays_same (g.R.RowStore.state c.args.rows.now) (g.R.RowStore.state c.begin.new.self) c.args.control.now c.pop_mark.new.control c.args.client c.in-Err-begin.error c.in-Err-begin.ensures.err
     (popped_same c.args.control.now c.push_mark.new.control c.pop_mark.new.control c.args.client 0 c.in-Ok.ensures.ok c.pop_mark.ensures)
+
+pub returns-in-Ok-begin-clause-durable : goal.returns-in-Ok-begin-clause-durable
+returns-in-Ok-begin-clause-durable g c = based (g.R.RowStore.state c.args.rows.now) (g.R.RowStore.state c.begin.new.self) (g.R.RowStore.left c.args.rows.now) (g.R.RowStore.left c.begin.new.self) (g.R.RowStore.times c.args.rows.now) (g.R.RowStore.times c.begin.new.self) (g.met.R.RowStore.left_known c.begin.new.self) (g.met.R.RowStore.since_past c.args.rows.now) c.begin.ensures.time c.in-Ok-begin.ensures.ok.base
+
+pub returns-in-Err-begin-clause-durable : goal.returns-in-Err-begin-clause-durable
+returns-in-Err-begin-clause-durable g c = failed (g.R.RowStore.state c.args.rows.now) (g.R.RowStore.state c.begin.new.self) (g.R.RowStore.left c.args.rows.now) (g.R.RowStore.left c.begin.new.self) (g.R.RowStore.times c.args.rows.now) (g.R.RowStore.times c.begin.new.self) (g.met.R.RowStore.left_known c.begin.new.self) (g.met.R.RowStore.since_past c.args.rows.now) _ c.begin.ensures.time c.in-Err-begin.ensures.err

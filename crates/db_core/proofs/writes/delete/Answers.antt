@@ -1,6 +1,7 @@
 use Rattle.db_core.proofs.Sound.{change_sound, marks_stay}
 use Rattle.db_core.proofs.Puts.{delete_represents}
 use Rattle.db_core.proofs.StayLaws.{counts_wait, keeps_based, next_of}
+use Rattle.db_core.proofs.Crashes.{based, failed}
 use Rattle.db_core.proofs.writes.delete.Goals as goal
 
 pub returns-clause-represents : goal.returns-clause-represents
@@ -17,3 +18,9 @@ pub returns-clause-keeps : goal.returns-clause-keeps
 returns-clause-keeps g c =
     keeps_based (g.R.RowStore.state c.args.rows.now) (g.R.RowStore.state c.delete.new.self) c.args.control.now c.end_wait.new.control c.in_ok-delete.ensures.ok.base
     (next_of c.args.control.now c.end_wait.new.control (counts_wait c.args.control.now c.end_wait.new.control c.args.client c.end_wait.ensures))
+
+pub returns-clause-durable : goal.returns-clause-durable
+returns-clause-durable g c = based (g.R.RowStore.state c.args.rows.now) (g.R.RowStore.state c.delete.new.self) (g.R.RowStore.left c.args.rows.now) (g.R.RowStore.left c.delete.new.self) (g.R.RowStore.times c.args.rows.now) (g.R.RowStore.times c.delete.new.self) (g.met.R.RowStore.left_known c.delete.new.self) (g.met.R.RowStore.since_past c.args.rows.now) c.delete.ensures.time c.in_ok-delete.ensures.ok.base
+
+pub returns-in_err-delete-clause-durable : goal.returns-in_err-delete-clause-durable
+returns-in_err-delete-clause-durable g c = failed (g.R.RowStore.state c.args.rows.now) (g.R.RowStore.state c.delete.new.self) (g.R.RowStore.left c.args.rows.now) (g.R.RowStore.left c.delete.new.self) (g.R.RowStore.times c.args.rows.now) (g.R.RowStore.times c.delete.new.self) (g.met.R.RowStore.left_known c.delete.new.self) (g.met.R.RowStore.since_past c.args.rows.now) _ c.delete.ensures.time c.in_err-delete.ensures.err

@@ -1,7 +1,7 @@
-use Rattle.std.proofs.Common.{sym, subst, refl, inl, inr}
+use Rattle.std.proofs.Common.{rules, sym, subst, refl, inl, inr}
 use Rattle.client_database.specs.declared.operation.Op.{Op}
 use Rattle.client_database.specs.declared.operation.Op.TheVariants.{Leave}
-use Rattle.client_database.specs.declared.answer.Answer.TheVariants.{Committed}
+use Rattle.client_database.specs.declared.answer.Answer.TheVariants.{Closed, Committed}
 use Rattle.abl_rows.specs.Rows.{RowState}
 use Rattle.db_core.specs.Keeps.{Keeps}
 use Rattle.database_meaning.specs.Steps.{after}
@@ -12,6 +12,10 @@ use Rattle.db_core.proofs.WriteRows.{not_so}
 use Rattle.db_machine.specs.OwnAnswers.{IsOpenAnswer}
 use Rattle.db_machine.proofs.Replying.{after_as, from_op, is_outer, outer_levels, outermost_depth, reply_by, still_reply}
 use Rattle.db_machine.proofs.Rooms.{leave_row, moment_place, place_of, refusal_ends, refusal_fails}
+use Rattle.database_meaning.specs.Traces.{left_by}
+use Rattle.db_core.proofs.Crashes.{grows_quietly}
+use Rattle.db_machine.specs.Crashes.{answer_for}
+use Rattle.db_machine.proofs.Crashes.{continues_in, error_closed_of, error_quiet_of, refusal_quiet}
 use Rattle.db_machine.proofs.levels.answer_commit.Goals as goal
 
 pub returns-then-is_refusal-clause-reply : goal.returns-then-is_refusal-clause-reply
@@ -46,3 +50,29 @@ returns-clause-reply g c =
 
 pub returns-clause-own : goal.returns-clause-own
 returns-clause-own g c = subst (λ (o : Op). IsOpenAnswer c.args.schema.now o (Committed c.in_ok-moment.moment)) (sym c.requires.op) (tt, inr tt)
+
+pub returns-in_err-reply-clause-durable : goal.returns-in_err-reply-clause-durable
+returns-in_err-reply-clause-durable g c =
+    λ f contents trace represents unshut h. grows_quietly (g.R.RowStore.state c.args.rows.now) (g.R.RowStore.left c.args.rows.now) (g.R.RowStore.times c.args.rows.now) f contents trace c.args.client c.args.op.now (answer_for c.from_residual.result) (error_quiet_of c.from_residual.result c.in_err-reply.field-0.0 (search rules)) h
+
+pub returns-then-is_refusal-clause-durable : goal.returns-then-is_refusal-clause-durable
+returns-then-is_refusal-clause-durable g c =
+    λ f contents trace represents unshut h. grows_quietly (g.R.RowStore.state c.args.rows.now) (g.R.RowStore.left c.args.rows.now) (g.R.RowStore.times c.args.rows.now) f contents trace c.args.client c.args.op.now _ (refusal_quiet c.in_ok-reply.reply.answer (c.is_refusal.ensures.0 c.if-is_refusal.true)) h
+
+pub returns-in_err-staying-clause-durable : goal.returns-in_err-staying-clause-durable
+returns-in_err-staying-clause-durable g c =
+    λ f contents trace represents unshut h. grows_quietly (g.R.RowStore.state c.staying_rows.new.rows) (g.R.RowStore.left c.staying_rows.new.rows) (g.R.RowStore.times c.staying_rows.new.rows) f contents trace c.args.client c.args.op.now (answer_for c.from_residual-in_err-staying.result) (error_quiet_of c.from_residual-in_err-staying.result c.in_err-staying.field-0.0 (search rules)) (c.staying_rows.ensures.durable f contents trace h)
+
+pub returns-in_err-moment-clause-durable : goal.returns-in_err-moment-clause-durable
+returns-in_err-moment-clause-durable g c =
+    λ f contents trace represents unshut h.
+    continues_in (g.R.RowStore.state c.commit.new.rows) (g.R.RowStore.left c.commit.new.rows) (g.R.RowStore.times c.commit.new.rows) f contents trace c.args.client c.args.op.now (Leave c.args.keep.now) _ Closed c.requires.op (error_closed_of c.from_residual-in_err-moment.result c.in_err-moment.field-0.0 (search rules) c.in_err-moment.ensures.only)
+    (c.in_err-moment.ensures.unanswered c.args.keep.now c.requires.outermost f contents trace (subst (λ (r : RowState). Represents f r c.args.control.now (left_by f contents trace)) (sym c.in_ok-staying.ensures.same) represents) unshut
+    (c.staying_rows.ensures.durable f contents trace h))
+
+pub returns-clause-durable : goal.returns-clause-durable
+returns-clause-durable g c =
+    λ f contents trace represents unshut h.
+    continues_in (g.R.RowStore.state c.commit.new.rows) (g.R.RowStore.left c.commit.new.rows) (g.R.RowStore.times c.commit.new.rows) f contents trace c.args.client c.args.op.now (Leave c.args.keep.now) _ (Committed c.in_ok-moment.moment) c.requires.op refl
+    (c.in_ok-moment.ensures.durable c.args.keep.now c.requires.outermost f contents trace (subst (λ (r : RowState). Represents f r c.args.control.now (left_by f contents trace)) (sym c.in_ok-staying.ensures.same) represents) unshut
+    (c.staying_rows.ensures.durable f contents trace h))

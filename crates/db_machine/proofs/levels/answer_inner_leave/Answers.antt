@@ -4,6 +4,7 @@ use Rattle.client_database.specs.declared.answer.Answer.TheVariants.{Done}
 use Rattle.db_core.proofs.WriteRows.{not_so}
 use Rattle.db_machine.proofs.Replying.{after_as, from_op, inner_depth, still_reply}
 use Rattle.db_machine.proofs.Rooms.{fitted_is, leave_row, refusal_ends, refusal_fails}
+use Rattle.db_machine.proofs.Crashes.{fitted_quiet_of, refusal_quiet}
 use Rattle.db_machine.proofs.levels.answer_inner_leave.Goals as goal
 
 pub returns-then-is_refusal-clause-reply : goal.returns-then-is_refusal-clause-reply
@@ -25,3 +26,11 @@ returns-clause-reply g c =
     refl c.leave.ensures.counts (c.leave.ensures.sound rows c.requires.sound)
     (λ seen f s h. from_op f s c.args.client c.args.op.now (Leave c.args.keep.now) Done c.requires.op (leave_row f s c.args.client c.args.keep.now Done (inr (inner_depth f rows c.args.control.now s c.args.client h c.requires.inner, refl)))) c.in_ok-reply.ensures.fitted
     (λ f s h. after_as f rows c.leave.new.control s c.args.client c.args.op.now (Leave c.args.keep.now) reply.answer Done c.requires.op is (c.leave.ensures.represents f rows s c.args.keep.now c.requires.sound h))
+
+pub returns-then-is_refusal-clause-uncommitted : goal.returns-then-is_refusal-clause-uncommitted
+returns-then-is_refusal-clause-uncommitted g c =
+    refusal_quiet c.in_ok-reply.reply.answer (c.is_refusal.ensures.0 c.if-is_refusal.true)
+
+pub returns-clause-uncommitted : goal.returns-clause-uncommitted
+returns-clause-uncommitted g c =
+    fitted_quiet_of c.args.size c.args.op.now Done c.in_ok-reply.reply.answer c.in_ok-reply.ensures.fitted refl

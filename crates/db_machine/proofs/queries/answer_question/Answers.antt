@@ -1,6 +1,16 @@
-use Rattle.std.proofs.Common.{inr}
 use Rattle.db_machine.proofs.Replying.{still_reply, question_is}
 use Rattle.db_machine.proofs.Rooms.{fitted_quiet}
+use Rattle.std.proofs.Common.{◌≡◌, false, refl, ap, inl, inr}
+use Rattle.abl_values.specs.Schema.{SchemaData}
+use Rattle.client_database.specs.declared.operation.Op.{Op}
+use Rattle.client_database.specs.declared.operation.Op.TheVariants.{CurrentValue, Get, Next}
+use Rattle.client_database.specs.declared.answer.Answer.{Answer}
+use Rattle.client_database.specs.declared.answer.Answer.TheVariants.{Committed}
+use Rattle.database_meaning.specs.Fits.{IsOwnAnswer}
+use Rattle.database_meaning.specs.Traces.{is_committed}
+use Rattle.db_core.specs.declared.control.Control.{Control}
+use Rattle.db_machine.specs.OwnAnswers.{IsOpenAnswer}
+use Rattle.db_machine.specs.Replies.{AsksWhatIs}
 use Rattle.db_machine.proofs.queries.answer_question.Goals as goal
 
 pub returns-clause-reply : goal.returns-clause-reply
@@ -13,3 +23,18 @@ returns-clause-reply g c =
     (λ f s h. c.end_request.ensures.represents f rows s c.args.op.now reply.answer h
     (fitted_quiet c.args.size c.args.op.now c.in_ok-decided.decided reply.answer c.in_ok-reply.ensures.fitted c.in_ok-decided.ensures.quiet s c.args.client c.args.op.now)
     (inr (question_is rows.schema c.args.control.now c.args.op.now c.requires.asks)))
+
+-- what there is is told by no Committed
+told : (schema other : SchemaData) (control : Control) (op : Op) (a : Answer) → AsksWhatIs other control op → IsOwnAnswer schema op a → is_committed a ≡ false
+told schema other control (Next table index prefix cursor forward) (Committed moment) asks own = absurd own
+told schema other control (Get table row) (Committed moment) asks own = absurd own
+told schema other control (CurrentValue sequence) (Committed moment) asks own = absurd own
+told schema other control _ (Committed moment) asks own = absurd asks
+told schema other control op _ asks own = refl
+
+told_open : (schema other : SchemaData) (control : Control) (op : Op) (a : Answer) → AsksWhatIs other control op → IsOpenAnswer schema op a → is_committed a ≡ false
+told_open schema other control op a asks (no_end, inl full) = ap is_committed full
+told_open schema other control op a asks (no_end, inr own) = told schema other control op a asks own
+
+pub returns-clause-uncommitted : goal.returns-clause-uncommitted
+returns-clause-uncommitted g c = told_open c.args.schema.now (g.R.RowStore.state c.args.rows.now).schema c.args.control.now c.args.op.now c.in_ok-reply.reply.answer c.requires.asks c.in_ok-reply.ensures.own

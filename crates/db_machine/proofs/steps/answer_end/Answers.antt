@@ -1,8 +1,9 @@
-use Rattle.std.proofs.Common.{◌∙◌}
+use Rattle.std.proofs.Common.{◌∙◌, refl}
 use Rattle.client_database.specs.declared.operation.Op.TheVariants.{End}
 use Rattle.client_database.specs.declared.answer.Answer.TheVariants.{Done}
 use Rattle.answer_table.proofs.TableLaws.{end_row}
 use Rattle.db_machine.proofs.Replying.{levels_by}
+use Rattle.db_core.proofs.Crashes.{grows_quietly}
 use Rattle.db_machine.proofs.steps.answer_end.Goals as goal
 
 pub returns-clause-step : goal.returns-clause-step
@@ -17,3 +18,11 @@ returns-clause-step g c =
       represents = λ observable f s h. c.end.ensures.represents f s h;
       levels = levels_by (g.R.RowStore.state c.args.rows.now) (g.R.RowStore.state c.end.new.rows) c.args.control.now c.end.new.control c.args.client End Done c.requires.some c.end.ensures.represents;
     }
+
+pub returns-then-not-is_allowed-clause-durable : goal.returns-then-not-is_allowed-clause-durable
+returns-then-not-is_allowed-clause-durable g c =
+    λ f contents trace represents shut h. grows_quietly (g.R.RowStore.state c.args.rows.now) (g.R.RowStore.left c.args.rows.now) (g.R.RowStore.times c.args.rows.now) f contents trace c.args.client End _ refl h
+
+pub returns-clause-durable : goal.returns-clause-durable
+returns-clause-durable g c =
+    λ f contents trace represents shut h. grows_quietly (g.R.RowStore.state c.end.new.rows) (g.R.RowStore.left c.end.new.rows) (g.R.RowStore.times c.end.new.rows) f contents trace c.args.client End _ refl (c.end.ensures.durable f contents trace h)

@@ -1,9 +1,10 @@
-use Rattle.std.proofs.Common.{◌∙◌, refl, inl, false}
+use Rattle.std.proofs.Common.{◌∙◌, refl, sym, inl, false}
 use Rattle.client_database.specs.declared.answer.Answer.TheVariants.{Closed}
 use Rattle.db_core.proofs.LockRows.{ok_more}
 use Rattle.db_core.proofs.WriteRows.{not_so}
 use Rattle.db_machine.proofs.OwnAnswers.{not_end, open_fits, open_unclosed, open_unrefused}
 use Rattle.db_machine.proofs.Replying.{left_false, step_closed, step_refused, step_reply}
+use Rattle.db_core.proofs.Crashes.{grows_quietly}
 use Rattle.db_machine.proofs.steps.try_answer.Goals as goal
 
 pub returns-then-not-is_allowed-clause-step : goal.returns-then-not-is_allowed-clause-step
@@ -51,3 +52,15 @@ returns-clause-fits g c = ok_more c.answer_allowed.result _ _ (λ reply h. open_
 
 pub returns-clause-shut : goal.returns-clause-shut
 returns-clause-shut g c = ok_more c.answer_allowed.result _ _ (λ reply h is. absurd (open_unclosed c.args.schema.now c.args.op.now reply.answer h is)) c.answer_allowed.ensures.own
+
+pub returns-then-not-is_allowed-clause-durable : goal.returns-then-not-is_allowed-clause-durable
+returns-then-not-is_allowed-clause-durable g c =
+    λ f contents trace represents shut h. grows_quietly (g.R.RowStore.state c.args.rows.now) (g.R.RowStore.left c.args.rows.now) (g.R.RowStore.times c.args.rows.now) f contents trace c.args.client c.args.op.now _ refl h
+
+pub returns-then-closed-clause-durable : goal.returns-then-closed-clause-durable
+returns-then-closed-clause-durable g c =
+    λ f contents trace represents shut h. grows_quietly (g.R.RowStore.state c.args.rows.now) (g.R.RowStore.left c.args.rows.now) (g.R.RowStore.times c.args.rows.now) f contents trace c.args.client c.args.op.now _ refl h
+
+pub returns-clause-durable : goal.returns-clause-durable
+returns-clause-durable g c =
+    λ f contents trace represents shut h. c.answer_allowed.ensures.durable f contents trace represents (sym shut ∙ c.if-closed.false) h

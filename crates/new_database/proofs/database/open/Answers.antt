@@ -7,7 +7,6 @@ use Rattle.chain_store.specs.Places.{HoldNothing}
 use Rattle.new_database.specs.Contents.{new_contents}
 use Rattle.sequence_slots.specs.Values.{HoldValues}
 use Rattle.new_database.proofs.Empty.{hold_no_value, hold_nothing, is_opened, sound}
-use Rattle.new_database.proofs.Opened.{three_of}
 use Rattle.new_database.proofs.database.open.Goals as goal
 
 pub new-requires-2-clause-idle : goal.new-requires-2-clause-idle
@@ -30,15 +29,14 @@ new-requires-in-Ok-clause-opened c =
     let schema = c.args.schema in
     (new_contents schema, is_opened _ schema c.in-Ok.ensures.idle c.in-Ok.ensures.empty, c.in_ok-sequences.ensures ∙ ap (λ (s : List SequenceDef). map (λ (x : SequenceDef). x.initial) s) c.sequences.ensures)
 
-pub returns-in-Ok : goal.returns-in-Ok
-returns-in-Ok c =
+pub returns-in-Ok-new : goal.returns-in-Ok-new
+returns-in-Ok-new c =
     let schema = c.args.schema in
-    three_of c.new-in-Ok.result c.new-in-Ok.ensures.opened c.new-in-Ok.ensures.active c.new-in-Ok.ensures.trace
-    (λ db opened active none.
+    let e = c.in-Ok-new.ensures in
     record {
       opened =
-          opened (new_contents schema) (is_opened _ schema c.in-Ok.ensures.idle c.in-Ok.ensures.empty)
-          (c.in_ok-sequences.ensures ∙ ap (λ (s : List SequenceDef). map (λ (x : SequenceDef). x.initial) s) c.sequences.ensures) refl (sound schema c.args.clients);
-      active = active;
-      trace = none;
-    })
+          e.opened (new_contents schema) (is_opened _ schema c.in-Ok.ensures.idle c.in-Ok.ensures.empty)
+          (c.in_ok-sequences.ensures ∙ ap (λ (s : List SequenceDef). map (λ (x : SequenceDef). x.initial) s) c.sequences.ensures) refl (sound schema c.args.clients) (λ first known. absurd known.1);
+      active = e.active;
+      trace = e.trace;
+    }

@@ -3,6 +3,7 @@ use Rattle.client_database.specs.declared.answer.Answer.{Answer}
 use Rattle.client_database.specs.declared.answer.Answer.TheVariants.{Refused}
 use Rattle.client_database.specs.declared.event.Event.{Event}
 use Rattle.database_interface.specs.Step.{IsIllFormed}
+use Rattle.db_core.specs.Crashes.{IsDurable}
 use Rattle.db_machine.specs.Database.{HasSetting, IsActive, IsBlocked, IsOpened}
 use Rattle.db_machine.specs.Machine.{Machine}
 use Rattle.db_machine.proofs.Refusing.{rightly_refused}
@@ -58,7 +59,7 @@ returns-clause-opened g c = λ f contents opened.
     let event : Answer → Event = λ a. record { client = c.args.client; op = c.args.op; answer = a } in
     let is = c.push_reserved.ensures.items ∙ (ap (λ (xs : List Event). xs ++ event c.answer-reply.result.copy ∷ []) c.has_room.ensures.items ∙ ap (λ (a : Answer). d.trace.items ++ event a ∷ []) c.answer-reply.ensures.copy) in
     let m : Machine g.row.R.Denot = record { rows = d.rows; control = d.control; schema = d.schema; size = d.size; closed = d.closed; running = d.running; trace = d.trace.items } in
-    let was : IsOpened (g.R.RowStore.state d.rows) m f contents = subst (λ (x : Machine g.row.R.Denot). IsOpened (g.R.RowStore.state x.rows) x f contents) (sym c.self.view_is) opened in
+    let was : IsOpened (g.R.RowStore.state d.rows) (g.R.RowStore.left d.rows) (g.R.RowStore.times d.rows) m f contents = subst (λ (x : Machine g.row.R.Denot). IsOpened (g.R.RowStore.state x.rows) (g.R.RowStore.left x.rows) (g.R.RowStore.times x.rows) x f contents) (sym c.self.view_is) opened in
     record {
       setting = record {
         schema = was.setting.schema;
@@ -68,4 +69,9 @@ returns-clause-opened g c = λ f contents opened.
       };
       was = opened_more (g.R.RowStore.state d.rows) (g.R.RowStore.state c.answer-reply.new.rows) d.control c.answer-reply.new.control d.schema d.size c.counted-self-inside.result d.closed c.is_closed-self-inside.result c.args.client c.args.op c.answer-reply.result.answer d.trace.items c.push_reserved.new.self.items
           c.answer-reply.ensures.step is c.counted-self-inside.ensures.bound c.counted-self-inside.ensures.counted c.is_closed-self-inside.ensures c.answer-reply.ensures.fine f contents was.was;
+      durable = subst (λ (es : List Event). IsDurable (g.R.RowStore.state c.answer-reply.new.rows) (g.R.RowStore.left c.answer-reply.new.rows) (g.R.RowStore.times c.answer-reply.new.rows) f contents es) (sym is)
+          (c.answer-reply.ensures.durable f contents d.trace.items was.was.represents was.was.closed_is was.durable);
     }
+
+pub returns-clause-since : goal.returns-clause-since
+returns-clause-since g c = c.answer-reply.ensures.since ∙ ap (λ (m : Machine g.row.R.Denot). (g.R.RowStore.times m.rows).since) c.self.view_is

@@ -1,0 +1,29 @@
+-- The answer of a call that may fail, and what a step does to what stops leave.
+use Rattle.std.specs.Prelude.{◌≡◌, ℕ, Bool, List, Result, Ok, Err}
+use Rattle.client_database.specs.declared.operation.Op.{Op}
+use Rattle.client_database.specs.declared.answer.Answer.{Answer}
+use Rattle.client_database.specs.declared.answer.Answer.TheVariants.{Closed, NoMemory}
+use Rattle.client_database.specs.declared.event.Event.{Event}
+use Rattle.database_meaning.specs.declared.contents.Contents.{Contents}
+use Rattle.database_meaning.specs.Setting.{Setting}
+use Rattle.database_meaning.specs.Traces.{left_by}
+use Rattle.abl_rows.specs.declared.store.RowError.{RowError}
+use Rattle.abl_rows.specs.declared.store.RowError.TheVariants.{Disk as DiskFailed, NoMemory as OutOfMemory}
+use Rattle.abl_rows.specs.Rows.{Durable, RowState}
+use Rattle.abl_rows.specs.Times.{Times}
+use Rattle.db_core.specs.declared.control.Control.{Control}
+use Rattle.db_core.specs.Crashes.{IsDurable, longer}
+use Rattle.db_core.specs.Represents.{Represents}
+use Rattle.db_machine.specs.declared.replies.Reply.{Reply}
+
+-- the answer that the client gets
+abbrev pub answer_for : Result Reply RowError → Answer
+answer_for (Ok reply) = reply.answer
+answer_for (Err OutOfMemory) = NoMemory
+answer_for (Err DiskFailed) = Closed
+
+-- the event comes to the trace, of a database whose state is the one that the trace leaves
+abbrev pub StepsOn : RowState → RowState → (ℕ → Durable → Type 0) → (ℕ → Durable → Type 0) → Times → Times → Control → Bool → ℕ → Op → Answer → Type 0
+StepsOn old new before after was now control closed client op answer =
+    (f : Setting) (contents : Contents) (trace : List Event) → Represents f old control (left_by f contents trace) → closed ≡ (left_by f contents trace).closed
+    → IsDurable old before was f contents trace → IsDurable new after now f contents (longer trace client op answer)
