@@ -1,0 +1,5 @@
+pub mod Causes
+pub mod Dumps
+pub mod Openings
+pub mod Starts
+pub mod Survivals

@@ -1,0 +1,64 @@
+-- What the answers of the calls mean.
+use Rattle.std.specs.Prelude.{◌≡◌, ◌≢◌, ◌⊎◌, ℕ, Bool, true, false, List, None, IsTrue}
+use Rattle.abl_values.specs.Schema.{SchemaData, canonical_text, primary_of}
+use Rattle.disk_steps.specs.Steps.{Image}
+use Rattle.log_meaning.specs.Images.{IsOpened, Recovers}
+use Rattle.stored_text.specs.Held.{HoldText}
+use Rattle.record_store.specs.Opened.{HoldStore}
+use Rattle.abl_outside.specs.Out.{OutState, Writes}
+use Rattle.abl_outside.specs.declared.out.Stream.TheVariants.{Output as Standard}
+use Rattle.abl_rows.specs.declared.store.FoundRow.{FoundRow}
+use Rattle.stored_rows.specs.Decoded.{decoded}
+use Rattle.table_dump.specs.Order.{AreAll, AreFirst, export_lines}
+use Rattle.table_dump.specs.declared.writing.TableError.{TableError}
+use Rattle.table_dump.specs.declared.writing.TableError.TheVariants as error
+use Rattle.disk_database.specs.declared.refusals.OpenRefusal.{OpenRefusal}
+use Rattle.disk_database.specs.declared.refusals.OpenRefusal.TheVariants.{NotCreated, SchemaDiffers, Disk, NoMemory}
+use Rattle.disk_database.specs.declared.refusals.DumpRefusal.{DumpRefusal}
+use Rattle.disk_database.specs.declared.refusals.DumpRefusal.TheVariants.{Database, Output}
+
+-- where the disk recovers to slots, they hold the text of this schema
+abbrev pub HasText : Image → SchemaData → Type 0
+HasText seen schema = (slots : ℕ → List ℕ) → Recovers seen slots → HoldText slots (canonical_text schema)
+
+-- Why the disk was not opened with this schema. NotCreated: what it recovers to, if to anything, holds no text, or is no database of the
+-- schema whose text it holds. SchemaDiffers: the slots that it recovers to hold another text, which is stored
+abbrev pub IsRefused : SchemaData → Bool → Image → OpenRefusal → Type 0
+IsRefused schema observable seen NotCreated =
+    IsTrue observable → (slots : ℕ → List ℕ) → Recovers seen slots → ((text : List ℕ) → HoldText slots text → ⊥) ⊎ ¬ HoldStore schema slots
+IsRefused schema observable seen (SchemaDiffers stored given) =
+    (given ≡ canonical_text schema) × (stored ≢ given) × (IsTrue observable → (slots : ℕ → List ℕ) × Recovers seen slots × HoldText slots stored)
+IsRefused schema observable seen refusal = Unit {0}
+
+-- whether a dump was refused because the output did not take a whole line
+abbrev pub is_output : DumpRefusal → Bool
+is_output Output = true
+is_output refusal = false
+
+-- whether it was refused because the disk failed
+abbrev pub is_disk : DumpRefusal → Bool
+is_disk (Database Disk) = true
+is_disk refusal = false
+
+-- why a table was not written
+abbrev pub IsNotDumped : SchemaData → Bool → Image → DumpRefusal → Type 0
+IsNotDumped schema observable seen (Database refusal) = IsRefused schema observable seen refusal
+IsNotDumped schema observable seen Output = Unit {0}
+
+-- why the database was not dumped, where the table was written in part: the answer of the table, or out of memory in place of a fault of the disk
+abbrev pub of_table : TableError → DumpRefusal
+of_table error.Disk = Database Disk
+of_table error.NoMemory = Database NoMemory
+of_table error.Output = Output
+
+-- The lines of the first rows of the table were written to standard output, of all rows where the whole is; the last one in part where the
+-- output failed. The rows are those of the slots to which the disk recovers
+pub record IsDumped (schema : SchemaData) (observable : Bool) (seen : Image) (table : ℕ) (whole output : Bool) (old new : OutState) : Type 0 where
+  pub list : List FoundRow
+  pub lines : Writes output Standard (export_lines list) old new
+  pub first : IsTrue observable → (slots : ℕ → List ℕ) → Recovers seen slots → AreFirst schema (decoded schema slots) table (primary_of schema table) None list
+  pub all : whole ≡ true → IsTrue observable → (slots : ℕ → List ℕ) → Recovers seen slots → AreAll schema (decoded schema slots) table (primary_of schema table) None list
+
+-- a generation of a log is open in area 1 or 2
+abbrev pub HasOpenLog : Image → Type 0
+HasOpenLog seen = ((generation : ℕ) × IsOpened (seen 1) generation) ⊎ ((generation : ℕ) × IsOpened (seen 2) generation)

@@ -1,0 +1,66 @@
+-- What the images that a crash may leave hold, and what of it survives.
+use Rattle.std.specs.Prelude.{◌≡◌, ◌⊎◌, ℕ, ◌+◌, ◌<◌, ◌≤◌, Bool, List, map, IsTrue}
+use Rattle.abl_values.specs.Schema.{SchemaData}
+use Rattle.client_database.specs.declared.event.Event.{Event}
+use Rattle.database_meaning.specs.declared.contents.Contents.{Contents}
+use Rattle.database_meaning.specs.Setting.{Setting}
+use Rattle.database_meaning.specs.Waiting.{IsAscending}
+use Rattle.database_meaning.specs.Traces.{acknowledged, after_commits, commits, identity_of}
+use Rattle.db_core.specs.Crashes.{AreMoments, Holds}
+use Rattle.stored_rows.specs.Durable.{durable_in}
+use Rattle.disk_steps.specs.Steps.{Image}
+use Rattle.log_meaning.specs.Images.{Recovers}
+use Rattle.logged_slots.specs.Stops.{IsRecoverable, StayRecoverable}
+
+-- the image recovers to slots, and what it recovers to are these contents
+pub record IsImageOf (schema : SchemaData) (contents : Contents) (image : Image) : Type 0 where
+  pub some : IsRecoverable image
+  pub each : (slots : ℕ → List ℕ) → Recovers image slots → Holds (durable_in schema slots) contents
+
+-- the disk is observable, and each image that a crash now may leave is one of these contents, whose rows ascend
+pub record AreImagesOf (observable : Bool) (now : ℕ) (left : ℕ → Image → Type 0) (schema : SchemaData) (contents : Contents) : Type 0 where
+  pub seen : IsTrue observable
+  pub ascending : IsAscending (map identity_of contents.rows)
+  pub all : (image : Image) → left now image → IsImageOf schema contents image
+
+-- each image that a crash at a moment from `was` on may leave recovers only to what an image of the moment `was` recovered to
+abbrev pub RecoversAsBefore : ℕ → (ℕ → Image → Type 0) → (ℕ → Image → Type 0) → Type 0
+RecoversAsBefore was before after =
+    (m : ℕ) (image : Image) (slots : ℕ → List ℕ) → was ≤ m → after m image → Recovers image slots → (old : Image) × before was old × Recovers old slots
+
+-- an image recovered to slots with the rows and sequence values of these
+pub record ComesFrom (schema : SchemaData) (before : Image → Type 0) (slots : ℕ → List ℕ) : Type 0 where
+  pub old : Image
+  pub there : before old
+  pub other : ℕ → List ℕ
+  pub recovers : Recovers old other
+  pub same : durable_in schema slots ≡ durable_in schema other
+
+-- each image that a crash at a moment from `was` on may leave recovers only to rows and sequence values to which an image of the moment `was`
+-- recovered
+abbrev pub HoldsAsBefore : SchemaData → ℕ → (ℕ → Image → Type 0) → (ℕ → Image → Type 0) → Type 0
+HoldsAsBefore schema was before after =
+    (m : ℕ) (image : Image) (slots : ℕ → List ℕ) → was ≤ m → after m image → Recovers image slots → ∥ ComesFrom schema (before was) slots ∥₁
+
+-- The disk handed back is observable where it was, its moment is no earlier, each image from the call on recovers only to what an image at the
+-- call recovered to, and where the images at the call recover, they all do
+pub record IsGivenBack (was_observable observable : Bool) (was now : ℕ) (before after : ℕ → Image → Type 0) : Type 0 where
+  pub same_observable : observable ≡ was_observable
+  pub later : was ≤ now
+  pub images : RecoversAsBefore was before after
+  pub recoverable : StayRecoverable after was
+
+-- each of these images recovers to slots
+abbrev pub AllRecover : (Image → Type 0) → Type 0
+AllRecover left = (image : Image) → left image → IsRecoverable image
+
+-- the image is one of the contents after n commits, or after n + 1 where the trace has so many
+abbrev pub IsImageFrom : Setting → Contents → List Event → ℕ → Image → Type 0
+IsImageFrom f contents trace n image =
+    IsImageOf f.schema (after_commits f contents trace n) image ⊎ ((n < commits f contents trace) × IsImageOf f.schema (after_commits f contents trace (n + 1)) image)
+
+-- At each moment from `from` on each image is one of the contents after the commits acknowledged by then, or after one more. The moments of
+-- commits never fall
+pub record SurvivesCrashes (from now : ℕ) (left : ℕ → Image → Type 0) (f : Setting) (contents : Contents) (trace : List Event) : Type 0 where
+  pub each : (m : ℕ) (image : Image) → from ≤ m → left m image → ∥ IsImageFrom f contents trace (acknowledged m trace) image ∥₁
+  pub moments : AreMoments from trace now

@@ -1,0 +1,117 @@
+//! Opening and closing a database.
+
+ghost use Rattle.std.specs.Prelude.{◌≡◌, ◌<◌, ◌≤◌, ℕ, List, [], map, IfErr, IfOk, IsTrue};
+ghost use Rattle.fault_count.specs.Faults.{Rose};
+ghost use Rattle.database_meaning.specs.declared.contents.Contents.{Contents};
+ghost use Rattle.database_meaning.specs.Setting.{Setting};
+ghost use Rattle.database_meaning.specs.Traces.{identity_of};
+ghost use Rattle.database_meaning.specs.Waiting.{IsAscending};
+ghost use Rattle.db_core.specs.Crashes.{StartsFrom};
+ghost use Rattle.disk_steps.specs.Steps.{Image};
+ghost use Rattle.log_meaning.specs.Images.{Recovers};
+ghost use Rattle.logged_slots.specs.Stops.{StayRecoverable};
+ghost use Rattle.db_machine.specs.Database.{HasSetting, IsActive, IsOpened};
+ghost use Rattle.disk_database.specs.Answers.{HasText, IsRefused};
+ghost use Rattle.disk_database.specs.Inside.{IsStoreOver};
+ghost use Rattle.disk_database.specs.Images.{AllRecover, AreImagesOf, RecoversAsBefore, SurvivesCrashes};
+
+use crate::opening::{DiskStore, disk_of, open_rows};
+use crate::refusals::OpenRefusal;
+use abl_rows::RowStore;
+use abl_storage::{Disk, Slots};
+use abl_values::Schema;
+use client_database::Trace;
+use db_machine::Db;
+use slot_txn::SlotTxn;
+use std::alloc::{AllocError, Global};
+
+/// A database over a disk.
+pub type DiskDatabase<D> = Db<DiskStore<D>>;
+
+/// Opens the database of this schema that the disk holds, for 1 to 16 clients: no client has requested
+/// anything. The store and the machine each have a schema of their own, which is one schema. Where each
+/// image that a crash may leave at the call holds the same contents, the database is opened with them,
+/// and they survive each crash from then on. A refusal hands the disk back: each image from the call on
+/// recovers only to what an image at the call recovered to.
+pub fn open<D: Disk + Drop>(
+    alloc: Global,
+    disk: D,
+    schema: Schema,
+    schema_of_rows: Schema,
+    clients: u16,
+) -> Result<DiskDatabase<D>, (OpenRefusal, D)>
+    requires few { clients ≤ 16 }
+    requires same { schema_of_rows ≡ schema }
+    ensures setting { IfOk result (λ db. HasSetting db (record { schema = schema; clients = clients })) }
+    ensures active { IfOk result (λ db. (client : ℕ) → client < clients → IsActive db client) }
+    ensures trace { IfOk result (λ db. db.trace ≡ []) }
+    ensures since { IfOk result (λ db. (⟦<DiskStore<D> as RowStore>⟧.times db.rows).since ≡ D.time disk) }
+    ensures opened { IfOk result (λ db. (contents : Contents) → AreImagesOf (D.observable disk) (D.time disk) (D.left disk) schema contents → IsOpened (⟦<DiskStore<D> as RowStore>⟧.state db.rows) (⟦<DiskStore<D> as RowStore>⟧.left db.rows) (⟦<DiskStore<D> as RowStore>⟧.times db.rows) db (record { schema = schema; clients = clients }) contents) }
+    ensures text { IfOk result (λ db. IsTrue (D.observable disk) → HasText (D.seen disk) schema) }
+    ensures refused { IfErr result (λ e. IsRefused schema (D.observable disk) (D.seen disk) e.0) }
+    ensures observable { IfErr result (λ e. D.observable e.1 ≡ D.observable disk) }
+    ensures time { IfErr result (λ e. D.time disk ≤ D.time e.1) }
+    ensures images { IfErr result (λ e. RecoversAsBefore (D.time disk) (D.left disk) (D.left e.1)) }
+    ensures recoverable { IfErr result (λ e. StayRecoverable (D.left e.1) (D.time disk)) }
+    ensures cause { IfErr result (λ e. e.0 ≡ OpenRefusal.Disk → Rose (D.failures disk) (D.failures e.1)) }
+{
+    let rows = match open_rows(alloc, disk, schema_of_rows) {
+        Ok(rows) => rows,
+        Err(refusal) => return Err(refusal),
+    };
+    match start(alloc, rows, schema, clients) {
+        Ok(database) => Ok(database),
+        Err(rows) => Err((OpenRefusal::NoMemory, disk_of(rows))),
+    }
+}
+
+/// The values, once more.
+fn copied(alloc: Global, values: &[i64]) -> Result<Vec<i64>, AllocError>
+    ensures { IfOk result (λ copy. copy.items ≡ values.now) }
+{
+    let mut copy = Vec::new(alloc);
+    copy.extend_from_slice(values)?;
+    Ok(copy)
+}
+
+/// The database of these rows, which were just opened. An error means out of memory, and gives the
+/// rows back.
+fn start<D: Disk + Drop>(
+    alloc: Global,
+    rows: DiskStore<D>,
+    schema: Schema,
+    clients: u16,
+) -> Result<DiskDatabase<D>, DiskStore<D>>
+    requires few { clients ≤ 16 }
+    requires opened { IsStoreOver (⟦<DiskStore<D> as RowStore>⟧.state rows) schema (⟦<SlotTxn<D> as Slots>⟧.state rows.rows.chains.slots) }
+    ensures rows { IfOk result (λ db. db.rows ≡ rows) }
+    ensures setting { IfOk result (λ db. HasSetting db (record { schema = schema; clients = clients })) }
+    ensures active { IfOk result (λ db. (client : ℕ) → client < clients → IsActive db client) }
+    ensures trace { IfOk result (λ db. db.trace ≡ []) }
+    ensures opened { IfOk result (λ db. (contents : Contents) → IsTrue (⟦<DiskStore<D> as RowStore>⟧.state rows).observable → IsAscending (map identity_of contents.rows)
+        → StartsFrom (⟦<DiskStore<D> as RowStore>⟧.state rows) (⟦<DiskStore<D> as RowStore>⟧.left rows) (⟦<DiskStore<D> as RowStore>⟧.times rows) contents
+        → IsOpened (⟦<DiskStore<D> as RowStore>⟧.state db.rows) (⟦<DiskStore<D> as RowStore>⟧.left db.rows) (⟦<DiskStore<D> as RowStore>⟧.times db.rows) db (record { schema = schema; clients = clients }) contents) }
+    ensures refused { IfErr result (λ r. r ≡ rows) }
+{
+    let Ok(sequences) = copied(alloc, rows.sequences()) else {
+        return Err(rows);
+    };
+    match Db::new(alloc, rows, schema, sequences, clients) {
+        Ok(database) => Ok(database),
+        Err((_, rows)) => Err(rows),
+    }
+}
+
+/// The disk of the database, and its trace. From the moment of its opening on, each image that a crash
+/// may leave holds the contents after the commits that were acknowledged by then, or after one more.
+pub fn close<D: Disk + Drop>(database: DiskDatabase<D>) -> (D, Trace)
+    ensures trace { result.1 ≡ database.trace }
+    ensures observable { (f : Setting) (contents : Contents) → IsOpened (⟦<DiskStore<D> as RowStore>⟧.state database.rows) (⟦<DiskStore<D> as RowStore>⟧.left database.rows) (⟦<DiskStore<D> as RowStore>⟧.times database.rows) database f contents → IsTrue (D.observable result.0) }
+    ensures survives { (f : Setting) (contents : Contents) → IsOpened (⟦<DiskStore<D> as RowStore>⟧.state database.rows) (⟦<DiskStore<D> as RowStore>⟧.left database.rows) (⟦<DiskStore<D> as RowStore>⟧.times database.rows) database f contents
+        → ∥ ((image : Image) × D.left result.0 (⟦<DiskStore<D> as RowStore>⟧.times database.rows).since image) ∥₁
+        → AllRecover (D.left result.0 (⟦<DiskStore<D> as RowStore>⟧.times database.rows).since)
+        → SurvivesCrashes (⟦<DiskStore<D> as RowStore>⟧.times database.rows).since (D.time result.0) (D.left result.0) f contents result.1 }
+{
+    let (rows, trace) = database.close();
+    (disk_of(rows), trace)
+}

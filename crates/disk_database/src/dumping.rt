@@ -1,0 +1,87 @@
+//! The rows of a table, written as lines.
+
+ghost use Rattle.std.specs.Prelude.{◌≡◌, ◌⊎◌, ◌<◌, ◌≤◌, MatchOption, length, not, true, false, IfErr, IfOk, IsTrue, OnOk, ⊤};
+ghost use Rattle.fault_count.specs.Faults.{Rose};
+ghost use Rattle.abl_values.specs.Schema.{primary_of};
+ghost use Rattle.database_meaning.specs.Setting.{HasIndex};
+ghost use Rattle.logged_slots.specs.Stops.{StayRecoverable};
+ghost use Rattle.disk_database.specs.Answers.{HasText, IsDumped, IsNotDumped, is_disk, is_output, of_table};
+ghost use Rattle.disk_database.specs.Images.{HoldsAsBefore};
+
+use crate::opening::{disk_of, open_rows, rose};
+use crate::refusals::{DumpRefusal, OpenRefusal};
+use abl_outside::Out;
+use abl_storage::Disk;
+use abl_values::Schema;
+use std::alloc::Global;
+use table_dump::{TableError, write_table};
+
+/// The primary index of the table, by which its rows are in order.
+fn order_of(schema: &Schema, table: u16) -> Option<u16>
+    requires { table < length schema.now.tables }
+    ensures is { result ≡ primary_of schema.now table }
+    ensures there { MatchOption result ⊤ (λ i. HasIndex schema.now table i) }
+{
+    schema.soundness();
+    schema.primary(table)
+}
+
+/// What the answer of the table means, where the disk had `before` faults at first and has `now`.
+fn of_table(before: u64, now: u64, error: TableError) -> DumpRefusal
+    ensures is { (result ≡ of_table error) ⊎ ((is_output (of_table error) ≡ false) × (result ≡ DumpRefusal.Database OpenRefusal.NoMemory)) }
+    ensures cause { is_disk result ≡ true → Rose before now }
+{
+    match error {
+        TableError::Disk => {
+            if rose(before, now) {
+                DumpRefusal::Database(OpenRefusal::Disk)
+            } else {
+                DumpRefusal::Database(OpenRefusal::NoMemory)
+            }
+        }
+        TableError::NoMemory => DumpRefusal::Database(OpenRefusal::NoMemory),
+        TableError::Output => DumpRefusal::Output,
+    }
+}
+
+/// Writes the committed rows of a table of the database that the disk holds to standard output: a line
+/// as EXPORT writes it for each row, in the order of the table's primary index, or of the rows'
+/// identities without one. Each line is written as its row is read, so after a refusal the lines of the
+/// first rows may be written. The disk is handed back: each image from the call on recovers only to
+/// what an image at the call recovered to. Out of memory comes too where the table has more than
+/// 1,040,384 rows, which no disk holds.
+pub fn dump<D: Disk + Drop, O: Out>(
+    alloc: Global,
+    disk: D,
+    schema: Schema,
+    schema_of_rows: Schema,
+    table: u16,
+    out: &mut O,
+) -> (Result<(), DumpRefusal>, D)
+    requires table { table < length schema.tables }
+    requires same { schema_of_rows ≡ schema }
+    ensures whole { OnOk result.0 (IsDumped schema (D.observable disk) (D.seen disk) table true true (O.Out.state out.old) (O.Out.state out.new)) }
+    ensures part { IfErr result.0 (λ e. IsDumped schema (D.observable disk) (D.seen disk) table false (not (is_output e)) (O.Out.state out.old) (O.Out.state out.new)) }
+    ensures text { OnOk result.0 (IsTrue (D.observable disk) → HasText (D.seen disk) schema) }
+    ensures refused { IfErr result.0 (IsNotDumped schema (D.observable disk) (D.seen disk)) }
+    ensures observable { D.observable result.1 ≡ D.observable disk }
+    ensures time { D.time disk ≤ D.time result.1 }
+    ensures images { HoldsAsBefore schema (D.time disk) (D.left disk) (D.left result.1) }
+    ensures recoverable { StayRecoverable (D.left result.1) (D.time disk) }
+    ensures cause { IfErr result.0 (λ e. is_disk e ≡ true → Rose (D.failures disk) (D.failures result.1)) }
+{
+    let before = disk.faults();
+    let mut rows = match open_rows(alloc, disk, schema_of_rows) {
+        Ok(rows) => rows,
+        Err((refusal, disk)) => return (Err(DumpRefusal::Database(refusal)), disk),
+    };
+    let written = write_table(alloc, &mut rows, table, order_of(&schema, table), out);
+    let disk = disk_of(rows);
+    match written {
+        Ok(()) => (Ok(()), disk),
+        Err(error) => {
+            let now = disk.faults();
+            (Err(of_table(before, now, error)), disk)
+        }
+    }
+}
