@@ -40,7 +40,7 @@ pub fn load<F: Files>(
 ) -> Result<Loaded, Refusal>
     requires { length clients.now ≤ 16 }
     ensures ready { IfOk result (λ loaded. IsReady (F.state files.old) schema.now (map client_in clients.now) units loaded.schema loaded.tasks.items) }
-    ensures new { IfOk result (λ loaded. IsNew (⟦<RunStore as RowStore>⟧.state loaded.database.rows) loaded.database loaded.schema (length loaded.tasks.items)) }
+    ensures new { IfOk result (λ loaded. IsNew (⟦<RunStore as RowStore>⟧.state loaded.database.rows) (⟦<RunStore as RowStore>⟧.left loaded.database.rows) (⟦<RunStore as RowStore>⟧.times loaded.database.rows) loaded.database loaded.schema (length loaded.tasks.items)) }
     ensures prevented { IfErr result (Prevents (F.state files.old) (F.state files.new).faults schema.now (map client_in clients.now)) }
 {
     let df = read(alloc, files, schema)?;

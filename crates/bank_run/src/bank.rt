@@ -79,7 +79,7 @@ fn load(alloc: Global, bank: Bank) -> Result<Loaded, Refusal>
     requires { IsBank bank }
     ensures ready { IfOk result (λ loaded. IsBankReady bank loaded.schema loaded.tasks.items) }
     ensures many { IfOk result (λ loaded. length loaded.tasks.items ≡ bank.clients + 2) }
-    ensures new { IfOk result (λ loaded. IsNew (⟦<RunStore as RowStore>⟧.state loaded.database.rows) loaded.database loaded.schema (length loaded.tasks.items)) }
+    ensures new { IfOk result (λ loaded. IsNew (⟦<RunStore as RowStore>⟧.state loaded.database.rows) (⟦<RunStore as RowStore>⟧.left loaded.database.rows) (⟦<RunStore as RowStore>⟧.times loaded.database.rows) loaded.database loaded.schema (length loaded.tasks.items)) }
     ensures room { IfOk result (λ loaded. (loaded.ends.items ≡ []) × (length loaded.tasks.items ≤ vec_capacity loaded.ends)) }
     ensures prevented { IfErr result (PreventsBank bank) }
 {
@@ -104,7 +104,7 @@ fn ready(
     requires few { length texts.items ≤ 16 }
     ensures schema { IfOk result (λ loaded. loaded.schema ≡ schema) }
     ensures clients { IfOk result (λ loaded. AreClientsOf BANK_UNITS bank_schema.tables codes.items texts.items loaded.tasks.items) }
-    ensures new { IfOk result (λ loaded. IsNew (⟦<RunStore as RowStore>⟧.state loaded.database.rows) loaded.database bank_schema (length loaded.tasks.items)) }
+    ensures new { IfOk result (λ loaded. IsNew (⟦<RunStore as RowStore>⟧.state loaded.database.rows) (⟦<RunStore as RowStore>⟧.left loaded.database.rows) (⟦<RunStore as RowStore>⟧.times loaded.database.rows) loaded.database bank_schema (length loaded.tasks.items)) }
     ensures room { IfOk result (λ loaded. (loaded.ends.items ≡ []) × (length loaded.tasks.items ≤ vec_capacity loaded.ends)) }
 {
     let mut tasks = Vec::new(alloc);
@@ -169,7 +169,7 @@ fn execute<R: Threads + Wait + Sync, O: Out, G: Gate + Sync>(
 ) -> Report
     requires some { 3 ≤ length tasks.items }
     requires few { length tasks.items ≤ 16 }
-    requires new { IsNew (⟦<RunStore as RowStore>⟧.state database.rows) database form.now.schema.now (length tasks.items) }
+    requires new { IsNew (⟦<RunStore as RowStore>⟧.state database.rows) (⟦<RunStore as RowStore>⟧.left database.rows) (⟦<RunStore as RowStore>⟧.times database.rows) database form.now.schema.now (length tasks.items) }
     requires none { ends.items ≡ [] }
     requires room { length tasks.items ≤ vec_capacity ends }
     ensures { (units clients : ℕ) (works : List Work) → length tasks.items ≡ clients + 2 → AreToDo units works tasks.items → HasRunPhases form.now.mode form.now.schema.now form.now.names.now units clients works (O.state out.old) (O.state out.new) result }

@@ -6,7 +6,8 @@ use Rattle.block_clients.specs.Outcome.{own_events}
 use Rattle.client_database.specs.declared.event.Event.{Event}
 use Rattle.database_meaning.specs.Setting.{Setting}
 use Rattle.abl_values.specs.Schema.{SchemaData}
-use Rattle.abl_rows.specs.Rows.{RowState}
+use Rattle.abl_rows.specs.Rows.{Durable, RowState}
+use Rattle.abl_rows.specs.Times.{Times}
 use Rattle.db_machine.specs.Machine.{Machine}
 use Rattle.new_database.specs.New.{IsNew}
 use Rattle.block_clients.specs.Ran.{ClientTask, HasRunIn}
@@ -22,8 +23,8 @@ has_ended HasSetting setting trace k old new has ran =
     }
 
 -- a new database of one schema and number of clients is one of an equal schema and number
-pub as_new : {R : Type 0} (rows : RowState) (db : Machine R) (schema other : SchemaData) (n m : ℕ) → IsNew rows db schema n → schema ≡ other → n ≡ m → IsNew rows db other m
-as_new rows db schema other n m fresh is count = subst (λ (k : ℕ). IsNew rows db other k) count (subst (λ (s : SchemaData). IsNew rows db s n) is fresh)
+pub as_new : {R : Type 0} (rows : RowState) (left : ℕ → Durable → Type 0) (times : Times) (db : Machine R) (schema other : SchemaData) (n m : ℕ) → IsNew rows left times db schema n → schema ≡ other → n ≡ m → IsNew rows left times db other m
+as_new rows left times db schema other n m fresh is count = subst (λ (k : ℕ). IsNew rows left times db other k) count (subst (λ (s : SchemaData). IsNew rows left times db s n) is fresh)
 
 -- events after none are of these clients
 pub of_these : (clients : ℕ) (old new : List Event) → old ≡ [] → GoesOnBy 0 clients old new → All (λ (e : Event). e.client < clients) new

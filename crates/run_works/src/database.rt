@@ -32,7 +32,7 @@ pub type RunTask = ClientTask<RunDatabase>;
 /// of a schema file which breaks no rule, so that an error in it means out of memory.
 pub fn open_database(alloc: Global, df: &[u8], clients: u16) -> Result<RunDatabase, AllocError>
     requires few { clients ≤ 16 }
-    ensures { IfOk result (λ database. IsNew (⟦<RunStore as RowStore>⟧.state database.rows) database (schema_in df.now) clients) }
+    ensures { IfOk result (λ database. IsNew (⟦<RunStore as RowStore>⟧.state database.rows) (⟦<RunStore as RowStore>⟧.left database.rows) (⟦<RunStore as RowStore>⟧.times database.rows) database (schema_in df.now) clients) }
 {
     let Ok(schema) = schema_of(alloc, df) else {
         return Err(AllocError);
@@ -55,8 +55,8 @@ pub fn run_tasks<R: Threads + Wait + Sync, G: Gate + Sync>(
 ) -> Result<Trace, AllocError>
     requires some { 0 < length tasks.old }
     requires few { length tasks.old ≤ 16 }
-    requires new { (schema : SchemaData) × IsNew (⟦<RunStore as RowStore>⟧.state database.rows) database schema (length tasks.old) }
-    ensures legal { (schema : SchemaData) → IsNew (⟦<RunStore as RowStore>⟧.state database.rows) database schema (length tasks.old) →
+    requires new { (schema : SchemaData) × IsNew (⟦<RunStore as RowStore>⟧.state database.rows) (⟦<RunStore as RowStore>⟧.left database.rows) (⟦<RunStore as RowStore>⟧.times database.rows) database schema (length tasks.old) }
+    ensures legal { (schema : SchemaData) → IsNew (⟦<RunStore as RowStore>⟧.state database.rows) (⟦<RunStore as RowStore>⟧.left database.rows) (⟦<RunStore as RowStore>⟧.times database.rows) database schema (length tasks.old) →
         IfOk result (λ trace. IsLegal (record { schema = schema; clients = length tasks.old }) (new_contents schema) trace) }
     ensures clients { IfOk result (λ trace. All (λ (e : Event). e.client < length tasks.old) trace) }
     ensures ended { IfOk result (λ trace. (k : ℕ) (t : _) → k < length tasks.old → HasEnded trace k (slice_index_or tasks.old k t) (slice_index_or tasks.new k t)) }

@@ -33,7 +33,7 @@ pub fn execute<R: Threads + Wait + Sync, O: Out, G: Gate + Sync>(
 ) -> Report
     requires some { 0 < length tasks.items }
     requires few { length tasks.items ≤ 16 }
-    requires new { IsNew (⟦<RunStore as RowStore>⟧.state database.rows) database form.now.schema.now (length tasks.items) }
+    requires new { IsNew (⟦<RunStore as RowStore>⟧.state database.rows) (⟦<RunStore as RowStore>⟧.left database.rows) (⟦<RunStore as RowStore>⟧.times database.rows) database form.now.schema.now (length tasks.items) }
     ensures { (units : ℕ) (works : List Work) → AreToDo units works tasks.items → HasRun form.now.mode form.now.schema.now form.now.names.now units works (O.state out.old) (O.state out.new) result ⊎ IsRefused form.now.names.now Refusal.NoMemory (O.state out.old) (O.state out.new) result }
 {
     let mut tasks = tasks;

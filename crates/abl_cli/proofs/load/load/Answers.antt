@@ -136,7 +136,7 @@ returns-in-Ok-clause-new g c =
     let many = tasks_of _ _ (map client_in c.args.clients.now) _ c.in_ok-compiled.compiled.schema c.begin_clients.new.tasks.items (returns-in-Ok-clause-ready g c) in
     let mapped = length-map c.args.clients.now client_in in
     let schema_is = ap (λ (text : List ℕ). schema_in text) (c.as_slice-3.ensures ∙ sym c.as_slice.ensures) ∙ sym c.in_ok-compiled.ensures.schema in
-    as_new _ _ _ _ _ _ c.in-Ok.ensures schema_is (sym (many ∙ mapped))
+    as_new _ _ _ _ _ _ _ _ c.in-Ok.ensures schema_is (sym (many ∙ mapped))
 
 pub returns-clause-prevented : goal.returns-clause-prevented
 returns-clause-prevented g c = run_wants

@@ -20,7 +20,7 @@ pub run_tasks-requires-clause-new : goal.run_tasks-requires-clause-new
 run_tasks-requires-clause-new g c κs within =
     let schema : SchemaData = c.args.form.now.schema.now in (
       schema,
-      as_new _ _ _ _ _ _ c.requires.new refl (sym (ap (λ (tasks : List (ClientTask _)). length tasks) c.as_mut_slice.ensures.value)),
+      as_new _ _ _ _ _ _ _ _ c.requires.new refl (sym (ap (λ (tasks : List (ClientTask _)). length tasks) c.as_mut_slice.ensures.value)),
     )
 
 pub returns-in-Ok-run_tasks : goal.returns-in-Ok-run_tasks
@@ -34,7 +34,7 @@ returns-in-Ok-run_tasks g c = λ units works to_do.
     let full : length new ≡ c.args.tasks.len = omega (arith, c.run_tasks.auto.tasks, c.as_mut_slice.ensures.len) in
     let many : length old ≡ length works = as_many_tasks units works old to_do in
     let schema : SchemaData = c.args.form.now.schema.now in
-    let fresh = as_new _ _ _ _ _ _ c.requires.new refl (sym value) in
+    let fresh = as_new _ _ _ _ _ _ _ _ c.requires.new refl (sym value) in
     let same : c.report.result.trace ≡ trace = c.report.ensures.trace in
     let told =
     subst (λ (tasks : List (ClientTask _)). (parts : List (List Section)) × HaveSections tasks parts × IsReported c.args.form.now.mode c.args.form.now.schema.now c.args.form.now.names.now (map (λ (t : ClientTask _). end_or_none t.end) tasks) parts (g.O.Out.state c.args.out.now) (g.O.Out.state c.report.new.out) c.report.result)
