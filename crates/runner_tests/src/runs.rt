@@ -1,9 +1,9 @@
-//! One run of a number of clients.
+//! One run of a number of clients, at any gate.
 
 ghost use Rattle.std.specs.Prelude.{◌<◌, ◌≤◌};
 
 use crate::script::{Script, Stage};
-use abl_outside::OpenGate;
+use abl_outside::{Gate, MeetGate, OpenGate};
 use client_database::ClientEnd;
 use client_runner::{Task, run_clients};
 use level_machine::LevelDatabase;
@@ -12,6 +12,12 @@ use std::sync::Wait;
 use std::thread::Threads;
 
 const ROUNDS: u32 = 50;
+
+/// How many turns a client waits at a gate for clients that come.
+const PATIENT: u64 = 100_000_000;
+
+/// How many turns a client waits at a gate for one that never comes.
+const IMPATIENT: u64 = 1_000;
 
 /// What all runs together came to.
 #[derive(Drop)]
@@ -26,15 +32,36 @@ pub fn run<R: Threads + Wait + Sync>(rt: &R, alloc: Global, clients: u16, totals
     requires some { 0 < clients }
     requires few { clients ≤ 16 }
 {
-    if run_once(rt, alloc, clients, totals).is_err() {
+    if run_once(rt, alloc, clients, &OpenGate, totals).is_err() {
         totals.failed = totals.failed.saturating_add(1);
     }
 }
 
-fn run_once<R: Threads + Wait + Sync>(
+/// Runs the clients once, at a gate that holds each before its first operation until `expected` clients
+/// have come. Whether all of them came while each still waited: then they ran beside each other.
+pub fn meet<R: Threads + Wait + Sync>(rt: &R, alloc: Global, clients: u16, expected: u16) -> bool
+    requires some { 0 < clients }
+    requires few { clients ≤ 16 }
+{
+    let turns = if expected <= clients {
+        PATIENT
+    } else {
+        IMPATIENT
+    };
+    let gate = MeetGate::new(expected, 1, turns);
+    let mut totals = Totals {
+        ended: 0,
+        events: 0,
+        failed: 0,
+    };
+    run_once(rt, alloc, clients, &gate, &mut totals).is_ok() && gate.met()
+}
+
+fn run_once<R: Threads + Wait + Sync, G: Gate + Sync>(
     rt: &R,
     alloc: Global,
     clients: u16,
+    gate: &G,
     totals: &mut Totals,
 ) -> Result<(), AllocError>
     requires some { 0 < clients }
@@ -49,7 +76,7 @@ fn run_once<R: Threads + Wait + Sync>(
         }));
     }
     let database = LevelDatabase::new(alloc, clients)?;
-    let Ok(database) = run_clients(rt, alloc, database, 0, tasks.as_mut_slice(), &OpenGate) else {
+    let Ok(database) = run_clients(rt, alloc, database, 0, tasks.as_mut_slice(), gate) else {
         return Err(AllocError);
     };
     let events = database.into_trace().len() as u64;
