@@ -1,7 +1,7 @@
 -- The names of the rules, as a refusal prints them.
 use Rattle.std.specs.Prelude.{ℕ, List, codes}
 use Rattle.abl_base.specs.declared.rule.Rule.{Rule}
-use Rattle.abl_base.specs.declared.rule.Rule.TheVariants.{L1, L2, L3, L4, L5, G1, G2, Y1, Y2, Y3, Y4, Y5, Y6, Y7, Y8, Y9, Y10, Y11, Y12, Y13, Y14, S1, S2, S3, S4, U1, U2, U3, U4, U5, U6, U7, F1, F2, F3, F4, F5, F6, F7, F8, F9, F10, F11, F12, E1, E2, E3, E4, E5, E6, E7, N1}
+use Rattle.abl_base.specs.declared.rule.Rule.TheVariants.{L1, L2, L3, L4, L5, G1, G2, Y1, Y2, Y3, Y4, Y5, Y6, Y7, Y8, Y9, Y10, Y11, Y12, Y13, Y14, S1, S2, S3, S4, U1, U2, U3, U4, U5, U6, U7, F1, F2, F3, F4, F5, F6, F7, F8, F9, F10, F11, F12}
 
 -- the bytes of a rule's name
 abbrev pub rule_name : Rule → List ℕ
@@ -49,11 +49,3 @@ rule_name F9 = codes "F9"
 rule_name F10 = codes "F10"
 rule_name F11 = codes "F11"
 rule_name F12 = codes "F12"
-rule_name E1 = codes "E1"
-rule_name E2 = codes "E2"
-rule_name E3 = codes "E3"
-rule_name E4 = codes "E4"
-rule_name E5 = codes "E5"
-rule_name E6 = codes "E6"
-rule_name E7 = codes "E7"
-rule_name N1 = codes "N1"

@@ -4,8 +4,8 @@ ghost use Rattle.std.specs.Prelude.{◌≡◌};
 ghost use Rattle.abl_base.specs.Rules.{rule_name};
 
 /// A rule, by its name in a refusal: L of tokens, G of the grammar, Y of names and types, S of
-/// buffer scopes, U of blocks and undo, F of schema files, E of the preprocessor, and N1 for what
-/// is not built yet. Every rule name is this project's choice.
+/// buffer scopes, U of blocks and undo, and F of schema files. Every rule name is this project's
+/// choice.
 #[derive(Clone, Copy, Debug, PartialEq, Eq)]
 pub enum Rule {
     L1,
@@ -52,14 +52,6 @@ pub enum Rule {
     F10,
     F11,
     F12,
-    E1,
-    E2,
-    E3,
-    E4,
-    E5,
-    E6,
-    E7,
-    N1,
 }
 
 impl Rule {
@@ -112,14 +104,6 @@ impl Rule {
             Rule::F10 => b"F10",
             Rule::F11 => b"F11",
             Rule::F12 => b"F12",
-            Rule::E1 => b"E1",
-            Rule::E2 => b"E2",
-            Rule::E3 => b"E3",
-            Rule::E4 => b"E4",
-            Rule::E5 => b"E5",
-            Rule::E6 => b"E6",
-            Rule::E7 => b"E7",
-            Rule::N1 => b"N1",
         }
     }
 }

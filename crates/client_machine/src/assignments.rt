@@ -35,7 +35,7 @@ use std::alloc::AllocError;
 impl Machine {
     /// Assigns the values of the assignments at the place, from left to right. Under NO-ERROR a
     /// fault sets ERROR-STATUS:ERROR, else it raises ERROR, with its line. What was assigned before
-    /// it stays. Assignments to fields and from sequences are not built: they return out of memory.
+    /// it stays. Assignments to fields and from sequences return out of memory: `client_records` has them.
     pub fn assign(
         &mut self,
         place: usize,

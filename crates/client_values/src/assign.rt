@@ -82,8 +82,8 @@ pub fn assign_value(
     Ok(())
 }
 
-/// Assigns the value of an expression to a variable. Another target or right side is not built, and
-/// answers that there is no memory.
+/// Assigns the value of an expression to a variable. Another target or right side belongs to
+/// `client_records`, and is answered as out of memory.
 fn assign_pair(
     alloc: Global,
     memory: &mut Memory,
