@@ -13,4 +13,3 @@ pub mod Meaning
 pub mod GivesUp
 pub mod Undone
 pub mod Levels
-pub mod WellMade

@@ -16,14 +16,7 @@ use Rattle.database_meaning.specs.Traces.{IsLegal, left_by}
 use Rattle.level_machine.specs.declared.reply.Reply.{Reply}
 use Rattle.level_machine.specs.declared.reply.Reply.TheVariants as reply
 use Rattle.level_machine.specs.Reached.{Reached, IsAt, IsRunning, running}
-
--- an operation of levels, which keeps no row
-abbrev pub IsLevelOp : Op → Type 0
-IsLevelOp Enter = Unit {0}
-IsLevelOp (Leave keep) = keep ≡ []
-IsLevelOp (Back depth) = Unit {0}
-IsLevelOp End = Unit {0}
-IsLevelOp _ = ⊥
+pub use Rattle.client_database.specs.Levels.{IsLevelOp}
 
 -- where a client has this many levels, what the operation names is open
 abbrev pub IsOpen : ℕ → Op → Type 0
