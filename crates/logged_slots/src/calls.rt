@@ -67,6 +67,10 @@ impl<D: Disk + Drop> LoggedSlots<D> {
             (state_of (D.observable self.new.disk) (view self.new.slots (D.seen self.new.disk 0)) (D.time self.new.disk) (faults_of self.new.exhausted (D.failures self.new.disk)) self.new.transactions.clients.items self.new.failed self.new.doubtful self.new.since self.new.short) result }
         ensures only { OnlyDisk result }
     {
+        if self.slots.is_blank(slot) {
+            *into = [0; 256];
+            return Ok(());
+        }
         match self.read_slot(slot, into) {
             Ok(()) => Ok(()),
             Err(_) => Err(SlotFault::Disk),

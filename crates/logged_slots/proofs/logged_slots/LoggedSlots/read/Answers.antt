@@ -3,7 +3,9 @@ use Rattle.abl_storage.specs.declared.slots.Undo.{Undo}
 use Rattle.abl_storage.specs.Slots.{undone}
 use Rattle.open_transactions.proofs.Changed.{nothing_due}
 use Rattle.slot_area.specs.Area.{view}
-use Rattle.logged_slots.proofs.Composing.{calm_rests, calm_goes}
+use Rattle.logged_slots.specs.State.{state_of, faults_of}
+use Rattle.logged_slots.proofs.States.{goes_still}
+use Rattle.logged_slots.proofs.Composing.{calm_rests, calm_goes, rests_none}
 use Rattle.logged_slots.proofs.logged_slots.LoggedSlots.read.Goals as goal
 
 pub returns-in-Ok-clause-bytes : goal.returns-in-Ok-clause-bytes
@@ -42,3 +44,16 @@ returns-in-Err-clause-cause g c = let one = c.in-Err.ensures.calm in record { la
 
 pub returns-in-Ok-clause-cause : goal.returns-in-Ok-clause-cause
 returns-in-Ok-clause-cause g c = let one = c.in-Ok.ensures.calm in record { later = one.later; disk = search rules; failed = search rules; stays = λ none. (one.stays refl).0 ∙ sym c.requires.usable }
+
+pub returns-then-is_blank-clause-bytes : goal.returns-then-is_blank-clause-bytes
+returns-then-is_blank-clause-bytes g c = λ h. sym (c.is_blank.ensures.zeros c.if-is_blank.true (g.D.Disk.seen c.args.self.now.disk 0)) ∙ ap (λ (us : List Undo). undone us (view c.args.self.now.slots (g.D.Disk.seen c.args.self.now.disk 0)) c.args.slot) (sym (nothing_due c.args.self.now.transactions.clients.items c.requires.none_due))
+
+pub returns-then-is_blank-clause-time : goal.returns-then-is_blank-clause-time
+returns-then-is_blank-clause-time g c =
+    let s = c.args.self.now in
+    goes_still (state_of (g.D.Disk.observable s.disk) (view s.slots (g.D.Disk.seen s.disk 0)) (g.D.Disk.time s.disk) (faults_of s.exhausted (g.D.Disk.failures s.disk)) s.transactions.clients.items s.failed s.doubtful s.since s.short) (state_of (g.D.Disk.observable s.disk) (view s.slots (g.D.Disk.seen s.disk 0)) (g.D.Disk.time s.disk) (faults_of s.exhausted (g.D.Disk.failures s.disk)) s.transactions.clients.items s.failed s.doubtful s.since s.short) (g.D.Disk.observable s.disk) s.since (g.D.Disk.time s.disk) (g.D.Disk.left s.disk) refl refl refl refl
+
+pub returns-then-is_blank-clause-rest : goal.returns-then-is_blank-clause-rest
+returns-then-is_blank-clause-rest g c =
+    let s = c.args.self.now in
+    rests_none (state_of (g.D.Disk.observable s.disk) (view s.slots (g.D.Disk.seen s.disk 0)) (g.D.Disk.time s.disk) (faults_of s.exhausted (g.D.Disk.failures s.disk)) s.transactions.clients.items s.failed s.doubtful s.since s.short)
