@@ -7,8 +7,8 @@ use Rattle.database_meaning.specs.declared.state.StoredRow.{StoredRow}
 use Rattle.database_meaning.specs.declared.state.Key.{Key}
 use Rattle.database_meaning.specs.Setting.{unique_keys, has_key, keys_without, fragments}
 use Rattle.abl_rows.specs.declared.store.RowChange.{RowChange}
-use Rattle.abl_rows.specs.declared.store.RowError.{RowError}
-use Rattle.abl_rows.specs.declared.store.RowError.TheVariants.{Disk, NoMemory}
+use Rattle.abl_rows.specs.declared.store.RowFault.{RowFault}
+use Rattle.abl_rows.specs.declared.store.RowFault.TheVariants.{Disk, NoMemory}
 use Rattle.abl_rows.specs.Changes.{RowsById, with_row, undone, has_change}
 
 -- a client's transaction
@@ -59,7 +59,7 @@ pub record Fails (old new : RowState) : Type 0 where
   pub transaction : new.transaction ≡ old.transaction
 
 -- the state after an error
-pub record AfterError {T : Type 0} (old new : RowState) (result : Result T RowError) : Type 0 where
+pub record AfterError {T : Type 0} (old new : RowState) (result : Result T RowFault) : Type 0 where
   pub memory : IsErrOf result NoMemory → new ≡ old
   pub disk : IsErrOf result Disk → Fails old new
 
@@ -149,9 +149,9 @@ pub record Abandons (old new : RowState) (client : ℕ) : Type 0 where
   pub transaction : Becomes client old.transaction new.transaction no_transaction
 
 -- Disk is answered only where the disk's count rose in this call, or an earlier call has answered Disk
-pub record HasCause {T : Type 0} (before after : ℕ) (old : RowState) (result : Result T RowError) : Type 0 where
+pub record HasCause {T : Type 0} (before after : ℕ) (old : RowState) (result : Result T RowFault) : Type 0 where
   pub later : before ≤ after
   pub disk : IsErrOf result Disk → Rose before after ⊎ IsTrue old.failed
 
-abbrev pub OnlyDisk : {T : Type 0} → Result T RowError → Type 0
+abbrev pub OnlyDisk : {T : Type 0} → Result T RowFault → Type 0
 OnlyDisk result = IsErrOf result NoMemory → ⊥

@@ -9,4 +9,4 @@
 pub mod laws;
 pub mod store;
 
-pub use store::{Duplicate, FoundRow, RowChange, RowError, RowStore};
+pub use store::{Duplicate, FoundRow, RowChange, RowFault, RowStore};

@@ -18,7 +18,7 @@ use database_meaning::StoredRow;
 
 /// Why a call on the rows was refused.
 #[derive(Clone, Copy, Debug, PartialEq, Eq)]
-pub enum RowError {
+pub enum RowFault {
     /// The disk failed in this call or in an earlier one.
     Disk,
     /// Out of memory; nothing has changed.
@@ -64,7 +64,7 @@ pub trait RowStore {
     ghost left: { Self → ℕ → Durable → Type 0 };
 
     /// The table of the row. It takes no memory.
-    fn table(&mut self, row: RowId) -> Result<Option<u16>, RowError>
+    fn table(&mut self, row: RowId) -> Result<Option<u16>, RowFault>
         ensures found { IfOk result (λ table. IsObservable (state self.old) → table ≡ table_at (state self.old).rows row.0) }
         ensures same { OnOk result (state self.new ≡ state self.old) }
         ensures err { AfterError (state self.old) (state self.new) result }
@@ -73,7 +73,7 @@ pub trait RowStore {
         ensures time { Rests (state self.old) (left self.old) (left self.new) (times self.old) (times self.new) };
 
     /// The values of the row, if it is a row of that table.
-    fn get(&mut self, table: u16, row: RowId) -> Result<Option<Row>, RowError>
+    fn get(&mut self, table: u16, row: RowId) -> Result<Option<Row>, RowFault>
         ensures found { IfOk result (λ found. IsObservable (state self.old) →
             MatchOption found (table_at (state self.old).rows row.0 ≢ Some table)
             (λ values. (state self.old).rows row.0 ≡ row_in table values)) }
@@ -90,7 +90,7 @@ pub trait RowStore {
         table: u16,
         row: Option<RowId>,
         values: &Row,
-    ) -> Result<ClientIds, RowError>
+    ) -> Result<ClientIds, RowFault>
         requires table { HasTable (state self.old).schema table }
         requires fits { FitsTable (state self.old).schema table values.now }
         ensures found { IfOk result (λ holders. IsObservable (state self.old) →
@@ -107,7 +107,7 @@ pub trait RowStore {
         table: u16,
         row: Option<RowId>,
         values: &Row,
-    ) -> Result<Option<Duplicate>, RowError>
+    ) -> Result<Option<Duplicate>, RowFault>
         requires table { HasTable (state self.old).schema table }
         requires fits { FitsTable (state self.old).schema table values.now }
         ensures found { IfOk result (λ found. IsObservable (state self.old) →
@@ -128,7 +128,7 @@ pub trait RowStore {
         prefix: &Row,
         cursor: Option<&Cursor>,
         forward: bool,
-    ) -> Result<Option<FoundRow>, RowError>
+    ) -> Result<Option<FoundRow>, RowFault>
         requires table { HasTable (state self.old).schema table }
         requires order { MatchOption index ⊤ (λ i. HasIndex (state self.old).schema table i) }
         ensures found { IfOk result (λ found. IsObservable (state self.old) →
@@ -140,7 +140,7 @@ pub trait RowStore {
         ensures time { Rests (state self.old) (left self.old) (left self.new) (times self.old) (times self.new) };
 
     /// The number of the row's fragments, 0 where there is no row. It takes no memory.
-    fn fragments(&mut self, row: RowId) -> Result<u32, RowError>
+    fn fragments(&mut self, row: RowId) -> Result<u32, RowFault>
         ensures found { IfOk result (λ count. IsObservable (state self.old) → count ≡ fragments ((state self.old).rows row.0)) }
         ensures same { OnOk result (state self.new ≡ state self.old) }
         ensures err { AfterError (state self.old) (state self.new) result }
@@ -160,7 +160,7 @@ pub trait RowStore {
         ensures { result ≡ ((state self.now).transaction client).written };
 
     /// The least index in which the key of these values is too long.
-    fn long_key(&self, table: u16, values: &Row) -> Result<Option<u16>, RowError>
+    fn long_key(&self, table: u16, values: &Row) -> Result<Option<u16>, RowFault>
         requires table { HasTable (state self.now).schema table }
         requires fits { FitsTable (state self.now).schema table values.now }
         ensures found { IfOk result (λ found. MatchOption found ((index : ℕ) → ¬ IsLongKey (state self.now).schema table values.now index)
@@ -172,7 +172,7 @@ pub trait RowStore {
         ensures { IsTrue result ↔ ((k : Key) × IsTrue (((state self.now).transaction client).reserved k)) };
 
     /// Begins the client's transaction. After an error none is begun.
-    fn begin(&mut self, client: u16) -> Result<(), RowError>
+    fn begin(&mut self, client: u16) -> Result<(), RowFault>
         requires client { client < 16 }
         requires fine { (state self.old).failed ≡ false }
         requires idle { ((state self.old).transaction client).begun ≡ false }
@@ -182,7 +182,7 @@ pub trait RowStore {
         ensures time { Rests (state self.old) (left self.old) (left self.new) (times self.old) (times self.new) };
 
     /// An identity that a new row may have.
-    fn fresh(&mut self) -> Result<RowId, RowError>
+    fn fresh(&mut self) -> Result<RowId, RowFault>
         ensures free { IfOk result (λ row. IsFree (state self.old) row.0) }
         ensures same { OnOk result (state self.new ≡ state self.old) }
         ensures err { AfterError (state self.old) (state self.new) result }
@@ -191,7 +191,7 @@ pub trait RowStore {
 
     /// Inserts a row at a free identity. The caller has asked for duplicates, reserved keys, long
     /// keys and room before: the errors are those of memory and the disk alone.
-    fn insert(&mut self, client: u16, row: RowId, table: u16, values: &Row) -> Result<(), RowError>
+    fn insert(&mut self, client: u16, row: RowId, table: u16, values: &Row) -> Result<(), RowFault>
         requires client { client < 16 }
         requires fine { (state self.old).failed ≡ false }
         requires begun { ((state self.old).transaction client).begun ≡ true }
@@ -205,7 +205,7 @@ pub trait RowStore {
         ensures time { Rests (state self.old) (left self.old) (left self.new) (times self.old) (times self.new) };
 
     /// Gives a row of the table other values. No other begun transaction has touched it.
-    fn put(&mut self, client: u16, table: u16, row: RowId, values: &Row) -> Result<(), RowError>
+    fn put(&mut self, client: u16, table: u16, row: RowId, values: &Row) -> Result<(), RowFault>
         requires client { client < 16 }
         requires fine { (state self.old).failed ≡ false }
         requires begun { ((state self.old).transaction client).begun ≡ true }
@@ -220,7 +220,7 @@ pub trait RowStore {
         ensures time { Rests (state self.old) (left self.old) (left self.new) (times self.old) (times self.new) };
 
     /// Deletes a row of the table. No other begun transaction has touched it.
-    fn delete(&mut self, client: u16, table: u16, row: RowId) -> Result<(), RowError>
+    fn delete(&mut self, client: u16, table: u16, row: RowId) -> Result<(), RowFault>
         requires client { client < 16 }
         requires fine { (state self.old).failed ≡ false }
         requires begun { ((state self.old).transaction client).begun ≡ true }
@@ -238,7 +238,7 @@ pub trait RowStore {
         ensures { result ≡ length ((state self.now).transaction client).changes };
 
     /// Undoes the changes after the mark, in rows and indexes. It takes no memory.
-    fn back(&mut self, client: u16, mark: usize) -> Result<(), RowError>
+    fn back(&mut self, client: u16, mark: usize) -> Result<(), RowFault>
         requires client { client < 16 }
         requires fine { (state self.old).failed ≡ false }
         requires begun { ((state self.old).transaction client).begun ≡ true }
@@ -251,7 +251,7 @@ pub trait RowStore {
 
     /// Commits the transaction with these values of the schema's sequences, and returns the moment from
     /// which on each stop leaves it. It takes no memory.
-    fn commit(&mut self, client: u16, sequences: &[i64]) -> Result<u64, RowError>
+    fn commit(&mut self, client: u16, sequences: &[i64]) -> Result<u64, RowFault>
         requires client { client < 16 }
         requires fine { (state self.old).failed ≡ false }
         requires begun { ((state self.old).transaction client).begun ≡ true }

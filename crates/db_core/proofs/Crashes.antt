@@ -15,8 +15,8 @@ use Rattle.database_meaning.specs.Setting.{Setting}
 use Rattle.database_meaning.specs.State.{State, depth_of}
 use Rattle.database_meaning.specs.Steps.{after, committed_after, is_outermost}
 use Rattle.database_meaning.specs.Traces.{acknowledged, after_commits, commits, contents_after_commits, contents_of, is_acknowledged, is_committed, left_by, opened, rows_of}
-use Rattle.abl_rows.specs.declared.store.RowError.{RowError}
-use Rattle.abl_rows.specs.declared.store.RowError.TheVariants.{Disk, NoMemory}
+use Rattle.abl_rows.specs.declared.store.RowFault.{RowFault}
+use Rattle.abl_rows.specs.declared.store.RowFault.TheVariants.{Disk, NoMemory}
 use Rattle.abl_rows.specs.Rows.{AfterError, Durable, IsConsistent, IsObservable, RowState, SameBase, commit_of, durable_of}
 use Rattle.abl_rows.specs.Times.{Goes, IsInDoubt, IsStop, Rests, Times}
 use Rattle.db_core.specs.declared.control.Control.{Control}
@@ -68,18 +68,18 @@ module _ (old new : RowState) (before after : ℕ → Durable → Type 0) (was n
   }
 
 -- a call that only asks, with any answer
-kept_by : {T : Type 0} (old new : RowState) (result : Result T RowError) → OnOk result (new ≡ old) → AfterError old new result → (new.observable ≡ old.observable) × (IsTrue old.observable → durable_of new ≡ durable_of old)
+kept_by : {T : Type 0} (old new : RowState) (result : Result T RowFault) → OnOk result (new ≡ old) → AfterError old new result → (new.observable ≡ old.observable) × (IsTrue old.observable → durable_of new ≡ durable_of old)
 kept_by old new (Ok x) same err = (ap (λ (s : RowState). s.observable) same, λ seen. ap durable_of same)
 kept_by old new (Err NoMemory) same err = let is = err.memory refl in (ap (λ (s : RowState). s.observable) is, λ seen. ap durable_of is)
 kept_by old new (Err Disk) same err = let fails = err.disk refl in (fails.observable, λ seen. let c = fails.committed seen in let v = fails.sequences seen in cc)
 
 pub asked : {T : Type 0} (old new : RowState) (before after : ℕ → Durable → Type 0) (was now : Times) (known : (m : ℕ) (durable : Durable) → after m durable → IsStop new now m) (past : was.since ≤ was.moment)
-    (result : Result T RowError) → Rests old before after was now → OnOk result (new ≡ old) → AfterError old new result → StaysDurable old new before after was now
+    (result : Result T RowFault) → Rests old before after was now → OnOk result (new ≡ old) → AfterError old new result → StaysDurable old new before after was now
 asked old new before after was now known past result rests same err =
     let kept = kept_by old new result same err in rest_stays old new before after was now rests kept.0 known past kept.1
 
 -- a call that changes rows or transactions
-based_by : {T : Type 0} (old new : RowState) (result : Result T RowError) → OnOk result (SameBase old new) → AfterError old new result → (new.observable ≡ old.observable) × (IsTrue old.observable → durable_of new ≡ durable_of old)
+based_by : {T : Type 0} (old new : RowState) (result : Result T RowFault) → OnOk result (SameBase old new) → AfterError old new result → (new.observable ≡ old.observable) × (IsTrue old.observable → durable_of new ≡ durable_of old)
 based_by old new (Ok x) base err = (base.observable, λ seen. let c = base.committed in let v = base.sequences in cc)
 based_by old new (Err NoMemory) base err = let is = err.memory refl in (ap (λ (s : RowState). s.observable) is, λ seen. ap durable_of is)
 based_by old new (Err Disk) base err = let fails = err.disk refl in (fails.observable, λ seen. let c = fails.committed seen in let v = fails.sequences seen in cc)
@@ -89,12 +89,12 @@ pub based : (old new : RowState) (before after : ℕ → Durable → Type 0) (wa
 based old new before after was now known past rests base = rest_stays old new before after was now rests base.observable known past (λ seen. let c = base.committed in let v = base.sequences in cc)
 
 -- after an error what is durable stays
-pub failed_by : {T : Type 0} (old new : RowState) (error : RowError) → AfterError {T = T} old new (Err error) → (new.observable ≡ old.observable) × (IsTrue old.observable → durable_of new ≡ durable_of old)
+pub failed_by : {T : Type 0} (old new : RowState) (error : RowFault) → AfterError {T = T} old new (Err error) → (new.observable ≡ old.observable) × (IsTrue old.observable → durable_of new ≡ durable_of old)
 failed_by {T} old new error err = based_by {T = T} old new (Err error) tt err
 
 -- an error of any call
 pub failed : {T : Type 0} (old new : RowState) (before after : ℕ → Durable → Type 0) (was now : Times) (known : (m : ℕ) (durable : Durable) → after m durable → IsStop new now m) (past : was.since ≤ was.moment)
-    (error : RowError) → Rests old before after was now → AfterError {T = T} old new (Err error) → StaysDurable old new before after was now
+    (error : RowFault) → Rests old before after was now → AfterError {T = T} old new (Err error) → StaysDurable old new before after was now
 failed {T} old new before after was now known past error rests err =
     let kept = failed_by {T = T} old new error err in rest_stays old new before after was now rests kept.0 known past kept.1
 

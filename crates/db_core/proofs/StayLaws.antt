@@ -14,8 +14,8 @@ use Rattle.database_meaning.proofs.Maps.{get_insert_other, get_remove_other, get
 use Rattle.record_locks.specs.declared.locks.Client.{Client as LockClient}
 use Rattle.record_locks.specs.Requests.{granted}
 use Rattle.record_locks.specs.Table.{client_of, lock_of, OnlyChanges}
-use Rattle.abl_rows.specs.declared.store.RowError.{RowError}
-use Rattle.abl_rows.specs.declared.store.RowError.TheVariants.{Disk, NoMemory}
+use Rattle.abl_rows.specs.declared.store.RowFault.{RowFault}
+use Rattle.abl_rows.specs.declared.store.RowFault.TheVariants.{Disk, NoMemory}
 use Rattle.abl_rows.specs.Rows.{AfterError, Fails, RowState, SameBase}
 use Rattle.db_core.specs.declared.control.Control.{Control}
 use Rattle.db_core.specs.Represents.{IsOpen, IsSound, Represents, marks_at, blocked_at}
@@ -100,14 +100,14 @@ stays_failed old new before after c fails same = record {
   represents = λ seen f s h. inl (control_represents f new before after s same (stopped_represents f old new before s fails h));
 }
 
-pub stays_same : {T : Type 0} (old new : RowState) (before after : Control) (c : ℕ) (e : RowError) → AfterError {T = T} old new (Err e) → SameControl before after → Stays old new before after c
+pub stays_same : {T : Type 0} (old new : RowState) (before after : Control) (c : ℕ) (e : RowFault) → AfterError {T = T} old new (Err e) → SameControl before after → Stays old new before after c
 stays_same old new before after c NoMemory h same = subst (λ (r : RowState). Stays old r before after c) (sym (h.memory refl)) (stays_control old before after c same)
 stays_same old new before after c Disk h same = stays_failed old new before after c (h.disk refl) same
 
 pub same_control : (control : Control) → SameControl control control
 same_control control = record { locks = λ d. refl; marks = λ d. refl; blocked = λ d. refl; count = refl; sequences = refl; frees = refl }
 
-pub stays_as : {T : Type 0} (old new : RowState) (control after : Control) (c : ℕ) (e : RowError) → AfterError {T = T} old new (Err e) → after ≡ control → Stays old new control after c
+pub stays_as : {T : Type 0} (old new : RowState) (control after : Control) (c : ℕ) (e : RowFault) → AfterError {T = T} old new (Err e) → after ≡ control → Stays old new control after c
 stays_as old new control after c e h is = subst (λ (k : Control). Stays old new control k c) (sym is) (stays_same old new control control c e h (same_control control))
 
 pub no_lock : (o : Option Bool) → is_some o ≡ false → o ≡ None
@@ -186,7 +186,7 @@ module _ (before middle after : Control) (c : ℕ) (row : ℕ) (grants : Grants 
       represents = λ seen f s h. inr (unblocked_represents new before after c (released_ends none) f s (stopped_represents f old new before s fails h));
     }
 
-    pub insert_stays : {T : Type 0} (e : RowError) → AfterError {T = T} old new (Err e) → Stays old new before after c
+    pub insert_stays : {T : Type 0} (e : RowFault) → AfterError {T = T} old new (Err e) → Stays old new before after c
     insert_stays NoMemory h = released_stays (inl (h.memory refl))
     insert_stays Disk h = released_stays (inr (h.disk refl))
 

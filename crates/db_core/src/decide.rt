@@ -16,7 +16,7 @@ ghost use Rattle.db_core.specs.Waits.{AnswersConflict, IsKeyed, ListsWaits, Meet
 
 use crate::control::Control;
 use abl_base::{Items, RowId};
-use abl_rows::{RowError, RowStore};
+use abl_rows::{RowFault, RowStore};
 use client_database::{Answer, ClientIds, Op};
 use record_locks::KeyWait;
 use std::alloc::{AllocError, Global};
@@ -27,7 +27,7 @@ fn key_holders<R: RowStore>(
     rows: &mut R,
     client: u16,
     op: &Op,
-) -> Result<Option<ClientIds>, RowError>
+) -> Result<Option<ClientIds>, RowFault>
     requires { FitsOp (R.RowStore.state rows.old).schema op.now }
     ensures found { IfOk result (λ found. IsObservable (R.RowStore.state rows.old) →
         MatchOption found ((b : ℕ) → ¬ MeetsReserved (R.RowStore.state rows.old) client op.now b)
@@ -61,7 +61,7 @@ fn key_wait<R: RowStore>(
     rows: &mut R,
     control: &Control,
     client: u16,
-) -> Result<Option<ClientIds>, RowError>
+) -> Result<Option<ClientIds>, RowFault>
     requires { IsSound (R.RowStore.state rows.old) control.now }
     ensures found { IfOk result (λ found. IsObservable (R.RowStore.state rows.old) →
         MatchOption found ((b : ℕ) → ¬ WaitsByKey (R.RowStore.state rows.old) client (blocked_at control.now client) b)
@@ -87,7 +87,7 @@ fn list_key_waits<R: RowStore>(
     control: &Control,
     client: u16,
     count: u16,
-) -> Result<Vec<KeyWait>, RowError>
+) -> Result<Vec<KeyWait>, RowFault>
     requires { IsSound (R.RowStore.state rows.old) control.now }
     ensures found { IfOk result (λ list. IsObservable (R.RowStore.state rows.old) →
         ListsWaits (R.RowStore.state rows.old) control.now client count list.items) }
@@ -113,14 +113,14 @@ fn list_key_waits<R: RowStore>(
             };
             match list.push(blocked) {
                 Ok(()) => Ok(list),
-                Err(_) => Err(RowError::NoMemory),
+                Err(_) => Err(RowFault::NoMemory),
             }
         }
     }
 }
 
 /// The answer to a Lock with which no lock of another client conflicts.
-fn decide_free<R: RowStore>(rows: &mut R, table: u16, row: RowId) -> Result<Answer, RowError>
+fn decide_free<R: RowStore>(rows: &mut R, table: u16, row: RowId) -> Result<Answer, RowFault>
     ensures found { IfOk result (λ answer. IsObservable (R.RowStore.state rows.old) →
         ((answer ≡ Answer.Granted) × (table_at (R.RowStore.state rows.old).rows row.0 ≡ Some table))
         ⊎ ((answer ≡ Answer.Gone) × (table_at (R.RowStore.state rows.old).rows row.0 ≢ Some table))) }
@@ -151,7 +151,7 @@ pub fn decide_lock<R: RowStore>(
     row: RowId,
     exclusive: bool,
     wait: bool,
-) -> Result<Answer, RowError>
+) -> Result<Answer, RowFault>
     requires sound { IsSound (R.RowStore.state rows.old) control.now }
     requires few { length control.now.sessions.items ≤ 16 }
     ensures answer { IfOk result (λ answer. (f : Setting) (s : State) →
@@ -166,7 +166,7 @@ pub fn decide_lock<R: RowStore>(
 {
     let against = match control.locks.against(alloc, client, row, exclusive) {
         Ok(against) => against,
-        Err(_) => return Err(RowError::NoMemory),
+        Err(_) => return Err(RowFault::NoMemory),
     };
     if against.len() == 0 {
         return decide_free(rows, table, row);
@@ -177,7 +177,7 @@ pub fn decide_lock<R: RowStore>(
     let count = control.sessions.len() as u16;
     let waits = Items::from_vec(list_key_waits(alloc, rows, control, client, count)?);
     match control.locks.would_cycle(client, &against, &waits) {
-        Err(_) => Err(RowError::NoMemory),
+        Err(_) => Err(RowFault::NoMemory),
         Ok(None) => Ok(Answer::Blocked { holders: against }),
         Ok(Some(cycle)) => Ok(Answer::Deadlock { cycle }),
     }
@@ -191,7 +191,7 @@ pub fn decide_keys<R: RowStore>(
     control: &Control,
     client: u16,
     op: &Op,
-) -> Result<Option<Answer>, RowError>
+) -> Result<Option<Answer>, RowFault>
     requires sound { IsSound (R.RowStore.state rows.old) control.now }
     requires few { length control.now.sessions.items ≤ 16 }
     requires brings { IsKeyed op.now }
@@ -215,7 +215,7 @@ pub fn decide_keys<R: RowStore>(
     let count = control.sessions.len() as u16;
     let waits = Items::from_vec(list_key_waits(alloc, rows, control, client, count)?);
     match control.locks.would_cycle(client, &against, &waits) {
-        Err(_) => Err(RowError::NoMemory),
+        Err(_) => Err(RowFault::NoMemory),
         Ok(None) => Ok(Some(Answer::Blocked { holders: against })),
         Ok(Some(cycle)) => Ok(Some(Answer::Deadlock { cycle })),
     }
@@ -227,7 +227,7 @@ pub fn decide_get<R: RowStore>(
     control: &Control,
     table: u16,
     row: RowId,
-) -> Result<Answer, RowError>
+) -> Result<Answer, RowFault>
     requires sound { IsSound (R.RowStore.state rows.old) control.now }
     ensures answer { IfOk result (λ answer. (f : Setting) (s : State) (c : ℕ) →
         Represents f (R.RowStore.state rows.old) control.now s → IsObservable (R.RowStore.state rows.old) →

@@ -18,13 +18,13 @@ use crate::control::Control;
 use crate::decide::decide_keys;
 use crate::room::{decide_removal, decide_room, fragments_of};
 use abl_base::{Row, RowId};
-use abl_rows::{RowError, RowStore};
+use abl_rows::{RowFault, RowStore};
 use client_database::{Answer, Op};
 use std::alloc::Global;
 
 /// The least index in which the key of these values is too long. The store looks at no row for it, so
 /// that an error means out of memory.
-fn find_long_key<R: RowStore>(rows: &R, table: u16, values: &Row) -> Result<Option<u16>, RowError>
+fn find_long_key<R: RowStore>(rows: &R, table: u16, values: &Row) -> Result<Option<u16>, RowFault>
     requires table { HasTable (R.RowStore.state rows.now).schema table }
     requires fits { FitsTable (R.RowStore.state rows.now).schema table values.now }
     ensures found { IfOk result (λ found. MatchOption found ((index : ℕ) → ¬ IsLongKey (R.RowStore.state rows.now).schema table values.now index)
@@ -33,12 +33,12 @@ fn find_long_key<R: RowStore>(rows: &R, table: u16, values: &Row) -> Result<Opti
 {
     match rows.long_key(table, values) {
         Ok(found) => Ok(found),
-        Err(_) => Err(RowError::NoMemory),
+        Err(_) => Err(RowFault::NoMemory),
     }
 }
 
 /// Whether there is a row of the table with this identity.
-fn is_row_of<R: RowStore>(rows: &mut R, table: u16, row: RowId) -> Result<bool, RowError>
+fn is_row_of<R: RowStore>(rows: &mut R, table: u16, row: RowId) -> Result<bool, RowFault>
     ensures found { IfOk result (λ there. IsObservable (R.RowStore.state rows.old) → (IsTrue there ↔ (table_at (R.RowStore.state rows.old).rows row.0 ≡ Some table))) }
     ensures same { OnOk result (R.RowStore.state rows.new ≡ R.RowStore.state rows.old) }
     ensures err { AfterError (R.RowStore.state rows.old) (R.RowStore.state rows.new) result }
@@ -62,7 +62,7 @@ fn decide_entry<R: RowStore>(
     table: u16,
     replaced: Option<RowId>,
     values: &Row,
-) -> Result<Option<Answer>, RowError>
+) -> Result<Option<Answer>, RowFault>
     requires sound { IsSound (R.RowStore.state rows.old) control.now }
     requires few { length control.now.sessions.items ≤ 16 }
     requires keyed { IsKeyed op.now }
@@ -104,7 +104,7 @@ pub fn decide_insert<R: RowStore>(
     op: &Op,
     table: u16,
     values: &Row,
-) -> Result<Answer, RowError>
+) -> Result<Answer, RowFault>
     requires client { client < 16 }
     requires sound { IsSound (R.RowStore.state rows.old) control.now }
     requires few { length control.now.sessions.items ≤ 16 }
@@ -141,7 +141,7 @@ pub fn decide_put<R: RowStore>(
     table: u16,
     row: RowId,
     values: &Row,
-) -> Result<Answer, RowError>
+) -> Result<Answer, RowFault>
     requires client { client < 16 }
     requires sound { IsSound (R.RowStore.state rows.old) control.now }
     requires few { length control.now.sessions.items ≤ 16 }
@@ -188,7 +188,7 @@ pub fn decide_delete<R: RowStore>(
     client: u16,
     table: u16,
     row: RowId,
-) -> Result<Answer, RowError>
+) -> Result<Answer, RowFault>
     requires client { client < 16 }
     requires sound { IsSound (R.RowStore.state rows.old) control.now }
     ensures answer { IfOk result (λ answer. (f : Setting) (s : State) →

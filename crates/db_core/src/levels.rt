@@ -16,12 +16,12 @@ ghost use Rattle.db_core.specs.Represents.{IsSound, Represents, marks_at};
 use crate::control::{
     Control, back_to_level, count_frees, depth, end_client, end_wait, pop_mark, push_mark, settle,
 };
-use abl_rows::{RowError, RowStore};
+use abl_rows::{RowFault, RowStore};
 use client_database::{Answer, Op, RowIds};
 
 /// Opens a level of the client: the transaction, or a subtransaction inside it. After an error the
 /// client has the levels that it had.
-pub fn enter<R: RowStore>(rows: &mut R, control: &mut Control, client: u16) -> Result<(), RowError>
+pub fn enter<R: RowStore>(rows: &mut R, control: &mut Control, client: u16) -> Result<(), RowFault>
     requires client { client < 16 }
     requires known { client < length control.old.sessions.items }
     requires sound { IsSound (R.RowStore.state rows.old) control.old }
@@ -49,7 +49,7 @@ fn enter_outermost<R: RowStore>(
     rows: &mut R,
     control: &mut Control,
     client: u16,
-) -> Result<(), RowError>
+) -> Result<(), RowFault>
     requires client { client < 16 }
     requires known { client < length control.old.sessions.items }
     requires sound { IsSound (R.RowStore.state rows.old) control.old }
@@ -67,7 +67,7 @@ fn enter_outermost<R: RowStore>(
 {
     match push_mark(control, client, 0) {
         Ok(()) => {}
-        Err(_) => return Err(RowError::NoMemory),
+        Err(_) => return Err(RowFault::NoMemory),
     }
     match rows.begin(client) {
         Ok(()) => {
@@ -86,7 +86,7 @@ fn enter_inner<R: RowStore>(
     rows: &mut R,
     control: &mut Control,
     client: u16,
-) -> Result<(), RowError>
+) -> Result<(), RowFault>
     requires client { client < 16 }
     requires known { client < length control.old.sessions.items }
     requires sound { IsSound (R.RowStore.state rows.old) control.old }
@@ -104,7 +104,7 @@ fn enter_inner<R: RowStore>(
     let mark = rows.mark(client);
     match push_mark(control, client, mark) {
         Ok(()) => {}
-        Err(_) => return Err(RowError::NoMemory),
+        Err(_) => return Err(RowFault::NoMemory),
     }
     end_wait(control, client);
     Ok(())
@@ -117,7 +117,7 @@ pub fn back<R: RowStore>(
     control: &mut Control,
     client: u16,
     depth: u32,
-) -> Result<(), RowError>
+) -> Result<(), RowFault>
     requires client { client < 16 }
     requires known { client < length control.old.sessions.items }
     requires level { 0 < depth }
@@ -162,7 +162,7 @@ pub fn commit<R: RowStore>(
     control: &mut Control,
     client: u16,
     staying: &RowIds,
-) -> Result<u64, RowError>
+) -> Result<u64, RowFault>
     requires client { client < 16 }
     requires known { client < length control.old.sessions.items }
     requires fine { (R.RowStore.state rows.old).failed ≡ false }

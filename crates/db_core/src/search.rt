@@ -13,7 +13,7 @@ ghost use Rattle.db_core.specs.Represents.{IsSound, Represents};
 
 use crate::control::Control;
 use abl_base::Row;
-use abl_rows::{RowError, RowStore};
+use abl_rows::{RowFault, RowStore};
 use client_database::{Answer, Cursor, Op};
 
 /// The answer to a Next.
@@ -25,7 +25,7 @@ pub fn decide_next<R: RowStore>(
     prefix: &Row,
     cursor: Option<&Cursor>,
     forward: bool,
-) -> Result<Answer, RowError>
+) -> Result<Answer, RowFault>
     requires sound { IsSound (R.RowStore.state rows.old) control.now }
     requires table { HasTable (R.RowStore.state rows.old).schema table }
     requires order { MatchOption index ⊤ (λ i. HasIndex (R.RowStore.state rows.old).schema table i) }

@@ -11,7 +11,7 @@ ghost use Rattle.db_core.specs.Represents.{Represents};
 
 use crate::control::Control;
 use abl_base::{Items, RowId};
-use abl_rows::{RowError, RowStore};
+use abl_rows::{RowFault, RowStore};
 use client_database::RowIds;
 use std::alloc::Global;
 
@@ -20,7 +20,7 @@ fn list_present<R: RowStore>(
     alloc: Global,
     rows: &mut R,
     keep: &[RowId],
-) -> Result<Vec<RowId>, RowError>
+) -> Result<Vec<RowId>, RowFault>
     ensures found { IfOk result (λ list. IsObservable (R.RowStore.state rows.old) → ListsPresent (R.RowStore.state rows.old).rows keep.now list.items) }
     ensures same { OnOk result (R.RowStore.state rows.new ≡ R.RowStore.state rows.old) }
     ensures err { AfterError (R.RowStore.state rows.old) (R.RowStore.state rows.new) result }
@@ -35,7 +35,7 @@ fn list_present<R: RowStore>(
                 None => Ok(list),
                 Some(_) => match list.push(*last) {
                     Ok(()) => Ok(list),
-                    Err(_) => Err(RowError::NoMemory),
+                    Err(_) => Err(RowFault::NoMemory),
                 },
             }
         }
@@ -49,7 +49,7 @@ pub fn staying_rows<R: RowStore>(
     rows: &mut R,
     control: &Control,
     keep: &RowIds,
-) -> Result<RowIds, RowError>
+) -> Result<RowIds, RowFault>
     ensures staying { IfOk result (λ staying. (f : Setting) (s : State) (c : ℕ) → Represents f (R.RowStore.state rows.old) control.now s → IsObservable (R.RowStore.state rows.old) →
         is_outermost s c ≡ true → AreStaying s c keep.now staying) }
     ensures same { OnOk result (R.RowStore.state rows.new ≡ R.RowStore.state rows.old) }

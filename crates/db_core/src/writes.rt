@@ -14,7 +14,7 @@ ghost use Rattle.db_core.specs.Represents.{IsSound, Represents};
 
 use crate::control::{Control, end_wait, grant};
 use abl_base::{Row, RowId};
-use abl_rows::{RowError, RowStore};
+use abl_rows::{RowFault, RowStore};
 use client_database::{Answer, Op};
 use std::alloc::Global;
 
@@ -29,7 +29,7 @@ pub fn insert<R: RowStore>(
     row: RowId,
     table: u16,
     values: &Row,
-) -> Result<(), RowError>
+) -> Result<(), RowFault>
     requires client { client < 16 }
     requires known { client < length control.old.sessions.items }
     requires sound { IsSound (R.RowStore.state rows.old) control.old }
@@ -50,11 +50,11 @@ pub fn insert<R: RowStore>(
     ensures since { (R.RowStore.times rows.new).since ≡ (R.RowStore.times rows.old).since }
 {
     if control.locks.held(client, row).is_some() {
-        return Err(RowError::NoMemory);
+        return Err(RowFault::NoMemory);
     }
     match grant(alloc, control, client, row, true) {
         Ok(()) => {}
-        Err(_) => return Err(RowError::NoMemory),
+        Err(_) => return Err(RowFault::NoMemory),
     }
     match rows.insert(client, row, table, values) {
         Ok(()) => Ok(()),
@@ -73,7 +73,7 @@ pub fn put<R: RowStore>(
     table: u16,
     row: RowId,
     values: &Row,
-) -> Result<(), RowError>
+) -> Result<(), RowFault>
     requires client { client < 16 }
     requires known { client < length control.old.sessions.items }
     requires sound { IsSound (R.RowStore.state rows.old) control.old }
@@ -106,7 +106,7 @@ pub fn delete<R: RowStore>(
     client: u16,
     table: u16,
     row: RowId,
-) -> Result<(), RowError>
+) -> Result<(), RowFault>
     requires client { client < 16 }
     requires known { client < length control.old.sessions.items }
     requires sound { IsSound (R.RowStore.state rows.old) control.old }

@@ -11,8 +11,8 @@ use Rattle.database_meaning.specs.declared.contents.Contents.{Contents}
 use Rattle.database_meaning.specs.Fits.{IsOwnAnswer}
 use Rattle.database_meaning.specs.Setting.{Setting}
 use Rattle.database_meaning.specs.Traces.{is_committed, is_leave}
-use Rattle.abl_rows.specs.declared.store.RowError.{RowError}
-use Rattle.abl_rows.specs.declared.store.RowError.TheVariants.{Disk as DiskFailed, NoMemory as OutOfMemory}
+use Rattle.abl_rows.specs.declared.store.RowFault.{RowFault}
+use Rattle.abl_rows.specs.declared.store.RowFault.TheVariants.{Disk as DiskFailed, NoMemory as OutOfMemory}
 use Rattle.abl_rows.specs.Rows.{Durable, OnlyDisk, RowState}
 use Rattle.abl_rows.specs.Times.{Times}
 use Rattle.db_core.specs.declared.control.Control.{Control}
@@ -57,32 +57,32 @@ pub fitted_quiet_of : (kept : ℕ) (op : Op) (b a : Answer) → IsFitted kept op
 fitted_quiet_of kept op b a (inl fitted) none = ap is_committed fitted.1 ∙ none
 fitted_quiet_of kept op b a (inr full) none = ap is_committed full.1
 
-error_quiet : (error : RowError) → is_committed (answer_for (Err error)) ≡ false
+error_quiet : (error : RowFault) → is_committed (answer_for (Err error)) ≡ false
 error_quiet OutOfMemory = refl
 error_quiet DiskFailed = refl
 
-pub error_quiet_of : (result : Result Reply RowError) (error : RowError) → result ≡ Err error → is_committed (answer_for result) ≡ false
-error_quiet_of result error is = ap (λ (r : Result Reply RowError). is_committed (answer_for r)) is ∙ error_quiet error
+pub error_quiet_of : (result : Result Reply RowFault) (error : RowFault) → result ≡ Err error → is_committed (answer_for result) ≡ false
+error_quiet_of result error is = ap (λ (r : Result Reply RowFault). is_committed (answer_for r)) is ∙ error_quiet error
 
-error_closed : {T : Type 0} (error : RowError) → OnlyDisk {T = T} (Err error) → answer_for (Err error) ≡ Closed
+error_closed : {T : Type 0} (error : RowFault) → OnlyDisk {T = T} (Err error) → answer_for (Err error) ≡ Closed
 error_closed OutOfMemory only = absurd (only refl)
 error_closed DiskFailed only = refl
 
 -- an error of a call that takes no memory
-pub error_closed_of : {T : Type 0} (result : Result Reply RowError) (error : RowError) → result ≡ Err error → OnlyDisk {T = T} (Err error) → answer_for result ≡ Closed
+pub error_closed_of : {T : Type 0} (result : Result Reply RowFault) (error : RowFault) → result ≡ Err error → OnlyDisk {T = T} (Err error) → answer_for result ≡ Closed
 error_closed_of {T} result error is only = ap answer_for is ∙ error_closed {T = T} error only
 
-reply_quiet : (schema : SchemaData) (op : Op) (result : Result Reply RowError) → is_leave op ≡ false → IfOk result (λ reply. IsOpenAnswer schema op reply.answer) → is_committed (answer_for result) ≡ false
+reply_quiet : (schema : SchemaData) (op : Op) (result : Result Reply RowFault) → is_leave op ≡ false → IfOk result (λ reply. IsOpenAnswer schema op reply.answer) → is_committed (answer_for result) ≡ false
 reply_quiet schema op (Ok reply) other own = open_quiet schema op reply.answer other own
 reply_quiet schema op (Err error) other own = error_quiet error
 
-leave_quiet : (result : Result Reply RowError) → IfOk result (λ reply. is_committed reply.answer ≡ false) → is_committed (answer_for result) ≡ false
+leave_quiet : (result : Result Reply RowFault) → IfOk result (λ reply. is_committed reply.answer ≡ false) → is_committed (answer_for result) ≡ false
 leave_quiet (Ok reply) none = none
 leave_quiet (Err error) none = error_quiet error
 
 -- ---- steps that commit nothing
 
-module _ (old new : RowState) (before after : ℕ → Durable → Type 0) (was now : Times) (control : Control) (c : ℕ) (op : Op) (result : Result Reply RowError) (stays : StaysDurable old new before after was now) where
+module _ (old new : RowState) (before after : ℕ → Durable → Type 0) (was now : Times) (control : Control) (c : ℕ) (op : Op) (result : Result Reply RowFault) (stays : StaysDurable old new before after was now) where
   quietly : is_committed (answer_for result) ≡ false → Continues old new before after was now control c op (answer_for result)
   quietly none f contents trace represents unshut h = grows_quietly new after now f contents trace c op (answer_for result) none (stays f contents trace h)
 

@@ -7,8 +7,8 @@ use Rattle.client_database.specs.declared.event.Event.{Event}
 use Rattle.database_meaning.specs.declared.contents.Contents.{Contents}
 use Rattle.database_meaning.specs.Setting.{Setting}
 use Rattle.database_meaning.specs.Traces.{left_by}
-use Rattle.abl_rows.specs.declared.store.RowError.{RowError}
-use Rattle.abl_rows.specs.declared.store.RowError.TheVariants.{Disk as DiskFailed, NoMemory as OutOfMemory}
+use Rattle.abl_rows.specs.declared.store.RowFault.{RowFault}
+use Rattle.abl_rows.specs.declared.store.RowFault.TheVariants.{Disk as DiskFailed, NoMemory as OutOfMemory}
 use Rattle.abl_rows.specs.Rows.{Durable, RowState}
 use Rattle.abl_rows.specs.Times.{Times}
 use Rattle.db_core.specs.declared.control.Control.{Control}
@@ -17,7 +17,7 @@ use Rattle.db_core.specs.Represents.{Represents}
 use Rattle.db_machine.specs.declared.replies.Reply.{Reply}
 
 -- the answer that the client gets
-abbrev pub answer_for : Result Reply RowError → Answer
+abbrev pub answer_for : Result Reply RowFault → Answer
 answer_for (Ok reply) = reply.answer
 answer_for (Err OutOfMemory) = NoMemory
 answer_for (Err DiskFailed) = Closed

@@ -12,7 +12,7 @@ ghost use Rattle.db_machine.specs.OwnAnswers.{IsOpenAnswer};
 ghost use Rattle.db_machine.specs.Replies.{IsReply};
 
 use crate::replies::{Reply, is_refusal, prepare};
-use abl_rows::{RowError, RowStore};
+use abl_rows::{RowFault, RowStore};
 use abl_values::Schema;
 use client_database::{Answer, Op, RowIds};
 use db_core::Control;
@@ -29,7 +29,7 @@ pub(crate) fn answer_enter<R: RowStore>(
     size: u64,
     client: u16,
     op: &Op,
-) -> Result<Reply, RowError>
+) -> Result<Reply, RowFault>
     requires client { client < 16 }
     requires known { client < length control.old.sessions.items }
     requires few { length control.old.sessions.items ≤ 16 }
@@ -42,8 +42,8 @@ pub(crate) fn answer_enter<R: RowStore>(
     ensures copy { IfOk result (λ reply. reply.copy ≡ reply.answer) }
     ensures own { IfOk result (λ reply. IsOpenAnswer schema.now op.now reply.answer) }
     ensures stays { OnErr result (Stays (R.RowStore.state rows.old) (R.RowStore.state rows.new) control.old control.new client) }
-    ensures memory { IsErrOf result RowError.NoMemory → (R.RowStore.state rows.new).failed ≡ (R.RowStore.state rows.old).failed }
-    ensures disk { IsErrOf result RowError.Disk → IsTrue (R.RowStore.state rows.new).failed }
+    ensures memory { IsErrOf result RowFault.NoMemory → (R.RowStore.state rows.new).failed ≡ (R.RowStore.state rows.old).failed }
+    ensures disk { IsErrOf result RowFault.Disk → IsTrue (R.RowStore.state rows.new).failed }
     ensures durable { StaysDurable (R.RowStore.state rows.old) (R.RowStore.state rows.new) (R.RowStore.left rows.old) (R.RowStore.left rows.new) (R.RowStore.times rows.old) (R.RowStore.times rows.new) }
     ensures since { (R.RowStore.times rows.new).since ≡ (R.RowStore.times rows.old).since }
 {
@@ -65,7 +65,7 @@ pub(crate) fn answer_back<R: RowStore>(
     client: u16,
     op: &Op,
     depth: u32,
-) -> Result<Reply, RowError>
+) -> Result<Reply, RowFault>
     requires client { client < 16 }
     requires known { client < length control.old.sessions.items }
     requires few { length control.old.sessions.items ≤ 16 }
@@ -80,8 +80,8 @@ pub(crate) fn answer_back<R: RowStore>(
     ensures copy { IfOk result (λ reply. reply.copy ≡ reply.answer) }
     ensures own { IfOk result (λ reply. IsOpenAnswer schema.now op.now reply.answer) }
     ensures stays { OnErr result (Stays (R.RowStore.state rows.old) (R.RowStore.state rows.new) control.old control.new client) }
-    ensures memory { IsErrOf result RowError.NoMemory → (R.RowStore.state rows.new).failed ≡ (R.RowStore.state rows.old).failed }
-    ensures disk { IsErrOf result RowError.Disk → IsTrue (R.RowStore.state rows.new).failed }
+    ensures memory { IsErrOf result RowFault.NoMemory → (R.RowStore.state rows.new).failed ≡ (R.RowStore.state rows.old).failed }
+    ensures disk { IsErrOf result RowFault.Disk → IsTrue (R.RowStore.state rows.new).failed }
     ensures durable { StaysDurable (R.RowStore.state rows.old) (R.RowStore.state rows.new) (R.RowStore.left rows.old) (R.RowStore.left rows.new) (R.RowStore.times rows.old) (R.RowStore.times rows.new) }
     ensures since { (R.RowStore.times rows.new).since ≡ (R.RowStore.times rows.old).since }
 {
@@ -103,7 +103,7 @@ pub(crate) fn answer_inner_leave<R: RowStore>(
     client: u16,
     op: &Op,
     keep: &RowIds,
-) -> Result<Reply, RowError>
+) -> Result<Reply, RowFault>
     requires client { client < 16 }
     requires known { client < length control.old.sessions.items }
     requires few { length control.old.sessions.items ≤ 16 }
@@ -117,8 +117,8 @@ pub(crate) fn answer_inner_leave<R: RowStore>(
     ensures copy { IfOk result (λ reply. reply.copy ≡ reply.answer) }
     ensures own { IfOk result (λ reply. IsOpenAnswer schema.now op.now reply.answer) }
     ensures stays { OnErr result (Stays (R.RowStore.state rows.old) (R.RowStore.state rows.new) control.old control.new client) }
-    ensures memory { IsErrOf result RowError.NoMemory → (R.RowStore.state rows.new).failed ≡ (R.RowStore.state rows.old).failed }
-    ensures disk { IsErrOf result RowError.Disk → IsTrue (R.RowStore.state rows.new).failed }
+    ensures memory { IsErrOf result RowFault.NoMemory → (R.RowStore.state rows.new).failed ≡ (R.RowStore.state rows.old).failed }
+    ensures disk { IsErrOf result RowFault.Disk → IsTrue (R.RowStore.state rows.new).failed }
     ensures durable { StaysDurable (R.RowStore.state rows.old) (R.RowStore.state rows.new) (R.RowStore.left rows.old) (R.RowStore.left rows.new) (R.RowStore.times rows.old) (R.RowStore.times rows.new) }
     ensures since { (R.RowStore.times rows.new).since ≡ (R.RowStore.times rows.old).since }
     ensures uncommitted { IfOk result (λ reply. is_committed reply.answer ≡ false) }
@@ -142,7 +142,7 @@ pub(crate) fn answer_commit<R: RowStore>(
     client: u16,
     op: &Op,
     keep: &RowIds,
-) -> Result<Reply, RowError>
+) -> Result<Reply, RowFault>
     requires client { client < 16 }
     requires known { client < length control.old.sessions.items }
     requires few { length control.old.sessions.items ≤ 16 }
@@ -158,8 +158,8 @@ pub(crate) fn answer_commit<R: RowStore>(
     ensures copy { IfOk result (λ reply. reply.copy ≡ reply.answer) }
     ensures own { IfOk result (λ reply. IsOpenAnswer schema.now op.now reply.answer) }
     ensures stays { OnErr result (Stays (R.RowStore.state rows.old) (R.RowStore.state rows.new) control.old control.new client) }
-    ensures memory { IsErrOf result RowError.NoMemory → (R.RowStore.state rows.new).failed ≡ (R.RowStore.state rows.old).failed }
-    ensures disk { IsErrOf result RowError.Disk → IsTrue (R.RowStore.state rows.new).failed }
+    ensures memory { IsErrOf result RowFault.NoMemory → (R.RowStore.state rows.new).failed ≡ (R.RowStore.state rows.old).failed }
+    ensures disk { IsErrOf result RowFault.Disk → IsTrue (R.RowStore.state rows.new).failed }
     ensures durable { Continues (R.RowStore.state rows.old) (R.RowStore.state rows.new) (R.RowStore.left rows.old) (R.RowStore.left rows.new) (R.RowStore.times rows.old) (R.RowStore.times rows.new) control.old client op.now (answer_for result) }
     ensures since { (R.RowStore.times rows.new).since ≡ (R.RowStore.times rows.old).since }
 {

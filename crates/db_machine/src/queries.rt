@@ -19,7 +19,7 @@ ghost use Rattle.db_machine.specs.Replies.{AsksWhatIs, IsReply};
 
 use crate::replies::{Reply, is_refusal, prepare};
 use abl_base::RowId;
-use abl_rows::{RowError, RowStore};
+use abl_rows::{RowFault, RowStore};
 use abl_values::Schema;
 use client_database::{Answer, Op};
 use db_core::Control;
@@ -35,7 +35,7 @@ fn decide_question<R: RowStore>(
     rows: &mut R,
     control: &Control,
     op: &Op,
-) -> Result<Answer, RowError>
+) -> Result<Answer, RowFault>
     requires sound { IsSound (R.RowStore.state rows.old) control.now }
     requires asks { AsksWhatIs (R.RowStore.state rows.old).schema control.now op.now }
     ensures answer { IfOk result (λ answer. (f : Setting) (s : State) (c : ℕ) →
@@ -64,7 +64,7 @@ fn decide_question<R: RowStore>(
         ),
         Op::Get { table, row } => decide_get(rows, control, *table, *row),
         Op::CurrentValue { sequence } => Ok(decide_current_value(control, *sequence)),
-        _ => Err(RowError::NoMemory),
+        _ => Err(RowFault::NoMemory),
     }
 }
 
@@ -76,7 +76,7 @@ pub(crate) fn answer_question<R: RowStore>(
     size: u64,
     client: u16,
     op: &Op,
-) -> Result<Reply, RowError>
+) -> Result<Reply, RowFault>
     requires client { client < 16 }
     requires known { client < length control.old.sessions.items }
     requires few { length control.old.sessions.items ≤ 16 }
@@ -89,8 +89,8 @@ pub(crate) fn answer_question<R: RowStore>(
     ensures copy { IfOk result (λ reply. reply.copy ≡ reply.answer) }
     ensures own { IfOk result (λ reply. IsOpenAnswer schema.now op.now reply.answer) }
     ensures stays { OnErr result (Stays (R.RowStore.state rows.old) (R.RowStore.state rows.new) control.old control.new client) }
-    ensures memory { IsErrOf result RowError.NoMemory → (R.RowStore.state rows.new).failed ≡ (R.RowStore.state rows.old).failed }
-    ensures disk { IsErrOf result RowError.Disk → IsTrue (R.RowStore.state rows.new).failed }
+    ensures memory { IsErrOf result RowFault.NoMemory → (R.RowStore.state rows.new).failed ≡ (R.RowStore.state rows.old).failed }
+    ensures disk { IsErrOf result RowFault.Disk → IsTrue (R.RowStore.state rows.new).failed }
     ensures durable { StaysDurable (R.RowStore.state rows.old) (R.RowStore.state rows.new) (R.RowStore.left rows.old) (R.RowStore.left rows.new) (R.RowStore.times rows.old) (R.RowStore.times rows.new) }
     ensures since { (R.RowStore.times rows.new).since ≡ (R.RowStore.times rows.old).since }
     ensures uncommitted { IfOk result (λ reply. is_committed reply.answer ≡ false) }
@@ -114,7 +114,7 @@ pub(crate) fn answer_lock<R: RowStore>(
     row: RowId,
     exclusive: bool,
     wait: bool,
-) -> Result<Reply, RowError>
+) -> Result<Reply, RowFault>
     requires client { client < 16 }
     requires known { client < length control.old.sessions.items }
     requires few { length control.old.sessions.items ≤ 16 }
@@ -127,8 +127,8 @@ pub(crate) fn answer_lock<R: RowStore>(
     ensures copy { IfOk result (λ reply. reply.copy ≡ reply.answer) }
     ensures own { IfOk result (λ reply. IsOpenAnswer schema.now op.now reply.answer) }
     ensures stays { OnErr result (Stays (R.RowStore.state rows.old) (R.RowStore.state rows.new) control.old control.new client) }
-    ensures memory { IsErrOf result RowError.NoMemory → (R.RowStore.state rows.new).failed ≡ (R.RowStore.state rows.old).failed }
-    ensures disk { IsErrOf result RowError.Disk → IsTrue (R.RowStore.state rows.new).failed }
+    ensures memory { IsErrOf result RowFault.NoMemory → (R.RowStore.state rows.new).failed ≡ (R.RowStore.state rows.old).failed }
+    ensures disk { IsErrOf result RowFault.Disk → IsTrue (R.RowStore.state rows.new).failed }
     ensures durable { StaysDurable (R.RowStore.state rows.old) (R.RowStore.state rows.new) (R.RowStore.left rows.old) (R.RowStore.left rows.new) (R.RowStore.times rows.old) (R.RowStore.times rows.new) }
     ensures since { (R.RowStore.times rows.new).since ≡ (R.RowStore.times rows.old).since }
 {
@@ -141,15 +141,15 @@ pub(crate) fn answer_lock<R: RowStore>(
     match &reply.answer {
         Answer::Granted => match grant_lock(alloc, control, client, row, exclusive) {
             Ok(()) => Ok(reply),
-            Err(_) => Err(RowError::NoMemory),
+            Err(_) => Err(RowFault::NoMemory),
         },
         Answer::Blocked { .. } => {
             match wait_for_lock(alloc, control, client, table, row, exclusive, wait) {
                 Ok(()) => Ok(reply),
-                Err(_) => Err(RowError::NoMemory),
+                Err(_) => Err(RowFault::NoMemory),
             }
         }
-        _ => Err(RowError::NoMemory),
+        _ => Err(RowFault::NoMemory),
     }
 }
 
@@ -162,7 +162,7 @@ pub(crate) fn answer_drop<R: RowStore>(
     client: u16,
     op: &Op,
     row: RowId,
-) -> Result<Reply, RowError>
+) -> Result<Reply, RowFault>
     requires client { client < 16 }
     requires known { client < length control.old.sessions.items }
     requires few { length control.old.sessions.items ≤ 16 }
@@ -176,8 +176,8 @@ pub(crate) fn answer_drop<R: RowStore>(
     ensures copy { IfOk result (λ reply. reply.copy ≡ reply.answer) }
     ensures own { IfOk result (λ reply. IsOpenAnswer schema.now op.now reply.answer) }
     ensures stays { OnErr result (Stays (R.RowStore.state rows.old) (R.RowStore.state rows.new) control.old control.new client) }
-    ensures memory { IsErrOf result RowError.NoMemory → (R.RowStore.state rows.new).failed ≡ (R.RowStore.state rows.old).failed }
-    ensures disk { IsErrOf result RowError.Disk → IsTrue (R.RowStore.state rows.new).failed }
+    ensures memory { IsErrOf result RowFault.NoMemory → (R.RowStore.state rows.new).failed ≡ (R.RowStore.state rows.old).failed }
+    ensures disk { IsErrOf result RowFault.Disk → IsTrue (R.RowStore.state rows.new).failed }
     ensures durable { StaysDurable (R.RowStore.state rows.old) (R.RowStore.state rows.new) (R.RowStore.left rows.old) (R.RowStore.left rows.new) (R.RowStore.times rows.old) (R.RowStore.times rows.new) }
     ensures since { (R.RowStore.times rows.new).since ≡ (R.RowStore.times rows.old).since }
 {
@@ -200,7 +200,7 @@ pub(crate) fn answer_next_value<R: RowStore>(
     op: &Op,
     sequence: u16,
     increment: i64,
-) -> Result<Reply, RowError>
+) -> Result<Reply, RowFault>
     requires client { client < 16 }
     requires known { client < length control.old.sessions.items }
     requires few { length control.old.sessions.items ≤ 16 }
@@ -215,8 +215,8 @@ pub(crate) fn answer_next_value<R: RowStore>(
     ensures copy { IfOk result (λ reply. reply.copy ≡ reply.answer) }
     ensures own { IfOk result (λ reply. IsOpenAnswer schema.now op.now reply.answer) }
     ensures stays { OnErr result (Stays (R.RowStore.state rows.old) (R.RowStore.state rows.new) control.old control.new client) }
-    ensures memory { IsErrOf result RowError.NoMemory → (R.RowStore.state rows.new).failed ≡ (R.RowStore.state rows.old).failed }
-    ensures disk { IsErrOf result RowError.Disk → IsTrue (R.RowStore.state rows.new).failed }
+    ensures memory { IsErrOf result RowFault.NoMemory → (R.RowStore.state rows.new).failed ≡ (R.RowStore.state rows.old).failed }
+    ensures disk { IsErrOf result RowFault.Disk → IsTrue (R.RowStore.state rows.new).failed }
     ensures durable { StaysDurable (R.RowStore.state rows.old) (R.RowStore.state rows.new) (R.RowStore.left rows.old) (R.RowStore.left rows.new) (R.RowStore.times rows.old) (R.RowStore.times rows.new) }
     ensures since { (R.RowStore.times rows.new).since ≡ (R.RowStore.times rows.old).since }
 {
@@ -231,6 +231,6 @@ pub(crate) fn answer_next_value<R: RowStore>(
             move_sequence(control, client, sequence, *value);
             Ok(reply)
         }
-        _ => Err(RowError::NoMemory),
+        _ => Err(RowFault::NoMemory),
     }
 }

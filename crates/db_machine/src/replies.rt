@@ -7,7 +7,7 @@ ghost use Rattle.db_machine.specs.Replies.{IsFitted, IsRefusal};
 
 use crate::own_answers::can_have;
 use crate::trace_size::has_place;
-use abl_rows::RowError;
+use abl_rows::RowFault;
 use abl_values::Schema;
 use client_database::{Answer, Op};
 
@@ -38,20 +38,20 @@ pub(crate) fn prepare(
     size: u64,
     op: &Op,
     decided: Answer,
-) -> Result<Reply, RowError>
+) -> Result<Reply, RowFault>
     requires { size ≤ MOST + 1 }
     ensures fitted { IfOk result (λ reply. IsFitted size op.now decided reply.answer) }
     ensures copy { IfOk result (λ reply. reply.copy ≡ reply.answer) }
     ensures own { IfOk result (λ reply. IsOpenAnswer schema.now op.now reply.answer) }
-    ensures memory { IfErr result (λ error. error ≡ RowError.NoMemory) }
+    ensures memory { IfErr result (λ error. error ≡ RowFault.NoMemory) }
 {
     if !can_have(schema, op, &decided) {
-        return Err(RowError::NoMemory);
+        return Err(RowFault::NoMemory);
     }
     let answer = fit(size, op, decided);
     match answer.copy() {
         Ok(copy) => Ok(Reply { answer, copy }),
-        Err(_) => Err(RowError::NoMemory),
+        Err(_) => Err(RowFault::NoMemory),
     }
 }
 

@@ -21,7 +21,7 @@ use crate::queries::{answer_drop, answer_lock, answer_next_value, answer_questio
 use crate::replies::Reply;
 use crate::trace_size::is_end;
 use crate::writes::{answer_delete, answer_insert, answer_put};
-use abl_rows::{RowError, RowStore};
+use abl_rows::{RowFault, RowStore};
 use abl_values::Schema;
 use client_database::{Answer, Op};
 use db_core::Control;
@@ -49,7 +49,7 @@ fn answer_allowed<R: RowStore>(
     size: u64,
     client: u16,
     op: &Op,
-) -> Result<Reply, RowError>
+) -> Result<Reply, RowFault>
     requires few { length control.old.sessions.items ≤ 16 }
     requires sound { IsSound (R.RowStore.state rows.old) control.old }
     requires fine { (R.RowStore.state rows.old).failed ≡ false }
@@ -64,8 +64,8 @@ fn answer_allowed<R: RowStore>(
     ensures copy { IfOk result (λ reply. reply.copy ≡ reply.answer) }
     ensures own { IfOk result (λ reply. IsOpenAnswer schema.now op.now reply.answer) }
     ensures stays { OnErr result (Stays (R.RowStore.state rows.old) (R.RowStore.state rows.new) control.old control.new client) }
-    ensures memory { IsErrOf result RowError.NoMemory → (R.RowStore.state rows.new).failed ≡ (R.RowStore.state rows.old).failed }
-    ensures disk { IsErrOf result RowError.Disk → IsTrue (R.RowStore.state rows.new).failed }
+    ensures memory { IsErrOf result RowFault.NoMemory → (R.RowStore.state rows.new).failed ≡ (R.RowStore.state rows.old).failed }
+    ensures disk { IsErrOf result RowFault.Disk → IsTrue (R.RowStore.state rows.new).failed }
     ensures durable { Continues (R.RowStore.state rows.old) (R.RowStore.state rows.new) (R.RowStore.left rows.old) (R.RowStore.left rows.new) (R.RowStore.times rows.old) (R.RowStore.times rows.new) control.old client op.now (answer_for result) }
     ensures since { (R.RowStore.times rows.new).since ≡ (R.RowStore.times rows.old).since }
 {
@@ -110,7 +110,7 @@ fn answer_allowed<R: RowStore>(
                 rows, control, schema, size, client, op, *sequence, increment,
             )
         }
-        Op::End => Err(RowError::NoMemory),
+        Op::End => Err(RowFault::NoMemory),
     }
 }
 
@@ -125,7 +125,7 @@ fn try_answer<R: RowStore>(
     closed: bool,
     client: u16,
     op: &Op,
-) -> Result<Reply, RowError>
+) -> Result<Reply, RowFault>
     requires few { length control.old.sessions.items ≤ 16 }
     requires sound { IsSound (R.RowStore.state rows.old) control.old }
     requires fine { closed ≡ false → (R.RowStore.state rows.old).failed ≡ false }
@@ -142,8 +142,8 @@ fn try_answer<R: RowStore>(
     ensures fine { IfOk result (λ reply. (closed || is_closed reply.answer) ≡ false → (R.RowStore.state rows.new).failed ≡ false) }
     ensures stays { OnErr result (Stays (R.RowStore.state rows.old) (R.RowStore.state rows.new) control.old control.new client) }
     ensures allowed { OnErr result (IsAllowed (setting_at schema.now control.old) (known control.old) client op.now) }
-    ensures memory { IsErrOf result RowError.NoMemory → (R.RowStore.state rows.new).failed ≡ (R.RowStore.state rows.old).failed }
-    ensures disk { IsErrOf result RowError.Disk → IsTrue (R.RowStore.state rows.new).failed }
+    ensures memory { IsErrOf result RowFault.NoMemory → (R.RowStore.state rows.new).failed ≡ (R.RowStore.state rows.old).failed }
+    ensures disk { IsErrOf result RowFault.Disk → IsTrue (R.RowStore.state rows.new).failed }
     ensures unshut { OnErr result (closed ≡ false) }
     ensures shut { IfOk result (λ reply. reply.answer ≡ Closed → IsTrue closed) }
     ensures durable { StepsOn (R.RowStore.state rows.old) (R.RowStore.state rows.new) (R.RowStore.left rows.old) (R.RowStore.left rows.new) (R.RowStore.times rows.old) (R.RowStore.times rows.new) control.old closed client op.now (answer_for result) }
@@ -200,14 +200,14 @@ fn answer_other<R: RowStore>(
     refusals_are_known();
     match try_answer(alloc, rows, control, schema, size, closed, client, op) {
         Ok(reply) => reply,
-        Err(RowError::NoMemory) => {
+        Err(RowFault::NoMemory) => {
             end_failed(control, client);
             Reply {
                 answer: Answer::NoMemory,
                 copy: Answer::NoMemory,
             }
         }
-        Err(RowError::Disk) => {
+        Err(RowFault::Disk) => {
             end_failed(control, client);
             Reply {
                 answer: Answer::Closed,

@@ -16,7 +16,7 @@ ghost use Rattle.db_machine.specs.Replies.{IsReply};
 
 use crate::replies::{Reply, is_refusal, prepare};
 use abl_base::{Row, RowId};
-use abl_rows::{RowError, RowStore};
+use abl_rows::{RowFault, RowStore};
 use abl_values::Schema;
 use client_database::{Answer, Op};
 use db_core::Control;
@@ -28,7 +28,7 @@ use db_core::writes::{delete, insert, put};
 use std::alloc::Global;
 
 /// Blocks the client at an Insert or Put. An error means out of memory.
-fn wait_at(control: &mut Control, client: u16, op: &Op) -> Result<(), RowError>
+fn wait_at(control: &mut Control, client: u16, op: &Op) -> Result<(), RowFault>
     requires known { client < length control.old.sessions.items }
     requires keyed { lock_asked op.now ≡ None }
     ensures represents { OnOk result ((f : Setting) (rows : RowState) (s : State) (holders : List ℕ) → Represents f rows control.old s →
@@ -36,14 +36,14 @@ fn wait_at(control: &mut Control, client: u16, op: &Op) -> Result<(), RowError>
     ensures sound { OnOk result ((rows : RowState) → FitsOp rows.schema op.now → IsSound rows control.old → IsSound rows control.new) }
     ensures counts { OnOk result (SameCounts control.old control.new) }
     ensures err { OnErr result (control.new ≡ control.old) }
-    ensures memory { IfErr result (λ error. error ≡ RowError.NoMemory) }
+    ensures memory { IfErr result (λ error. error ≡ RowFault.NoMemory) }
 {
     match op.copy() {
         Ok(copy) => {
             wait_for_key(control, client, copy);
             Ok(())
         }
-        Err(_) => Err(RowError::NoMemory),
+        Err(_) => Err(RowFault::NoMemory),
     }
 }
 
@@ -58,7 +58,7 @@ pub(crate) fn answer_insert<R: RowStore>(
     op: &Op,
     table: u16,
     values: &Row,
-) -> Result<Reply, RowError>
+) -> Result<Reply, RowFault>
     requires client { client < 16 }
     requires known { client < length control.old.sessions.items }
     requires few { length control.old.sessions.items ≤ 16 }
@@ -75,8 +75,8 @@ pub(crate) fn answer_insert<R: RowStore>(
     ensures copy { IfOk result (λ reply. reply.copy ≡ reply.answer) }
     ensures own { IfOk result (λ reply. IsOpenAnswer schema.now op.now reply.answer) }
     ensures stays { OnErr result (Stays (R.RowStore.state rows.old) (R.RowStore.state rows.new) control.old control.new client) }
-    ensures memory { IsErrOf result RowError.NoMemory → (R.RowStore.state rows.new).failed ≡ (R.RowStore.state rows.old).failed }
-    ensures disk { IsErrOf result RowError.Disk → IsTrue (R.RowStore.state rows.new).failed }
+    ensures memory { IsErrOf result RowFault.NoMemory → (R.RowStore.state rows.new).failed ≡ (R.RowStore.state rows.old).failed }
+    ensures disk { IsErrOf result RowFault.Disk → IsTrue (R.RowStore.state rows.new).failed }
     ensures durable { StaysDurable (R.RowStore.state rows.old) (R.RowStore.state rows.new) (R.RowStore.left rows.old) (R.RowStore.left rows.new) (R.RowStore.times rows.old) (R.RowStore.times rows.new) }
     ensures since { (R.RowStore.times rows.new).since ≡ (R.RowStore.times rows.old).since }
 {
@@ -95,7 +95,7 @@ pub(crate) fn answer_insert<R: RowStore>(
             wait_at(control, client, op)?;
             Ok(reply)
         }
-        _ => Err(RowError::NoMemory),
+        _ => Err(RowFault::NoMemory),
     }
 }
 
@@ -111,7 +111,7 @@ pub(crate) fn answer_put<R: RowStore>(
     table: u16,
     row: RowId,
     values: &Row,
-) -> Result<Reply, RowError>
+) -> Result<Reply, RowFault>
     requires client { client < 16 }
     requires known { client < length control.old.sessions.items }
     requires few { length control.old.sessions.items ≤ 16 }
@@ -129,8 +129,8 @@ pub(crate) fn answer_put<R: RowStore>(
     ensures copy { IfOk result (λ reply. reply.copy ≡ reply.answer) }
     ensures own { IfOk result (λ reply. IsOpenAnswer schema.now op.now reply.answer) }
     ensures stays { OnErr result (Stays (R.RowStore.state rows.old) (R.RowStore.state rows.new) control.old control.new client) }
-    ensures memory { IsErrOf result RowError.NoMemory → (R.RowStore.state rows.new).failed ≡ (R.RowStore.state rows.old).failed }
-    ensures disk { IsErrOf result RowError.Disk → IsTrue (R.RowStore.state rows.new).failed }
+    ensures memory { IsErrOf result RowFault.NoMemory → (R.RowStore.state rows.new).failed ≡ (R.RowStore.state rows.old).failed }
+    ensures disk { IsErrOf result RowFault.Disk → IsTrue (R.RowStore.state rows.new).failed }
     ensures durable { StaysDurable (R.RowStore.state rows.old) (R.RowStore.state rows.new) (R.RowStore.left rows.old) (R.RowStore.left rows.new) (R.RowStore.times rows.old) (R.RowStore.times rows.new) }
     ensures since { (R.RowStore.times rows.new).since ≡ (R.RowStore.times rows.old).since }
 {
@@ -150,7 +150,7 @@ pub(crate) fn answer_put<R: RowStore>(
             wait_at(control, client, op)?;
             Ok(reply)
         }
-        _ => Err(RowError::NoMemory),
+        _ => Err(RowFault::NoMemory),
     }
 }
 
@@ -164,7 +164,7 @@ pub(crate) fn answer_delete<R: RowStore>(
     op: &Op,
     table: u16,
     row: RowId,
-) -> Result<Reply, RowError>
+) -> Result<Reply, RowFault>
     requires client { client < 16 }
     requires known { client < length control.old.sessions.items }
     requires few { length control.old.sessions.items ≤ 16 }
@@ -179,8 +179,8 @@ pub(crate) fn answer_delete<R: RowStore>(
     ensures copy { IfOk result (λ reply. reply.copy ≡ reply.answer) }
     ensures own { IfOk result (λ reply. IsOpenAnswer schema.now op.now reply.answer) }
     ensures stays { OnErr result (Stays (R.RowStore.state rows.old) (R.RowStore.state rows.new) control.old control.new client) }
-    ensures memory { IsErrOf result RowError.NoMemory → (R.RowStore.state rows.new).failed ≡ (R.RowStore.state rows.old).failed }
-    ensures disk { IsErrOf result RowError.Disk → IsTrue (R.RowStore.state rows.new).failed }
+    ensures memory { IsErrOf result RowFault.NoMemory → (R.RowStore.state rows.new).failed ≡ (R.RowStore.state rows.old).failed }
+    ensures disk { IsErrOf result RowFault.Disk → IsTrue (R.RowStore.state rows.new).failed }
     ensures durable { StaysDurable (R.RowStore.state rows.old) (R.RowStore.state rows.new) (R.RowStore.left rows.old) (R.RowStore.left rows.new) (R.RowStore.times rows.old) (R.RowStore.times rows.new) }
     ensures since { (R.RowStore.times rows.new).since ≡ (R.RowStore.times rows.old).since }
 {
@@ -196,6 +196,6 @@ pub(crate) fn answer_delete<R: RowStore>(
             delete(rows, control, client, table, row)?;
             Ok(reply)
         }
-        _ => Err(RowError::NoMemory),
+        _ => Err(RowFault::NoMemory),
     }
 }

@@ -3,8 +3,8 @@ use Rattle.std.proofs.Common.{◌≡◌, ◌≢◌, inl, inr, ℕ, Bool, true, f
 use Rattle.std.proofs.lemmas.Bool.{cases_eq}
 use Rattle.abl_values.specs.Schema.{SchemaData}
 use Rattle.abl_rows.specs.declared.store.RowChange.{RowChange}
-use Rattle.abl_rows.specs.declared.store.RowError.{RowError}
-use Rattle.abl_rows.specs.declared.store.RowError.TheVariants.{Disk, NoMemory}
+use Rattle.abl_rows.specs.declared.store.RowFault.{RowFault}
+use Rattle.abl_rows.specs.declared.store.RowFault.TheVariants.{Disk, NoMemory}
 use Rattle.abl_rows.specs.Changes.{RowsById}
 use Rattle.abl_rows.specs.Rows.{AfterError, Begins, Fails, IsConsistent, IsObservable, RowState, RowTransaction, no_transaction}
 use Rattle.key_index.specs.Index.{Keys}
@@ -36,7 +36,7 @@ failed_indexed old new moved keys f h = record {
     no k = let e : true ≡ false = sym f.failed ∙ k.1 in absurd (cc e)
 
 -- after an error
-pub refused_indexed : {T : Type 0} (old new : RowState) (moved : ℕ → List Moved) (keys : List Keys) (error : RowError) → AfterError {T = T} old new (Err error) → IsIndexed old moved keys → IsIndexed new moved keys
+pub refused_indexed : {T : Type 0} (old new : RowState) (moved : ℕ → List Moved) (keys : List Keys) (error : RowFault) → AfterError {T = T} old new (Err error) → IsIndexed old moved keys → IsIndexed new moved keys
 refused_indexed old new moved keys Disk a h = failed_indexed old new moved keys (a.disk refl) h
 refused_indexed old new moved keys NoMemory a h = same_indexed old new moved keys (a.memory refl) h
 

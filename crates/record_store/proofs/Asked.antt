@@ -15,8 +15,8 @@ use Rattle.std.proofs.Math.Path.{fun_ext}
 use Rattle.row_keys.specs.Reserved.{reserved_at}
 use Rattle.abl_rows.specs.declared.store.Duplicate.{Duplicate}
 use Rattle.abl_rows.specs.declared.store.FoundRow.{FoundRow}
-use Rattle.abl_rows.specs.declared.store.RowError.{RowError}
-use Rattle.abl_rows.specs.declared.store.RowError.TheVariants.{Disk}
+use Rattle.abl_rows.specs.declared.store.RowFault.{RowFault}
+use Rattle.abl_rows.specs.declared.store.RowFault.TheVariants.{Disk}
 use Rattle.abl_rows.specs.Changes.{RowsById}
 use Rattle.abl_rows.specs.Questions.{FindsNoneIn, IsLeastDuplicate, ReservesAgainst, replaced_at}
 use Rattle.abl_rows.specs.Rows.{AfterError, IsObservable, RowState}
@@ -30,11 +30,11 @@ use Rattle.indexed_rows.proofs.Fitting.{all_fitting}
 
 -- ---- an answer that changes nothing, with no fault of the disk
 
-pub on_any : {T P : Type 0} (result : Result T RowError) → P → OnOk result P
+pub on_any : {T P : Type 0} (result : Result T RowFault) → P → OnOk result P
 on_any (Ok x) p = p
 on_any (Err e) p = tt
 
-pub memory_err : {T : Type 0} (old new : RowState) (result : Result T RowError) → new ≡ old → (IsErrOf result Disk → ⊥) → AfterError old new result
+pub memory_err : {T : Type 0} (old new : RowState) (result : Result T RowFault) → new ≡ old → (IsErrOf result Disk → ⊥) → AfterError old new result
 memory_err old new result same only = record { memory = λ e. same; disk = λ e. absurd (only e) }
 
 -- the order that a search may have
@@ -50,7 +50,7 @@ FindsDuplicate schema keys row new found =
     → MatchOption found ((index : ℕ) (other : RowId) → ¬ IsLeastDuplicateIn schema rows row new index other) (λ d. IsLeastDuplicateIn schema rows row new d.index d.row)
 
 pub duplicate_of : (s : RowState) (moved : ℕ → List Moved) (keys : List Keys) → IsIndexed s moved keys → (schema : SchemaData) (list : List Keys) → schema ≡ s.schema → list ≡ keys
-    → (row : Option RowId) (new : Option StoredRow) (result : Result (Option Duplicate) RowError) → IfOk result (FindsDuplicate schema list row new)
+    → (row : Option RowId) (new : Option StoredRow) (result : Result (Option Duplicate) RowFault) → IfOk result (FindsDuplicate schema list row new)
     → IfOk result (λ found. IsObservable s → MatchOption found ((index : ℕ) (other : RowId) → ¬ IsLeastDuplicate s row new index other) (λ d. IsLeastDuplicate s row new d.index d.row))
 duplicate_of s moved keys h schema list e f row new (Ok found) is = λ known.
     let here = subst (λ (x : SchemaData). FindsDuplicate x keys row new found) e (subst (λ (l : List Keys). FindsDuplicate schema l row new found) f is) in
@@ -64,7 +64,7 @@ FindsHolders schema keys client table old values holders =
     (stored : Option StoredRow) → IsRead table old stored → ListsAll holders (KeepsAgainst schema (keepers_of keys) client stored (row_in table values))
 
 pub holders_of : (s : RowState) (keys : List Keys) (known_schema schema : SchemaData) (list : List Keys) → schema ≡ known_schema → list ≡ keys → s.schema ≡ known_schema → ((d : ℕ) → (s.transaction d).reserved ≡ reserved_at known_schema (keepers_of keys) d)
-    → (client table : ℕ) (old : Option (List Value)) (row : Option RowId) (values : List Value) (result : Result (List ℕ) RowError) → (IsObservable s → IsRead table old (replaced_at s row)) → IfOk result (FindsHolders schema list client table old values)
+    → (client table : ℕ) (old : Option (List Value)) (row : Option RowId) (values : List Value) (result : Result (List ℕ) RowFault) → (IsObservable s → IsRead table old (replaced_at s row)) → IfOk result (FindsHolders schema list client table old values)
     → IfOk result (λ holders. IsObservable s → ListsAll holders (ReservesAgainst s client (replaced_at s row) (row_in table values)))
 holders_of s keys known_schema schema list e f same reserved client table old row values (Ok holders) read is = λ known.
     let here = subst (λ (x : SchemaData). FindsHolders x keys client table old values holders) e (subst (λ (l : List Keys). FindsHolders schema l client table old values holders) f is) in
@@ -99,7 +99,7 @@ module _ (s : RowState) (moved : ℕ → List Moved) (keys : List Keys) (h : IsI
       (subst (λ (k : List ℕ). IsNextIn s.schema s.rows table index prefix cursor forward at.row k g.values) (sym read.1)
       ((place_there (Some at) is s.rows (h.entries known) (all_fitting s.schema s.rows (h.fitting known))).1 g.values read.2))
 
-  pub row_found : (at : Cursor) → FindsPlace schema list table index prefix cursor forward (Some at) → (result : Result (Option FoundRow) RowError)
+  pub row_found : (at : Cursor) → FindsPlace schema list table index prefix cursor forward (Some at) → (result : Result (Option FoundRow) RowFault)
       → IfOk result (λ found. IsObservable s → MatchOption found ⊥ (IsReadAt at))
       → IfOk result (λ found. IsObservable s → MatchOption found (FindsNoneIn s.schema s.rows table index prefix cursor forward) (λ g. IsNextIn s.schema s.rows table index prefix cursor forward g.row g.key g.values))
   row_found at is (Ok None) read = λ known. absurd (read known)

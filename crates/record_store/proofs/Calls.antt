@@ -2,8 +2,8 @@
 use Rattle.std.proofs.Common.{◌≡◌, ℕ, List, length, Result, Ok, Err, OnOk, ℤ, refl, sym, ap, ◌∙◌, subst, le_refl}
 use Rattle.abl_storage.specs.Slots.{SlotState}
 use Rattle.abl_values.specs.Schema.{SchemaData}
-use Rattle.abl_rows.specs.declared.store.RowError.{RowError}
-use Rattle.abl_rows.specs.declared.store.RowError.TheVariants.{Disk, NoMemory}
+use Rattle.abl_rows.specs.declared.store.RowFault.{RowFault}
+use Rattle.abl_rows.specs.declared.store.RowFault.TheVariants.{Disk, NoMemory}
 use Rattle.abl_rows.specs.Rows.{AfterError, HasCause, RowState}
 use Rattle.key_index.specs.Index.{Keys}
 use Rattle.row_indexes.specs.declared.moves.Moved.{Moved}
@@ -15,7 +15,7 @@ use Rattle.indexed_rows.specs.Indexed.{IsIndexed}
 use Rattle.indexed_rows.proofs.Kept.{refused_indexed, same_indexed}
 use Rattle.record_store.specs.State.{store_state}
 
-pub on_ok : {T P Q : Type 0} (result : Result T RowError) → (P → Q) → OnOk result P → OnOk result Q
+pub on_ok : {T P Q : Type 0} (result : Result T RowFault) → (P → Q) → OnOk result P → OnOk result Q
 on_ok (Ok x) f p = f p
 on_ok (Err e) f p = tt
 
@@ -31,11 +31,11 @@ pub no_error : {T : Type 0} (old new : RowState) (x : T) → AfterError {T = T} 
 no_error old new x = record { memory = λ e. absurd (cc e); disk = λ e. absurd (cc e) }
 
 -- an error at another type
-pub other_error : {T U : Type 0} (old new : RowState) (error : RowError) → AfterError {T = T} old new (Err error) → AfterError {T = U} old new (Err error)
+pub other_error : {T U : Type 0} (old new : RowState) (error : RowFault) → AfterError {T = T} old new (Err error) → AfterError {T = U} old new (Err error)
 other_error old new Disk a = record { memory = λ e. absurd (cc e); disk = λ e. a.disk refl }
 other_error old new NoMemory a = record { memory = λ e. a.memory refl; disk = λ e. absurd (cc e) }
 
-pub other_cause : {T U : Type 0} (before after : ℕ) (old : RowState) (error : RowError) → HasCause {T = T} before after old (Err error) → HasCause {T = U} before after old (Err error)
+pub other_cause : {T U : Type 0} (before after : ℕ) (old : RowState) (error : RowFault) → HasCause {T = T} before after old (Err error) → HasCause {T = U} before after old (Err error)
 other_cause before after old Disk c = record { later = c.later; disk = λ e. c.disk refl }
 other_cause before after old NoMemory c = record { later = c.later; disk = λ e. absurd (cc e) }
 
@@ -54,14 +54,14 @@ module _ (schema now_schema : SchemaData) (keys : List Keys) (sequences : List �
   new_is : new ≡ middle
   new_is = ap (λ (x : SchemaData). store_state x keys sequences t left) same_schema
 
-  pub asked_err : {T : Type 0} (result : Result T RowError) → AfterError old middle result → AfterError old new result
+  pub asked_err : {T : Type 0} (result : Result T RowFault) → AfterError old middle result → AfterError old new result
   asked_err result err = subst (λ (x : RowState). AfterError old x result) (sym new_is) err
 
-  pub asked_same : {T : Type 0} (result : Result T RowError) → OnOk result ((reserved : Reserved) (values : List ℤ) → state_of schema reserved values t left ≡ state_of schema reserved values s opens) → OnOk result (new ≡ old)
+  pub asked_same : {T : Type 0} (result : Result T RowFault) → OnOk result ((reserved : Reserved) (values : List ℤ) → state_of schema reserved values t left ≡ state_of schema reserved values s opens) → OnOk result (new ≡ old)
   asked_same (Ok x) same = new_is ∙ same (reserved_at schema (keepers_of keys)) sequences
   asked_same (Err e) same = tt
 
-  pub asked_indexed : {T : Type 0} (result : Result T RowError) → OnOk result (new ≡ old) → AfterError old new result → (moved : ℕ → List Moved) → IsIndexed old moved keys → IsIndexed new moved keys
+  pub asked_indexed : {T : Type 0} (result : Result T RowFault) → OnOk result (new ≡ old) → AfterError old new result → (moved : ℕ → List Moved) → IsIndexed old moved keys → IsIndexed new moved keys
   asked_indexed (Ok x) same err moved h = same_indexed old new moved keys same h
   asked_indexed (Err e) same err moved h = refused_indexed old new moved keys e err h
 

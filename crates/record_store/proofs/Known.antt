@@ -9,7 +9,7 @@ use Rattle.database_meaning.specs.Setting.{fragments}
 use Rattle.database_meaning.specs.Waiting.{row_in}
 use Rattle.client_database.specs.declared.row_order.Cursor.{Cursor}
 use Rattle.abl_rows.specs.declared.store.FoundRow.{FoundRow}
-use Rattle.abl_rows.specs.declared.store.RowError.{RowError}
+use Rattle.abl_rows.specs.declared.store.RowFault.{RowFault}
 use Rattle.abl_rows.specs.Changes.{RowsById}
 use Rattle.abl_rows.specs.Questions.{table_at, table_in}
 use Rattle.abl_rows.specs.Rows.{IsFree, RowState}
@@ -47,25 +47,25 @@ module _ (schema : SchemaData) (keys : List Keys) (sequences : List ℤ) (s : Sl
   abbrev now : RowState
   now = store_state schema keys sequences s opens
 
-  pub table_found : (result : Result (Option ℕ) RowError) (row : ℕ) → IfOk result (λ found. IsReadable s → found ≡ table_at (decoded schema s.reads) row) → IfOk result (λ found. IsReadable s → found ≡ table_at now.rows row)
+  pub table_found : (result : Result (Option ℕ) RowFault) (row : ℕ) → IfOk result (λ found. IsReadable s → found ≡ table_at (decoded schema s.reads) row) → IfOk result (λ found. IsReadable s → found ≡ table_at now.rows row)
   table_found (Ok x) row is = λ readable. is readable ∙ sym (ap (λ (f : RowsById). table_at f row) (rows_known s (decoded schema s.reads) readable))
   table_found (Err e) row is = tt
 
-  pub fragments_found : (result : Result ℕ RowError) (row : ℕ) → IfOk result (λ count. IsReadable s → count ≡ fragments (decoded schema s.reads row)) → IfOk result (λ count. IsReadable s → count ≡ fragments (now.rows row))
+  pub fragments_found : (result : Result ℕ RowFault) (row : ℕ) → IfOk result (λ count. IsReadable s → count ≡ fragments (decoded schema s.reads row)) → IfOk result (λ count. IsReadable s → count ≡ fragments (now.rows row))
   fragments_found (Ok x) row is = λ readable. is readable ∙ sym (ap (λ (f : RowsById). fragments (f row)) (rows_known s (decoded schema s.reads) readable))
   fragments_found (Err e) row is = tt
 
-  pub free_found : (result : Result RowId RowError) → IfOk result (λ row. (reserved : Reserved) (values : List ℤ) → IsFree (state_of schema reserved values s opens) row.0) → IfOk result (λ row. IsFree now row.0)
+  pub free_found : (result : Result RowId RowFault) → IfOk result (λ row. (reserved : Reserved) (values : List ℤ) → IsFree (state_of schema reserved values s opens) row.0) → IfOk result (λ row. IsFree now row.0)
   free_found (Ok x) free = free (reserved_at schema (keepers_of keys)) sequences
   free_found (Err e) free = tt
 
-  pub read_found : (table row : ℕ) (result : Result (Option (List Value)) RowError) → IfOk result (λ found. (reserved : Reserved) (values : List ℤ) → IsReadable s → IsRead table found ((state_of schema reserved values s opens).rows row))
+  pub read_found : (table row : ℕ) (result : Result (Option (List Value)) RowFault) → IfOk result (λ found. (reserved : Reserved) (values : List ℤ) → IsReadable s → IsRead table found ((state_of schema reserved values s opens).rows row))
       → IfOk result (λ found. IsReadable s → MatchOption found (table_at now.rows row ≢ Some table) (λ values. now.rows row ≡ row_in table values))
   read_found table row (Ok found) is = λ readable. read_is table found (now.rows row) (is (reserved_at schema (keepers_of keys)) sequences readable)
   read_found table row (Err e) is = tt
 
   -- the row that was read at a place
-  pub read_at : (table : ℕ) (at : Cursor) (result : Result (Option FoundRow) RowError)
+  pub read_at : (table : ℕ) (at : Cursor) (result : Result (Option FoundRow) RowFault)
       → IfOk result (λ found. (reserved : Reserved) (values : List ℤ) → IsReadable s → MatchOption found ⊥ (λ f. (f.row ≡ at.row) × (f.key ≡ at.key) × ((state_of schema reserved values s opens).rows at.row.0 ≡ row_in table f.values)))
       → IfOk result (λ found. IsReadable s → MatchOption found ⊥ (λ f. (f.row ≡ at.row) × (f.key ≡ at.key) × (now.rows at.row.0 ≡ row_in table f.values)))
   read_at table at (Ok found) is = is (reserved_at schema (keepers_of keys)) sequences

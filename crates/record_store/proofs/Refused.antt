@@ -3,8 +3,8 @@ use Rattle.std.proofs.Common.{◌≡◌, ◌≢◌, inl, inr, ⊎_elim, ℕ, ◌
 use Rattle.abl_storage.specs.Slots.{Goes, IsReadable, IsStop, KeepsCommitted, SlotState, Transaction}
 use Rattle.abl_storage.specs.declared.slots.SlotFault.{SlotFault}
 use Rattle.abl_storage.specs.declared.slots.SlotFault.TheVariants.{Disk as SlotDisk}
-use Rattle.abl_rows.specs.declared.store.RowError.{RowError}
-use Rattle.abl_rows.specs.declared.store.RowError.TheVariants.{Disk as RowDisk, NoMemory as RowMemory}
+use Rattle.abl_rows.specs.declared.store.RowFault.{RowFault}
+use Rattle.abl_rows.specs.declared.store.RowFault.TheVariants.{Disk as RowDisk, NoMemory as RowMemory}
 use Rattle.abl_rows.specs.Rows.{AfterError, HasCause, RowState}
 use Rattle.row_chain.specs.Calls.{Looked}
 use Rattle.row_chain.proofs.Composes.{goes_both, keeps_both, readable_on, rose_later}
@@ -69,7 +69,7 @@ still_read a b at_a at_b was now v before after r = record {
   failed = sym after ∙ (ap (λ (s : RowState). s.failed) (r.same (λ e. cc e)) ∙ before);
 }
 
-pub read_refused : {T U : Type 0} (a b : SlotState) (at_a at_b : ℕ → (ℕ → List ℕ) → Type 0) (was now : RowState) (error : RowError) (to : OpenError) → was.failed ≡ a.failed → KeepsCommitted a b → Goes a b at_a at_b
+pub read_refused : {T U : Type 0} (a b : SlotState) (at_a at_b : ℕ → (ℕ → List ℕ) → Type 0) (was now : RowState) (error : RowFault) (to : OpenError) → was.failed ≡ a.failed → KeepsCommitted a b → Goes a b at_a at_b
     → AfterError {T = T} was now (Err error) → HasCause {T = T} a.faults b.faults was (Err error) → (to ≡ Disk → error ≡ RowDisk) → (to ≢ Disk → error ≡ RowMemory) → HasRead {T = U} a b at_a at_b was now (Err to)
 read_refused a b at_a at_b was now error to before keeps time after cause disk memory = record {
   keeps = keeps;

@@ -7,7 +7,7 @@ use Rattle.abl_storage.specs.Slots.{SlotState, IsReadable}
 use Rattle.abl_values.specs.Schema.{SchemaData}
 use Rattle.database_meaning.specs.declared.state.StoredRow.{StoredRow}
 use Rattle.database_meaning.specs.Waiting.{row_in}
-use Rattle.abl_rows.specs.declared.store.RowError.{RowError}
+use Rattle.abl_rows.specs.declared.store.RowFault.{RowFault}
 use Rattle.abl_rows.specs.Changes.{RowsById}
 use Rattle.abl_rows.specs.Rows.{HasCause, IsObservable, RowState}
 use Rattle.key_index.specs.Index.{Keys}
@@ -29,7 +29,7 @@ rose_before first next now le later (inl lt) = inl (omega (arith, le, lt))
 rose_before first next now le later (inr last) = ⊎_elim (λ (lt : first < now). inl lt) (λ (ge : now ≤ first). inr (omega (arith, le, later, last, ge))) (cases_lt first now)
 
 -- a cause in the second of two calls is one in both, where the first left the state
-pub cause_before : {T : Type 0} (first next now : ℕ) (old middle : RowState) (result : Result T RowError) → first ≤ next → middle ≡ old → HasCause next now middle result → HasCause first now old result
+pub cause_before : {T : Type 0} (first next now : ℕ) (old middle : RowState) (result : Result T RowFault) → first ≤ next → middle ≡ old → HasCause next now middle result → HasCause first now old result
 cause_before first next now old middle result le same cause = record {
   later = le_trans le cause.later;
   disk = λ e. ⊎_elim (λ (r : Rose next now). inl (rose_before first next now le cause.later r)) (λ (f : IsTrue middle.failed). inr (subst (λ (x : RowState). IsTrue x.failed) same f)) (cause.disk e);

@@ -5,7 +5,7 @@ use Rattle.std.proofs.lemmas.Bool.{ne_eqb}
 use Rattle.abl_storage.specs.Slots.{SlotState}
 use Rattle.abl_values.specs.Schema.{SchemaData}
 use Rattle.database_meaning.specs.declared.state.Key.{Key}
-use Rattle.abl_rows.specs.declared.store.RowError.{RowError}
+use Rattle.abl_rows.specs.declared.store.RowFault.{RowFault}
 use Rattle.abl_rows.specs.Rows.{Abandons, AfterError, Begins, Commits, GoesBack, IsConsistent, RowState}
 use Rattle.key_index.specs.Index.{Keys}
 use Rattle.key_index.specs.Places.{is_client, without_keeper}
@@ -45,14 +45,14 @@ module _ (schema now_schema : SchemaData) (keys : List Keys) (sequences : List �
       subst (λ (x : RowState). Begins (store_state schema keys sequences s opens) x client) (sym begin_is)
       (says (reserved_at schema (keepers_of keys)) sequences (none_reserved schema keys s h.begun client idle))
 
-  pub begin_err : {T : Type 0} (error : RowError) → ((reserved : Reserved) (values : List ℤ) → AfterError {T = T} (state_of schema reserved values s opens) (state_of schema reserved values t left) (Err error))
+  pub begin_err : {T : Type 0} (error : RowFault) → ((reserved : Reserved) (values : List ℤ) → AfterError {T = T} (state_of schema reserved values s opens) (state_of schema reserved values t left) (Err error))
       → AfterError {T = T} (store_state schema keys sequences s opens) (store_state now_schema keys sequences t left) (Err error)
   begin_err {T} error err = subst (λ (x : RowState). AfterError {T = T} (store_state schema keys sequences s opens) x (Err error)) (sym begin_is) (err (reserved_at schema (keepers_of keys)) sequences)
 
   sound : IsConsistent (store_state schema keys sequences s opens)
   sound = store_consistent schema keys sequences s opens stored h.begun
 
-  pub begin_store : (result : Result (Unit {0}) RowError) → OnOk result BeginSays → ((reserved : Reserved) (values : List ℤ) → AfterError (state_of schema reserved values s opens) (state_of schema reserved values t left) result)
+  pub begin_store : (result : Result (Unit {0}) RowFault) → OnOk result BeginSays → ((reserved : Reserved) (values : List ℤ) → AfterError (state_of schema reserved values s opens) (state_of schema reserved values t left) result)
       → IsIndexed (store_state now_schema keys sequences t left) moved keys
   begin_store (Ok x) says err = begun_indexed (store_state schema keys sequences s opens) (store_state now_schema keys sequences t left) client moved keys h (begin_ok says) sound idle
   begin_store (Err e) says err = refused_indexed (store_state schema keys sequences s opens) (store_state now_schema keys sequences t left) moved keys e (begin_err {T = Unit {0}} e err) h

@@ -5,7 +5,7 @@ use Rattle.std.proofs.Math.Path.{fun_ext}
 use Rattle.abl_storage.specs.Slots.{SlotState, IsReadable}
 use Rattle.abl_values.specs.Schema.{SchemaData}
 use Rattle.database_meaning.specs.declared.state.StoredRow.{StoredRow}
-use Rattle.abl_rows.specs.declared.store.RowError.{RowError}
+use Rattle.abl_rows.specs.declared.store.RowFault.{RowFault}
 use Rattle.abl_rows.specs.Rows.{AfterError, ChangesRow, IsConsistent, RowState, RowTransaction}
 use Rattle.key_index.specs.Index.{Keys}
 use Rattle.row_indexes.specs.declared.moves.Move.{Move}
@@ -146,7 +146,7 @@ module _ (schema now_schema : SchemaData) (keys mid now : List Keys) (sequences 
 
 module _ {T : Type 0} (schema now_schema : SchemaData) (keys now : List Keys) (sequences : List ℤ) (s t : SlotState) (opens left : List Open) (was after : ℕ → List Moved)
     (same_schema : now_schema ≡ schema) (places : places_of now ≡ places_of keys) (keepers : keepers_of now ≡ keepers_of keys) (count : length now ≡ length keys) (clients : (d : ℕ) → after d ≡ was d)
-    (error : RowError) (err : (reserved : Reserved) (values : List ℤ) → AfterError {T = T} (state_of schema reserved values s opens) (state_of schema reserved values t left) (Err error)) where
+    (error : RowFault) (err : (reserved : Reserved) (values : List ℤ) → AfterError {T = T} (state_of schema reserved values s opens) (state_of schema reserved values t left) (Err error)) where
   refused_is : store_state now_schema now sequences t left ≡ store_state schema keys sequences t left
   refused_is =
       ap (λ (x : SchemaData). store_state x now sequences t left) same_schema

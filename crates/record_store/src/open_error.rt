@@ -3,7 +3,7 @@
 ghost use Rattle.std.specs.Prelude.{◌≡◌, ◌≢◌};
 ghost use Rattle.abl_storage.specs.declared.slots.SlotFault.TheVariants.{Disk as SlotDisk};
 
-use abl_rows::RowError;
+use abl_rows::RowFault;
 use abl_storage::SlotFault;
 
 /// Why slots were not opened as a store.
@@ -32,14 +32,14 @@ impl OpenError {
     }
 
     /// The error of rows.
-    pub(crate) fn of_rows(error: RowError) -> OpenError
-        ensures disk { result ≡ OpenError.Disk → error ≡ RowError.Disk }
-        ensures fine { result ≢ OpenError.Disk → error ≡ RowError.NoMemory }
+    pub(crate) fn of_rows(error: RowFault) -> OpenError
+        ensures disk { result ≡ OpenError.Disk → error ≡ RowFault.Disk }
+        ensures fine { result ≢ OpenError.Disk → error ≡ RowFault.NoMemory }
         ensures sound { result ≢ OpenError.Unsound }
     {
         match error {
-            RowError::Disk => OpenError::Disk,
-            RowError::NoMemory => OpenError::NoMemory,
+            RowFault::Disk => OpenError::Disk,
+            RowFault::NoMemory => OpenError::NoMemory,
         }
     }
 }

@@ -10,7 +10,7 @@ ghost use Rattle.record_store.specs.State.{IsNewStore, initial_values, no_reserv
 use crate::sequences::first_values;
 use crate::store::RecordStore;
 use abl_base::limits::MAX_SEQUENCES;
-use abl_rows::RowError;
+use abl_rows::RowFault;
 use abl_storage::Slots;
 use abl_values::Schema;
 use indexed_rows::idle_clients;
@@ -27,7 +27,7 @@ fn new_rows<S: Slots + Drop>(
     slots: S,
     schema: Schema,
     values: &[i64],
-) -> Result<StoredRows<S>, RowError>
+) -> Result<StoredRows<S>, RowFault>
     requires idle { (c : ℕ) → ((S.Slots.state slots).transaction c).begun ≡ false }
     requires clean { (c : ℕ) → ((S.Slots.state slots).transaction c).undo ≡ [] }
     requires fine { (S.Slots.state slots).failed ≡ false }
@@ -43,7 +43,7 @@ fn new_rows<S: Slots + Drop>(
 {
     let mut rows = match StoredRows::new(alloc, slots, schema) {
         Ok(rows) => rows,
-        Err(_) => return Err(RowError::NoMemory),
+        Err(_) => return Err(RowFault::NoMemory),
     };
     rows.begin(FIRST_CLIENT)?;
     rows.commit(FIRST_CLIENT, &[], values)?;
@@ -54,7 +54,7 @@ impl<S: Slots + Drop> RecordStore<S> {
     /// The store of a new database over slots that hold nothing: it has no row, and each sequence has
     /// its initial value, which a first transaction stores. The errors are those of memory and the disk;
     /// more than 256 sequences, which no schema file gives, count as out of memory.
-    pub fn new(alloc: Global, slots: S, schema: Schema) -> Result<RecordStore<S>, RowError>
+    pub fn new(alloc: Global, slots: S, schema: Schema) -> Result<RecordStore<S>, RowFault>
         requires idle { (c : ℕ) → ((S.Slots.state slots).transaction c).begun ≡ false }
         requires clean { (c : ℕ) → ((S.Slots.state slots).transaction c).undo ≡ [] }
         requires fine { (S.Slots.state slots).failed ≡ false }
@@ -66,18 +66,18 @@ impl<S: Slots + Drop> RecordStore<S> {
     {
         let indexes = match new_indexes(alloc, &schema) {
             Ok(indexes) => indexes,
-            Err(_) => return Err(RowError::NoMemory),
+            Err(_) => return Err(RowFault::NoMemory),
         };
         let clients = match idle_clients(alloc) {
             Ok(clients) => clients,
-            Err(_) => return Err(RowError::NoMemory),
+            Err(_) => return Err(RowFault::NoMemory),
         };
         let sequences = match first_values(alloc, &schema) {
             Ok(sequences) => sequences,
-            Err(_) => return Err(RowError::NoMemory),
+            Err(_) => return Err(RowFault::NoMemory),
         };
         if MAX_SEQUENCES < sequences.len() {
-            return Err(RowError::NoMemory);
+            return Err(RowFault::NoMemory);
         }
         let rows = new_rows(alloc, slots, schema, sequences.as_slice())?;
         Ok(RecordStore {

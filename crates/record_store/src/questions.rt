@@ -14,7 +14,7 @@ ghost use Rattle.row_keys.specs.Numbers.{HasOrder, index_count};
 ghost use Rattle.row_keys.specs.Questions.{IsFoundAt, IsLeastDuplicateIn, IsRead, KeepsAgainst};
 
 use abl_base::{Row, RowId};
-use abl_rows::{Duplicate, RowError};
+use abl_rows::{Duplicate, RowFault};
 use abl_values::Schema;
 use client_database::{ClientIds, Cursor};
 use key_index::Index;
@@ -29,16 +29,16 @@ pub(crate) fn reserved_against(
     table: u16,
     old: Option<Row>,
     values: &Row,
-) -> Result<ClientIds, RowError>
+) -> Result<ClientIds, RowFault>
     requires table { HasTable schema.now table }
     requires count { length indexes.now ≡ index_count schema.now }
     ensures found { IfOk result (λ holders. (stored : Option OneRow) → IsRead table old stored →
         ListsAll holders (KeepsAgainst schema.now (keepers_of indexes.now) client stored (row_in table values.now))) }
-    ensures only { IsErrOf result RowError.Disk → ⊥ }
+    ensures only { IsErrOf result RowFault.Disk → ⊥ }
 {
     match reserved_by(schema, indexes, client, table, old.as_ref(), values) {
         Ok(holders) => Ok(holders),
-        Err(_) => Err(RowError::NoMemory),
+        Err(_) => Err(RowFault::NoMemory),
     }
 }
 
@@ -49,18 +49,18 @@ pub(crate) fn least_duplicate(
     table: u16,
     row: Option<RowId>,
     values: &Row,
-) -> Result<Option<Duplicate>, RowError>
+) -> Result<Option<Duplicate>, RowFault>
     requires table { HasTable schema.now table }
     requires fits { FitsTable schema.now table values.now }
     requires count { length indexes.now ≡ index_count schema.now }
     ensures found { IfOk result (λ found. (rows : RowsById) → AreEntries schema.now rows (places_of indexes.now) → AreFitting schema.now rows →
         MatchOption found ((index : ℕ) (other : Identity) → ¬ IsLeastDuplicateIn schema.now rows row (row_in table values.now) index other)
         (λ d. IsLeastDuplicateIn schema.now rows row (row_in table values.now) d.index d.row)) }
-    ensures only { IsErrOf result RowError.Disk → ⊥ }
+    ensures only { IsErrOf result RowFault.Disk → ⊥ }
 {
     match duplicate(schema, indexes, table, row, values) {
         Ok(other) => Ok(other),
-        Err(_) => Err(RowError::NoMemory),
+        Err(_) => Err(RowFault::NoMemory),
     }
 }
 
@@ -73,17 +73,17 @@ pub(crate) fn place_found(
     prefix: &Row,
     cursor: Option<&Cursor>,
     forward: bool,
-) -> Result<Option<Cursor>, RowError>
+) -> Result<Option<Cursor>, RowFault>
     requires table { HasTable schema.now table }
     requires order { HasOrder schema.now table index }
     requires count { length indexes.now ≡ index_count schema.now }
     ensures found { IfOk result (λ found. (rows : RowsById) → AreEntries schema.now rows (places_of indexes.now) → AreFitting schema.now rows →
         MatchOption found (FindsNoneIn schema.now rows table index prefix.now (option_copied cursor.entry) forward)
         (λ f. IsFoundAt schema.now rows table index prefix.now (option_copied cursor.entry) forward f)) }
-    ensures only { IsErrOf result RowError.Disk → ⊥ }
+    ensures only { IsErrOf result RowFault.Disk → ⊥ }
 {
     match next(schema, indexes, table, index, prefix, cursor, forward) {
         Ok(found) => Ok(found),
-        Err(_) => Err(RowError::NoMemory),
+        Err(_) => Err(RowFault::NoMemory),
     }
 }

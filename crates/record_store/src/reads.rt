@@ -11,7 +11,7 @@ ghost use Rattle.stored_rows.specs.Decoded.{decoded};
 ghost use Rattle.stored_rows.specs.State.{Reserved, state_of};
 
 use abl_base::{Row, RowId};
-use abl_rows::{FoundRow, RowError};
+use abl_rows::{FoundRow, RowFault};
 use abl_storage::Slots;
 use client_database::Cursor;
 use database_meaning::StoredRow;
@@ -38,7 +38,7 @@ pub(crate) fn read<S: Slots + Drop>(
     rows: &mut StoredRows<S>,
     table: u16,
     row: RowId,
-) -> Result<Option<Row>, RowError>
+) -> Result<Option<Row>, RowFault>
     ensures schema { rows.new.schema ≡ rows.old.schema }
     ensures found { IfOk result (λ found. (reserved : Reserved) (sequences : List ℤ) → IsReadable (S.Slots.state rows.old.chains.slots) →
         IsRead table found ((state_of rows.old.schema reserved sequences (S.Slots.state rows.old.chains.slots) rows.old.opens.items).rows row.0)) }
@@ -65,7 +65,7 @@ pub(crate) fn replaced<S: Slots + Drop>(
     rows: &mut StoredRows<S>,
     table: u16,
     row: Option<RowId>,
-) -> Result<Option<Row>, RowError>
+) -> Result<Option<Row>, RowFault>
     ensures schema { rows.new.schema ≡ rows.old.schema }
     ensures found { IfOk result (λ found. (reserved : Reserved) (sequences : List ℤ) → IsReadable (S.Slots.state rows.old.chains.slots) →
         IsRead table found (replaced_at (state_of rows.old.schema reserved sequences (S.Slots.state rows.old.chains.slots) rows.old.opens.items) row)) }
@@ -93,7 +93,7 @@ pub(crate) fn found<S: Slots + Drop>(
     rows: &mut StoredRows<S>,
     table: u16,
     at: Cursor,
-) -> Result<Option<FoundRow>, RowError>
+) -> Result<Option<FoundRow>, RowFault>
     ensures schema { rows.new.schema ≡ rows.old.schema }
     ensures found { IfOk result (λ found. (reserved : Reserved) (sequences : List ℤ) → IsReadable (S.Slots.state rows.old.chains.slots) →
         MatchOption found ⊥ (λ f. (f.row ≡ at.row) × (f.key ≡ at.key)
@@ -116,7 +116,7 @@ pub(crate) fn found<S: Slots + Drop>(
             key: at.key,
             values,
         })),
-        Ok(None) => Err(RowError::NoMemory),
+        Ok(None) => Err(RowFault::NoMemory),
         Err(error) => Err(error),
     }
 }
@@ -127,7 +127,7 @@ pub(crate) fn old_row<S: Slots + Drop>(
     rows: &mut StoredRows<S>,
     table: u16,
     row: RowId,
-) -> Result<OldRow, RowError>
+) -> Result<OldRow, RowFault>
     ensures schema { rows.new.schema ≡ rows.old.schema }
     ensures found { IfOk result (λ old. IsReadable (S.Slots.state rows.old.chains.slots) →
         decoded rows.old.schema (S.Slots.state rows.old.chains.slots).reads row.0 ≡ Some old.row) }
@@ -152,10 +152,10 @@ pub(crate) fn old_row<S: Slots + Drop>(
             if old.row.table == table {
                 Ok(old)
             } else {
-                Err(RowError::NoMemory)
+                Err(RowFault::NoMemory)
             }
         }
-        Ok(None) => Err(RowError::NoMemory),
+        Ok(None) => Err(RowFault::NoMemory),
         Err(error) => Err(error),
     }
 }

@@ -14,7 +14,7 @@ use crate::reads::{found, old_row, read, replaced};
 use crate::sequences::store_values;
 use crate::store::RecordStore;
 use abl_base::{Row, RowId};
-use abl_rows::{Duplicate, FoundRow, RowError, RowStore};
+use abl_rows::{Duplicate, FoundRow, RowFault, RowStore};
 use abl_storage::Slots;
 use client_database::{ClientIds, Cursor};
 use indexed_rows::{cancel, end, finish, give_up, go_back};
@@ -29,11 +29,11 @@ impl<S: Slots + Drop> RowStore for RecordStore<S> {
 
     ghost left = { λ s. left_in s.rows.schema (S.Slots.stop s.rows.chains.slots) };
 
-    fn table(&mut self, row: RowId) -> Result<Option<u16>, RowError> {
+    fn table(&mut self, row: RowId) -> Result<Option<u16>, RowFault> {
         self.rows.table(row)
     }
 
-    fn get(&mut self, table: u16, row: RowId) -> Result<Option<Row>, RowError> {
+    fn get(&mut self, table: u16, row: RowId) -> Result<Option<Row>, RowFault> {
         read(&mut self.rows, table, row)
     }
 
@@ -43,7 +43,7 @@ impl<S: Slots + Drop> RowStore for RecordStore<S> {
         table: u16,
         row: Option<RowId>,
         values: &Row,
-    ) -> Result<ClientIds, RowError> {
+    ) -> Result<ClientIds, RowFault> {
         match replaced(&mut self.rows, table, row) {
             Ok(old) => reserved_against(
                 self.rows.schema(),
@@ -62,7 +62,7 @@ impl<S: Slots + Drop> RowStore for RecordStore<S> {
         table: u16,
         row: Option<RowId>,
         values: &Row,
-    ) -> Result<Option<Duplicate>, RowError> {
+    ) -> Result<Option<Duplicate>, RowFault> {
         least_duplicate(
             self.rows.schema(),
             self.indexes.as_slice(),
@@ -79,7 +79,7 @@ impl<S: Slots + Drop> RowStore for RecordStore<S> {
         prefix: &Row,
         cursor: Option<&Cursor>,
         forward: bool,
-    ) -> Result<Option<FoundRow>, RowError> {
+    ) -> Result<Option<FoundRow>, RowFault> {
         match place_found(
             self.rows.schema(),
             self.indexes.as_slice(),
@@ -95,7 +95,7 @@ impl<S: Slots + Drop> RowStore for RecordStore<S> {
         }
     }
 
-    fn fragments(&mut self, row: RowId) -> Result<u32, RowError> {
+    fn fragments(&mut self, row: RowId) -> Result<u32, RowFault> {
         self.rows.fragments(row)
     }
 
@@ -107,10 +107,10 @@ impl<S: Slots + Drop> RowStore for RecordStore<S> {
         self.rows.written(client)
     }
 
-    fn long_key(&self, table: u16, values: &Row) -> Result<Option<u16>, RowError> {
+    fn long_key(&self, table: u16, values: &Row) -> Result<Option<u16>, RowFault> {
         match long_key(self.rows.schema(), table, values) {
             Ok(index) => Ok(index),
-            Err(_) => Err(RowError::NoMemory),
+            Err(_) => Err(RowFault::NoMemory),
         }
     }
 
@@ -118,11 +118,11 @@ impl<S: Slots + Drop> RowStore for RecordStore<S> {
         has_reserved(self.rows.schema(), self.indexes.as_slice(), client)
     }
 
-    fn begin(&mut self, client: u16) -> Result<(), RowError> {
+    fn begin(&mut self, client: u16) -> Result<(), RowFault> {
         self.rows.begin(client)
     }
 
-    fn fresh(&mut self) -> Result<RowId, RowError> {
+    fn fresh(&mut self) -> Result<RowId, RowFault> {
         self.rows.fresh()
     }
 
@@ -132,7 +132,7 @@ impl<S: Slots + Drop> RowStore for RecordStore<S> {
         row: RowId,
         table: u16,
         values: &Row,
-    ) -> Result<(), RowError> {
+    ) -> Result<(), RowFault> {
         match prepare(
             self.alloc,
             self.rows.schema(),
@@ -144,7 +144,7 @@ impl<S: Slots + Drop> RowStore for RecordStore<S> {
             None,
             Some(values),
         ) {
-            Err(_) => Err(RowError::NoMemory),
+            Err(_) => Err(RowFault::NoMemory),
             Ok(started) => match self.rows.insert(client, row, table, values) {
                 Ok(()) => {
                     finish(&mut self.indexes, &mut self.clients, client, started);
@@ -158,7 +158,7 @@ impl<S: Slots + Drop> RowStore for RecordStore<S> {
         }
     }
 
-    fn put(&mut self, client: u16, table: u16, row: RowId, values: &Row) -> Result<(), RowError> {
+    fn put(&mut self, client: u16, table: u16, row: RowId, values: &Row) -> Result<(), RowFault> {
         match old_row(&mut self.rows, table, row) {
             Err(error) => Err(error),
             Ok(old) => match prepare(
@@ -172,7 +172,7 @@ impl<S: Slots + Drop> RowStore for RecordStore<S> {
                 Some(&old.row.values),
                 Some(values),
             ) {
-                Err(_) => Err(RowError::NoMemory),
+                Err(_) => Err(RowFault::NoMemory),
                 Ok(started) => match self.rows.put(client, row, old, values) {
                     Ok(()) => {
                         finish(&mut self.indexes, &mut self.clients, client, started);
@@ -187,7 +187,7 @@ impl<S: Slots + Drop> RowStore for RecordStore<S> {
         }
     }
 
-    fn delete(&mut self, client: u16, table: u16, row: RowId) -> Result<(), RowError> {
+    fn delete(&mut self, client: u16, table: u16, row: RowId) -> Result<(), RowFault> {
         match old_row(&mut self.rows, table, row) {
             Err(error) => Err(error),
             Ok(old) => match prepare(
@@ -201,7 +201,7 @@ impl<S: Slots + Drop> RowStore for RecordStore<S> {
                 Some(&old.row.values),
                 None,
             ) {
-                Err(_) => Err(RowError::NoMemory),
+                Err(_) => Err(RowFault::NoMemory),
                 Ok(started) => match self.rows.delete(client, row, old) {
                     Ok(()) => {
                         finish(&mut self.indexes, &mut self.clients, client, started);
@@ -220,7 +220,7 @@ impl<S: Slots + Drop> RowStore for RecordStore<S> {
         self.rows.mark(client)
     }
 
-    fn back(&mut self, client: u16, mark: usize) -> Result<(), RowError> {
+    fn back(&mut self, client: u16, mark: usize) -> Result<(), RowFault> {
         match self.rows.back(client, mark) {
             Ok(()) => {
                 go_back(&mut self.indexes, &mut self.clients, client, mark);
@@ -230,7 +230,7 @@ impl<S: Slots + Drop> RowStore for RecordStore<S> {
         }
     }
 
-    fn commit(&mut self, client: u16, sequences: &[i64]) -> Result<u64, RowError> {
+    fn commit(&mut self, client: u16, sequences: &[i64]) -> Result<u64, RowFault> {
         match self
             .rows
             .commit(client, self.sequences.as_slice(), sequences)

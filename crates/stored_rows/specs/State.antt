@@ -9,8 +9,8 @@ use Rattle.database_meaning.specs.declared.state.Key.{Key}
 use Rattle.database_meaning.specs.declared.state.StoredRow.{StoredRow}
 use Rattle.abl_rows.specs.Changes.{RowsById}
 use Rattle.abl_rows.specs.Rows.{RowState, RowTransaction, is_moved}
-use Rattle.abl_rows.specs.declared.store.RowError.{RowError}
-use Rattle.abl_rows.specs.declared.store.RowError.TheVariants.{Disk, NoMemory}
+use Rattle.abl_rows.specs.declared.store.RowFault.{RowFault}
+use Rattle.abl_rows.specs.declared.store.RowFault.TheVariants.{Disk, NoMemory}
 use Rattle.stored_rows.specs.declared.open.Open.{Open}
 use Rattle.stored_rows.specs.Decoded.{decoded}
 use Rattle.stored_rows.specs.Opens.{OpenView, open_in}
@@ -55,7 +55,7 @@ pub record ReservesMoved (schema : SchemaData) (before after : Reserved) (client
   pub others : (c : ℕ) → c ≢ client → after c ≡ before c
 
 -- why the slots refused a call, said of rows
-abbrev pub row_error : ChainFault → RowError
+abbrev pub row_error : ChainFault → RowFault
 row_error (Slot SlotDisk) = Disk
 row_error (Slot TxFull) = NoMemory
 row_error (Slot SlotMemory) = NoMemory

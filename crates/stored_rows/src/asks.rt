@@ -16,7 +16,7 @@ use crate::noted::fragments;
 use crate::open::Open;
 use crate::rows::StoredRows;
 use abl_base::RowId;
-use abl_rows::RowError;
+use abl_rows::RowFault;
 use abl_storage::Slots;
 use abl_values::Schema;
 
@@ -42,7 +42,7 @@ impl<S: Slots + Drop> StoredRows<S> {
     }
 
     /// The table of the row, if there is one. It takes no memory.
-    pub fn table(&mut self, row: RowId) -> Result<Option<u16>, RowError>
+    pub fn table(&mut self, row: RowId) -> Result<Option<u16>, RowFault>
         ensures schema { self.new.schema ≡ self.old.schema }
         ensures found { IfOk result (λ found. IsReadable (S.Slots.state self.old.chains.slots) →
             found ≡ table_at (decoded self.old.schema (S.Slots.state self.old.chains.slots).reads) row.0) }
@@ -66,7 +66,7 @@ impl<S: Slots + Drop> StoredRows<S> {
     }
 
     /// The number of the row's fragments, 0 where there is no row. It takes no memory.
-    pub fn fragments(&mut self, row: RowId) -> Result<u32, RowError>
+    pub fn fragments(&mut self, row: RowId) -> Result<u32, RowFault>
         ensures schema { self.new.schema ≡ self.old.schema }
         ensures found { IfOk result (λ count. IsReadable (S.Slots.state self.old.chains.slots) →
             count ≡ fragments_in (decoded self.old.schema (S.Slots.state self.old.chains.slots).reads row.0)) }
@@ -91,7 +91,7 @@ impl<S: Slots + Drop> StoredRows<S> {
     }
 
     /// The identity that an insert may give to a new row.
-    pub fn fresh(&mut self) -> Result<RowId, RowError>
+    pub fn fresh(&mut self) -> Result<RowId, RowFault>
         ensures schema { self.new.schema ≡ self.old.schema }
         ensures free { IfOk result (λ row. (reserved : Reserved) (sequences : List ℤ) →
             IsFree (state_of self.old.schema reserved sequences (S.Slots.state self.old.chains.slots) self.old.opens.items) row.0) }

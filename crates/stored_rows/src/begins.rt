@@ -8,12 +8,12 @@ ghost use Rattle.stored_rows.specs.State.{Reserved, state_of};
 use crate::fault::error_of;
 use crate::noted::begin;
 use crate::rows::StoredRows;
-use abl_rows::RowError;
+use abl_rows::RowFault;
 use abl_storage::Slots;
 
 impl<S: Slots + Drop> StoredRows<S> {
     /// Begins the client's transaction. After an error none is begun.
-    pub fn begin(&mut self, client: u16) -> Result<(), RowError>
+    pub fn begin(&mut self, client: u16) -> Result<(), RowFault>
         requires client { client < 16 }
         requires fine { (S.Slots.state self.old.chains.slots).failed ≡ false }
         requires idle { ((S.Slots.state self.old.chains.slots).transaction client).begun ≡ false }

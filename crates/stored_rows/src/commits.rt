@@ -12,7 +12,7 @@ use crate::fault::error_of;
 use crate::log::{after_all, before_all};
 use crate::noted::commit;
 use crate::rows::StoredRows;
-use abl_rows::RowError;
+use abl_rows::RowFault;
 use abl_storage::Slots;
 
 /// The number, `before` less and `after` more.
@@ -32,7 +32,7 @@ impl<S: Slots + Drop> StoredRows<S> {
         client: u16,
         stored: &[i64],
         sequences: &[i64],
-    ) -> Result<u64, RowError>
+    ) -> Result<u64, RowFault>
         requires client { client < 16 }
         requires fine { (S.Slots.state self.old.chains.slots).failed ≡ false }
         requires begun { ((S.Slots.state self.old.chains.slots).transaction client).begun ≡ true }

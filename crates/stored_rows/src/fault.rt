@@ -3,18 +3,18 @@
 ghost use Rattle.std.specs.Prelude.{◌≡◌};
 ghost use Rattle.stored_rows.specs.State.{row_error};
 
-use abl_rows::RowError;
+use abl_rows::RowFault;
 use abl_storage::SlotFault;
 use chain_store::ChainFault;
 
 /// The error of rows. Full and TxFull count as out of memory: the caller asks for room before.
-pub(crate) fn error_of(fault: ChainFault) -> RowError
+pub(crate) fn error_of(fault: ChainFault) -> RowFault
     ensures { result ≡ row_error fault }
 {
     match fault {
-        ChainFault::Full => RowError::NoMemory,
-        ChainFault::Slot(SlotFault::Disk) => RowError::Disk,
-        ChainFault::Slot(SlotFault::TxFull) => RowError::NoMemory,
-        ChainFault::Slot(SlotFault::NoMemory) => RowError::NoMemory,
+        ChainFault::Full => RowFault::NoMemory,
+        ChainFault::Slot(SlotFault::Disk) => RowFault::Disk,
+        ChainFault::Slot(SlotFault::TxFull) => RowFault::NoMemory,
+        ChainFault::Slot(SlotFault::NoMemory) => RowFault::NoMemory,
     }
 }

@@ -13,7 +13,7 @@ use crate::fault::error_of;
 use crate::noted::insert;
 use crate::rows::StoredRows;
 use abl_base::{Row, RowId};
-use abl_rows::RowError;
+use abl_rows::RowFault;
 use abl_storage::Slots;
 use abl_values::stored::row_bytes;
 
@@ -27,7 +27,7 @@ impl<S: Slots + Drop> StoredRows<S> {
         row: RowId,
         table: u16,
         values: &Row,
-    ) -> Result<(), RowError>
+    ) -> Result<(), RowFault>
         requires client { client < 16 }
         requires fine { (S.Slots.state self.old.chains.slots).failed ≡ false }
         requires begun { ((S.Slots.state self.old.chains.slots).transaction client).begun ≡ true }
@@ -50,7 +50,7 @@ impl<S: Slots + Drop> StoredRows<S> {
     {
         let bytes = match row_bytes(self.alloc, self.schema.fields(table), values) {
             Ok(bytes) => bytes,
-            Err(_) => return Err(RowError::NoMemory),
+            Err(_) => return Err(RowFault::NoMemory),
         };
         let transaction = &mut self.opens[client as usize];
         match insert(

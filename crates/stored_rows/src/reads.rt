@@ -13,7 +13,7 @@ use crate::decode::{OldRow, decode};
 use crate::fault::error_of;
 use crate::rows::StoredRows;
 use abl_base::RowId;
-use abl_rows::RowError;
+use abl_rows::RowFault;
 use abl_storage::{SlotFault, Slots};
 use abl_values::Schema;
 use chain_store::{ChainFault, Chains};
@@ -47,7 +47,7 @@ pub fn find<S: Slots + Drop>(
 
 impl<S: Slots + Drop> StoredRows<S> {
     /// The row with this identity, of whatever table, if there is one.
-    pub fn get(&mut self, row: RowId) -> Result<Option<StoredRow>, RowError>
+    pub fn get(&mut self, row: RowId) -> Result<Option<StoredRow>, RowFault>
         ensures schema { self.new.schema ≡ self.old.schema }
         ensures found { IfOk result (λ found. (reserved : Reserved) (sequences : List ℤ) → IsReadable (S.Slots.state self.old.chains.slots) →
             found ≡ (state_of self.old.schema reserved sequences (S.Slots.state self.old.chains.slots) self.old.opens.items).rows row.0) }
@@ -73,7 +73,7 @@ impl<S: Slots + Drop> StoredRows<S> {
     }
 
     /// The row with this identity, if there is one, as a change needs it.
-    pub fn old_row(&mut self, row: RowId) -> Result<Option<OldRow>, RowError>
+    pub fn old_row(&mut self, row: RowId) -> Result<Option<OldRow>, RowFault>
         ensures schema { self.new.schema ≡ self.old.schema }
         ensures found { IfOk result (λ found. IsReadable (S.Slots.state self.old.chains.slots) →
             MatchOption found (decoded self.old.schema (S.Slots.state self.old.chains.slots).reads row.0 ≡ None)

@@ -14,7 +14,7 @@ use crate::fault::error_of;
 use crate::noted::{delete, put};
 use crate::rows::StoredRows;
 use abl_base::{Row, RowId};
-use abl_rows::RowError;
+use abl_rows::RowFault;
 use abl_storage::Slots;
 use abl_values::stored::row_bytes;
 
@@ -28,7 +28,7 @@ impl<S: Slots + Drop> StoredRows<S> {
         row: RowId,
         old: OldRow,
         values: &Row,
-    ) -> Result<(), RowError>
+    ) -> Result<(), RowFault>
         requires client { client < 16 }
         requires fine { (S.Slots.state self.old.chains.slots).failed ≡ false }
         requires begun { ((S.Slots.state self.old.chains.slots).transaction client).begun ≡ true }
@@ -55,7 +55,7 @@ impl<S: Slots + Drop> StoredRows<S> {
         } = old;
         let bytes = match row_bytes(self.alloc, self.schema.fields(before.table), values) {
             Ok(bytes) => bytes,
-            Err(_) => return Err(RowError::NoMemory),
+            Err(_) => return Err(RowFault::NoMemory),
         };
         let transaction = &mut self.opens[client as usize];
         match put(
@@ -73,7 +73,7 @@ impl<S: Slots + Drop> StoredRows<S> {
     }
 
     /// Deletes the row, which is `old`. The errors are those of `put`.
-    pub fn delete(&mut self, client: u16, row: RowId, old: OldRow) -> Result<(), RowError>
+    pub fn delete(&mut self, client: u16, row: RowId, old: OldRow) -> Result<(), RowFault>
         requires client { client < 16 }
         requires fine { (S.Slots.state self.old.chains.slots).failed ≡ false }
         requires begun { ((S.Slots.state self.old.chains.slots).transaction client).begun ≡ true }

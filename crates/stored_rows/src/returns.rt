@@ -9,7 +9,7 @@ ghost use Rattle.stored_rows.specs.State.{Reserved, state_of};
 use crate::fault::error_of;
 use crate::noted::{abandon, back};
 use crate::rows::StoredRows;
-use abl_rows::RowError;
+use abl_rows::RowFault;
 use abl_storage::Slots;
 
 impl<S: Slots + Drop> StoredRows<S> {
@@ -22,7 +22,7 @@ impl<S: Slots + Drop> StoredRows<S> {
     }
 
     /// Undoes the changes after the mark. It takes no memory. Keys stay reserved.
-    pub fn back(&mut self, client: u16, mark: usize) -> Result<(), RowError>
+    pub fn back(&mut self, client: u16, mark: usize) -> Result<(), RowFault>
         requires client { client < 16 }
         requires fine { (S.Slots.state self.old.chains.slots).failed ≡ false }
         requires begun { ((S.Slots.state self.old.chains.slots).transaction client).begun ≡ true }

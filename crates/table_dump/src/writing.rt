@@ -10,7 +10,7 @@ ghost use Rattle.table_dump.specs.Calls.{HasRead, HasWritten, HasNext, is_disk, 
 use abl_base::Row;
 use abl_masks::export_line;
 use abl_outside::{Out, Stream};
-use abl_rows::{FoundRow, RowError, RowStore};
+use abl_rows::{FoundRow, RowFault, RowStore};
 use client_database::Cursor;
 use std::alloc::Global;
 
@@ -45,8 +45,8 @@ fn find_next<R: RowStore>(
 {
     match rows.next(table, index, prefix, cursor, true) {
         Ok(found) => Ok(found),
-        Err(RowError::Disk) => Err(TableError::Disk),
-        Err(RowError::NoMemory) => Err(TableError::NoMemory),
+        Err(RowFault::Disk) => Err(TableError::Disk),
+        Err(RowFault::NoMemory) => Err(TableError::NoMemory),
     }
 }
 

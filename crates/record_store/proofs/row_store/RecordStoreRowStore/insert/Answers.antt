@@ -7,7 +7,7 @@ use Rattle.abl_values.specs.Schema.{SchemaData}
 use Rattle.database_meaning.specs.Setting.{FitsTable, HasTable}
 use Rattle.database_meaning.specs.Waiting.{row_in}
 use Rattle.abl_rows.specs.Changes.{RowsById}
-use Rattle.abl_rows.specs.declared.store.RowError.TheVariants.{NoMemory}
+use Rattle.abl_rows.specs.declared.store.RowFault.TheVariants.{NoMemory}
 use Rattle.row_indexes.specs.Places.{AreWithin}
 use Rattle.row_keys.specs.Numbers.{index_count}
 use Rattle.row_keys.specs.Moves.{AreMovesOf}

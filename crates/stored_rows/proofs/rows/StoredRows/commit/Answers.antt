@@ -3,7 +3,7 @@ use Rattle.stored_rows.specs.Counted.{after_all, before_all}
 use Rattle.std.specs.BinaryHeap.{heap_items}
 use Rattle.free_slots.specs.Free.{free_in}
 use Rattle.abl_rows.specs.Rows.{AfterError}
-use Rattle.abl_rows.specs.declared.store.RowError.{RowError}
+use Rattle.abl_rows.specs.declared.store.RowFault.{RowFault}
 use Rattle.stored_rows.specs.State.{state_of}
 use Rattle.stored_rows.proofs.Errors.{after_failure}
 use Rattle.stored_rows.proofs.Committed.{commit_counts, commit_doubt, commit_keeps, commit_quiet, commit_says}
@@ -43,7 +43,7 @@ returns-in-Err-clause-err g c = λ reserved sequences.
     let e = c.in-Err.ensures in
     let now = c.commit.new.transaction in
     let same = same_all rows.opens.items c.args.client c.index_mut-transaction.result.now now rows.sixteen c.requires.client c.index_mut-transaction.ensures.value e.same in
-    subst (λ (x : RowError). AfterError {T = ℕ} (state_of rows.schema reserved sequences s rows.opens.items) (state_of rows.schema reserved sequences t (slice_set rows.opens.items c.args.client now)) (Err x)) (sym c.error_of.ensures)
+    subst (λ (x : RowFault). AfterError {T = ℕ} (state_of rows.schema reserved sequences s rows.opens.items) (state_of rows.schema reserved sequences t (slice_set rows.opens.items c.args.client now)) (Err x)) (sym c.error_of.ensures)
     (after_failure rows.schema reserved sequences s t rows.opens.items (slice_set rows.opens.items c.args.client now) same c.args.client c.args.sequences.now c.in-Err.fault e.err e.cause e.only)
 
 pub invariant_of-self-clause-counted : goal.invariant_of-self-clause-counted

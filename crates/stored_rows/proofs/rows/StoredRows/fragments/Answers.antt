@@ -1,6 +1,6 @@
 use Rattle.std.proofs.Common.{◌≡◌, ℕ, Some, None, Err, refl, sym, ◌∙◌, subst}
 use Rattle.abl_rows.specs.Rows.{AfterError}
-use Rattle.abl_rows.specs.declared.store.RowError.{RowError}
+use Rattle.abl_rows.specs.declared.store.RowFault.{RowFault}
 use Rattle.row_chain.specs.Fragments.{row_at}
 use Rattle.stored_rows.specs.State.{state_of}
 use Rattle.stored_rows.specs.Opens.{log_in, touched_in}
@@ -53,7 +53,7 @@ returns-in-Err-clause-err g c = λ reserved sequences.
     let s = g.S.Slots.state rows.chains.slots in
     let t = g.S.Slots.state c.length.new.self.slots in
     let l = c.in-Err.ensures.looked in
-    subst (λ (x : RowError). AfterError {T = ℕ} (state_of rows.schema reserved sequences s rows.opens.items) (state_of rows.schema reserved sequences t rows.opens.items) (Err x)) (sym c.error_of.ensures)
+    subst (λ (x : RowFault). AfterError {T = ℕ} (state_of rows.schema reserved sequences s rows.opens.items) (state_of rows.schema reserved sequences t rows.opens.items) (Err x)) (sym c.error_of.ensures)
     (after_refusal rows.schema reserved sequences s t rows.opens.items rows.opens.items (λ d. refl) c.in-Err.fault l.rests.keeps (begun_rests s t l.rests) (λ q. l.rests) l.cause)
 
 pub invariant_of-self-clause-counted : goal.invariant_of-self-clause-counted

@@ -2,7 +2,7 @@ use Rattle.std.proofs.Common.{Option, Err, refl, sym, ap, ◌∙◌, subst}
 use Rattle.database_meaning.specs.declared.state.StoredRow.{StoredRow}
 use Rattle.abl_rows.specs.Changes.{RowsById}
 use Rattle.abl_rows.specs.Rows.{AfterError}
-use Rattle.abl_rows.specs.declared.store.RowError.{RowError}
+use Rattle.abl_rows.specs.declared.store.RowFault.{RowFault}
 use Rattle.stored_rows.specs.Decoded.{decoded}
 use Rattle.stored_rows.specs.State.{state_of}
 use Rattle.stored_rows.proofs.Changed.{rows_known}
@@ -52,7 +52,7 @@ returns-in-Err-clause-err g c = λ reserved sequences.
     let s = g.S.Slots.state rows.chains.slots in
     let t = g.S.Slots.state c.find.new.chains.slots in
     let l = c.in-Err.ensures.looked in
-    subst (λ (x : RowError). AfterError {T = Option StoredRow} (state_of rows.schema reserved sequences s rows.opens.items) (state_of rows.schema reserved sequences t rows.opens.items) (Err x)) (sym c.error_of.ensures)
+    subst (λ (x : RowFault). AfterError {T = Option StoredRow} (state_of rows.schema reserved sequences s rows.opens.items) (state_of rows.schema reserved sequences t rows.opens.items) (Err x)) (sym c.error_of.ensures)
     (after_refusal rows.schema reserved sequences s t rows.opens.items rows.opens.items (λ d. refl) c.in-Err.fault l.rests.keeps (begun_rests s t l.rests) (λ q. l.rests) l.cause)
 
 pub invariant_of-self-clause-counted : goal.invariant_of-self-clause-counted

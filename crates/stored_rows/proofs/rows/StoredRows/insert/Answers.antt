@@ -4,7 +4,7 @@ use Rattle.free_slots.specs.Free.{free_in}
 use Rattle.abl_values.specs.Rows.{bytes_of_row, fragments_of}
 use Rattle.database_meaning.specs.Setting.{fragments}
 use Rattle.abl_rows.specs.Rows.{AfterError}
-use Rattle.abl_rows.specs.declared.store.RowError.{RowError}
+use Rattle.abl_rows.specs.declared.store.RowFault.{RowFault}
 use Rattle.stored_rows.specs.Decoded.{row_of}
 use Rattle.stored_rows.specs.State.{state_of}
 use Rattle.stored_rows.proofs.Errors.{after_refusal}
@@ -66,7 +66,7 @@ returns-clause-err g c = λ reserved sequences.
     let e = c.in-Err-insert.ensures in
     let now = c.insert.new.transaction in
     let same = same_all rows.opens.items c.args.client c.index_mut-transaction.result.now now rows.sixteen c.requires.client c.index_mut-transaction.ensures.value e.same in
-    subst (λ (x : RowError). AfterError {T = Unit {0}} (state_of rows.schema reserved sequences s rows.opens.items) (state_of rows.schema reserved sequences t (slice_set rows.opens.items c.args.client now)) (Err x)) (sym c.error_of.ensures)
+    subst (λ (x : RowFault). AfterError {T = Unit {0}} (state_of rows.schema reserved sequences s rows.opens.items) (state_of rows.schema reserved sequences t (slice_set rows.opens.items c.args.client now)) (Err x)) (sym c.error_of.ensures)
     (after_refusal rows.schema reserved sequences s t rows.opens.items (slice_set rows.opens.items c.args.client now) same c.in-Err-insert.fault e.touched.keeps
     (begun_touched s t (g.S.Slots.stop old.slots) (g.S.Slots.stop new.slots) c.args.client _ e.touched) (λ never. e.refused (λ q. never (cc q))) e.touched.cause)
 

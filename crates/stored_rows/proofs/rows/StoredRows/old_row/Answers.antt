@@ -1,6 +1,6 @@
 use Rattle.std.proofs.Common.{Option, Err, refl, sym, subst}
 use Rattle.abl_rows.specs.Rows.{AfterError}
-use Rattle.abl_rows.specs.declared.store.RowError.{RowError}
+use Rattle.abl_rows.specs.declared.store.RowFault.{RowFault}
 use Rattle.stored_rows.specs.declared.decode.OldRow.{OldRow}
 use Rattle.stored_rows.specs.State.{state_of}
 use Rattle.stored_rows.proofs.Errors.{after_refusal, state_rests}
@@ -29,7 +29,7 @@ returns-in-Err-clause-err g c = λ reserved sequences.
     let s = g.S.Slots.state rows.chains.slots in
     let t = g.S.Slots.state c.find.new.chains.slots in
     let l = c.in-Err.ensures.looked in
-    subst (λ (x : RowError). AfterError {T = Option OldRow} (state_of rows.schema reserved sequences s rows.opens.items) (state_of rows.schema reserved sequences t rows.opens.items) (Err x)) (sym c.error_of.ensures)
+    subst (λ (x : RowFault). AfterError {T = Option OldRow} (state_of rows.schema reserved sequences s rows.opens.items) (state_of rows.schema reserved sequences t rows.opens.items) (Err x)) (sym c.error_of.ensures)
     (after_refusal rows.schema reserved sequences s t rows.opens.items rows.opens.items (λ d. refl) c.in-Err.fault l.rests.keeps (begun_rests s t l.rests) (λ q. l.rests) l.cause)
 
 pub invariant_of-self-clause-counted : goal.invariant_of-self-clause-counted
