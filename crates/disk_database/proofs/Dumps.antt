@@ -1,13 +1,15 @@
 -- A table of a database, and the disk after its rows were read.
 use Rattle.std.proofs.Common.{◌≡◌, ◌⊎◌, ◌≤◌, ◌<◌, ℕ, zero, suc, Bool, true, false, List, [], ◌∷◌, None, Some, refl, sym, ap, ◌∙◌, subst, arith, inl, inr}
-use Rattle.std.proofs.Math.Logic.{∥∥₁_map}
+use Rattle.std.proofs.Math.Logic.{∥∥₁_elim, ∥∥₁_map, ∥∥₁_prop}
 use Rattle.std.proofs.lemmas.List.Elements.{All-head, All-tail}
 use Rattle.std.specs.Prelude.{All, IfSome, IsTrue, MatchOption, length, slice_index_or, ⊤, Option}
 use Rattle.abl_storage.specs.Slots.{SlotState}
 use Rattle.abl_values.specs.declared.schema.TableDef.{TableDef}
 use Rattle.abl_values.specs.Schema.{SchemaData, no_table, primary_of}
 use Rattle.abl_values.specs.Sound.{IsSound, IsSoundTable}
+use Rattle.database_meaning.specs.declared.contents.Contents.{Contents}
 use Rattle.database_meaning.specs.Setting.{HasIndex}
+use Rattle.db_core.specs.Crashes.{Holds}
 use Rattle.abl_outside.specs.Out.{OutState}
 use Rattle.abl_rows.specs.Changes.{RowsById}
 use Rattle.abl_rows.specs.Rows.{Durable, IsObservable, RowState, durable_of}
@@ -16,6 +18,7 @@ use Rattle.stored_rows.specs.Decoded.{decoded}
 use Rattle.stored_rows.specs.Durable.{durable_in, left_in, times_in}
 use Rattle.disk_steps.specs.Steps.{Image}
 use Rattle.log_meaning.specs.Images.{Recovers}
+use Rattle.logged_slots.specs.Stops.{HasSlots, StayRecoverable}
 use Rattle.table_dump.specs.Calls.{HasRead, HasWritten}
 use Rattle.table_dump.specs.Order.{AreAll, AreFirst}
 use Rattle.abl_outside.specs.declared.out.Stream.TheVariants.{Output as Standard}
@@ -27,10 +30,11 @@ use Rattle.disk_database.specs.Answers.{IsDumped, IsNotDumped, is_output, of_tab
 use Rattle.disk_database.specs.declared.refusals.OpenRefusal.TheVariants.{NoMemory}
 use Rattle.disk_database.specs.declared.refusals.DumpRefusal.{DumpRefusal}
 use Rattle.disk_database.specs.declared.refusals.DumpRefusal.TheVariants.{Database}
-use Rattle.disk_database.specs.Images.{ComesFrom, HoldsAsBefore, RecoversAsBefore}
+use Rattle.disk_database.specs.Images.{AllRecover, AreImagesOf, ComesFrom, HoldsAsBefore, IsImageOf, RecoversAsBefore}
+use Rattle.disk_database.specs.Parts.{HoldParts}
 use Rattle.disk_database.specs.Inside.{AreOpened, IsStoreOver}
 use Rattle.disk_database.proofs.Starts.{durable_is}
-use Rattle.disk_database.proofs.Survivals.{one_array}
+use Rattle.disk_database.proofs.Survivals.{image_of, one_array, slots_of}
 
 -- the primary index of a table is one of its own
 by_primary : (t : TableDef) (primary : Option ℕ) → IfSome primary (λ n. n < length t.indexes) → MatchOption primary ⊤ (λ i. i < length t.indexes)
@@ -50,6 +54,19 @@ pub holds_as_recovers : (schema : SchemaData) (was : ℕ) (before after : ℕ �
 holds_as_recovers schema was before after recovers m image slots from there is =
     let old = recovers m image slots from there is in
     ∣ record { old = old.0; there = old.1; other = slots; recovers = old.2; same = refl } ∣₁
+
+-- what recovers as before has the contents that it had
+pub kept_by_recovery : (schema : SchemaData) (contents : Contents) (observable : Bool) (was : ℕ) (before after : ℕ → Image → Type 0) → AreImagesOf observable was before schema contents → RecoversAsBefore was before after → StayRecoverable after was → AllRecover (after was)
+    → (m : ℕ) (image : Image) → was ≤ m → after m image → ∥ IsImageOf schema contents image ∥₁
+kept_by_recovery schema contents observable was before after images recovers stays all m image from there =
+    ∣ record { some = stays all m image from there; each = λ slots is. let old = recovers m image slots from there is in (images.all old.0 old.1).each slots old.2 } ∣₁
+
+-- so has what holds the rows and values as before, and the parts
+pub kept_by_reads : (schema : SchemaData) (contents : Contents) (observable : Bool) (was : ℕ) (before after : ℕ → Image → Type 0) → AreImagesOf observable was before schema contents → HoldsAsBefore schema was before after → StayRecoverable after was
+    → ((m : ℕ) (image : Image) (slots : ℕ → List ℕ) → was ≤ m → after m image → Recovers image slots → HoldParts schema slots) → AllRecover (after was) → (m : ℕ) (image : Image) → was ≤ m → after m image → ∥ IsImageOf schema contents image ∥₁
+kept_by_reads schema contents observable was before after images holds stays parts all m image from there =
+    ∥∥₁_elim (stays all m image from there) ∥∥₁_prop (λ (h : HasSlots image). ∥∥₁_map (holds m image h.slots from there h.recovers) (λ (comes : ComesFrom schema (before was) h.slots). image_of schema contents image h
+    (slots_of schema contents h.slots (subst (λ (d : Durable). Holds d contents) (sym comes.same) ((images.all comes.old comes.there).each comes.other comes.recovers).holds) (parts m image h.slots from there h.recovers))))
 
 -- reads keep the schema, and whether the store is observable
 pub read_schema : (old new : RowState) (la lb : ℕ → Durable → Type 0) (ta tb : Times) (fa fb : ℕ) (failed : Bool) → HasRead old new la lb ta tb fa fb failed → new.schema ≡ old.schema

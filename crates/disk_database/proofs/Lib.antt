@@ -1,5 +1,9 @@
 pub mod Causes
 pub mod Dumps
+pub mod Guards
 pub mod Openings
+pub mod Parts
+pub mod Reopenings
 pub mod Starts
 pub mod Survivals
+pub mod Texts

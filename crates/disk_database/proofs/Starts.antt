@@ -46,7 +46,7 @@ module _ (rows : RowState) (schema : SchemaData) (s : SlotState) (over : IsStore
       (there : IsTrue observable → left was seen) where
     pub starts : (contents : Contents) → AreImagesOf observable was left schema contents → StartsFrom rows (left_in own stop) (times_in own s) contents
     starts contents images = record {
-      each = λ m durable later st. let from = opened.come m st.0 st.1 in subst (λ (d : Durable). Holds d contents) (ap (λ (x : SchemaData). durable_in x st.0) (sym same) ∙ sym st.2) ((images.all from.0 from.1).each st.0 from.2);
+      each = λ m durable later st. let from = opened.come m st.0 st.1 in subst (λ (d : Durable). Holds d contents) (ap (λ (x : SchemaData). durable_in x st.0) (sym same) ∙ sym st.2) ((images.all from.0 from.1).each st.0 from.2).holds;
       committed = subst (λ (d : Durable). Holds d contents) (sym (durable_is seen_slots)) held;
       doubt = subst (λ (d : Durable). Holds d contents) (ap (durable_in schema) (sym (opened.certain images.seen)) ∙ ap (λ (x : SchemaData). durable_in x s.doubt) (sym same)) held;
     }
@@ -55,4 +55,4 @@ module _ (rows : RowState) (schema : SchemaData) (s : SlotState) (over : IsStore
         seen_slots = subst (λ (b : Bool). IsTrue b) (sym opened.same_observable) images.seen
 
         held : Holds (durable_in schema s.committed) contents
-        held = (images.all seen (there images.seen)).each s.committed (opened.recovered images.seen)
+        held = ((images.all seen (there images.seen)).each s.committed (opened.recovered images.seen)).holds

@@ -1,21 +1,34 @@
 -- What the images that a crash may leave hold, and what of it survives.
-use Rattle.std.specs.Prelude.{◌≡◌, ◌⊎◌, ℕ, ◌+◌, ◌<◌, ◌≤◌, Bool, List, map, IsTrue}
-use Rattle.abl_values.specs.Schema.{SchemaData}
+use Rattle.std.specs.Prelude.{◌≡◌, ◌⊎◌, ℕ, ◌+◌, ◌<◌, ◌≤◌, Bool, List, [], map, IsTrue}
+use Rattle.abl_values.specs.Schema.{SchemaData, canonical_text}
 use Rattle.client_database.specs.declared.event.Event.{Event}
 use Rattle.database_meaning.specs.declared.contents.Contents.{Contents}
 use Rattle.database_meaning.specs.Setting.{Setting}
 use Rattle.database_meaning.specs.Waiting.{IsAscending}
 use Rattle.database_meaning.specs.Traces.{acknowledged, after_commits, commits, identity_of}
 use Rattle.db_core.specs.Crashes.{AreMoments, Holds}
+use Rattle.sequence_slots.specs.Values.{HoldValues}
 use Rattle.stored_rows.specs.Durable.{durable_in}
+use Rattle.stored_text.specs.Held.{HoldText}
+use Rattle.slot_contents.specs.Contents.{initial_values}
 use Rattle.disk_steps.specs.Steps.{Image}
 use Rattle.log_meaning.specs.Images.{Recovers}
 use Rattle.logged_slots.specs.Stops.{IsRecoverable, StayRecoverable}
 
+-- the slots hold these rows and sequence values, the text of the schema byte for byte, and the values so too
+pub record AreSlotsOf (schema : SchemaData) (contents : Contents) (slots : ℕ → List ℕ) : Type 0 where
+  pub holds : Holds (durable_in schema slots) contents
+  pub text : HoldText slots (canonical_text schema)
+  pub values : HoldValues slots contents.sequences
+
 -- the image recovers to slots, and what it recovers to are these contents
 pub record IsImageOf (schema : SchemaData) (contents : Contents) (image : Image) : Type 0 where
   pub some : IsRecoverable image
-  pub each : (slots : ℕ → List ℕ) → Recovers image slots → Holds (durable_in schema slots) contents
+  pub each : (slots : ℕ → List ℕ) → Recovers image slots → AreSlotsOf schema contents slots
+
+-- each of these images is one of these contents
+abbrev pub AllAreOf : SchemaData → Contents → (Image → Type 0) → Type 0
+AllAreOf schema contents images = (image : Image) → images image → IsImageOf schema contents image
 
 -- the disk is observable, and each image that a crash now may leave is one of these contents, whose rows ascend
 pub record AreImagesOf (observable : Bool) (now : ℕ) (left : ℕ → Image → Type 0) (schema : SchemaData) (contents : Contents) : Type 0 where
@@ -64,3 +77,7 @@ IsImageFrom f contents trace n image =
 pub record SurvivesCrashes (from now : ℕ) (left : ℕ → Image → Type 0) (f : Setting) (contents : Contents) (trace : List Event) : Type 0 where
   pub each : (m : ℕ) (image : Image) → from ≤ m → left m image → ∥ IsImageFrom f contents trace (acknowledged m trace) image ∥₁
   pub moments : AreMoments from trace now
+
+-- the contents of a new database: no rows, and each sequence at its initial value
+abbrev pub created : SchemaData → Contents
+created schema = record { rows = []; sequences = initial_values schema }

@@ -1,6 +1,6 @@
 //! A new database.
 
-ghost use Rattle.std.specs.Prelude.{◌≡◌, ◌≤◌, length, false, IfOk, IfSome, IsErrOf, IsTrue, OnOk, is_ok};
+ghost use Rattle.std.specs.Prelude.{◌≡◌, ◌≤◌, length, false, IfOk, IsErrOf, IsTrue, OnOk, is_ok};
 ghost use Rattle.fault_count.specs.Faults.{Rose};
 ghost use Rattle.abl_values.specs.Schema.{canonical_text};
 ghost use Rattle.abl_storage.specs.Disk.{HasCause, Stays};
@@ -11,16 +11,12 @@ ghost use Rattle.database_creation.specs.Created.{CreatesNew};
 ghost use Rattle.disk_database.specs.Answers.{HasOpenLog};
 
 use crate::refusals::CreateRefusal;
+use crate::text::fits;
 use abl_storage::{Disk, DiskFailed};
 use abl_values::Schema;
 use bi_log::reader::find;
 use database_creation::{CreateFault, create_database};
 use std::alloc::Global;
-
-/// The most bytes of the text of a schema, and the most sequences of one.
-const MAX_TEXT_BYTES: usize = 1_048_576;
-
-const MAX_SEQUENCES: usize = 256;
 
 /// Whether a generation of a log is open on the disk.
 fn has_open_log<D: Disk>(disk: &mut D) -> Result<bool, DiskFailed>
@@ -36,16 +32,6 @@ fn has_open_log<D: Disk>(disk: &mut D) -> Result<bool, DiskFailed>
     }
 }
 
-/// Whether the schema is one that a database can have.
-fn fits(schema: &Schema) -> Option<bool>
-    ensures { IfSome result (λ fits. IsTrue fits → (length (canonical_text schema.now) ≤ 1048576) × (length schema.now.sequences ≤ 256)) }
-{
-    let Ok(text) = schema.canonical() else {
-        return None;
-    };
-    Some(text.as_slice().len() <= MAX_TEXT_BYTES && schema.sequences().len() <= MAX_SEQUENCES)
-}
-
 /// Makes an empty database of this schema on the disk, where no generation of a log is open on it. At
 /// each moment, and where it fails or is stopped, each image recovers to nothing, to what an image at
 /// the start recovered to, or to the new database. After Ok each image is that of the new database.
@@ -53,6 +39,7 @@ pub fn create<D: Disk>(alloc: Global, disk: &mut D, schema: &Schema) -> Result<(
     ensures same_observable { D.observable disk.new ≡ D.observable disk.old }
     ensures time { Run (D.time disk.old) (D.time disk.new) (D.left disk.old) (D.left disk.new) (CreatesNew schema.now) }
     ensures ok { OnOk result ((image : Image) → D.left disk.new (D.time disk.new) image → IsBorn image (new_contents schema.now)) }
+    ensures short { OnOk result (length (canonical_text schema.now) ≤ 1048576) }
     ensures new { OnOk result (IsTrue (D.observable disk.old) → ¬ HasOpenLog (D.seen disk.old)) }
     ensures already { IsErrOf result CreateRefusal.AlreadyCreated → IsTrue (D.observable disk.old) → HasOpenLog (D.seen disk.old) }
     ensures refused { IsErrOf result CreateRefusal.AlreadyCreated → Stays (D.observable disk.old) (D.observable disk.new) (D.seen disk.old) (D.seen disk.new) (D.time disk.old) (D.time disk.new) (D.left disk.old) (D.left disk.new) }

@@ -13,40 +13,42 @@ ghost use Rattle.logged_slots.specs.Stops.{StayRecoverable};
 ghost use Rattle.db_machine.specs.Database.{HasSetting, IsActive, IsOpened};
 ghost use Rattle.disk_database.specs.Answers.{HasText, IsRefused};
 ghost use Rattle.disk_database.specs.Inside.{IsStoreOver};
-ghost use Rattle.disk_database.specs.Images.{AllRecover, AreImagesOf, RecoversAsBefore, SurvivesCrashes};
+ghost use Rattle.disk_database.specs.Images.{AllAreOf, AllRecover, AreImagesOf, RecoversAsBefore, SurvivesCrashes};
 
-use crate::opening::{DiskStore, disk_of, open_rows};
+use crate::guard::Opening;
+use crate::opening::{DiskSlots, DiskStore, disk_of, open_rows};
 use crate::refusals::OpenRefusal;
 use abl_rows::RowStore;
 use abl_storage::{Disk, Slots};
 use abl_values::Schema;
 use client_database::Trace;
 use db_machine::Db;
-use slot_txn::SlotTxn;
 use std::alloc::{AllocError, Global};
 
 /// A database over a disk.
-pub type DiskDatabase<D> = Db<DiskStore<D>>;
+pub type DiskDatabase<D, K> = Db<DiskStore<D, K>>;
 
 /// Opens the database of this schema that the disk holds, for 1 to 16 clients: no client has requested
 /// anything. The store and the machine each have a schema of their own, which is one schema. Where each
 /// image that a crash may leave at the call holds the same contents, the database is opened with them,
 /// and they survive each crash from then on. A refusal hands the disk back: each image from the call on
 /// recovers only to what an image at the call recovered to.
-pub fn open<D: Disk + Drop>(
+pub fn open<D: Disk + Drop, K: Opening>(
     alloc: Global,
     disk: D,
     schema: Schema,
     schema_of_rows: Schema,
     clients: u16,
-) -> Result<DiskDatabase<D>, (OpenRefusal, D)>
+) -> Result<DiskDatabase<D, K>, (OpenRefusal, D)>
     requires few { clients ≤ 16 }
     requires same { schema_of_rows ≡ schema }
+    requires of { K.schema ≡ schema }
+    requires images { (image : Image) → D.left disk (D.time disk) image → K.images image }
     ensures setting { IfOk result (λ db. HasSetting db (record { schema = schema; clients = clients })) }
     ensures active { IfOk result (λ db. (client : ℕ) → client < clients → IsActive db client) }
     ensures trace { IfOk result (λ db. db.trace ≡ []) }
-    ensures since { IfOk result (λ db. (⟦<DiskStore<D> as RowStore>⟧.times db.rows).since ≡ D.time disk) }
-    ensures opened { IfOk result (λ db. (contents : Contents) → AreImagesOf (D.observable disk) (D.time disk) (D.left disk) schema contents → IsOpened (⟦<DiskStore<D> as RowStore>⟧.state db.rows) (⟦<DiskStore<D> as RowStore>⟧.left db.rows) (⟦<DiskStore<D> as RowStore>⟧.times db.rows) db (record { schema = schema; clients = clients }) contents) }
+    ensures since { IfOk result (λ db. (⟦<DiskStore<D, K> as RowStore>⟧.times db.rows).since ≡ D.time disk) }
+    ensures opened { IfOk result (λ db. (contents : Contents) → AreImagesOf (D.observable disk) (D.time disk) (D.left disk) schema contents → IsOpened (⟦<DiskStore<D, K> as RowStore>⟧.state db.rows) (⟦<DiskStore<D, K> as RowStore>⟧.left db.rows) (⟦<DiskStore<D, K> as RowStore>⟧.times db.rows) db (record { schema = schema; clients = clients }) contents) }
     ensures text { IfOk result (λ db. IsTrue (D.observable disk) → HasText (D.seen disk) schema) }
     ensures refused { IfErr result (λ e. IsRefused schema (D.observable disk) (D.seen disk) e.0) }
     ensures observable { IfErr result (λ e. D.observable e.1 ≡ D.observable disk) }
@@ -76,21 +78,21 @@ fn copied(alloc: Global, values: &[i64]) -> Result<Vec<i64>, AllocError>
 
 /// The database of these rows, which were just opened. An error means out of memory, and gives the
 /// rows back.
-fn start<D: Disk + Drop>(
+fn start<D: Disk + Drop, K: Opening>(
     alloc: Global,
-    rows: DiskStore<D>,
+    rows: DiskStore<D, K>,
     schema: Schema,
     clients: u16,
-) -> Result<DiskDatabase<D>, DiskStore<D>>
+) -> Result<DiskDatabase<D, K>, DiskStore<D, K>>
     requires few { clients ≤ 16 }
-    requires opened { IsStoreOver (⟦<DiskStore<D> as RowStore>⟧.state rows) schema (⟦<SlotTxn<D> as Slots>⟧.state rows.rows.chains.slots) }
+    requires opened { IsStoreOver (⟦<DiskStore<D, K> as RowStore>⟧.state rows) schema (⟦<DiskSlots<D, K> as Slots>⟧.state rows.rows.chains.slots) }
     ensures rows { IfOk result (λ db. db.rows ≡ rows) }
     ensures setting { IfOk result (λ db. HasSetting db (record { schema = schema; clients = clients })) }
     ensures active { IfOk result (λ db. (client : ℕ) → client < clients → IsActive db client) }
     ensures trace { IfOk result (λ db. db.trace ≡ []) }
-    ensures opened { IfOk result (λ db. (contents : Contents) → IsTrue (⟦<DiskStore<D> as RowStore>⟧.state rows).observable → IsAscending (map identity_of contents.rows)
-        → StartsFrom (⟦<DiskStore<D> as RowStore>⟧.state rows) (⟦<DiskStore<D> as RowStore>⟧.left rows) (⟦<DiskStore<D> as RowStore>⟧.times rows) contents
-        → IsOpened (⟦<DiskStore<D> as RowStore>⟧.state db.rows) (⟦<DiskStore<D> as RowStore>⟧.left db.rows) (⟦<DiskStore<D> as RowStore>⟧.times db.rows) db (record { schema = schema; clients = clients }) contents) }
+    ensures opened { IfOk result (λ db. (contents : Contents) → IsTrue (⟦<DiskStore<D, K> as RowStore>⟧.state rows).observable → IsAscending (map identity_of contents.rows)
+        → StartsFrom (⟦<DiskStore<D, K> as RowStore>⟧.state rows) (⟦<DiskStore<D, K> as RowStore>⟧.left rows) (⟦<DiskStore<D, K> as RowStore>⟧.times rows) contents
+        → IsOpened (⟦<DiskStore<D, K> as RowStore>⟧.state db.rows) (⟦<DiskStore<D, K> as RowStore>⟧.left db.rows) (⟦<DiskStore<D, K> as RowStore>⟧.times db.rows) db (record { schema = schema; clients = clients }) contents) }
     ensures refused { IfErr result (λ r. r ≡ rows) }
 {
     let Ok(sequences) = copied(alloc, rows.sequences()) else {
@@ -103,14 +105,17 @@ fn start<D: Disk + Drop>(
 }
 
 /// The disk of the database, and its trace. From the moment of its opening on, each image that a crash
-/// may leave holds the contents after the commits that were acknowledged by then, or after one more.
-pub fn close<D: Disk + Drop>(database: DiskDatabase<D>) -> (D, Trace)
+/// may leave holds the contents after the commits that were acknowledged by then, or after one more,
+/// where the images of the opening held the contents of that time.
+pub fn close<D: Disk + Drop, K: Opening>(database: DiskDatabase<D, K>) -> (D, Trace)
     ensures trace { result.1 ≡ database.trace }
-    ensures observable { (f : Setting) (contents : Contents) → IsOpened (⟦<DiskStore<D> as RowStore>⟧.state database.rows) (⟦<DiskStore<D> as RowStore>⟧.left database.rows) (⟦<DiskStore<D> as RowStore>⟧.times database.rows) database f contents → IsTrue (D.observable result.0) }
-    ensures survives { (f : Setting) (contents : Contents) → IsOpened (⟦<DiskStore<D> as RowStore>⟧.state database.rows) (⟦<DiskStore<D> as RowStore>⟧.left database.rows) (⟦<DiskStore<D> as RowStore>⟧.times database.rows) database f contents
-        → ∥ ((image : Image) × D.left result.0 (⟦<DiskStore<D> as RowStore>⟧.times database.rows).since image) ∥₁
-        → AllRecover (D.left result.0 (⟦<DiskStore<D> as RowStore>⟧.times database.rows).since)
-        → SurvivesCrashes (⟦<DiskStore<D> as RowStore>⟧.times database.rows).since (D.time result.0) (D.left result.0) f contents result.1 }
+    ensures observable { (f : Setting) (contents : Contents) → IsOpened (⟦<DiskStore<D, K> as RowStore>⟧.state database.rows) (⟦<DiskStore<D, K> as RowStore>⟧.left database.rows) (⟦<DiskStore<D, K> as RowStore>⟧.times database.rows) database f contents → IsTrue (D.observable result.0) }
+    ensures survives { (f : Setting) (contents : Contents) → IsOpened (⟦<DiskStore<D, K> as RowStore>⟧.state database.rows) (⟦<DiskStore<D, K> as RowStore>⟧.left database.rows) (⟦<DiskStore<D, K> as RowStore>⟧.times database.rows) database f contents
+        → ∥ ((image : Image) × D.left result.0 (⟦<DiskStore<D, K> as RowStore>⟧.times database.rows).since image) ∥₁
+        → AllRecover (D.left result.0 (⟦<DiskStore<D, K> as RowStore>⟧.times database.rows).since)
+        → K.schema ≡ f.schema
+        → AllAreOf f.schema contents K.images
+        → SurvivesCrashes (⟦<DiskStore<D, K> as RowStore>⟧.times database.rows).since (D.time result.0) (D.left result.0) f contents result.1 }
 {
     let (rows, trace) = database.close();
     (disk_of(rows), trace)

@@ -1,19 +1,23 @@
 //! The rows of a table, written as lines.
 
-ghost use Rattle.std.specs.Prelude.{◌≡◌, ◌⊎◌, ◌<◌, ◌≤◌, MatchOption, length, not, true, false, IfErr, IfOk, IsTrue, OnOk, ⊤};
+ghost use Rattle.std.specs.Prelude.{◌≡◌, ◌⊎◌, ◌<◌, ◌≤◌, ℕ, MatchOption, length, not, true, false, IfErr, IfOk, IsTrue, OnOk, ⊤};
 ghost use Rattle.fault_count.specs.Faults.{Rose};
 ghost use Rattle.abl_values.specs.Schema.{primary_of};
 ghost use Rattle.database_meaning.specs.Setting.{HasIndex};
 ghost use Rattle.logged_slots.specs.Stops.{StayRecoverable};
 ghost use Rattle.disk_database.specs.Answers.{HasText, IsDumped, IsNotDumped, is_disk, is_output, of_table};
-ghost use Rattle.disk_database.specs.Images.{HoldsAsBefore};
+ghost use Rattle.disk_steps.specs.Steps.{Image};
+ghost use Rattle.database_meaning.specs.declared.contents.Contents.{Contents};
+ghost use Rattle.disk_database.specs.Images.{AllRecover, AreImagesOf, HoldsAsBefore, IsImageOf};
 
+use crate::guard::Opening;
 use crate::opening::{disk_of, open_rows, rose};
 use crate::refusals::{DumpRefusal, OpenRefusal};
 use abl_outside::Out;
 use abl_storage::Disk;
 use abl_values::Schema;
 use std::alloc::Global;
+use std::marker::Brand;
 use table_dump::{TableError, write_table};
 
 /// The primary index of the table, by which its rows are in order.
@@ -67,11 +71,42 @@ pub fn dump<D: Disk + Drop, O: Out>(
     ensures observable { D.observable result.1 ≡ D.observable disk }
     ensures time { D.time disk ≤ D.time result.1 }
     ensures images { HoldsAsBefore schema (D.time disk) (D.left disk) (D.left result.1) }
+    ensures kept { (contents : Contents) → AreImagesOf (D.observable disk) (D.time disk) (D.left disk) schema contents → AllRecover (D.left result.1 (D.time disk))
+        → (m : ℕ) (image : Image) → D.time disk ≤ m → D.left result.1 m image → ∥ IsImageOf schema contents image ∥₁ }
+    ensures recoverable { StayRecoverable (D.left result.1) (D.time disk) }
+    ensures cause { IfErr result.0 (λ e. is_disk e ≡ true → Rose (D.failures disk) (D.failures result.1)) }
+{
+    dump_since::<D, Brand, O>(alloc, disk, schema, schema_of_rows, table, out)
+}
+
+/// The same for an opening of this schema, over these images.
+fn dump_since<D: Disk + Drop, K: Opening, O: Out>(
+    alloc: Global,
+    disk: D,
+    schema: Schema,
+    schema_of_rows: Schema,
+    table: u16,
+    out: &mut O,
+) -> (Result<(), DumpRefusal>, D)
+    requires table { table < length schema.tables }
+    requires same { schema_of_rows ≡ schema }
+    requires of { K.schema ≡ schema }
+    requires images { (image : Image) → D.left disk (D.time disk) image → K.images image }
+    requires began { (image : Image) → K.images image → D.left disk (D.time disk) image }
+    ensures whole { OnOk result.0 (IsDumped schema (D.observable disk) (D.seen disk) table true true (O.Out.state out.old) (O.Out.state out.new)) }
+    ensures part { IfErr result.0 (λ e. IsDumped schema (D.observable disk) (D.seen disk) table false (not (is_output e)) (O.Out.state out.old) (O.Out.state out.new)) }
+    ensures text { OnOk result.0 (IsTrue (D.observable disk) → HasText (D.seen disk) schema) }
+    ensures refused { IfErr result.0 (IsNotDumped schema (D.observable disk) (D.seen disk)) }
+    ensures observable { D.observable result.1 ≡ D.observable disk }
+    ensures time { D.time disk ≤ D.time result.1 }
+    ensures images { HoldsAsBefore schema (D.time disk) (D.left disk) (D.left result.1) }
+    ensures kept { (contents : Contents) → AreImagesOf (D.observable disk) (D.time disk) (D.left disk) schema contents → AllRecover (D.left result.1 (D.time disk))
+        → (m : ℕ) (image : Image) → D.time disk ≤ m → D.left result.1 m image → ∥ IsImageOf schema contents image ∥₁ }
     ensures recoverable { StayRecoverable (D.left result.1) (D.time disk) }
     ensures cause { IfErr result.0 (λ e. is_disk e ≡ true → Rose (D.failures disk) (D.failures result.1)) }
 {
     let before = disk.faults();
-    let mut rows = match open_rows(alloc, disk, schema_of_rows) {
+    let mut rows = match open_rows::<D, K>(alloc, disk, schema_of_rows) {
         Ok(rows) => rows,
         Err((refusal, disk)) => return (Err(DumpRefusal::Database(refusal)), disk),
     };

@@ -8,6 +8,8 @@
 mod creation;
 mod database;
 mod dumping;
+mod guard;
+pub mod laws;
 mod opening;
 mod refusals;
 mod text;
@@ -15,5 +17,6 @@ mod text;
 pub use creation::create;
 pub use database::{DiskDatabase, close, open};
 pub use dumping::dump;
+pub use guard::{Opening, SlotGuard};
 pub use opening::DiskStore;
 pub use refusals::{CreateRefusal, DumpRefusal, OpenRefusal};

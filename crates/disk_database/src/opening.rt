@@ -11,19 +11,25 @@ ghost use Rattle.stored_text.specs.Held.{HoldText};
 ghost use Rattle.disk_database.specs.Answers.{IsRefused};
 ghost use Rattle.disk_database.specs.Images.{IsGivenBack};
 ghost use Rattle.disk_database.specs.Inside.{AreOpened, IsStoreOver, of_error, of_fault};
+ghost use Rattle.disk_database.specs.Parts.{AllHoldParts, HoldParts};
 
+use crate::guard::{Opening, SlotGuard};
 use crate::refusals::OpenRefusal;
 use crate::text::compare_text;
 use abl_rows::RowStore;
 use abl_storage::{Disk, Slots};
 use abl_values::Schema;
 use bi_recovery::OpenFault;
+use guarded_slots::Guarded;
 use record_store::{OpenError, RecordStore};
 use slot_txn::SlotTxn;
 use std::alloc::Global;
 
+/// Slots with transactions over a disk, guarded since the opening.
+pub(crate) type DiskSlots<D, K> = Guarded<SlotTxn<D>, SlotGuard<K>>;
+
 /// Rows in slots with transactions over a disk.
-pub type DiskStore<D> = RecordStore<SlotTxn<D>>;
+pub type DiskStore<D, K> = RecordStore<DiskSlots<D, K>>;
 
 /// Whether a count of faults rose, or stands at its last value.
 pub(crate) fn rose(before: u64, now: u64) -> bool
@@ -107,35 +113,46 @@ fn open_slots<D: Disk + Drop>(
     }
 }
 
-/// Recovers the disk, and opens its rows where it holds a database of this schema.
-pub(crate) fn open_rows<D: Disk + Drop>(
+/// Recovers the disk, and opens its rows where it holds a database of this schema. Out of memory comes
+/// too where no database can have the schema.
+pub(crate) fn open_rows<D: Disk + Drop, K: Opening>(
     alloc: Global,
     disk: D,
     schema: Schema,
-) -> Result<DiskStore<D>, (OpenRefusal, D)>
-    ensures opened { IfOk result (λ r. AreOpened (⟦<SlotTxn<D> as Slots>⟧.state r.rows.chains.slots) (⟦<SlotTxn<D> as Slots>⟧.stop r.rows.chains.slots) (D.observable disk) (D.seen disk) (D.time disk) (D.left disk)) }
-    ensures store { IfOk result (λ r. IsStoreOver (⟦<DiskStore<D> as RowStore>⟧.state r) schema (⟦<SlotTxn<D> as Slots>⟧.state r.rows.chains.slots)) }
-    ensures text { IfOk result (λ r. IsTrue (D.observable disk) → HoldText (⟦<SlotTxn<D> as Slots>⟧.state r.rows.chains.slots).committed (canonical_text schema)) }
+) -> Result<DiskStore<D, K>, (OpenRefusal, D)>
+    requires of { K.schema ≡ schema }
+    requires images { (image : Image) → D.left disk (D.time disk) image → K.images image }
+    ensures opened { IfOk result (λ r. AreOpened (⟦<DiskSlots<D, K> as Slots>⟧.state r.rows.chains.slots) (⟦<DiskSlots<D, K> as Slots>⟧.stop r.rows.chains.slots) (D.observable disk) (D.seen disk) (D.time disk) (D.left disk)) }
+    ensures store { IfOk result (λ r. IsStoreOver (⟦<DiskStore<D, K> as RowStore>⟧.state r) schema (⟦<DiskSlots<D, K> as Slots>⟧.state r.rows.chains.slots)) }
+    ensures text { IfOk result (λ r. IsTrue (D.observable disk) → HoldText (⟦<DiskSlots<D, K> as Slots>⟧.state r.rows.chains.slots).committed (canonical_text schema)) }
     ensures refused { IfErr result (λ e. IsRefused schema (D.observable disk) (D.seen disk) e.0) }
     ensures back { IfErr result (λ e. IsGivenBack (D.observable disk) (D.observable e.1) (D.time disk) (D.time e.1) (D.left disk) (D.left e.1)) }
     ensures cause { IfErr result (λ e. e.0 ≡ OpenRefusal.Disk → Rose (D.failures disk) (D.failures e.1)) }
 {
+    let Some(guard) = SlotGuard::<K>::new(&schema) else {
+        return Err((OpenRefusal::NoMemory, disk));
+    };
     let before = disk.faults();
     let slots = match open_slots(alloc, disk, before, &schema) {
         Ok(slots) => slots,
         Err(refusal) => return Err(refusal),
     };
+    let slots = Guarded::new(slots, guard);
     match RecordStore::open(alloc, slots, schema) {
         Ok(rows) => Ok(rows),
-        Err((error, slots)) => Err(give_back(before, of_error(error), slots)),
+        Err((error, slots)) => Err(give_back(before, of_error(error), slots.close())),
     }
 }
 
-/// The disk of these rows.
-pub(crate) fn disk_of<D: Disk + Drop>(rows: DiskStore<D>) -> D
-    ensures disk { result ≡ rows.rows.chains.slots.slots.disk }
-    ensures stops { (m : ℕ) (image : Image) (left : ℕ → List ℕ) → rows.rows.chains.slots.slots.since ≤ m → D.left result m image → Recovers image left → ⟦<SlotTxn<D> as Slots>⟧.stop rows.rows.chains.slots m left }
-    ensures recoverable { StayRecoverable (D.left result) rows.rows.chains.slots.slots.since }
+/// The disk of these rows. What the images of the opening hold of the text and of sequence values in
+/// their form, if all of them do, each image since then holds.
+pub(crate) fn disk_of<D: Disk + Drop, K: Opening>(rows: DiskStore<D, K>) -> D
+    ensures disk { result ≡ rows.rows.chains.slots.slots.slots.disk }
+    ensures stops { (m : ℕ) (image : Image) (left : ℕ → List ℕ) → rows.rows.chains.slots.slots.slots.since ≤ m → D.left result m image → Recovers image left → ⟦<DiskSlots<D, K> as Slots>⟧.stop rows.rows.chains.slots m left }
+    ensures recoverable { StayRecoverable (D.left result) rows.rows.chains.slots.slots.slots.since }
+    ensures parts { AllHoldParts K.schema K.images → (m : ℕ) (image : Image) (left : ℕ → List ℕ) → rows.rows.chains.slots.slots.slots.since ≤ m → D.left result m image → Recovers image left → HoldParts K.schema left }
 {
-    rows.close().close()
+    let slots = rows.close();
+    slots.guard.bounds();
+    slots.close().close()
 }

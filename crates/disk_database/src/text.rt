@@ -1,6 +1,6 @@
-//! The stored text of the schema, compared with that of a given schema.
+//! The text of a schema: whether a database can have it, and the stored one compared with it.
 
-ghost use Rattle.std.specs.Prelude.{◌≡◌, ◌≢◌, None, Some, IfErr, OnOk};
+ghost use Rattle.std.specs.Prelude.{◌≡◌, ◌≢◌, ◌≤◌, length, None, Some, IfErr, IfSome, IsTrue, OnOk};
 ghost use Rattle.abl_storage.specs.Slots.{IsReadable};
 ghost use Rattle.abl_values.specs.Schema.{canonical_text};
 ghost use Rattle.stored_text.specs.Held.{HoldText};
@@ -12,6 +12,21 @@ use abl_storage::{SlotFault, Slots};
 use abl_values::Schema;
 use std::alloc::Global;
 use stored_text::stored_text;
+
+/// The most bytes of the text of a schema, and the most sequences of one.
+const MAX_TEXT_BYTES: usize = 1_048_576;
+
+const MAX_SEQUENCES: usize = 256;
+
+/// Whether the schema is one that a database can have.
+pub(crate) fn fits(schema: &Schema) -> Option<bool>
+    ensures { IfSome result (λ fits. IsTrue fits → (length (canonical_text schema.now) ≤ 1048576) × (length schema.now.sequences ≤ 256)) }
+{
+    let Ok(text) = schema.canonical() else {
+        return None;
+    };
+    Some(text.as_slice().len() <= MAX_TEXT_BYTES && schema.sequences().len() <= MAX_SEQUENCES)
+}
 
 /// Whether the stored text is the given one.
 fn compare(stored: Option<Bytes>, given: Bytes) -> Result<(), OpenRefusal>

@@ -1,0 +1,116 @@
+-- A database that was made is opened, and one that was closed is opened again.
+use Rattle.std.proofs.Common.{◌≡◌, ⊎_elim, ℕ, ◌≤◌, Bool, true, false, cond, List, [], ◌∷◌, length, map, Option, Some, None, is_some, ℤ, refl, sym, ap, ◌∙◌, subst}
+use Rattle.std.proofs.Math.Logic.{∥∥₁_elim}
+use Rattle.std.proofs.Props.{props}
+use Rattle.std.proofs.lemmas.List.{length-map}
+use Rattle.std.specs.Cmp.{nat_cmp_total}
+use Rattle.std.specs.FinMap.{find, get, get-from_entries}
+use Rattle.std.specs.Ordering.{nat_cmp}
+use Rattle.std.specs.Prelude.{IsTrue}
+use Rattle.abl_values.specs.declared.schema.SequenceDef.{SequenceDef}
+use Rattle.abl_values.specs.Rows.{fragments_of}
+use Rattle.abl_values.specs.Schema.{SchemaData, canonical_text}
+use Rattle.database_meaning.specs.declared.contents.ContentRow.{ContentRow}
+use Rattle.database_meaning.specs.declared.contents.Contents.{Contents}
+use Rattle.database_meaning.specs.declared.state.Key.{Key}
+use Rattle.database_meaning.specs.declared.state.StoredRow.{StoredRow}
+use Rattle.database_meaning.specs.Setting.{Setting, has_key, unique_keys}
+use Rattle.database_meaning.specs.Traces.{IsSoundContents, IsSoundRow, IsSoundRows, identity_of, rows_of, stored_of}
+use Rattle.db_core.specs.Crashes.{Holds}
+use Rattle.disk_steps.specs.Steps.{Image}
+use Rattle.logged_slots.specs.Stops.{HasSlots}
+use Rattle.record_store.specs.Opened.{AreSoundRows, HoldStore}
+use Rattle.row_chain.specs.Fragments.{row_at}
+use Rattle.sequence_reads.proofs.Contents.{length_values_in}
+use Rattle.sequence_slots.specs.Values.{HoldValues, values_in}
+use Rattle.slot_contents.specs.Born.{IsBorn}
+use Rattle.slot_contents.specs.Chains.{IsChain, counted}
+use Rattle.slot_contents.specs.Contents.{contents_in, initial_values, new_contents}
+use Rattle.slot_contents.specs.Contents as slot
+use Rattle.stored_rows.specs.Decoded.{decoded, row_of}
+use Rattle.stored_rows.specs.Durable.{durable_in}
+use Rattle.stored_text.specs.Held.{HoldText}
+use Rattle.disk_database.proofs.Texts.{one_text}
+use Rattle.disk_database.specs.Answers.{IsRefused}
+use Rattle.disk_database.specs.Images.{AreSlotsOf, IsImageOf, created}
+use Rattle.disk_database.specs.declared.refusals.OpenRefusal.TheVariants.{NotCreated, SchemaDiffers}
+use Rattle.disk_database.proofs.Survivals.{image_of}
+
+-- ---- a new database
+
+none_there : {A : Type 0} (o : Option A) → is_some o ≡ false → o ≡ None
+none_there None is = refl
+none_there (Some x) is = absurd (cc is)
+
+module _ (schema : SchemaData) (image : Image) (born : IsBorn image (new_contents schema)) (short : length (canonical_text schema) ≤ 1048576) where
+  text_is : canonical_text schema ≡ canonical_text born.schema
+  text_is = ap (λ (c : slot.Contents). c.text) born.are
+
+  values_are : initial_values schema ≡ values_in (length born.schema.sequences) born.slots
+  values_are = ap (λ (c : slot.Contents). c.values) born.are
+
+  as_many : length born.schema.sequences ≡ length schema.sequences
+  as_many =
+      sym (length_values_in (length born.schema.sequences) born.slots) ∙ ap (length {A = ℤ}) (sym values_are)
+      ∙ length-map schema.sequences (λ (q : SequenceDef). q.initial)
+
+  no_row : (k : ℕ) → row_at born.slots k ≡ None
+  no_row k =
+      let none : decoded born.schema born.slots k ≡ None = sym (ap (λ (c : slot.Contents). c.rows k) born.are) in
+      none_there (row_at born.slots k) (sym (born.held.rows.read k) ∙ ap is_some none)
+
+  new_slots_are : AreSlotsOf schema (created schema) born.slots
+  new_slots_are = record {
+    holds = record {
+      rows = λ k. get-from_entries nat_cmp_total [] k ∙ sym (ap (row_of schema) (no_row k));
+      sequences = values_are ∙ ap (λ (n : ℕ). values_in n born.slots) as_many;
+    };
+    text = record { short = short; chain = subst (λ (text : List ℕ). IsChain born.slots 3 3 0 (counted 1 (fragments_of (length text))) text) (sym text_is) born.held.text.text };
+    values = subst (HoldValues born.slots) (sym values_are) born.held.sequences;
+  }
+
+  pub new_is : IsImageOf schema (created schema) image
+  new_is = image_of schema (created schema) image (record { slots = born.slots; recovers = born.recovered }) new_slots_are
+
+-- ---- another text
+
+pub not_another : (schema : SchemaData) (contents : Contents) (seen : Image) (stored given : List ℕ) → IsImageOf schema contents seen → IsRefused schema true seen (SchemaDiffers stored given) → ⊥
+not_another schema contents seen stored given image refused =
+    let found = refused.2 refl in
+    refused.1 (one_text found.0 stored (canonical_text schema) found.2 (image.each found.0 found.1).text ∙ sym refused.0)
+
+-- ---- a database of sound contents
+
+abbrev RowSound : Setting → Option StoredRow → Type 0
+RowSound f None = Unit {0}
+RowSound f (Some row) = IsSoundRow f row
+
+found_sound : (f : Setting) (b : Bool) (r : StoredRow) (o : Option StoredRow) → RowSound f (Some r) → RowSound f o → RowSound f (cond b (Some r) o)
+found_sound f true r o here there = here
+found_sound f false r o here there = there
+
+find_sound : (f : Setting) (rows : List ContentRow) (q : ℕ) → IsSoundRows f rows → RowSound f (find nat_cmp q (map {B = ℕ × StoredRow} (λ r. (identity_of r, stored_of r)) rows))
+find_sound f [] q ok = tt
+find_sound f (r ∷ rows) q ok = found_sound f _ (stored_of r) _ ok.0 (find_sound f rows q ok.1)
+
+rows_sound : (f : Setting) (contents : Contents) (slots : ℕ → List ℕ) → IsSoundContents f contents → Holds (durable_in f.schema slots) contents → AreSoundRows f.schema (decoded f.schema slots)
+rows_sound f contents slots sound holds = record {
+  each = λ k row is.
+      let one : IsSoundRow f row = subst (RowSound f) (sym (get-from_entries nat_cmp_total _ k) ∙ (holds.rows k ∙ is)) (find_sound f contents.rows k sound.rows) in
+      record { table = one.0; fits = one.1; short = one.2 };
+  apart = λ k other key has also. sound.unique k other key (at k key has) (at other key also);
+}
+  where
+    at : (k : ℕ) (key : Key) → IsTrue (has_key (unique_keys f.schema (decoded f.schema slots k)) key) → IsTrue (has_key (unique_keys f.schema (get (rows_of contents.rows) k)) key)
+    at k key has = subst (λ (o : Option StoredRow). IsTrue (has_key (unique_keys f.schema o) key)) (sym (holds.rows k)) has
+
+hold_store : (f : Setting) (contents : Contents) (slots : ℕ → List ℕ) → IsSoundContents f contents → AreSlotsOf f.schema contents slots → HoldStore f.schema slots
+hold_store f contents slots sound are = record { values = subst (HoldValues slots) are.holds.sequences are.values; rows = rows_sound f contents slots sound are.holds }
+
+nothing : IsProp ⊥
+nothing = hlevel props
+
+pub not_missing : (f : Setting) (contents : Contents) (seen : Image) → IsSoundContents f contents → IsImageOf f.schema contents seen → IsRefused f.schema true seen NotCreated → ⊥
+not_missing f contents seen sound image refused = ∥∥₁_elim image.some nothing (λ (h : HasSlots seen).
+    let are : AreSlotsOf f.schema contents h.slots = image.each h.slots h.recovers in
+    ⊎_elim (λ (no : (text : List ℕ) → HoldText h.slots text → ⊥). no (canonical_text f.schema) are.text) (λ (no : ¬ HoldStore f.schema h.slots). no (hold_store f contents h.slots sound are)) (refused refl h.slots h.recovers))

@@ -1,0 +1,42 @@
+-- What the slots hold that no row uses: the text of the schema, and the sequence values.
+use Rattle.std.specs.Prelude.{◌≡◌, ℕ, ◌+◌, ◌-◌, ◌*◌, ◌<◌, min, List, length, get_or, ℤ}
+use Rattle.abl_values.specs.Rows.{fragments_of}
+use Rattle.abl_values.specs.Schema.{SchemaData, canonical_text}
+use Rattle.disk_steps.specs.Steps.{Image}
+use Rattle.log_meaning.specs.Images.{Recovers}
+use Rattle.sequence_slots.specs.Values.{Have64Bits, HoldValues, slot_bytes, values_in}
+use Rattle.slot_contents.specs.Chains.{chain_slot, counted}
+use Rattle.stored_text.specs.Held.{HoldText}
+
+-- the slots of the schema's text, in order
+abbrev pub text_chain : SchemaData → List ℕ
+text_chain schema = counted 1 (fragments_of (length (canonical_text schema)))
+
+-- how many of n values are in the slot 5,000 + i
+abbrev pub values_at : ℕ → ℕ → ℕ
+values_at n i = min (n - 30 * i) 30
+
+-- the bytes of a slot that holds so many sequence values
+pub record AreValues (count : ℕ) (bytes : List ℕ) : Type 0 where
+  pub values : List ℤ
+  pub many : length values ≡ count
+  pub whole : Have64Bits values
+  pub are : bytes ≡ slot_bytes values
+
+-- the slot k of a database of this schema may hold these bytes: they are its part of the text, or as many sequence values as belong in it
+pub record HoldsPart (schema : SchemaData) (k : ℕ) (bytes : List ℕ) : Type 0 where
+  pub text : (i : ℕ) → i < length (text_chain schema) → k ≡ get_or (text_chain schema) i 0 → bytes ≡ chain_slot 3 3 0 (text_chain schema) (canonical_text schema) i
+  pub values : (i : ℕ) → i < 9 → k ≡ 5000 + i → AreValues (values_at (length schema.sequences) i) bytes
+
+-- the slots hold the text of the schema, and values for its sequences
+pub record HoldParts (schema : SchemaData) (slots : ℕ → List ℕ) : Type 0 where
+  pub text : HoldText slots (canonical_text schema)
+  pub values : HoldValues slots (values_in (length schema.sequences) slots)
+
+-- whatever these images recover to holds them
+abbrev pub AllHoldParts : SchemaData → (Image → Type 0) → Type 0
+AllHoldParts schema images = (image : Image) (slots : ℕ → List ℕ) → images image → Recovers image slots → HoldParts schema slots
+
+-- if all these images did, the slot holds its part
+abbrev pub KeptSince : SchemaData → (Image → Type 0) → ℕ → List ℕ → Type 0
+KeptSince schema images k bytes = AllHoldParts schema images → HoldsPart schema k bytes
