@@ -1,0 +1,4 @@
+pub mod Entered
+pub mod Rows
+pub mod Listed
+pub mod Commits
