@@ -29,6 +29,7 @@ use block_code::Code;
 use client_database::{Answer, ClientEnd, NextStep, Op};
 use client_machine::inputs::Inputs;
 use client_machine::machine::Machine;
+use client_machine::mode::Mode;
 use client_output::Section;
 use std::alloc::{AllocError, Global};
 
@@ -139,18 +140,20 @@ impl Client {
         ensures wants { self.old.phase ≡ Phase.Running → ShowsNextStep self.new result }
     {
         for _ in 0..u64::MAX {
-            let wants = match self.machine.next_step() {
-                Ok(wants) => wants,
-                Err(_) => return self.give_up(),
-            };
-            if let Some(wants) = wants {
-                if self.asks_too_much(limit) {
-                    return self.give_up();
+            if !self.is_executing() {
+                let wants = match self.machine.next_step() {
+                    Ok(wants) => wants,
+                    Err(_) => return self.give_up(),
+                };
+                if let Some(wants) = wants {
+                    if self.asks_too_much(limit) {
+                        return self.give_up();
+                    }
+                    if !self.may_ask(&wants) {
+                        return self.give_up();
+                    }
+                    return wants;
                 }
-                if !self.may_ask(&wants) {
-                    return self.give_up();
-                }
-                return wants;
             }
             match step(&mut self.machine) {
                 Ok(()) => {}
@@ -158,6 +161,11 @@ impl Client {
             }
         }
         self.give_up()
+    }
+
+    /// Whether the machine is about to execute a task. Then it has no request.
+    fn is_executing(&self) -> bool {
+        matches!(self.machine.mode, Mode::Execute(_))
     }
 
     /// Whether the machine awaits an operation with at least `limit` units left.

@@ -1,9 +1,11 @@
 //! One step of a client: the machine takes it, or one of the families of statements above it.
 
-ghost use Rattle.std.specs.Prelude.{[], OnOk, OnErr};
+ghost use Rattle.std.specs.Prelude.{◌≡◌, ℕ, Bool, [], OnOk, OnErr};
 ghost use Rattle.client_output.specs.Written.{IsUnchanged};
 ghost use Rattle.client_machine.specs.declared.mode.Completion.{Completion};
+ghost use Rattle.client_machine.specs.declared.mode.Mode.{Mode};
 ghost use Rattle.client_machine.specs.declared.mode.StackEntry.{StackEntry};
+ghost use Rattle.block_vm.specs.declared.steps.StepKind.{StepKind};
 ghost use Rattle.client_machine.specs.declared.mode.Task.{Task};
 ghost use Rattle.client_machine.specs.Step.{KeepsRun, KeepsTask, KeepsCompletion, KeepsEntry};
 
@@ -34,16 +36,74 @@ enum Family {
     InputClose,
 }
 
-/// One step.
+/// What a step begins with.
+#[derive(Clone, Copy)]
+enum StepKind {
+    /// The instruction at the place.
+    Instruction {
+        place: usize,
+        left: u32,
+        retry: bool,
+    },
+    Task,
+    Completion,
+    /// The machine awaits an answer.
+    Nothing,
+}
+
+/// What a step from the mode begins with.
+fn step_kind(mode: &Mode) -> StepKind
+    ensures { (place left : ℕ) (retry : Bool) → result ≡ StepKind.Instruction place left retry → mode.now ≡ Mode.Execute (Task.RunsFrom place left retry) }
+{
+    match mode {
+        Mode::Execute(Task::RunsFrom { place, left, retry }) => StepKind::Instruction {
+            place: *place,
+            left: *left,
+            retry: *retry,
+        },
+        Mode::Execute(_) => StepKind::Task,
+        Mode::Unwind(_) => StepKind::Completion,
+        Mode::Await { .. } => StepKind::Nothing,
+    }
+}
+
+/// One step. A mode is a large value, and a function clears its locals when it is called: so each kind
+/// of step has a function of its own, and an instruction is executed without a move of the mode.
 pub fn step(machine: &mut Machine) -> Result<(), AllocError>
+    ensures ok { OnOk result (KeepsRun [] machine.old machine.new) }
+    ensures err { OnErr result (IsUnchanged machine.old.output machine.new.output) }
+{
+    match step_kind(&machine.mode) {
+        StepKind::Instruction { place, left, retry } => run_from(machine, place, left, retry),
+        StepKind::Task => take_task(machine),
+        StepKind::Completion => take_completion(machine),
+        StepKind::Nothing => Ok(()),
+    }
+}
+
+/// One step, where it is about to execute a task.
+fn take_task(machine: &mut Machine) -> Result<(), AllocError>
     ensures ok { OnOk result (KeepsRun [] machine.old machine.new) }
     ensures err { OnErr result (IsUnchanged machine.old.output machine.new.output) }
 {
     match mem::replace(&mut machine.mode, Mode::Unwind(Completion::Normal)) {
         Mode::Execute(task) => execute(machine, task),
+        mode => {
+            machine.set_mode(mode);
+            Ok(())
+        }
+    }
+}
+
+/// One step, where it unwinds.
+fn take_completion(machine: &mut Machine) -> Result<(), AllocError>
+    ensures ok { OnOk result (KeepsRun [] machine.old machine.new) }
+    ensures err { OnErr result (IsUnchanged machine.old.output machine.new.output) }
+{
+    match mem::replace(&mut machine.mode, Mode::Unwind(Completion::Normal)) {
         Mode::Unwind(completion) => unwind(machine, completion),
-        Mode::Await { op, on_answer } => {
-            machine.set_mode(Mode::Await { op, on_answer });
+        mode => {
+            machine.set_mode(mode);
             Ok(())
         }
     }
@@ -54,6 +114,26 @@ fn execute(machine: &mut Machine, task: Task) -> Result<(), AllocError>
     ensures ok { OnOk result (KeepsTask task machine.old machine.new) }
     ensures err { OnErr result (IsUnchanged machine.old.output machine.new.output) }
 {
+    if is_machine_task(&task) {
+        machine.execute(task)
+    } else {
+        execute_above(machine, task)
+    }
+}
+
+/// Whether the machine executes the task, and no layer above it.
+fn is_machine_task(task: &Task) -> bool {
+    !matches!(
+        task,
+        Task::RunsFrom { .. } | Task::Calls { .. } | Task::End(_) | Task::Read(_) | Task::Change(_)
+    )
+}
+
+/// Executes a task of the layers above the machine.
+fn execute_above(machine: &mut Machine, task: Task) -> Result<(), AllocError>
+    ensures ok { OnOk result (KeepsTask task machine.old machine.new) }
+    ensures err { OnErr result (IsUnchanged machine.old.output machine.new.output) }
+{
     match task {
         Task::RunsFrom { place, left, retry } => run_from(machine, place, left, retry),
         Task::Calls {
@@ -61,38 +141,8 @@ fn execute(machine: &mut Machine, task: Task) -> Result<(), AllocError>
             left,
             values,
         } => call(machine, place, left, values),
-        _ => execute_other(machine, task),
-    }
-}
-
-/// Executes a task of the families on records, or one of the machine.
-fn execute_other(machine: &mut Machine, task: Task) -> Result<(), AllocError>
-    ensures ok { OnOk result (KeepsTask task machine.old machine.new) }
-    ensures err { OnErr result (IsUnchanged machine.old.output machine.new.output) }
-{
-    match task {
         Task::End(task) => client_ends::execute(machine, task),
-        _ => execute_on_records(machine, task),
-    }
-}
-
-/// The same where it is no end of an iteration.
-fn execute_on_records(machine: &mut Machine, task: Task) -> Result<(), AllocError>
-    ensures ok { OnOk result (KeepsTask task machine.old machine.new) }
-    ensures err { OnErr result (IsUnchanged machine.old.output machine.new.output) }
-{
-    match task {
         Task::Read(task) => client_finds::execute(machine, task),
-        _ => execute_changing(machine, task),
-    }
-}
-
-/// The same where it is no reading.
-fn execute_changing(machine: &mut Machine, task: Task) -> Result<(), AllocError>
-    ensures ok { OnOk result (KeepsTask task machine.old machine.new) }
-    ensures err { OnErr result (IsUnchanged machine.old.output machine.new.output) }
-{
-    match task {
         Task::Change(task) => client_records::execute(machine, task),
         _ => machine.execute(task),
     }
@@ -179,52 +229,34 @@ fn unwind_to(
     ensures ok { OnOk result (KeepsEntry entry completion machine.old machine.new) }
     ensures err { OnErr result (IsUnchanged machine.old.output machine.new.output) }
 {
+    if is_machine_entry(&entry) {
+        machine.unwind_to(entry, completion)
+    } else {
+        unwind_to_above(machine, entry, completion)
+    }
+}
+
+/// Whether the entry is one of the machine, and of no layer above it.
+fn is_machine_entry(entry: &StackEntry) -> bool {
+    !matches!(
+        entry,
+        StackEntry::Called(_) | StackEntry::End(_) | StackEntry::Read(_) | StackEntry::Change(_)
+    )
+}
+
+/// The same for an entry of the layers above the machine.
+fn unwind_to_above(
+    machine: &mut Machine,
+    entry: StackEntry,
+    completion: Completion,
+) -> Result<(), AllocError>
+    ensures ok { OnOk result (KeepsEntry entry completion machine.old machine.new) }
+    ensures err { OnErr result (IsUnchanged machine.old.output machine.new.output) }
+{
     match entry {
         StackEntry::Called(place) => called(machine, place, &completion),
-        _ => unwind_to_records(machine, entry, completion),
-    }
-}
-
-/// The same for an entry of the families on records.
-fn unwind_to_records(
-    machine: &mut Machine,
-    entry: StackEntry,
-    completion: Completion,
-) -> Result<(), AllocError>
-    ensures ok { OnOk result (KeepsEntry entry completion machine.old machine.new) }
-    ensures err { OnErr result (IsUnchanged machine.old.output machine.new.output) }
-{
-    match entry {
         StackEntry::End(entry) => client_ends::unwind_to(machine, entry, completion),
-        _ => unwind_to_reading(machine, entry, completion),
-    }
-}
-
-/// The same where it is of no end of an iteration.
-fn unwind_to_reading(
-    machine: &mut Machine,
-    entry: StackEntry,
-    completion: Completion,
-) -> Result<(), AllocError>
-    ensures ok { OnOk result (KeepsEntry entry completion machine.old machine.new) }
-    ensures err { OnErr result (IsUnchanged machine.old.output machine.new.output) }
-{
-    match entry {
         StackEntry::Read(entry) => client_finds::unwind_to(machine, entry, completion),
-        _ => unwind_to_changing(machine, entry, completion),
-    }
-}
-
-/// The same where it is of no reading.
-fn unwind_to_changing(
-    machine: &mut Machine,
-    entry: StackEntry,
-    completion: Completion,
-) -> Result<(), AllocError>
-    ensures ok { OnOk result (KeepsEntry entry completion machine.old machine.new) }
-    ensures err { OnErr result (IsUnchanged machine.old.output machine.new.output) }
-{
-    match entry {
         StackEntry::Change(entry) => client_records::unwind_to(machine, entry, completion),
         _ => machine.unwind_to(entry, completion),
     }

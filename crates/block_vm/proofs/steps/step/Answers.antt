@@ -1,17 +1,13 @@
-use Rattle.std.proofs.Common.{sym, ap, ◌∙◌}
-use Rattle.client_machine.specs.declared.machine.Machine.{Machine}
-use Rattle.client_machine.specs.declared.mode.Mode.{Mode}
-use Rattle.client_machine.proofs.RunKept.{on_ok, execute_keeps, unwind_keeps}
+use Rattle.std.proofs.Common.{sym, refl}
+use Rattle.client_machine.specs.declared.mode.Task.TheVariants as task
+use Rattle.client_machine.proofs.RunKept.{on_ok, execute_keeps}
 use Rattle.block_vm.proofs.Still.{same_run}
 use Rattle.block_vm.proofs.steps.step.Goals as goal
 
-pub returns-in-Execute-clause-ok : goal.returns-in-Execute-clause-ok
-returns-in-Execute-clause-ok c = on_ok c.execute.result (execute_keeps c.in-Execute.task _ c.args.machine.now c.execute.new.machine (sym c.in-Execute.is ∙ c.replace.ensures.value)) c.execute.ensures.ok
+pub returns-in-Instruction-clause-ok : goal.returns-in-Instruction-clause-ok
+returns-in-Instruction-clause-ok c =
+    let i = c.in-Instruction in
+    on_ok c.run_from.result (execute_keeps (task.RunsFrom i.place i.left i.retry) c.args.machine.now.mode c.args.machine.now c.run_from.new.machine (sym (c.step_kind.ensures i.place i.left i.retry i.is))) c.run_from.ensures.ok
 
-pub returns-in-Unwind-clause-ok : goal.returns-in-Unwind-clause-ok
-returns-in-Unwind-clause-ok c = on_ok c.unwind.result (unwind_keeps c.in-Unwind.completion _ c.args.machine.now c.unwind.new.machine (sym c.in-Unwind.is ∙ c.replace.ensures.value)) c.unwind.ensures.ok
-
-pub returns-in-Await-clause-ok : goal.returns-in-Await-clause-ok
-returns-in-Await-clause-ok c =
-    let old = c.args.machine.now in
-    same_run old c.set_mode.new.self (c.set_mode.ensures ∙ ap (λ (m : Mode). let x : Machine = record old { mode = m } in x) (sym c.in-Await.is ∙ c.replace.ensures.value))
+pub returns-in-Nothing-clause-ok : goal.returns-in-Nothing-clause-ok
+returns-in-Nothing-clause-ok c = same_run c.args.machine.now c.args.machine.now refl
