@@ -1,0 +1,3 @@
+pub mod ClientRun
+pub mod Works
+pub mod Served
