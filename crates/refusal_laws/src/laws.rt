@@ -1,6 +1,6 @@
 //! The laws. Each is the contract of a function with an empty body.
 
-ghost use Rattle.std.specs.Prelude.{List, ℕ};
+ghost use Rattle.std.specs.Prelude.{◌<◌, List, All, length, ℕ};
 ghost use Rattle.block_clients.specs.Outcome.{RanAsMeant};
 ghost use Rattle.block_meaning.specs.declared.wants.Piece.{Piece};
 ghost use Rattle.block_meaning.specs.Meaning.{run};
@@ -8,13 +8,16 @@ ghost use Rattle.block_meaning.specs.Program.{Program};
 ghost use Rattle.block_vm.specs.ClientView.{ClientView};
 ghost use Rattle.client_database.specs.declared.ends.ClientEnd.{ClientEnd};
 ghost use Rattle.client_database.specs.declared.event.Event.{Event};
+ghost use Rattle.client_output.specs.declared.section.Section.{Section};
 ghost use Rattle.client_database.specs.declared.next_step.NextStep.{NextStep as Step};
 ghost use Rattle.client_runner.specs.Meant.{AllFit, RefusesOnlyUnsure, client_in};
 ghost use Rattle.client_session.specs.Along.{Along};
 ghost use Rattle.database_meaning.specs.declared.contents.Contents.{Contents};
 ghost use Rattle.database_meaning.specs.Setting.{Setting};
 ghost use Rattle.refusal_laws.specs.Unrefused.{IsNeverRefused, IsOfFile, NoneRefused};
+ghost use Rattle.refusal_laws.specs.Works.{AreOfTexts, IsSchemaOfFile};
 ghost use Rattle.run_laws.specs.Unrefused.{RefusesRightly};
+ghost use Rattle.served_works.specs.Works.{DidAsMeant, Work};
 ghost use Rattle.turn_lock.specs.Journal.{own_entries};
 
 /// No answer to a client of a source text is Refused, where it ran to its end as the text means
@@ -26,7 +29,15 @@ pub fn no_answer_to_a_text_is_refused()
         IsOfFile file text setting.schema p → RanAsMeant (run p units) own how pieces → AllFit setting own → RefusesOnlyUnsure setting own → NoneRefused own }
 {}
 
-/// So it is at any point of its run: where its own events in a trace are those of its run (`Along`,
+/// So it is in a run of works of source texts, which `served_works` serves over any database: no answer
+/// in its trace is Refused. The texts and the schema file break no rule, and the database has the
+/// schema of the file.
+pub fn no_answer_to_works_of_texts_is_refused()
+    ensures { (file : List ℕ) (texts : List (List ℕ)) (works : List Work) (units : ℕ) (setting : Setting) (trace : List Event) (ends : List ClientEnd) (parts : List (List Section)) →
+        IsSchemaOfFile file setting.schema → AreOfTexts setting.schema texts works → DidAsMeant setting units trace 0 works ends parts → All (λ (e : Event). e.client < length works) trace → NoneRefused trace }
+{}
+
+/// So it is at any point of a client's run: where its own events in a trace are those of its run (`Along`,
 /// which `Session` keeps), their answers fit, and the database refuses rightly, no answer is Refused,
 /// and what it requests next is well formed in the state that the trace leaves: its table, index or
 /// sequence is declared, its values are a row of the table, its level is open, and its row is held
