@@ -1,11 +1,11 @@
 -- Arguments of the command `bank`, and the wrong one among them.
-use Rattle.std.proofs.Common.{◌≡◌, ◌<◌, ◌≤◌, ◌+◌, ℕ, List, [], ◌∷◌, ◌++◌, refl, ap, sym, ◌∙◌, subst, arith, length, take, get_or, true, false, Bool, inl, append-nil, length-append, length-take-le}
+use Rattle.std.proofs.Common.{◌≡◌, ◌<◌, ◌≤◌, ◌+◌, ℕ, List, [], ◌∷◌, ◌++◌, refl, ap, sym, subst, arith, length, take, get_or, true, false, Bool, inl, length-append, length-take-le}
 use Rattle.std.proofs.lemmas.List.{take_all}
 use Rattle.std.proofs.lemmas.Bool.{ltb-true, ltb-false}
 use Rattle.std.proofs.lemmas.List.Elements.{All-cons, All-nil}
-use Rattle.std.specs.Prelude.{codes, nat_lt}
+use Rattle.std.specs.Prelude.{nat_lt}
 use Rattle.std.specs.Char.{IsAsciiDigit}
-use Rattle.abl_arguments.specs.CommandLine.{Bank, IsBank, IsDecimal, IsNumber, bank_arguments, HaveBankForm, BeginForm, IsWrongIn, at_argument, missing, number_of}
+use Rattle.abl_arguments.specs.CommandLine.{Bank, IsBank, IsDecimal, IsNumber, bank_arguments, HaveBankForm, BeginForm, IsWrongIn, at_argument, missing}
 use Rattle.abl_arguments.specs.Places.{bank_form, FitBank}
 
 -- ---- arguments that begin the form

@@ -1,74 +1,13 @@
 -- Arguments of the command `check`, and the wrong one among them.
-use Rattle.std.proofs.Common.{◌≡◌, ◌∙◌, inl, inr, ◌+◌, ◌<◌, ◌≤◌, ℕ, zero, suc, List, [], ◌∷◌, ◌++◌, refl, ap, sym, subst, arith, length, take, drop, get_or, length-append, append-nil, add-one, length-take-le, take-take}
+use Rattle.std.proofs.Common.{◌≡◌, inl, inr, ◌+◌, ◌<◌, ◌≤◌, ℕ, zero, suc, List, [], ◌∷◌, ◌++◌, refl, ap, subst, arith, length, take, get_or, length-append, append-nil, add-one, length-take-le, take-take}
 use Rattle.std.proofs.lemmas.List.Elements.{All-push, All-take, All-head, All-tail, All-same, All-cons, All-nil}
 use Rattle.std.specs.Prelude.{All, codes}
-use Rattle.abl_arguments.specs.CommandLine.{Check, IsCheck, arguments_of, bank_arguments, check_arguments, HaveRunForm, HaveBankForm, HaveForm, BeginForm, IsWrongIn, IsWrong, at_argument, missing}
+use Rattle.abl_arguments.specs.CommandLine.{Check, IsCheck, check_arguments, HaveForm, BeginForm, IsWrong, at_argument, missing}
+use Rattle.abl_arguments.proofs.Words.{only_check}
 
 -- no name is empty
 abbrev pub AreNames : List (List ℕ) → Type 0
 AreNames names = All (λ (name : List ℕ). 0 < length name) names
-
--- the two commands differ
-pub other_command : {a b : List (List ℕ)} → codes "run" ∷ a ≡ codes "check" ∷ b → ⊥
-other_command e = let n : 3 ≡ 5 = ap (λ (ws : List (List ℕ)). length (get_or ws 0 [])) e in absurd (omega (arith, n))
-
-pub bank_or_check : {a b : List (List ℕ)} → codes "bank" ∷ a ≡ codes "check" ∷ b → ⊥
-bank_or_check e = let n : 4 ≡ 5 = ap (λ (ws : List (List ℕ)). length (get_or ws 0 [])) e in absurd (omega (arith, n))
-
-pub bank_or_run : {a b : List (List ℕ)} → codes "bank" ∷ a ≡ codes "run" ∷ b → ⊥
-bank_or_run e = let n : 4 ≡ 3 = ap (λ (ws : List (List ℕ)). length (get_or ws 0 [])) e in absurd (omega (arith, n))
-
--- ---- the wrong argument of a run
-
--- where the first argument is not this word, no beginning of the arguments has it first
-no_word_begins : (word : List ℕ) (ws more rest : List (List ℕ)) (k : ℕ) → k < length ws → ((rest : List (List ℕ)) → ws ≡ word ∷ rest → ⊥) → take (k + 1) ws ++ more ≡ word ∷ rest → ⊥
-no_word_begins word [] more rest k below other e = absurd (omega (arith, below))
-no_word_begins word (w ∷ ws) more rest k below other e =
-    let is : take (suc k) (w ∷ ws) ++ more ≡ word ∷ rest = subst (λ n. take n (w ∷ ws) ++ more ≡ word ∷ rest) (add-one k) e in
-    let first : w ≡ word = ap (λ (xs : List (List ℕ)). get_or xs 0 []) is in
-    other ws (ap (λ x. x ∷ ws) first)
-
-pub wrong_run : (arguments : List (List ℕ)) (n : ℕ) → IsWrongIn HaveRunForm arguments n → ((rest : List (List ℕ)) → arguments ≡ codes "check" ∷ rest → ⊥) → ((rest : List (List ℕ)) → arguments ≡ codes "bank" ∷ rest → ⊥) → IsWrong arguments n
-wrong_run arguments n (at_argument ws k below begins ends) other no_bank = at_argument ws k below (begins.0, inl begins.1) by_form
-  where
-    by_more : (more : List (List ℕ)) → HaveForm (take (k + 1) ws ++ more) → ⊥
-    by_more more (inl run) = ends (more, run)
-    by_more more (inr (inl check)) = no_word_begins (codes "check") ws more (check.0.schema ∷ check.0.programs) k below other check.1.1
-    by_more more (inr (inr bank)) = no_word_begins (codes "bank") ws more (drop 1 (bank_arguments bank.0)) k below no_bank bank.1.1
-
-    by_form : BeginForm HaveForm (take (k + 1) ws) → ⊥
-    by_form b = by_more b.0 b.1
-wrong_run arguments n (missing ws begins formless) other no_bank = missing ws (begins.0, inl begins.1) by_form
-  where
-    by_form : HaveForm ws → ⊥
-    by_form (inl run) = formless run
-    by_form (inr (inl check)) = other (check.0.schema ∷ check.0.programs) check.1.1
-    by_form (inr (inr bank)) = no_bank (drop 1 (bank_arguments bank.0)) bank.1.1
-
--- ---- the wrong argument of a bank
-
--- the first of the arguments that begin so
-first_stays : (word : List ℕ) (ws rest more other : List (List ℕ)) (other_word : List ℕ) (k : ℕ) → ws ≡ word ∷ rest → take (k + 1) ws ++ more ≡ other_word ∷ other → word ≡ other_word
-first_stays word ws rest more other other_word k is e =
-    let begun : take (suc k) (word ∷ rest) ++ more ≡ other_word ∷ other = subst (λ n. take n (word ∷ rest) ++ more ≡ other_word ∷ other) (add-one k) (subst (λ (xs : List (List ℕ)). take (k + 1) xs ++ more ≡ other_word ∷ other) is e) in
-    ap (λ (xs : List (List ℕ)). get_or xs 0 []) begun
-
-pub wrong_bank : (arguments : List (List ℕ)) (n : ℕ) → IsWrongIn HaveBankForm arguments n → (rest : List (List ℕ)) → arguments ≡ codes "bank" ∷ rest → IsWrong arguments n
-wrong_bank arguments n (at_argument ws k below begins ends) rest is = at_argument ws k below (begins.0, inr (inr begins.1)) by_form
-  where
-    by_more : (more : List (List ℕ)) → HaveForm (take (k + 1) ws ++ more) → ⊥
-    by_more more (inl run) = bank_or_run {a = []} {b = []} (ap (λ w. w ∷ []) (first_stays (codes "bank") ws rest more (drop 1 (arguments_of run.0)) (codes "run") k is run.1.1))
-    by_more more (inr (inl check)) = bank_or_check {a = []} {b = []} (ap (λ w. w ∷ []) (first_stays (codes "bank") ws rest more (check.0.schema ∷ check.0.programs) (codes "check") k is check.1.1))
-    by_more more (inr (inr bank)) = ends (more, bank)
-
-    by_form : BeginForm HaveForm (take (k + 1) ws) → ⊥
-    by_form b = by_more b.0 b.1
-wrong_bank arguments n (missing ws begins formless) rest is = missing ws (begins.0, inr (inr begins.1)) by_form
-  where
-    by_form : HaveForm ws → ⊥
-    by_form (inl run) = bank_or_run (sym is ∙ run.1.1)
-    by_form (inr (inl check)) = bank_or_check (sym is ∙ check.1.1)
-    by_form (inr (inr bank)) = formless bank
 
 -- ---- the beginning of a check
 
@@ -116,9 +55,8 @@ module _ (schema : List ℕ) (some : 0 < length schema) where
       short = length-take-le n programs (omega (arith, below))
 
       by_form : (more : List (List ℕ)) → HaveForm (codes "check" ∷ schema ∷ take (suc n) programs ++ more) → ⊥
-      by_form more (inl run) = other_command (sym run.1.1)
-      by_form more (inr (inr bank)) = bank_or_check (sym bank.1.1)
-      by_form more (inr (inl check)) =
+      by_form more form =
+          let check = only_check (schema ∷ take (suc n) programs ++ more) form in
           no_empty programs more n below empty (All-same (λ (name : List ℕ). 0 < length name) (take (suc n) programs ++ more) check.0.programs (its_programs (take (suc n) programs ++ more) check.0 check.1.1) check.1.0.names)
 
       ends : BeginForm HaveForm (take (suc (suc n) + 1) (codes "check" ∷ schema ∷ programs)) → ⊥
@@ -138,9 +76,8 @@ module _ (schema : List ℕ) (some : 0 < length schema) where
       first = subst AreNames (take-take 16 n programs far) (All-take (λ (name : List ℕ). 0 < length name) 16 (take n programs) names)
 
       by_form : (more : List (List ℕ)) → HaveForm (codes "check" ∷ schema ∷ take 17 programs ++ more) → ⊥
-      by_form more (inl run) = other_command (sym run.1.1)
-      by_form more (inr (inr bank)) = bank_or_check (sym bank.1.1)
-      by_form more (inr (inl check)) =
+      by_form more form =
+          let check = only_check (schema ∷ take 17 programs ++ more) form in
           let same : length (take 17 programs ++ more) ≡ length check.0.programs = ap length (its_programs (take 17 programs ++ more) check.0 check.1.1) in
           let sum = length-append (take 17 programs) more in
           let few = check.1.0.few in
@@ -153,9 +90,8 @@ module _ (schema : List ℕ) (some : 0 < length schema) where
   wrong_none [] none = missing (codes "check" ∷ schema ∷ []) (begin_with [] (omega arith) (All-nil (λ (name : List ℕ). 0 < length name))) by_form
     where
       by_form : HaveForm (codes "check" ∷ schema ∷ []) → ⊥
-      by_form (inl run) = other_command (sym run.1.1)
-      by_form (inr (inr bank)) = bank_or_check (sym bank.1.1)
-      by_form (inr (inl check)) =
+      by_form form =
+          let check = only_check (schema ∷ []) form in
           let same : 0 ≡ length check.0.programs = ap length (its_programs [] check.0 check.1.1) in
           let some = check.1.0.some in
           omega (arith, same, some)
@@ -169,9 +105,8 @@ wrong_schema schema programs empty = at_argument (codes "check" ∷ schema ∷ p
     begins = inr (inl (record { schema = a_name; programs = a_name ∷ [] }, (record { schema = some_name; some = omega arith; few = omega arith; names = All-cons (λ (name : List ℕ). 0 < length name) a_name [] some_name (All-nil (λ (name : List ℕ). 0 < length name)) }, refl)))
 
     by_form : (more : List (List ℕ)) → HaveForm (codes "check" ∷ schema ∷ more) → ⊥
-    by_form more (inl run) = other_command (sym run.1.1)
-    by_form more (inr (inr bank)) = bank_or_check (sym bank.1.1)
-    by_form more (inr (inl check)) =
+    by_form more form =
+        let check = only_check (schema ∷ more) form in
         let same : length schema ≡ length check.0.schema = ap (λ (ws : List (List ℕ)). length (get_or ws 1 [])) check.1.1 in
         let some = check.1.0.schema in
         omega (arith, same, some, empty)
@@ -181,9 +116,10 @@ pub wrong_alone : IsWrong (codes "check" ∷ []) 1
 wrong_alone = missing (codes "check" ∷ []) (a_name ∷ a_name ∷ [], inr (inl (record { schema = a_name; programs = a_name ∷ [] }, (record { schema = some_name; some = omega arith; few = omega arith; names = All-cons (λ (name : List ℕ). 0 < length name) a_name [] some_name (All-nil (λ (name : List ℕ). 0 < length name)) }, refl)))) by_form
   where
     by_form : HaveForm (codes "check" ∷ []) → ⊥
-    by_form (inl run) = other_command (sym run.1.1)
-    by_form (inr (inr bank)) = bank_or_check (sym bank.1.1)
-    by_form (inr (inl check)) = let same : 1 ≡ suc (suc (length check.0.programs)) = ap length check.1.1 in omega (arith, same)
+    by_form form =
+        let check = only_check [] form in
+        let same : 1 ≡ suc (suc (length check.0.programs)) = ap length check.1.1 in
+        omega (arith, same)
 
 -- one name more is not empty
 pub one_name_more : (names : List (List ℕ)) (i : ℕ) (name : List ℕ) → i < length names → AreNames (take i names) → name ≡ get_or names i name → 0 < length name → AreNames (take (suc i) names)

@@ -1,7 +1,9 @@
 pub mod BankForms
 pub mod Clients
 pub mod CheckForms
+pub mod CreateForms
 pub mod Forms
 pub mod Numbers
 pub mod RunForms
 pub mod Splits
+pub mod Words

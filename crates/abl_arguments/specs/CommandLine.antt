@@ -6,8 +6,10 @@ use Rattle.abl_arguments.specs.declared.run.RunArguments.{RunArguments}
 use Rattle.abl_arguments.specs.declared.client.ClientArgument.{ClientArgument}
 use Rattle.abl_arguments.specs.declared.check.CheckArguments.{CheckArguments}
 use Rattle.abl_arguments.specs.declared.bank.BankArguments.{BankArguments}
+use Rattle.abl_arguments.specs.declared.create.CreateArguments.{CreateArguments}
+use Rattle.abl_arguments.specs.declared.dump.DumpArguments.{DumpArguments}
 use Rattle.abl_arguments.specs.declared.command.Command.{Command}
-use Rattle.abl_arguments.specs.declared.command.Command.TheVariants.{Run as ToRun, Check as ToCheck, Bank as ToBank}
+use Rattle.abl_arguments.specs.declared.command.Command.TheVariants.{Run as ToRun, Check as ToCheck, Bank as ToBank, Create as ToCreate, Dump as ToDump}
 use Rattle.std.specs.Char.{IsAsciiDigit, IsAsciiAlphanumeric}
 
 -- the number that decimal digits denote
@@ -150,9 +152,43 @@ pub record IsBank (bank : Bank) : Type 0 where
 abbrev pub HaveBankForm : List (List ℕ) → Type 0
 HaveBankForm arguments = (bank : Bank) × (IsBank bank × (arguments ≡ bank_arguments bank))
 
+-- what the arguments `create SCHEMA` name: the schema file
+pub record Create : Type 0 where
+  pub schema : List ℕ
+
+-- the arguments that name it
+abbrev pub create_arguments : Create → List (List ℕ)
+create_arguments create = codes "create" ∷ create.schema ∷ []
+
+-- SCHEMA is not empty
+pub record IsCreate (create : Create) : Type 0 where
+  pub schema : 0 < length create.schema
+
+-- the arguments have the form of a creation
+abbrev pub HaveCreateForm : List (List ℕ) → Type 0
+HaveCreateForm arguments = (create : Create) × (IsCreate create × (arguments ≡ create_arguments create))
+
+-- what the arguments `dump SCHEMA TABLE` name: the schema file, and the name of a table
+pub record Dump : Type 0 where
+  pub schema : List ℕ
+  pub table : List ℕ
+
+-- the arguments that name it
+abbrev pub dump_arguments : Dump → List (List ℕ)
+dump_arguments dump = codes "dump" ∷ dump.schema ∷ dump.table ∷ []
+
+-- SCHEMA and TABLE are not empty
+pub record IsDump (dump : Dump) : Type 0 where
+  pub schema : 0 < length dump.schema
+  pub table : 0 < length dump.table
+
+-- the arguments have the form of a dump
+abbrev pub HaveDumpForm : List (List ℕ) → Type 0
+HaveDumpForm arguments = (dump : Dump) × (IsDump dump × (arguments ≡ dump_arguments dump))
+
 -- THE ARGUMENTS HAVE A FORM
 abbrev pub HaveForm : List (List ℕ) → Type 0
-HaveForm arguments = HaveRunForm arguments ⊎ (HaveCheckForm arguments ⊎ HaveBankForm arguments)
+HaveForm arguments = HaveRunForm arguments ⊎ (HaveCheckForm arguments ⊎ (HaveBankForm arguments ⊎ (HaveCreateForm arguments ⊎ HaveDumpForm arguments)))
 
 -- some arguments of the form begin with these
 abbrev pub BeginForm : (List (List ℕ) → Type 0) → List (List ℕ) → Type 0
@@ -208,8 +244,28 @@ pub record NamesBank (arguments : List (List ℕ)) (read : BankArguments) : Type
   pub accounts : read.accounts ≡ number_of bank.accounts
   pub transfers : read.transfers ≡ number_of bank.transfers
 
+-- what a creation reads off the arguments
+abbrev pub create_of : CreateArguments → Create
+create_of read = record { schema = read.schema.now }
+
+-- the arguments name the creation that was read
+pub record NamesCreate (arguments : List (List ℕ)) (read : CreateArguments) : Type 0 where
+  pub is_create : IsCreate (create_of read)
+  pub arguments_are : arguments ≡ create_arguments (create_of read)
+
+-- what a dump reads off the arguments
+abbrev pub dump_of : DumpArguments → Dump
+dump_of read = record { schema = read.schema.now; table = read.table.now }
+
+-- the arguments name the dump that was read
+pub record NamesDump (arguments : List (List ℕ)) (read : DumpArguments) : Type 0 where
+  pub is_dump : IsDump (dump_of read)
+  pub arguments_are : arguments ≡ dump_arguments (dump_of read)
+
 -- the arguments name what was read
 abbrev pub NamesCommand : List (List ℕ) → Command → Type 0
 NamesCommand arguments (ToRun read) = Names arguments read
 NamesCommand arguments (ToCheck read) = NamesCheck arguments read
 NamesCommand arguments (ToBank read) = NamesBank arguments read
+NamesCommand arguments (ToCreate read) = NamesCreate arguments read
+NamesCommand arguments (ToDump read) = NamesDump arguments read

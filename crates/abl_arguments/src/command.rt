@@ -5,6 +5,8 @@ ghost use Rattle.abl_arguments.specs.CommandLine.{IsWrong, NamesCommand};
 
 use crate::bank::{BankArguments, read_bank};
 use crate::check::{CheckArguments, read_check};
+use crate::create::{CreateArguments, read_create};
+use crate::dump::{DumpArguments, read_dump};
 use crate::parts::Arg;
 use crate::run::{RunArguments, read_run};
 
@@ -17,6 +19,10 @@ pub enum Command<'a> {
     Check(CheckArguments<'a>),
     /// Run a bank.
     Bank(BankArguments),
+    /// Make a database.
+    Create(CreateArguments<'a>),
+    /// Write the rows of a table.
+    Dump(DumpArguments<'a>),
 }
 
 /// The arguments after this word, where it is the first one.
@@ -33,9 +39,9 @@ fn after<'a>(word: &[u8], arguments: &'a [Arg]) -> Option<&'a [Arg]>
 }
 
 /// The command that the arguments name, where they have the form `run SCHEMA STEPS MODE CLIENT...` with
-/// 1 to 16 clients whose names differ, `check SCHEMA PROG...` with 1 to 16 PROG, or
-/// `bank START CLIENTS ACCOUNTS TRANSFERS`; else the number of the wrong argument, from 0, which is the
-/// count of arguments where more are missing.
+/// 1 to 16 clients whose names differ, `check SCHEMA PROG...` with 1 to 16 PROG,
+/// `bank START CLIENTS ACCOUNTS TRANSFERS`, `create SCHEMA` or `dump SCHEMA TABLE`; else the number of the
+/// wrong argument, from 0, which is the count of arguments where more are missing.
 pub fn read_command(arguments: &[Arg]) -> Result<Command<'_>, u32>
     ensures form { IfOk result (NamesCommand arguments.now) }
     ensures wrong { IfErr result (IsWrong arguments.now) }
@@ -52,6 +58,39 @@ pub fn read_command(arguments: &[Arg]) -> Result<Command<'_>, u32>
 /// The command that the arguments name, where the first one is not `check`.
 fn read_other(arguments: &[Arg]) -> Result<Command<'_>, u32>
     requires { (rest : List (List ℕ)) → ¬ (arguments.now ≡ codes "check" ∷ rest) }
+    ensures form { IfOk result (NamesCommand arguments.now) }
+    ensures wrong { IfErr result (IsWrong arguments.now) }
+{
+    match after(b"create", arguments) {
+        Some(rest) => match read_create(rest) {
+            Ok(create) => Ok(Command::Create(create)),
+            Err(argument) => Err(argument),
+        },
+        None => read_dump_or_run(arguments),
+    }
+}
+
+/// The command that the arguments name, where the first one is neither `check` nor `create`.
+fn read_dump_or_run(arguments: &[Arg]) -> Result<Command<'_>, u32>
+    requires check { (rest : List (List ℕ)) → ¬ (arguments.now ≡ codes "check" ∷ rest) }
+    requires create { (rest : List (List ℕ)) → ¬ (arguments.now ≡ codes "create" ∷ rest) }
+    ensures form { IfOk result (NamesCommand arguments.now) }
+    ensures wrong { IfErr result (IsWrong arguments.now) }
+{
+    match after(b"dump", arguments) {
+        Some(rest) => match read_dump(rest) {
+            Ok(dump) => Ok(Command::Dump(dump)),
+            Err(argument) => Err(argument),
+        },
+        None => read_bank_or_run(arguments),
+    }
+}
+
+/// The run or the bank that the arguments name, where they name no other command.
+fn read_bank_or_run(arguments: &[Arg]) -> Result<Command<'_>, u32>
+    requires check { (rest : List (List ℕ)) → ¬ (arguments.now ≡ codes "check" ∷ rest) }
+    requires create { (rest : List (List ℕ)) → ¬ (arguments.now ≡ codes "create" ∷ rest) }
+    requires dump { (rest : List (List ℕ)) → ¬ (arguments.now ≡ codes "dump" ∷ rest) }
     ensures form { IfOk result (NamesCommand arguments.now) }
     ensures wrong { IfErr result (IsWrong arguments.now) }
 {

@@ -8,6 +8,8 @@ pub mod bank;
 mod check;
 pub mod client;
 pub mod command;
+mod create;
+mod dump;
 pub mod parts;
 pub mod run;
 
@@ -15,5 +17,7 @@ pub use bank::{BankArguments, read_bank};
 pub use check::CheckArguments;
 pub use client::{ClientArgument, client_of};
 pub use command::{Command, read_command};
+pub use create::CreateArguments;
+pub use dump::DumpArguments;
 pub use parts::{Arg, Mode};
 pub use run::RunArguments;

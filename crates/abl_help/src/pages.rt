@@ -1,6 +1,6 @@
 //! The pages. Written by tools/explanations from tools/explanations.txt.
 
-static NAMES: [&str; 61] = [
+static NAMES: [&str; 63] = [
     "L1",
     "L2",
     "L3",
@@ -50,9 +50,11 @@ static NAMES: [&str; 61] = [
     "2",
     "3",
     "4",
+    "5",
     "6",
     "7",
     "8",
+    "9",
     "10",
     "Statement",
     "Budget",
@@ -69,7 +71,7 @@ pub fn names() -> &'static [&'static str] {
     &NAMES
 }
 
-static SUMMARIES: [&str; 61] = [
+static SUMMARIES: [&str; 63] = [
     "A byte begins no token",
     "A comment is open at the end of the source",
     "A text is open at the end of the source",
@@ -119,9 +121,11 @@ static SUMMARIES: [&str; 61] = [
     "A file cannot be read",
     "The schema file breaks one of the rules F1 to F12",
     "The source breaks a rule",
+    "The disk failed while a database was made, opened, run or read",
     "Standard output failed, as on a full device or a closed pipe",
     "Memory ran out",
     "The client ended in an error, by RETURN ERROR of the external procedure, or in a stop",
+    "The database is not as the command needs it",
     "A file is longer than 1,048,576 bytes",
     "The client came to the statement STOP",
     "No unit is left",
@@ -130,7 +134,7 @@ static SUMMARIES: [&str; 61] = [
     "The trace would pass 256 MiB, where an operation counts 64 bytes and what it carries",
     "A transaction would write more than 7,989 slots",
     "The client asks for a record that another client has locked, or for a key that another has reserved, and would wait for clients that wait for it, directly or not",
-    "The disk failed, and the database is closed",
+    "The disk failed at a step of this client or of another one, and the database is closed",
 ];
 
 /// The first sentence of each page, in the order of `names`.
@@ -138,7 +142,7 @@ pub fn summaries() -> &'static [&'static str] {
     &SUMMARIES
 }
 
-static TEXTS: [&str; 61] = [
+static TEXTS: [&str; 63] = [
     "L1: A byte begins no token. Outside texts and comments a source has names,
 numbers, dates, texts, white space and the symbols `: , ( ) = <> < > <= >= + -
 * / ? ^` and the period, which is one only before white space, a comment or
@@ -369,8 +373,8 @@ Name a field of the buffer.
     i = Customer.CustNum.
 ",
     "Y9: The field has a type that is not supported, or has an EXTENT above 0. It
-always holds `?` and cannot be named. IMPORT and EXPORT of the whole buffer
-pass over it.
+always holds `?` and cannot be named. IMPORT of the whole buffer passes over
+its element, and EXPORT writes `?`.
 
 Refused at 2:17:
 
@@ -883,7 +887,8 @@ It prints on standard error
 Give the name of a file, from the folder in which the command runs.
 ",
     "status 3: The schema file breaks one of the rules F1 to F12; the line says
-which, and at which line of the file.
+which, and at which line of the file. Or `dump` names a table that the schema
+does not have: then it is `no table` with the name.
 
     abl shop run bad.df 10 quiet a=a.p
 
@@ -918,6 +923,26 @@ It prints on standard error
     abl: a: Y1 at 1:9
 
 See the page of the rule. Nothing was run.
+",
+    "status 5: The disk failed while a database was made, opened, run or read; a
+second line names the file and the reason, as `in use by another process`.
+What was committed before is kept; of a commit that was under way it is not
+known. After a run the report is printed, and each client that asked for
+something later has stopped with Closed.
+
+    abl missing/shop create orders.df
+
+where a.p is
+
+    MESSAGE \"done\".
+
+It prints on standard error
+
+    abl: disk
+    abl: missing/shop.d0: No such file or directory (os error 2)
+
+Here there is no folder `missing`. Look at the file, and at the room on its
+disk; one command at a time uses a database. The next command recovers it.
 ",
     "status 6: Standard output failed, as on a full device or a closed pipe. What
 is there is a beginning of the report; the run itself was done.
@@ -957,6 +982,23 @@ It prints on standard error
     abl: client a: error no orders
 
 What was not committed was undone. See the page of the stop.
+",
+    "status 9: The database is not as the command needs it. `not created`: there is
+none of this name, so make it with `create`. `already created`: there is one,
+which `create` leaves as it is. `schema differs`: it was created with a schema
+file that says something else.
+
+    abl shop create orders.df
+
+where a.p is
+
+    MESSAGE \"done\".
+
+It prints on standard error
+
+    abl: already created
+
+Give another name of a database, or the schema file that it was created with.
 ",
     "status 10: A file is longer than 1,048,576 bytes: the schema file, the source,
 the client's input, or a file after INPUT FROM. The line names it.
@@ -1086,8 +1128,10 @@ Stops at 11:3:
 Lock records in the same order in every source, or end the transaction before
 the next lock.
 ",
-    "stop Closed: The disk failed, and the database is closed. A run has its
-database in memory, so no run ends so.
+    "stop Closed: The disk failed at a step of this client or of another one, and
+the database is closed: each further request is answered so. What was
+committed before is kept; of the commit that was under way it is not known.
+The status is then 5.
 ",
 ];
 

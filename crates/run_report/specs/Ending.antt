@@ -1,15 +1,19 @@
 -- How a command ended: its refusal, its status, and the report of a run.
 use Rattle.std.specs.Prelude.{◌≡◌, ◌+◌, ℕ, Bool, true, false, if◌then◌else◌, List, [], ◌∷◌, Option, Some, None}
+use Rattle.std.specs.List.{list_any}
 use Rattle.abl_outside.specs.declared.out.Stream.TheVariants.{Output as Standard, Diagnostics}
 use Rattle.abl_outside.specs.Out.{OutState, Writes}
 use Rattle.abl_values.specs.Schema.{SchemaData}
+use Rattle.client_database.specs.declared.answer.Answer.{Answer}
+use Rattle.client_database.specs.declared.answer.Answer.TheVariants.{Closed}
+use Rattle.client_database.specs.declared.event.Event.{Event}
 use Rattle.client_database.specs.declared.ends.ClientEnd.{ClientEnd}
 use Rattle.client_database.specs.declared.ends.ClientEnd.TheVariants as end
 use Rattle.client_output.specs.declared.section.Section.{Section}
 use Rattle.abl_arguments.specs.declared.parts.Mode.{Mode}
 use Rattle.run_report.specs.declared.ending.Report.{Report}
 use Rattle.run_report.specs.declared.refusal.Refusal.{Refusal}
-use Rattle.run_report.specs.declared.refusal.Refusal.TheVariants.{Client, Output, NoMemory}
+use Rattle.run_report.specs.declared.refusal.Refusal.TheVariants.{Client, Disk, Output, NoMemory}
 use Rattle.run_report.specs.Report.{run_text, status_lines, status_of}
 
 -- the lines of the status of a refusal were appended to standard error, or a prefix of them where a write failed;
@@ -61,9 +65,21 @@ abbrev pub failure_refusal : Option ℕ → Bool → Option Refusal
 failure_refusal None whole = output_refusal whole
 failure_refusal (Some first) whole = Some (Client first)
 
--- the refusal of a run whose clients ended so: out of memory, an end in Error or Stop, and then a fault of the output
-abbrev pub refusal_after : List ClientEnd → Bool → Option Refusal
-refusal_after ends whole = if one_lacks_memory ends then Some NoMemory else failure_refusal (first_failure 0 ends) whole
+abbrev pub is_closed : Answer → Bool
+is_closed Closed = true
+is_closed answer = false
+
+-- whether an event is answered Closed: the disk failed during the run
+abbrev pub has_closed : List Event → Bool
+has_closed trace = list_any (λ (e : Event). is_closed e.answer) trace
+
+-- the refusal that follows from the ends of clients: out of memory, an end in Error or Stop, and then a fault of the output
+abbrev pub refusal_of_ends : List ClientEnd → Bool → Option Refusal
+refusal_of_ends ends whole = if one_lacks_memory ends then Some NoMemory else failure_refusal (first_failure 0 ends) whole
+
+-- the refusal of a run in which an event was answered Closed or none, and whose clients ended so: a fault of the disk comes first
+abbrev pub refusal_after : Bool → List ClientEnd → Bool → Option Refusal
+refusal_after closed ends whole = if closed then Some Disk else refusal_of_ends ends whole
 
 -- the report of a run over this schema whose clients ended so and wrote these sections: its text is on standard output, or a prefix where a
 -- write failed, and then the lines on standard error
@@ -72,6 +88,6 @@ pub record IsReported (mode : Mode) (schema : SchemaData) (names : List (List �
   pub whole : Bool
   pub between : OutState
   pub text : Writes whole Standard (run_text mode schema names parts report.trace) old between
-  pub refusal : report.refusal ≡ refusal_after ends whole
+  pub refusal : report.refusal ≡ refusal_after (has_closed report.trace) ends whole
   pub status : report.status ≡ status_after report.refusal
   pub lines : WritesStatus names report.ends report.refusal between new

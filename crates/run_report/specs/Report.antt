@@ -12,7 +12,7 @@ use Rattle.abl_arguments.specs.declared.parts.Mode.{Mode}
 use Rattle.abl_arguments.specs.declared.parts.Mode.TheVariants.{Trace, Quiet}
 use Rattle.run_report.specs.Trace.{trace_part}
 use Rattle.run_report.specs.declared.refusal.Refusal.{Refusal}
-use Rattle.run_report.specs.declared.refusal.Refusal.TheVariants.{Usage, File, TooLong, Schema, Source, Client, Output, NoMemory}
+use Rattle.run_report.specs.declared.refusal.Refusal.TheVariants.{Usage, File, TooLong, Schema, NoTable, Source, NotCreated, AlreadyCreated, SchemaDiffers, Disk, Client, Output, NoMemory}
 
 -- a line feed, but where the byte is one
 abbrev pub line_end_after : ℕ → List ℕ
@@ -74,6 +74,11 @@ status_lines names ends (Schema rule line) =
     codes "abl: schema " ++ rule_name rule ++ codes " at line " ++ decimal line ++ 10 ∷ []
 status_lines names ends (Source client rule place) =
     codes "abl: " ++ name_or_none (slice_get names client) ++ codes ": " ++ rule_name rule ++ codes " at " ++ decimal place.line ++ 58 ∷ decimal place.column ++ 10 ∷ []
+status_lines names ends (NoTable table) = codes "abl: no table " ++ table ++ 10 ∷ []
+status_lines names ends NotCreated = codes "abl: not created" ++ 10 ∷ []
+status_lines names ends AlreadyCreated = codes "abl: already created" ++ 10 ∷ []
+status_lines names ends (SchemaDiffers stored given) = codes "abl: schema differs" ++ 10 ∷ []
+status_lines names ends Disk = codes "abl: disk" ++ 10 ∷ []
 status_lines names ends (Client first) = end_lines names ends
 status_lines names ends Output = codes "abl: output" ++ 10 ∷ []
 status_lines names ends NoMemory = codes "abl: no memory" ++ 10 ∷ []
@@ -84,7 +89,12 @@ status_of (Usage arg) = 1
 status_of (File file) = 2
 status_of (TooLong file most) = 10
 status_of (Schema rule line) = 3
+status_of (NoTable table) = 3
 status_of (Source client rule place) = 4
+status_of Disk = 5
 status_of (Client first) = 8
+status_of NotCreated = 9
+status_of AlreadyCreated = 9
+status_of (SchemaDiffers stored given) = 9
 status_of Output = 6
 status_of NoMemory = 7

@@ -1,13 +1,13 @@
 //! How a command ended: its report, its refusal and its status.
 
 ghost use Rattle.std.specs.Prelude.{◌≡◌, ◌+◌, ◌≤◌, length};
-ghost use Rattle.run_report.specs.Ending.{IsRefused, WritesStatus, failure_refusal, first_failure, is_failure, is_no_memory, one_lacks_memory, output_refusal, refusal_after, status_after};
+ghost use Rattle.run_report.specs.Ending.{IsRefused, WritesStatus, failure_refusal, first_failure, has_closed, is_failure, is_no_memory, one_lacks_memory, output_refusal, refusal_after, refusal_of_ends, status_after};
 
 use crate::refusal::Refusal;
 use crate::report::write_status;
 use abl_base::{Bytes, Items};
 use abl_outside::Out;
-use client_database::{ClientEnd, Trace};
+use client_database::{Answer, ClientEnd, Event, Trace};
 use std::alloc::Global;
 
 /// How clients ended, in client order.
@@ -62,11 +62,32 @@ pub fn status_of(refusal: &Option<Refusal>) -> u8
     }
 }
 
-/// The refusal of a run whose clients ended so, and whose report was written whole or not: out of
-/// memory, an end in Error or Stop, or a fault of the output, the first that applies.
-pub fn refusal_after(ends: &[ClientEnd], whole: bool) -> Option<Refusal>
+/// Whether an event is answered Closed: the disk failed during the run.
+pub fn has_closed(trace: &[Event]) -> bool
+    ensures { result ≡ has_closed trace.now }
+{
+    trace
+        .iter()
+        .any(|event| matches!(event.answer, Answer::Closed))
+}
+
+/// The refusal of a run in which an event was answered Closed or none, whose clients ended so, and whose
+/// report was written whole or not: the disk, out of memory, an end in Error or Stop, or a fault of the
+/// output, the first that applies.
+pub fn refusal_after(closed: bool, ends: &[ClientEnd], whole: bool) -> Option<Refusal>
     requires { length ends.now ≤ 65535 }
-    ensures { result ≡ refusal_after ends.now whole }
+    ensures { result ≡ refusal_after closed ends.now whole }
+{
+    if closed {
+        return Some(Refusal::Disk);
+    }
+    refusal_of_ends(ends, whole)
+}
+
+/// The refusal that follows from the ends of clients, where the disk did not fail.
+fn refusal_of_ends(ends: &[ClientEnd], whole: bool) -> Option<Refusal>
+    requires { length ends.now ≤ 65535 }
+    ensures { result ≡ refusal_of_ends ends.now whole }
 {
     if one_lacks_memory(ends) {
         return Some(Refusal::NoMemory);

@@ -9,7 +9,9 @@ pub mod refusal;
 pub mod report;
 pub mod trace;
 
-pub use ending::{Ends, Report, output_refusal, refusal_after, refused, status_of, write_refusal};
+pub use ending::{
+    Ends, Report, has_closed, output_refusal, refusal_after, refused, status_of, write_refusal,
+};
 pub use refusal::Refusal;
 pub use report::{ReportForm, line_end, write_part, write_report, write_status};
 pub use trace::write_trace;

@@ -24,12 +24,27 @@ pub enum Refusal {
         rule: Rule,
         line: u32,
     },
+    /// The schema has no table of this name.
+    NoTable {
+        name: Bytes,
+    },
     /// The client's source breaks the rule, first at this place.
     Source {
         client: u16,
         rule: Rule,
         place: Place,
     },
+    /// The disk holds no database.
+    NotCreated,
+    /// The disk holds a database, and one was to be made.
+    AlreadyCreated,
+    /// The canonical text of the stored schema is not that of the given one.
+    SchemaDiffers {
+        stored: Bytes,
+        given: Bytes,
+    },
+    /// The disk failed, before a run or during it.
+    Disk,
     /// Some client ended in Error or Stop; the first one in order.
     Client {
         first: u16,
@@ -52,10 +67,15 @@ impl Refusal {
             Refusal::Usage { .. } => 1,
             Refusal::File { .. } => 2,
             Refusal::Schema { .. } => 3,
+            Refusal::NoTable { .. } => 3,
             Refusal::Source { .. } => 4,
+            Refusal::Disk => 5,
             Refusal::Output => 6,
             Refusal::NoMemory => 7,
             Refusal::Client { .. } => 8,
+            Refusal::NotCreated => 9,
+            Refusal::AlreadyCreated => 9,
+            Refusal::SchemaDiffers { .. } => 9,
             Refusal::TooLong { .. } => 10,
         }
     }

@@ -151,6 +151,13 @@ pub fn write_status<O: Out>(
             rule,
             place,
         } => write_source(out, name_at(names, *client), rule.name(), *place),
+        Refusal::NoTable { name: table } => {
+            write_line(out, b"abl: no table ", table.as_slice(), b"")
+        }
+        Refusal::NotCreated => write_line(out, b"abl: not created", b"", b""),
+        Refusal::AlreadyCreated => write_line(out, b"abl: already created", b"", b""),
+        Refusal::SchemaDiffers { .. } => write_line(out, b"abl: schema differs", b"", b""),
+        Refusal::Disk => write_line(out, b"abl: disk", b"", b""),
         Refusal::Client { .. } => write_ends(out, names, ends),
         Refusal::Output => write_line(out, b"abl: output", b"", b""),
         Refusal::NoMemory => write_line(out, b"abl: no memory", b"", b""),
