@@ -1,2 +1,3 @@
-pub mod Databases
+pub mod Disks
 pub mod Runs
+pub mod Sends

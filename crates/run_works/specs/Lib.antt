@@ -1,3 +1,2 @@
-pub mod ClientRun
+pub mod Disks
 pub mod Works
-pub mod Inside

@@ -1,72 +1,168 @@
-//! The database of a run, and its clients on threads. No other module names the type of the database.
+//! The database of a run: opened on the disk, served to the clients, and closed. No other crate names
+//! its type.
 
-ghost use Rattle.std.specs.Prelude.{◌≡◌, ◌<◌, ◌≤◌, ℕ, All, IfOk, length, slice_index_or};
+ghost use Rattle.std.specs.Prelude.{◌≡◌, ◌+◌, ◌<◌, ◌≤◌, ℕ, All, IfErr, IfOk, length};
 ghost use Rattle.abl_values.specs.Schema.{SchemaData};
 ghost use Rattle.client_database.specs.declared.event.Event.{Event};
-ghost use Rattle.database_meaning.specs.Traces.{IsLegal};
-ghost use Rattle.new_database.specs.Contents.{new_contents};
-ghost use Rattle.new_database.specs.New.{IsNew};
+ghost use Rattle.block_clients.specs.Phases.{AreThreePhases};
+ghost use Rattle.disk_steps.specs.Steps.{Image};
 ghost use Rattle.source_files.specs.Compiled.{schema_in};
-ghost use Rattle.run_works.specs.Inside.{HasEnded};
+ghost use Rattle.run_report.specs.declared.refusal.Refusal.TheVariants.{NoMemory};
+ghost use Rattle.run_works.specs.Disks.{IsDurable, IsNotOpened, KeepsContents, state_of};
+ghost use Rattle.served_works.specs.Served.{HaveEnded, HaveEndedOrNot};
 
+use crate::closing::{Ran, RunDatabase, RunDisk, close_after_run, close_unused, unwatched};
+use crate::opening::{NotRun, open_database};
+use crate::serving::{serve, serve_phases};
+use crate::timed::Timed;
 use abl_outside::Gate;
-use abl_rows::RowStore;
-use block_clients::{ClientTask, run_block_clients};
-use client_database::Trace;
-use new_database::{NewDatabase, NewStore, open};
-use source_files::schema_of;
-use std::alloc::{AllocError, Global};
+use abl_storage::Disk;
+use block_vm::Client;
+use disk_database::Opening;
+use std::alloc::Global;
+use std::marker::{Brand, PhantomData};
 use std::sync::Wait;
 use std::thread::Threads;
+use watched_disk::{Start, Watched};
 
-/// The database of a run.
-pub type RunDatabase = NewDatabase;
-
-/// The rows of the database of a run.
-pub type RunStore = NewStore;
-
-/// A client of a run.
-pub type RunTask = ClientTask<RunDatabase>;
-
-/// Opens a database without rows for so many clients, over the schema of this text. The text is that
-/// of a schema file which breaks no rule, so that an error in it means out of memory.
-pub fn open_database(alloc: Global, df: &[u8], clients: u16) -> Result<RunDatabase, AllocError>
-    requires few { clients ≤ 16 }
-    ensures { IfOk result (λ database. IsNew (⟦<RunStore as RowStore>⟧.state database.rows) (⟦<RunStore as RowStore>⟧.left database.rows) (⟦<RunStore as RowStore>⟧.times database.rows) database (schema_in df.now) clients) }
-{
-    let Ok(schema) = schema_of(alloc, df) else {
-        return Err(AllocError);
-    };
-    let Ok(schema_of_rows) = schema_of(alloc, df) else {
-        return Err(AllocError);
-    };
-    open(alloc, schema, schema_of_rows, clients)
-}
-
-/// Runs each client on a thread of its own to its end over the database, and returns the trace of the
-/// run. The client at place k has the number k in it. An error means out of memory, and that no client
-/// has begun.
-pub fn run_tasks<R: Threads + Wait + Sync, G: Gate + Sync>(
+/// Opens the database of the schema of this text on the disk, runs each client on a thread of its own
+/// to its end, and closes the database. The client at place k has the number k in the trace. The text
+/// is that of a schema file which breaks no rule, so that an error in it means out of memory.
+pub fn run_together<R: Threads + Wait + Sync, D: Disk + Send + Drop, G: Gate + Sync>(
     rt: &R,
     alloc: Global,
-    database: RunDatabase,
-    tasks: &mut [RunTask],
+    disk: D,
+    df: &[u8],
+    clients: Vec<Client>,
     gate: &G,
-) -> Result<Trace, AllocError>
-    requires some { 0 < length tasks.old }
-    requires few { length tasks.old ≤ 16 }
-    requires new { (schema : SchemaData) × IsNew (⟦<RunStore as RowStore>⟧.state database.rows) (⟦<RunStore as RowStore>⟧.left database.rows) (⟦<RunStore as RowStore>⟧.times database.rows) database schema (length tasks.old) }
-    ensures legal { (schema : SchemaData) → IsNew (⟦<RunStore as RowStore>⟧.state database.rows) (⟦<RunStore as RowStore>⟧.left database.rows) (⟦<RunStore as RowStore>⟧.times database.rows) database schema (length tasks.old) →
-        IfOk result (λ trace. IsLegal (record { schema = schema; clients = length tasks.old }) (new_contents schema) trace) }
-    ensures clients { IfOk result (λ trace. All (λ (e : Event). e.client < length tasks.old) trace) }
-    ensures ended { IfOk result (λ trace. (k : ℕ) (t : _) → k < length tasks.old → HasEnded trace k (slice_index_or tasks.old k t) (slice_index_or tasks.new k t)) }
+) -> Result<Ran<D>, NotRun<D>>
+    requires some { 0 < length clients.items }
+    requires few { length clients.items ≤ 16 }
+    ensures events { IfOk result (λ ran. All (λ (e : Event). e.client < length clients.items) ran.trace) }
+    ensures ended { IfOk result (λ ran. HaveEnded (record { schema = schema_in df.now; clients = length clients.items }) ran.trace 0 clients.items ran.clients.items) }
+    ensures durable { IfOk result (λ ran. IsDurable (record { schema = schema_in df.now; clients = length clients.items }) ran.trace (state_of D.Disk disk) (state_of D.Disk ran.disk)) }
+    ensures refused { IfErr result (λ not_run. IsNotOpened (schema_in df.now) (state_of D.Disk disk) (state_of D.Disk not_run.disk) not_run.refusal) }
+    ensures kept { IfErr result (λ not_run. KeepsContents (schema_in df.now) (state_of D.Disk disk) (state_of D.Disk not_run.disk)) }
+    ensures others { IfErr result (λ not_run. (not_run.refusal ≡ NoMemory → ⊥) → (schema : SchemaData) → KeepsContents schema (state_of D.Disk disk) (state_of D.Disk not_run.disk)) }
 {
-    match run_block_clients(rt, alloc, database, 0, tasks, gate) {
+    together_since::<R, D, Brand, G>(rt, alloc, disk, df, clients, gate)
+}
+
+/// The same for a run that begins so.
+fn together_since<
+    R: Threads + Wait + Sync,
+    D: Disk + Send + Drop,
+    K: Start + Opening + Send,
+    G: Gate + Sync,
+>(
+    rt: &R,
+    alloc: Global,
+    disk: D,
+    df: &[u8],
+    clients: Vec<Client>,
+    gate: &G,
+) -> Result<Ran<D>, NotRun<D>>
+    requires some { 0 < length clients.items }
+    requires few { length clients.items ≤ 16 }
+    requires moment { K.moment ≡ D.time disk }
+    requires images { (image : Image) → D.left disk K.moment image → K.Start.images image }
+    requires began { (image : Image) → K.Start.images image → D.left disk (D.time disk) image }
+    requires schema { K.schema ≡ schema_in df.now }
+    requires opening { (image : Image) → D.left disk (D.time disk) image → K.Opening.images image }
+    requires opened { (image : Image) → K.Opening.images image → D.left disk (D.time disk) image }
+    ensures events { IfOk result (λ ran. All (λ (e : Event). e.client < length clients.items) ran.trace) }
+    ensures ended { IfOk result (λ ran. HaveEnded (record { schema = schema_in df.now; clients = length clients.items }) ran.trace 0 clients.items ran.clients.items) }
+    ensures durable { IfOk result (λ ran. IsDurable (record { schema = schema_in df.now; clients = length clients.items }) ran.trace (state_of D.Disk disk) (state_of D.Disk ran.disk)) }
+    ensures refused { IfErr result (λ not_run. IsNotOpened (schema_in df.now) (state_of D.Disk disk) (state_of D.Disk not_run.disk) not_run.refusal) }
+    ensures kept { IfErr result (λ not_run. KeepsContents (schema_in df.now) (state_of D.Disk disk) (state_of D.Disk not_run.disk)) }
+    ensures others { IfErr result (λ not_run. (not_run.refusal ≡ NoMemory → ⊥) → (schema : SchemaData) → KeepsContents schema (state_of D.Disk disk) (state_of D.Disk not_run.disk)) }
+{
+    let watched: RunDisk<D, K> = Watched {
+        disk,
+        of: PhantomData,
+    };
+    match open_database(alloc, watched, df, clients.len() as u16) {
         Ok(database) => {
-            let (rows, trace) = database.close();
-            drop(rows);
-            Ok(trace)
+            let timed: RunDatabase<D, K> = Timed {
+                database,
+                of: PhantomData,
+            };
+            match serve(rt, alloc, timed, clients, gate) {
+                Ok(served) => Ok(close_after_run(served)),
+                Err(timed) => Err(close_unused(timed)),
+            }
         }
-        Err(_) => Err(AllocError),
+        Err(not_run) => Err(unwatched(not_run)),
+    }
+}
+
+/// The same as `run_together`, in three phases: the first client alone, then all others but the last
+/// side by side, then the last one alone. The clients of a phase for which there is no memory do not
+/// begin.
+pub fn run_in_phases<R: Threads + Wait + Sync, D: Disk + Send + Drop, G: Gate + Sync>(
+    rt: &R,
+    alloc: Global,
+    disk: D,
+    df: &[u8],
+    clients: Vec<Client>,
+    gate: &G,
+) -> Result<Ran<D>, NotRun<D>>
+    requires some { 3 ≤ length clients.items }
+    requires few { length clients.items ≤ 16 }
+    ensures phases { IfOk result (λ ran. (between : ℕ) → length clients.items ≡ between + 2 → AreThreePhases between ran.trace) }
+    ensures ended { IfOk result (λ ran. HaveEndedOrNot (record { schema = schema_in df.now; clients = length clients.items }) ran.trace 0 clients.items ran.clients.items) }
+    ensures durable { IfOk result (λ ran. IsDurable (record { schema = schema_in df.now; clients = length clients.items }) ran.trace (state_of D.Disk disk) (state_of D.Disk ran.disk)) }
+    ensures refused { IfErr result (λ not_run. IsNotOpened (schema_in df.now) (state_of D.Disk disk) (state_of D.Disk not_run.disk) not_run.refusal) }
+    ensures kept { IfErr result (λ not_run. KeepsContents (schema_in df.now) (state_of D.Disk disk) (state_of D.Disk not_run.disk)) }
+    ensures others { IfErr result (λ not_run. (not_run.refusal ≡ NoMemory → ⊥) → (schema : SchemaData) → KeepsContents schema (state_of D.Disk disk) (state_of D.Disk not_run.disk)) }
+{
+    phases_since::<R, D, Brand, G>(rt, alloc, disk, df, clients, gate)
+}
+
+/// The same for a run that begins so.
+fn phases_since<
+    R: Threads + Wait + Sync,
+    D: Disk + Send + Drop,
+    K: Start + Opening + Send,
+    G: Gate + Sync,
+>(
+    rt: &R,
+    alloc: Global,
+    disk: D,
+    df: &[u8],
+    clients: Vec<Client>,
+    gate: &G,
+) -> Result<Ran<D>, NotRun<D>>
+    requires some { 3 ≤ length clients.items }
+    requires few { length clients.items ≤ 16 }
+    requires moment { K.moment ≡ D.time disk }
+    requires images { (image : Image) → D.left disk K.moment image → K.Start.images image }
+    requires began { (image : Image) → K.Start.images image → D.left disk (D.time disk) image }
+    requires schema { K.schema ≡ schema_in df.now }
+    requires opening { (image : Image) → D.left disk (D.time disk) image → K.Opening.images image }
+    requires opened { (image : Image) → K.Opening.images image → D.left disk (D.time disk) image }
+    ensures phases { IfOk result (λ ran. (between : ℕ) → length clients.items ≡ between + 2 → AreThreePhases between ran.trace) }
+    ensures ended { IfOk result (λ ran. HaveEndedOrNot (record { schema = schema_in df.now; clients = length clients.items }) ran.trace 0 clients.items ran.clients.items) }
+    ensures durable { IfOk result (λ ran. IsDurable (record { schema = schema_in df.now; clients = length clients.items }) ran.trace (state_of D.Disk disk) (state_of D.Disk ran.disk)) }
+    ensures refused { IfErr result (λ not_run. IsNotOpened (schema_in df.now) (state_of D.Disk disk) (state_of D.Disk not_run.disk) not_run.refusal) }
+    ensures kept { IfErr result (λ not_run. KeepsContents (schema_in df.now) (state_of D.Disk disk) (state_of D.Disk not_run.disk)) }
+    ensures others { IfErr result (λ not_run. (not_run.refusal ≡ NoMemory → ⊥) → (schema : SchemaData) → KeepsContents schema (state_of D.Disk disk) (state_of D.Disk not_run.disk)) }
+{
+    let watched: RunDisk<D, K> = Watched {
+        disk,
+        of: PhantomData,
+    };
+    match open_database(alloc, watched, df, clients.len() as u16) {
+        Ok(database) => {
+            let timed: RunDatabase<D, K> = Timed {
+                database,
+                of: PhantomData,
+            };
+            match serve_phases(rt, alloc, timed, clients, gate) {
+                Ok(served) => Ok(close_after_run(served)),
+                Err(timed) => Err(close_unused(timed)),
+            }
+        }
+        Err(not_run) => Err(unwatched(not_run)),
     }
 }

@@ -1,15 +1,25 @@
-//! Clients that do works (a work is a source with its inputs) over one new database: what begins a
-//! client, what runs all of them on threads, and what reports how they ended. It joins `block_clients`,
-//! `new_database` and `run_report`. The layer above relies on `execute`: each client did as its source
-//! means under its own answers, and the trace is legal (`HasRun` in specs/Works.antt).
+//! Runs of works (a work is a source with its inputs) over the database of a disk: what opens the
+//! database, serves it to the clients on threads and closes it, and what reports how they ended. It
+//! joins `served_works`, `disk_database` and `run_report`. The layer above relies on `execute`: each
+//! client did as its source means under its own answers (`HasRun` in specs/Works.antt), the trace is
+//! legal from the contents of the disk, and these survive a crash at any moment (`IsDurable` in
+//! specs/Disks.antt).
 #![tactic(auto)]
 
-pub mod begin;
+pub mod closing;
 pub mod database;
+pub mod dumping;
+pub mod opening;
+pub mod outcome;
+mod serving;
 pub mod text;
+mod timed;
 pub mod works;
 
-pub use begin::client_to_run;
-pub use database::{RunDatabase, RunStore, RunTask, open_database, run_tasks};
+pub use closing::Ran;
+pub use database::{run_in_phases, run_together};
+pub use dumping::dump_rows;
+pub use opening::{NotRun, opening_refusal};
+pub use outcome::Outcome;
 pub use text::write_run;
 pub use works::{execute, report};

@@ -5,54 +5,58 @@ ghost use Rattle.client_output.specs.declared.section.Section.{Section as Writte
 ghost use Rattle.abl_outside.specs.declared.out.Stream.{Stream};
 ghost use Rattle.abl_outside.specs.Out.{Writes};
 ghost use Rattle.run_report.specs.Report.{reports, run_text};
-ghost use Rattle.run_works.specs.Inside.{AreReported, HaveSections};
+ghost use Rattle.served_works.specs.Served.{AreReported, HaveSections};
 
-use crate::database::RunTask;
 use abl_arguments::Mode;
 use abl_base::Bytes;
 use abl_outside::{Out, OutFailed};
 use client_database::Event;
 use client_output::Section;
 use run_report::{ReportForm, write_report, write_trace};
+use served_works::EndedClient;
 
 /// Writes the text of a run: the part of each client, and in mode trace the trace.
 pub fn write_run<O: Out>(
     out: &mut O,
     form: &ReportForm<'_>,
-    tasks: &[RunTask],
+    clients: &[EndedClient],
     trace: &[Event],
 ) -> Result<(), OutFailed>
-    ensures { (parts : List (List Written)) × HaveSections tasks.now parts × Writes (is_ok result) Stream.Output (run_text form.now.mode form.now.schema.now form.now.names.now parts trace.now) (O.state out.old) (O.state out.new) }
+    ensures { (parts : List (List Written)) × HaveSections clients.now parts × Writes (is_ok result) Stream.Output (run_text form.now.mode form.now.schema.now form.now.names.now parts trace.now) (O.state out.old) (O.state out.new) }
 {
     match form.mode {
-        Mode::Quiet => write_reports(out, form.names, tasks),
+        Mode::Quiet => write_reports(out, form.names, clients),
         Mode::Trace => {
-            write_reports(out, form.names, tasks)?;
+            write_reports(out, form.names, clients)?;
             write_trace(out, form.schema, form.names, trace)
         }
     }
 }
 
 /// Writes the part of each client, in order.
-fn write_reports<O: Out>(out: &mut O, names: &[Bytes], tasks: &[RunTask]) -> Result<(), OutFailed>
-    ensures { (parts : List (List Written)) × HaveSections tasks.now parts × Writes (is_ok result) Stream.Output (reports names.now parts) (O.state out.old) (O.state out.new) }
+fn write_reports<O: Out>(
+    out: &mut O,
+    names: &[Bytes],
+    clients: &[EndedClient],
+) -> Result<(), OutFailed>
+    ensures { (parts : List (List Written)) × HaveSections clients.now parts × Writes (is_ok result) Stream.Output (reports names.now parts) (O.state out.old) (O.state out.new) }
 {
     let Some((name, names)) = names.split_first() else {
         return Ok(());
     };
-    let Some((task, tasks)) = tasks.split_first() else {
+    let Some((ended, clients)) = clients.split_first() else {
         return Ok(());
     };
-    write_report(out, name.as_slice(), reported(task))?;
-    write_reports(out, names, tasks)
+    write_report(out, name.as_slice(), reported(ended))?;
+    write_reports(out, names, clients)
 }
 
 /// What the client has written, and nothing where it has not begun.
-fn reported(task: &RunTask) -> &[Section]
-    ensures { AreReported task.now.end task.now.client.client result.now }
+fn reported(ended: &EndedClient) -> &[Section]
+    ensures { AreReported ended.now.end ended.now.client result.now }
 {
-    match &task.end {
-        Some(_) => task.client.client.output(),
+    match &ended.end {
+        Some(_) => ended.client.output(),
         None => &[],
     }
 }

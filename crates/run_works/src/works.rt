@@ -1,49 +1,83 @@
-//! A run: the clients on threads over one database, the report, and the lines of the status.
+//! A run: the clients on threads over the database of the disk, the report, and the lines of the status.
 
 ghost use Rattle.std.specs.Prelude.{◌≡◌, ◌++◌, ◌+◌, ◌<◌, ◌≤◌, ◌⊎◌, ℕ, List, [], length, map, vec_capacity, vec_len};
 ghost use Rattle.client_output.specs.declared.section.Section.{Section};
-ghost use Rattle.new_database.specs.New.{IsNew};
-ghost use Rattle.run_works.specs.Inside.{AreToDo, HaveSections, end_or_none};
-ghost use Rattle.run_works.specs.Works.{HasRun, Work};
-ghost use Rattle.run_report.specs.Ending.{IsReported, IsRefused};
+ghost use Rattle.source_files.specs.Compiled.{schema_in};
+ghost use Rattle.run_works.specs.Disks.{state_of};
+ghost use Rattle.run_works.specs.Works.{HasNotRun, HasRun};
+ghost use Rattle.served_works.specs.Served.{AreToDo, HaveSections, end_or_none};
+ghost use Rattle.served_works.specs.Works.{Work};
+ghost use Rattle.run_report.specs.Ending.{IsReported};
 
-use crate::database::{RunDatabase, RunStore, RunTask, run_tasks};
+use crate::closing::Ran;
+use crate::database::run_together;
+use crate::opening::NotRun;
+use crate::outcome::Outcome;
 use crate::text::write_run;
 use abl_outside::{Gate, Out};
-use abl_rows::RowStore;
+use abl_storage::Disk;
+use block_vm::Client;
 use client_database::{ClientEnd, Trace};
-use client_runner::Task;
 use run_report::{
-    Ends, Refusal, Report, ReportForm, refusal_after, refused, status_of, write_refusal,
+    Ends, Refusal, Report, ReportForm, has_closed, refusal_after, refused, status_of, write_refusal,
 };
+use served_works::EndedClient;
 use std::alloc::Global;
 use std::sync::Wait;
 use std::thread::Threads;
 
-/// Runs each client on a thread of its own over a new database, and writes the report and the lines of
-/// the status. All memory that a run needs before a client begins is taken first.
-pub fn execute<R: Threads + Wait + Sync, O: Out, G: Gate + Sync>(
+/// Runs each client on a thread of its own over the database that the disk has of the schema of this
+/// text, and writes the report and the lines of the status. All memory that a run needs before a client
+/// begins is taken first.
+pub fn execute<R: Threads + Wait + Sync, D: Disk + Send + Drop, O: Out, G: Gate + Sync>(
     rt: &R,
     alloc: Global,
     out: &mut O,
     gate: &G,
     form: &ReportForm<'_>,
-    database: RunDatabase,
-    tasks: Vec<RunTask>,
-) -> Report
-    requires some { 0 < length tasks.items }
-    requires few { length tasks.items ≤ 16 }
-    requires new { IsNew (⟦<RunStore as RowStore>⟧.state database.rows) (⟦<RunStore as RowStore>⟧.left database.rows) (⟦<RunStore as RowStore>⟧.times database.rows) database form.now.schema.now (length tasks.items) }
-    ensures { (units : ℕ) (works : List Work) → AreToDo units works tasks.items → HasRun form.now.mode form.now.schema.now form.now.names.now units works (O.state out.old) (O.state out.new) result ⊎ IsRefused form.now.names.now Refusal.NoMemory (O.state out.old) (O.state out.new) result }
+    disk: D,
+    df: &[u8],
+    clients: Vec<Client>,
+) -> Outcome<D>
+    requires some { 0 < length clients.items }
+    requires few { length clients.items ≤ 16 }
+    requires schema { form.now.schema.now ≡ schema_in df.now }
+    ensures { (units : ℕ) (works : List Work) → AreToDo units works clients.items →
+        HasRun form.now.mode form.now.schema.now form.now.names.now units works (state_of D.Disk disk) (state_of D.Disk result.disk) (O.state out.old) (O.state out.new) result.report
+        ⊎ HasNotRun form.now.schema.now form.now.names.now (state_of D.Disk disk) (state_of D.Disk result.disk) (O.state out.old) (O.state out.new) result.report }
 {
-    let mut tasks = tasks;
-    let Ok(ends) = Vec::with_capacity(alloc, tasks.len()) else {
-        return refused(alloc, out, form.names, Refusal::NoMemory);
+    let Ok(ends) = Vec::with_capacity(alloc, clients.len()) else {
+        return out_of_memory(alloc, out, form, disk);
     };
-    match run_tasks(rt, alloc, database, tasks.as_mut_slice(), gate) {
-        Ok(trace) => report(out, form, tasks, trace, ends),
-        Err(_) => refused(alloc, out, form.names, Refusal::NoMemory),
+    match run_together(rt, alloc, disk, df, clients, gate) {
+        Ok(ran) => {
+            let Ran {
+                disk,
+                trace,
+                clients,
+            } = ran;
+            let report = report(out, form, clients, trace, ends);
+            Outcome { report, disk }
+        }
+        Err(not_run) => {
+            let NotRun { disk, refusal } = not_run;
+            let report = refused(alloc, out, form.names, refusal);
+            Outcome { report, disk }
+        }
     }
+}
+
+/// The outcome of a run for which there is no memory before it comes to the disk.
+fn out_of_memory<D: Disk + Drop, O: Out>(
+    alloc: Global,
+    out: &mut O,
+    form: &ReportForm<'_>,
+    disk: D,
+) -> Outcome<D>
+    ensures { HasNotRun form.now.schema.now form.now.names.now (state_of D.Disk disk) (state_of D.Disk result.disk) (O.state out.old) (O.state out.new) result.report }
+{
+    let report = refused(alloc, out, form.names, Refusal::NoMemory);
+    Outcome { report, disk }
 }
 
 /// Writes the report of a run whose clients ended so, and the lines of the status. Room for the ends
@@ -51,19 +85,19 @@ pub fn execute<R: Threads + Wait + Sync, O: Out, G: Gate + Sync>(
 pub fn report<O: Out>(
     out: &mut O,
     form: &ReportForm<'_>,
-    tasks: Vec<RunTask>,
+    clients: Vec<EndedClient>,
     trace: Trace,
     ends: Vec<ClientEnd>,
 ) -> Report
     requires none { ends.items ≡ [] }
-    requires room { length tasks.items ≤ vec_capacity ends }
-    requires few { length tasks.items ≤ 16 }
-    ensures reported { (parts : List (List Section)) × HaveSections tasks.items parts × IsReported form.now.mode form.now.schema.now form.now.names.now (map (λ t. end_or_none t.end) tasks.items) parts (O.state out.old) (O.state out.new) result }
+    requires room { length clients.items ≤ vec_capacity ends }
+    requires few { length clients.items ≤ 16 }
+    ensures reported { (parts : List (List Section)) × HaveSections clients.items parts × IsReported form.now.mode form.now.schema.now form.now.names.now (map (λ c. end_or_none c.end) clients.items) parts (O.state out.old) (O.state out.new) result }
     ensures trace { result.trace ≡ trace }
 {
-    let whole = write_run(out, form, &tasks, trace.as_slice()).is_ok();
-    let ends = ends_of(tasks, ends);
-    let refusal = refusal_after(&ends, whole);
+    let whole = write_run(out, form, &clients, trace.as_slice()).is_ok();
+    let ends = ends_of(clients, ends);
+    let refusal = refusal_after(has_closed(trace.as_slice()), &ends, whole);
     write_refusal(out, form.names, &ends, &refusal);
     Report {
         status: status_of(&refusal),
@@ -74,32 +108,26 @@ pub fn report<O: Out>(
 }
 
 /// Adds how each client has ended, in order. Room for the ends is in `ends`.
-fn ends_of(tasks: Vec<RunTask>, ends: Vec<ClientEnd>) -> Vec<ClientEnd>
-    requires room { vec_len ends + length tasks.items ≤ vec_capacity ends }
-    ensures { result.items ≡ ends.items ++ map (λ t. end_or_none t.end) tasks.items }
+fn ends_of(clients: Vec<EndedClient>, ends: Vec<ClientEnd>) -> Vec<ClientEnd>
+    requires room { vec_len ends + length clients.items ≤ vec_capacity ends }
+    ensures { result.items ≡ ends.items ++ map (λ c. end_or_none c.end) clients.items }
 {
-    let mut tasks = tasks;
+    let mut clients = clients;
     let mut ends = ends;
-    if tasks.is_empty() {
+    if clients.is_empty() {
         return ends;
     }
-    let task = tasks.remove(0);
-    ends.push_reserved(end_of(task));
-    ends_of(tasks, ends)
+    let ended = clients.remove(0);
+    ends.push_reserved(end_of(ended));
+    ends_of(clients, ends)
 }
 
 /// How the client has ended.
-fn end_of(task: RunTask) -> ClientEnd
-    ensures { result ≡ end_or_none task.end }
+fn end_of(ended: EndedClient) -> ClientEnd
+    ensures { result ≡ end_or_none ended.end }
 {
-    let Task {
-        client,
-        number: _,
-        pass,
-        end,
-    } = task;
+    let EndedClient { client, end } = ended;
     drop(client);
-    drop(pass);
     match end {
         Some(end) => end,
         None => ClientEnd::NoMemory,

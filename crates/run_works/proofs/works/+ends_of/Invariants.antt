@@ -2,4 +2,4 @@ use Rattle.std.proofs.Common.{length}
 use Rattle.run_works.proofs.works.+ends_of.Given as goal
 
 abbrev pub decreases-ends_of : goal.decreases-ends_of
-decreases-ends_of l = length l.tasks.items
+decreases-ends_of l = length l.clients.items

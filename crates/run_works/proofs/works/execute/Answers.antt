@@ -1,57 +1,64 @@
--- The clients have run, and their report is written.
-use Rattle.std.proofs.Common.{◌≡◌, inl, ◌<◌, ℕ, List, refl, sym, ap, ◌∙◌, subst, arith, length, slice_index_or}
+-- The clients have run, and their report is written; or the run did not begin.
+use Rattle.std.proofs.Common.{◌≡◌, ◌<◌, inl, inr, ℕ, List, sym, subst, arith, rules, length}
 use Rattle.std.specs.Prelude.{All, map}
+use Rattle.abl_values.specs.Schema.{SchemaData}
 use Rattle.client_database.specs.declared.event.Event.{Event}
 use Rattle.client_database.specs.declared.ends.ClientEnd.{ClientEnd}
-use Rattle.client_output.specs.declared.section.Section.{Section}
-use Rattle.abl_values.specs.Schema.{SchemaData}
-use Rattle.database_meaning.specs.Traces.{IsLegal}
-use Rattle.new_database.specs.Contents.{new_contents}
-use Rattle.block_clients.specs.Ran.{ClientTask}
-use Rattle.run_works.specs.Works.{DidAsMeant}
-use Rattle.run_report.specs.Ending.{IsReported}
-use Rattle.run_works.specs.Inside.{HasEnded, HaveSections, end_or_none}
-use Rattle.run_works.proofs.Databases.{as_new}
-use Rattle.run_works.proofs.Runs.{as_many_tasks}
-use Rattle.run_works.proofs.Runs.{did_as_meant, whole_of}
+use Rattle.source_files.specs.Compiled.{schema_in}
+use Rattle.served_works.specs.declared.clients.EndedClient.{EndedClient}
+use Rattle.served_works.specs.Served.{end_or_none}
+use Rattle.served_works.specs.Works.{DidAsMeant}
+use Rattle.run_works.specs.Disks.{IsDurable, state_of}
+use Rattle.run_works.specs.Works.{HasNotRun}
+use Rattle.run_works.proofs.Runs.{as_many_clients, as_many_ended, did_as_meant}
 use Rattle.run_works.proofs.works.execute.Goals as goal
 
-pub run_tasks-requires-clause-new : goal.run_tasks-requires-clause-new
-run_tasks-requires-clause-new g c κs within =
-    let schema : SchemaData = c.args.form.now.schema.now in (
-      schema,
-      as_new _ _ _ _ _ _ _ _ c.requires.new refl (sym (ap (λ (tasks : List (ClientTask _)). length tasks) c.as_mut_slice.ensures.value)),
-    )
+pub returns-in_default : goal.returns-in_default
+returns-in_default g c = λ units works to_do. inr c.out_of_memory.ensures
 
-pub returns-in-Ok-run_tasks : goal.returns-in-Ok-run_tasks
-returns-in-Ok-run_tasks g c = λ units works to_do.
-    let old = c.args.tasks.items in
-    let new = c.run_tasks.new.tasks in
-    let trace : List Event = c.in-Ok-run_tasks.trace in
-    let ends : List ClientEnd = map (λ (t : ClientTask _). end_or_none t.end) new in
-    let value = ap (λ (tasks : List (ClientTask _)). length tasks) c.as_mut_slice.ensures.value in
-    let kept : length new ≡ length old = omega (arith, c.run_tasks.auto.tasks, value) in
-    let full : length new ≡ c.args.tasks.len = omega (arith, c.run_tasks.auto.tasks, c.as_mut_slice.ensures.len) in
-    let many : length old ≡ length works = as_many_tasks units works old to_do in
+pub report-report-requires-clause-room : goal.report-report-requires-clause-room
+report-report-requires-clause-room g c =
+    let many : length c.in-Ok-run_together.ran.clients.items ≡ length c.args.clients.items = as_many_ended (record { schema = schema_in c.args.df.now; clients = length c.args.clients.items }) c.in-Ok-run_together.ran.trace 0 c.args.clients.items c.in-Ok-run_together.ran.clients.items c.in-Ok-run_together.ensures.ended in
+    search (rules, many)
+
+pub report-report-requires-clause-few : goal.report-report-requires-clause-few
+report-report-requires-clause-few g c =
+    let many : length c.in-Ok-run_together.ran.clients.items ≡ length c.args.clients.items = as_many_ended (record { schema = schema_in c.args.df.now; clients = length c.args.clients.items }) c.in-Ok-run_together.ran.trace 0 c.args.clients.items c.in-Ok-run_together.ran.clients.items c.in-Ok-run_together.ensures.ended in
+    omega (arith, many, c.requires.few)
+
+pub returns-in-Ok-run_together : goal.returns-in-Ok-run_together
+returns-in-Ok-run_together g c = λ units works to_do.
+    let ran = c.in-Ok-run_together.ran in
+    let told = c.report-report.ensures.reported in
+    let ends : List ClientEnd = map (λ (ended : EndedClient). end_or_none ended.end) ran.clients.items in
+    let same = c.report-report.ensures.trace in
+    let many : length c.args.clients.items ≡ length works = as_many_clients units works c.args.clients.items to_do in
+    let was = state_of g.D.Disk c.args.disk in
+    let now = state_of g.D.Disk ran.disk in
     let schema : SchemaData = c.args.form.now.schema.now in
-    let fresh = as_new _ _ _ _ _ _ _ _ c.requires.new refl (sym value) in
-    let same : c.report.result.trace ≡ trace = c.report.ensures.trace in
-    let told =
-    subst (λ (tasks : List (ClientTask _)). (parts : List (List Section)) × HaveSections tasks parts × IsReported c.args.form.now.mode c.args.form.now.schema.now c.args.form.now.names.now (map (λ (t : ClientTask _). end_or_none t.end) tasks) parts (g.O.Out.state c.args.out.now) (g.O.Out.state c.report.new.out) c.report.result)
-    (whole_of c.args.tasks.len new _ full) c.report.ensures.reported in
-    let ended =
-    subst (λ (tasks : List (ClientTask _)). (k : ℕ) (t : ClientTask _) → k < length tasks → HasEnded trace k (slice_index_or tasks k t) (slice_index_or new k t)) c.as_mut_slice.ensures.value c.in-Ok-run_tasks.ensures.ended in
     inl (record {
       ends = ends;
       parts = told.0;
-      did =
-          subst (λ (events : List Event). DidAsMeant units events 0 works ends told.0) (sym same)
-          (did_as_meant trace units 0 works old new told.0 kept to_do (λ k t less. subst (λ n. HasEnded trace n (slice_index_or old k t) (slice_index_or new k t)) (omega arith) (ended k t less)) told.1);
-      clients =
-          subst (λ (events : List Event). All (λ (e : Event). e.client < length works) events) (sym same)
-          (subst (λ n. All (λ (e : Event). e.client < n) trace) (value ∙ many) c.in-Ok-run_tasks.ensures.clients);
-      legal =
-          subst (λ (events : List Event). IsLegal (record { schema = schema; clients = length works }) (new_contents schema) events) (sym same)
-          (subst (λ n. IsLegal (record { schema = schema; clients = n }) (new_contents schema) trace) (value ∙ many) (c.in-Ok-run_tasks.ensures.legal schema fresh));
+      did = subst (λ (events : List Event). DidAsMeant (record { schema = schema; clients = length works }) units events 0 works ends told.0) (sym same)
+          (subst (λ (n : ℕ). DidAsMeant (record { schema = schema; clients = n }) units ran.trace 0 works ends told.0) many
+          (subst (λ (s : SchemaData). DidAsMeant (record { schema = s; clients = length c.args.clients.items }) units ran.trace 0 works ends told.0) (sym c.requires.schema)
+          (did_as_meant (record { schema = schema_in c.args.df.now; clients = length c.args.clients.items }) ran.trace units 0 works c.args.clients.items ran.clients.items told.0 to_do c.in-Ok-run_together.ensures.ended told.1)));
+      clients = subst (λ (events : List Event). All (λ (e : Event). e.client < length works) events) (sym same) (subst (λ (n : ℕ). All (λ (e : Event). e.client < n) ran.trace) many c.in-Ok-run_together.ensures.events);
+      durable = subst (λ (events : List Event). IsDurable (record { schema = schema; clients = length works }) events was now) (sym same)
+          (subst (λ (n : ℕ). IsDurable (record { schema = schema; clients = n }) ran.trace was now) many
+          (subst (λ (s : SchemaData). IsDurable (record { schema = s; clients = length c.args.clients.items }) ran.trace was now) (sym c.requires.schema) c.in-Ok-run_together.ensures.durable));
       reported = told.2;
     })
+
+pub returns-in-Err : goal.returns-in-Err
+returns-in-Err g c = λ units works to_do.
+    let not_run = c.in-Err.not_run in
+    let was = state_of g.D.Disk c.args.disk in
+    let now = state_of g.D.Disk not_run.disk in
+    inr (subst (λ (s : SchemaData). HasNotRun s c.args.form.now.names.now was now (g.O.Out.state c.args.out.now) (g.O.Out.state c.refused-report.new.out) c.refused-report.result) (sym c.requires.schema) (record {
+      refusal = not_run.refusal;
+      cause = c.in-Err.ensures.refused;
+      kept = c.in-Err.ensures.kept;
+      others = c.in-Err.ensures.others;
+      reported = c.refused-report.ensures;
+    }))

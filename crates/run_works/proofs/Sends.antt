@@ -1,0 +1,39 @@
+-- The database of a run may go to another thread where its disk may.
+use Rattle.std.proofs.Crossing.{crosses}
+use Rattle.std.proofs.MapsCrossing.{crosses as maps}
+use denote.RattleType.{RattleType}
+use denote.Struct.Struct.{Struct}
+use denote.Struct.Declared.{shape}
+use denote.Param.Send.{IsSend, sendable, recorded_send, struct_send}
+use Rattle.abl_storage.specs.declared.slots.Slots.{Ghosts}
+use Rattle.abl_storage.specs.declared.disk.Disk as disk
+use Rattle.slot_txn.specs.contracts.slot_txn.SlotTxn as txn
+use Rattle.slot_txn.proofs.slot_txn.SlotTxn.TheSendSync as txn_sends
+use Rattle.key_index.specs.contracts.index.Index as index
+use Rattle.key_index.proofs.chain.Links.TheLaws.TheKnot.{crosses as links}
+use Rattle.indexed_rows.specs.contracts.client_moves.ClientMoves as moves
+use Rattle.indexed_rows.proofs.client_moves.ClientMoves.TheSendSync as moves_sends
+use Rattle.stored_rows.specs.contracts.rows.StoredRows as rows
+use Rattle.stored_rows.proofs.rows.StoredRows.TheSendSync as rows_sends
+use Rattle.record_store.specs.contracts.store.RecordStore as store
+
+pub txn_send : (D : RattleType) (d : disk.Ghosts D.Denot) → IsSend D → IsSend (txn.the_row D d)
+txn_send D d s = search (txn_sends.the_send, maps, crosses, sendable) depth 60 fits 20000
+
+index_send : IsSend (index.the_field).row
+index_send = search (links, maps, crosses, sendable) depth 60 fits 20000
+
+moves_send : IsSend moves.the_row
+moves_send = search (moves_sends.the_send, crosses, sendable) depth 60 fits 20000
+
+rows_field_send : (S : RattleType) (d : Ghosts S.Denot) → IsSend S → IsSend (rows.the_field S d).row
+rows_field_send S d s = search (sendable, rows_sends.the_field_send) depth 12
+
+pub store_send : (S : RattleType) (d : Ghosts S.Denot) → IsSend S → IsSend (store.the_row S d)
+store_send S d s =
+    let T = store.the_type S d in
+    recorded_send (Struct (shape T)) T.D T.to T.to_one
+    (struct_send (shape T) (
+      search (crosses, sendable) depth 20,
+      (rows_field_send S d s, (search (index_send, crosses, sendable) depth 20, (search (moves_send, crosses, sendable) depth 20, (search (crosses, sendable) depth 20, tt)))),
+    ))

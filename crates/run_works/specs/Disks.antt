@@ -1,0 +1,57 @@
+-- What a call does to the disk, by the images that a crash at its moments may leave.
+use Rattle.std.specs.Prelude.{◌≡◌, ℕ, ◌≤◌, Bool, List}
+use Rattle.fault_count.specs.Faults.{Rose}
+use Rattle.abl_values.specs.Schema.{SchemaData}
+use Rattle.abl_storage.specs.declared.disk.Disk.{Ghosts}
+use Rattle.client_database.specs.declared.event.Event.{Event}
+use Rattle.database_meaning.specs.declared.contents.Contents.{Contents}
+use Rattle.database_meaning.specs.Setting.{Setting}
+use Rattle.database_meaning.specs.Traces.{IsLegal}
+use Rattle.disk_steps.specs.Steps.{Image}
+use Rattle.disk_database.specs.declared.refusals.OpenRefusal.{OpenRefusal}
+use Rattle.disk_database.specs.declared.refusals.OpenRefusal.TheVariants as opening
+use Rattle.disk_database.specs.Answers.{IsRefused}
+use Rattle.disk_database.specs.Images.{AreImagesOf, IsImageOf, SurvivesCrashes}
+use Rattle.run_report.specs.declared.refusal.Refusal.{Refusal}
+use Rattle.run_report.specs.declared.refusal.Refusal.TheVariants.{Disk, NoMemory, NotCreated, SchemaDiffers}
+
+-- A disk as contracts see it: whether its areas are observable, the moment, the bytes that reads give, the images that a crash at each
+-- moment may leave, and how often a call has failed
+pub record DiskState : Type 1 where
+  pub observable : Bool
+  pub time : ℕ
+  pub seen : Image
+  pub left : ℕ → Image → Type 0
+  pub failures : ℕ
+
+abbrev pub state_of : {D : Type 0} → Ghosts D → D → DiskState
+state_of d disk = record { observable = d.observable disk; time = d.time disk; seen = d.seen disk; left = d.left disk; failures = d.failures disk }
+
+-- THE PREMISE of all that is promised of contents: the disk is observable, and each image that a crash now may leave is that of a database
+-- of this schema with these contents
+abbrev pub HoldsContents : DiskState → SchemaData → Contents → Type 0
+HoldsContents disk schema contents = AreImagesOf disk.observable disk.time disk.left schema contents
+
+-- whatever contents of this schema the disk held, it holds at each moment from the call to its return
+abbrev pub KeepsContents : SchemaData → DiskState → DiskState → Type 0
+KeepsContents schema old new =
+    (contents : Contents) → HoldsContents old schema contents → (m : ℕ) (image : Image) → old.time ≤ m → new.left m image → ∥ IsImageOf schema contents image ∥₁
+
+-- WHAT A RUN PROMISES OF THE DISK. Whatever contents it held, the trace is legal from these; and at each moment from the call to its return
+-- a crash leaves them after the commits that were acknowledged by then, or after one more
+abbrev pub IsDurable : Setting → List Event → DiskState → DiskState → Type 0
+IsDurable f trace old new = (contents : Contents) → HoldsContents old f.schema contents → IsLegal f contents trace × SurvivesCrashes old.time new.time new.left f contents trace
+
+-- the refusal of an opening, as a command reports it
+abbrev pub opening_refusal : OpenRefusal → Refusal
+opening_refusal opening.NotCreated = NotCreated
+opening_refusal (opening.SchemaDiffers stored given) = SchemaDiffers stored given
+opening_refusal opening.Disk = Disk
+opening_refusal opening.NoMemory = NoMemory
+
+-- why the database of this schema was not opened on the disk: by what its reads give (`IsRefused`), and Disk only where its count rose
+pub record IsNotOpened (schema : SchemaData) (old new : DiskState) (refusal : Refusal) : Type 0 where
+  pub why : OpenRefusal
+  pub is : refusal ≡ opening_refusal why
+  pub cause : IsRefused schema old.observable old.seen why
+  pub rose : why ≡ opening.Disk → Rose old.failures new.failures
