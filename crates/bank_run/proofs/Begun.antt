@@ -1,17 +1,17 @@
 -- The works of clients that are to run.
-use Rattle.std.proofs.Common.{◌≡◌, ◌⊎◌, inl, inr, None, ◌+◌, ◌≤◌, ℕ, zero, suc, List, [], ◌∷◌, ◌++◌, refl, sym, ap, ◌∙◌, subst, arith, length, length-append}
+use Rattle.std.proofs.Common.{◌≡◌, ◌⊎◌, inl, inr, None, ◌+◌, ◌≤◌, ℕ, zero, suc, List, [], ◌∷◌, refl, sym, ap, subst, arith, length, length-append}
 use Rattle.std.specs.Prelude.{All}
 use Rattle.std.proofs.lemmas.List.Elements.{All-cons, All-nil, All-push}
 use Rattle.abl_values.specs.Schema.{SchemaData}
 use Rattle.bound_tree.specs.Bound.{source_of}
 use Rattle.block_code.specs.declared.code.Code.{Code}
-use Rattle.block_clients.specs.Ran.{ClientTask}
+use Rattle.block_vm.specs.ClientView.{ClientView}
 use Rattle.bank_inputs.specs.declared.bank.Bank.{Bank}
 use Rattle.source_files.specs.declared.files.ClientTexts.{ClientTexts}
 use Rattle.source_files.specs.declared.files.TheConstants.{MAX_FILE_BYTES}
 use Rattle.source_files.specs.Compiled.{BreaksSchema, HaveCodes, OneSourceBreaks}
-use Rattle.run_works.specs.Works.{Work}
-use Rattle.run_works.specs.Inside.{AreToDo}
+use Rattle.served_works.specs.Works.{Work}
+use Rattle.served_works.specs.Served.{AreToDo}
 use Rattle.bank_run.specs.Inside.{AreClientsOf}
 use Rattle.bank_run.specs.Result.{AreTextWorks, PreventsBank, bank_schema, bank_wants, schema_breaks, source_breaks}
 use Rattle.run_report.specs.declared.refusal.Refusal.{Refusal}
@@ -22,12 +22,12 @@ use Rattle.bank_inputs.specs.declared.sources.TheConstants.{BANK_SCHEMA, SETUP_S
 use Rattle.bank_inputs.specs.Bank.{client_input, setup_input}
 
 -- the works of the clients
-pub record Begun {D : Type 0} (schema : SchemaData) (units : ℕ) (ts : List ClientTexts) (tasks : List (ClientTask D)) : Type 0 where
+pub record Begun (schema : SchemaData) (units : ℕ) (ts : List ClientTexts) (tasks : List ClientView) : Type 0 where
   pub works : List Work
   pub are : AreTextWorks schema ts works
   pub to_do : AreToDo units works tasks
 
-pub begun : {D : Type 0} (schema : SchemaData) (units : ℕ) (ts : List ClientTexts) (codes : List Code) (tasks : List (ClientTask D)) → HaveCodes schema ts codes → AreClientsOf units schema.tables codes ts tasks → Begun schema units ts tasks
+pub begun : (schema : SchemaData) (units : ℕ) (ts : List ClientTexts) (codes : List Code) (tasks : List ClientView) → HaveCodes schema ts codes → AreClientsOf units schema.tables codes ts tasks → Begun schema units ts tasks
 begun schema units [] [] [] have are = record { works = []; are = tt; to_do = tt }
 begun schema units [] [] (task ∷ tasks) have are = absurd are
 begun schema units [] (code ∷ codes) tasks have are = absurd have
@@ -51,7 +51,7 @@ as_many_codes schema [] (code ∷ codes) have = absurd have
 as_many_codes schema (t ∷ ts) [] have = absurd have
 as_many_codes schema (t ∷ ts) (code ∷ codes) have = ap (λ k. suc k) (as_many_codes schema ts codes have.1)
 
-pub as_many_clients : {D : Type 0} (schema : SchemaData) (units : ℕ) (codes : List Code) (ts : List ClientTexts) (tasks : List (ClientTask D)) → AreClientsOf units schema.tables codes ts tasks → length tasks ≡ length ts
+pub as_many_clients : (schema : SchemaData) (units : ℕ) (codes : List Code) (ts : List ClientTexts) (tasks : List ClientView) → AreClientsOf units schema.tables codes ts tasks → length tasks ≡ length ts
 as_many_clients schema units [] [] [] are = refl
 as_many_clients schema units [] [] (task ∷ tasks) are = absurd are
 as_many_clients schema units [] (t ∷ ts) tasks are = absurd are

@@ -1,8 +1,9 @@
 -- What the clients of the phases have done.
-use Rattle.std.proofs.Common.{◌≡◌, ◌+◌, inl, inr, ℕ, List, [], ◌∷◌, None, sym, ap, ◌∙◌, subst}
+use Rattle.std.proofs.Common.{◌≡◌, ◌+◌, inl, inr, ℕ, List, [], ◌∷◌, None, sym, ap, subst}
 use Rattle.std.specs.Prelude.{map}
 use Rattle.block_meaning.specs.Meaning.{run}
 use Rattle.block_meaning.specs.Program.{Program}
+use Rattle.block_vm.specs.ClientView.{ClientView}
 use Rattle.client_database.specs.declared.ends.ClientEnd.{ClientEnd}
 use Rattle.client_database.specs.declared.event.Event.{Event}
 use Rattle.abl_outside.specs.Out.{OutState}
@@ -11,27 +12,25 @@ use Rattle.run_report.specs.declared.refusal.Refusal.TheVariants.{NoMemory}
 use Rattle.run_report.specs.Ending.{IsRefused}
 use Rattle.client_output.specs.declared.section.Section.{Section}
 use Rattle.database_meaning.specs.Setting.{Setting}
-use Rattle.block_clients.specs.Ran.{ClientTask}
-use Rattle.run_works.specs.ClientRun.{own_events}
-use Rattle.run_works.specs.Works.{IsProgram, Work}
-use Rattle.run_works.specs.Inside.{AreReported, AreToDo, HaveSections, IsToDo, end_or_none}
-use Rattle.run_works.proofs.Databases.{has_ended}
+use Rattle.served_works.specs.declared.clients.EndedClient.{EndedClient}
+use Rattle.served_works.specs.ClientRun.{own_events}
+use Rattle.served_works.specs.Works.{IsProgram, Work}
+use Rattle.served_works.specs.Served.{AreReported, AreToDo, HasEndedOrNot, HaveEndedOrNot, HaveSections, IsToDo, end_or_none}
 use Rattle.run_works.proofs.Runs.{client_outcome}
 use Rattle.bank_run.specs.Phases.{Did, DidInPhases, NotBegun, PhaseOutcome}
-use Rattle.block_clients.specs.Phases.{HasRunOrNot, HaveRunOrNot}
 
-module _ {D : Type 0} (HasSetting : Setting → Type 0) (setting : Setting) (has : HasSetting setting) (trace : List Event) (units : ℕ) where
-  outcome : (number : ℕ) (w : Work) (old new : ClientTask D) (sections : List Section) → IsToDo units w old → HasRunOrNot HasSetting trace number old new → AreReported new.end new.client.client sections →
-      (p : Program) → IsProgram w p → PhaseOutcome w.tree.outputs (run p units) (own_events number trace) (end_or_none new.end) sections
-  outcome number w old new sections to_do (inl ran) reported p is =
-      Did (client_outcome trace units number w old new sections to_do (has_ended HasSetting setting trace number old new has ran) reported p is)
+module _ (setting : Setting) (trace : List Event) (units : ℕ) where
+  outcome : (number : ℕ) (w : Work) (old : ClientView) (new : EndedClient) (sections : List Section) → IsToDo units w old → HasEndedOrNot setting trace number old new → AreReported new.end new.client sections →
+      (p : Program) → IsProgram w p → PhaseOutcome setting w.tree.outputs (run p units) (own_events number trace) (end_or_none new.end) sections
+  outcome number w old new sections to_do (inl ended) reported p is =
+      Did (client_outcome setting trace units number w old new sections to_do ended reported p is)
   outcome number w old new sections to_do (inr out) reported p is =
-      let none : sections ≡ [] = subst (λ how. AreReported how new.client.client sections) out.0 reported in
-      subst (λ (how : ClientEnd). PhaseOutcome w.tree.outputs (run p units) (own_events number trace) how sections) (sym (ap end_or_none out.0))
-      (subst (λ (written : List Section). PhaseOutcome w.tree.outputs (run p units) (own_events number trace) (end_or_none None) written) (sym none) (NotBegun out.1))
+      let none : sections ≡ [] = subst (λ how. AreReported how new.client sections) out.0 reported in
+      subst (λ (how : ClientEnd). PhaseOutcome setting w.tree.outputs (run p units) (own_events number trace) how sections) (sym (ap end_or_none out.0))
+      (subst (λ (written : List Section). PhaseOutcome setting w.tree.outputs (run p units) (own_events number trace) (end_or_none None) written) (sym none) (NotBegun out.1))
 
-  pub did_in_phases : (number : ℕ) (works : List Work) (olds news : List (ClientTask D)) (parts : List (List Section)) → AreToDo units works olds → HaveRunOrNot HasSetting trace number olds news → HaveSections news parts →
-      DidInPhases units trace number works (map (λ (t : ClientTask D). end_or_none t.end) news) parts
+  pub did_in_phases : (number : ℕ) (works : List Work) (olds : List ClientView) (news : List EndedClient) (parts : List (List Section)) → AreToDo units works olds → HaveEndedOrNot setting trace number olds news → HaveSections news parts →
+      DidInPhases setting units trace number works (map (λ (c : EndedClient). end_or_none c.end) news) parts
   did_in_phases number [] [] [] [] to_do ran have = tt
   did_in_phases number [] [] [] (sections ∷ parts) to_do ran have = absurd have
   did_in_phases number [] [] (n ∷ ns) parts to_do ran have = absurd ran

@@ -10,35 +10,36 @@ use Rattle.client_database.specs.declared.ends.ClientEnd.{ClientEnd}
 use Rattle.client_database.specs.declared.ends.ClientEnd.TheVariants.{NoMemory}
 use Rattle.client_database.specs.declared.event.Event.{Event}
 use Rattle.client_output.specs.declared.section.Section.{Section}
+use Rattle.database_meaning.specs.Setting.{Setting}
 use Rattle.block_clients.specs.Phases.{AreThreePhases}
-use Rattle.database_meaning.specs.Traces.{IsLegal}
-use Rattle.new_database.specs.Contents.{new_contents}
 use Rattle.abl_arguments.specs.declared.parts.Mode.{Mode}
 use Rattle.run_report.specs.declared.ending.Report.{Report}
 use Rattle.run_report.specs.Ending.{IsReported}
-use Rattle.run_works.specs.ClientRun.{ClientOutcome, own_events}
-use Rattle.run_works.specs.Works.{IsProgram, Work}
+use Rattle.served_works.specs.ClientRun.{ClientOutcome, own_events}
+use Rattle.run_works.specs.Disks.{DiskState, IsDurable}
+use Rattle.served_works.specs.Works.{IsProgram, Work}
 
--- What a client of a phase did: as its source means under the answers to its own events. Or there was no memory to begin the phase, and
--- the client has requested nothing and written nothing
-pub data PhaseOutcome (outputs : List (List ℕ)) (m : List Answer → Progress) (own : List Event) : ClientEnd → List Section → Type 0 where
-  Did : {how : ClientEnd} {sections : List Section} → ClientOutcome outputs m own how sections → PhaseOutcome outputs m own how sections
-  NotBegun : own ≡ [] → PhaseOutcome outputs m own NoMemory []
+-- What a client of a phase did over a database of this setting: as its source means under the answers to its own events. Or there was no
+-- memory to begin the phase, and the client has requested nothing and written nothing
+pub data PhaseOutcome (setting : Setting) (outputs : List (List ℕ)) (m : List Answer → Progress) (own : List Event) : ClientEnd → List Section → Type 0 where
+  Did : {how : ClientEnd} {sections : List Section} → ClientOutcome setting outputs m own how sections → PhaseOutcome setting outputs m own how sections
+  NotBegun : own ≡ [] → PhaseOutcome setting outputs m own NoMemory []
 
--- what each client did, with this number of units. The clients have the numbers from this one on, and came to these ends and wrote these
--- sections
-abbrev pub DidInPhases : ℕ → List Event → ℕ → List Work → List ClientEnd → List (List Section) → Type 0
-DidInPhases units trace number [] [] [] = Unit {0}
-DidInPhases units trace number (w ∷ ws) (how ∷ ends) (sections ∷ parts) =
-    ((p : Program) → IsProgram w p → PhaseOutcome w.tree.outputs (run p units) (own_events number trace) how sections) × DidInPhases units trace (number + 1) ws ends parts
-DidInPhases units trace number works ends parts = ⊥
+-- what each client did over a database of this setting, with this number of units. The clients have the numbers from this one on, and came to
+-- these ends and wrote these sections
+abbrev pub DidInPhases : Setting → ℕ → List Event → ℕ → List Work → List ClientEnd → List (List Section) → Type 0
+DidInPhases setting units trace number [] [] [] = Unit {0}
+DidInPhases setting units trace number (w ∷ ws) (how ∷ ends) (sections ∷ parts) =
+    ((p : Program) → IsProgram w p → PhaseOutcome setting w.tree.outputs (run p units) (own_events number trace) how sections) × DidInPhases setting units trace (number + 1) ws ends parts
+DidInPhases setting units trace number works ends parts = ⊥
 
--- A RUN IN THREE PHASES of the clients of these names and works over a new database of this schema, and its report: each client did as its
--- source means under its own answers, or could not begin. The phases are one trace over one database, which is legal
-pub record HasRunPhases (mode : Mode) (schema : SchemaData) (names : List (List ℕ)) (units clients : ℕ) (works : List Work) (old new : OutState) (report : Report) : Type 0 where
+-- A RUN IN THREE PHASES of the clients of these names and works over the database of this schema that the disk has, and its report: each client
+-- did as its source means under its own answers, or could not begin. The phases are one trace over one database, which is legal from the
+-- contents of the disk; and these survive a crash at any moment
+pub record HasRunPhases (mode : Mode) (schema : SchemaData) (names : List (List ℕ)) (units clients : ℕ) (works : List Work) (was now : DiskState) (old new : OutState) (report : Report) : Type 0 where
   pub ends : List ClientEnd
   pub parts : List (List Section)
-  pub did : DidInPhases units report.trace 0 works ends parts
+  pub did : DidInPhases (record { schema = schema; clients = clients + 2 }) units report.trace 0 works ends parts
   pub phases : AreThreePhases clients report.trace
-  pub legal : IsLegal (record { schema = schema; clients = clients + 2 }) (new_contents schema) report.trace
+  pub durable : IsDurable (record { schema = schema; clients = clients + 2 }) report.trace was now
   pub reported : IsReported mode schema names ends parts old new report

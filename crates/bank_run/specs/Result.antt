@@ -1,18 +1,20 @@
 -- The result of a bank: it was refused, or its three phases ran.
-use Rattle.std.specs.Prelude.{◌≡◌, ℕ, List, [], ◌∷◌}
+use Rattle.std.specs.Prelude.{◌≡◌, List, [], ◌∷◌}
 use Rattle.abl_values.specs.Schema.{SchemaData}
 use Rattle.abl_outside.specs.Out.{OutState}
 use Rattle.abl_arguments.specs.declared.parts.Mode.TheVariants.{Quiet}
 use Rattle.abl_source.specs.Sources.{IsTreeOf}
 use Rattle.bank_inputs.specs.declared.bank.Bank.{Bank}
 use Rattle.bank_inputs.specs.declared.sources.TheConstants.{BANK_SCHEMA}
-use Rattle.run_report.specs.declared.ending.Report.{Report}
 use Rattle.run_report.specs.declared.refusal.Refusal.{Refusal}
 use Rattle.run_report.specs.declared.refusal.Refusal.TheVariants.{NoMemory}
 use Rattle.run_report.specs.Ending.{IsRefused}
 use Rattle.source_files.specs.declared.files.ClientTexts.{ClientTexts}
 use Rattle.source_files.specs.Compiled.{BreaksSchema, OneSourceBreaks, schema_in}
-use Rattle.run_works.specs.Works.{Work}
+use Rattle.run_works.specs.declared.outcome.Outcome.{Outcome}
+use Rattle.run_works.specs.Disks.{DiskState}
+use Rattle.served_works.specs.Works.{Work}
+use Rattle.run_works.specs.Works.{HasNotRun}
 use Rattle.bank_run.specs.declared.bank.TheConstants.{BANK_UNITS}
 use Rattle.bank_run.specs.Texts.{bank_names, bank_texts}
 use Rattle.bank_run.specs.Phases.{HasRunPhases}
@@ -34,9 +36,12 @@ AreTextWorks schema [] (w ∷ ws) = ⊥
 AreTextWorks schema (t ∷ ts) [] = ⊥
 AreTextWorks schema (t ∷ ts) (w ∷ ws) = (IsTreeOf schema t.source w.tree × ((w.tables ≡ schema.tables) × ((w.input ≡ t.input) × (w.inputs ≡ [])))) × AreTextWorks schema ts ws
 
--- THE RESULT OF A BANK
-pub data BankResult (bank : Bank) (old new : OutState) (report : Report) : Type 0 where
-  -- it was refused before its first phase
-  BankPrevented : (refusal : Refusal) → PreventsBank bank refusal → IsRefused (bank_names bank.clients) refusal old new report → BankResult bank old new report
+-- THE RESULT OF A BANK: the disk as contracts see it and as it was given, the streams, and what the bank did, with the disk that it hands back
+pub data BankResult (bank : Bank) {D : Type 0} (seen : D → DiskState) (disk : D) (old new : OutState) (outcome : Outcome D) : Type 0 where
+  -- it was refused before it came to the disk, which is as it was
+  BankPrevented : (refusal : Refusal) → PreventsBank bank refusal → outcome.disk ≡ disk → IsRefused (bank_names bank.clients) refusal old new outcome.report → BankResult bank seen disk old new outcome
+  -- it opened no database of the schema of a bank
+  BankNotRun : HasNotRun bank_schema (bank_names bank.clients) (seen disk) (seen outcome.disk) old new outcome.report → BankResult bank seen disk old new outcome
   -- its clients ran: the one that sets up the accounts, then those that make transfers, then the one that adds up
-  BankRan : (works : List Work) → AreTextWorks bank_schema (bank_texts bank) works → HasRunPhases Quiet bank_schema (bank_names bank.clients) BANK_UNITS bank.clients works old new report → BankResult bank old new report
+  BankRan : (works : List Work) → AreTextWorks bank_schema (bank_texts bank) works → HasRunPhases Quiet bank_schema (bank_names bank.clients) BANK_UNITS bank.clients works (seen disk) (seen outcome.disk) old new outcome.report →
+      BankResult bank seen disk old new outcome

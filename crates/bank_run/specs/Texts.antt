@@ -1,5 +1,5 @@
 -- The clients of a bank: their names, sources and inputs, in order.
-use Rattle.std.specs.Prelude.{◌+◌, ◌≤◌, ◌<◌, ◌^◌, ℕ, zero, suc, List, [], ◌∷◌, ◌++◌, codes, decimal}
+use Rattle.std.specs.Prelude.{◌+◌, ◌≤◌, ◌<◌, ℕ, zero, suc, List, [], ◌∷◌, ◌++◌, codes, decimal}
 use Rattle.bank_inputs.specs.declared.bank.Bank.{Bank}
 use Rattle.bank_inputs.specs.declared.sources.TheConstants.{SETUP_SOURCE, TOTAL_SOURCE, TRANSFER_SOURCE}
 use Rattle.bank_inputs.specs.Bank.{client_input, setup_input}

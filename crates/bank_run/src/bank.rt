@@ -1,9 +1,10 @@
 //! One bank, from its numbers to the report.
 
-ghost use Rattle.std.specs.Prelude.{◌≡◌, ◌++◌, ◌+◌, ◌≤◌, [], ℕ, List, IfErr, IfOk, OnOk, length, vec_capacity};
-ghost use Rattle.new_database.specs.New.{IsNew};
-ghost use Rattle.run_works.specs.Inside.{AreToDo, IsClientOf};
-ghost use Rattle.run_works.specs.Works.{Work};
+ghost use Rattle.std.specs.Prelude.{◌≡◌, ◌++◌, ◌+◌, ◌≤◌, ◌⊎◌, [], ℕ, List, IfErr, IfOk, OnOk, length, vec_capacity};
+ghost use Rattle.run_works.specs.Disks.{state_of};
+ghost use Rattle.served_works.specs.Served.{AreToDo, IsClientOf};
+ghost use Rattle.served_works.specs.Works.{Work};
+ghost use Rattle.run_works.specs.Works.{HasNotRun};
 ghost use Rattle.bank_run.specs.Inside.{AreClientsOf, IsBankReady};
 ghost use Rattle.bank_run.specs.Phases.{HasRunPhases};
 ghost use Rattle.bank_run.specs.Result.{BankResult, PreventsBank, bank_schema};
@@ -12,14 +13,15 @@ ghost use Rattle.bank_run.specs.Texts.{IsBank};
 use crate::texts::{names_of, texts_of};
 use abl_arguments::Mode;
 use abl_outside::{Gate, Out};
-use abl_rows::RowStore;
+use abl_storage::Disk;
 use abl_values::Schema;
 use bank_inputs::{BANK_SCHEMA, Bank};
-use block_clients::run_phases;
 use block_code::Code;
+use block_vm::Client;
 use client_database::ClientEnd;
-use run_report::{Refusal, Report, ReportForm, refused};
-use run_works::{RunDatabase, RunStore, RunTask, client_to_run, open_database, report};
+use run_report::{Refusal, ReportForm, refused};
+use run_works::{NotRun, Outcome, Ran, report, run_in_phases};
+use served_works::client_to_run;
 use source_files::{ClientTexts, Compiled, compiled_in, schema_of};
 use std::alloc::{AllocError, Global};
 use std::sync::Wait;
@@ -28,39 +30,42 @@ use std::thread::Threads;
 /// How many units each client may spend.
 pub const BANK_UNITS: u64 = 100_000_000;
 
-/// What a bank needs: the schema, a new database of it, the clients, ready to run, and room for their
-/// ends.
+/// What a bank needs: the schema, the clients, ready to run, and room for their ends.
 #[derive(Drop)]
 struct Loaded {
     schema: Schema,
-    database: RunDatabase,
-    tasks: Vec<RunTask>,
+    clients: Vec<Client>,
     ends: Vec<ClientEnd>,
 }
 
-/// Runs a bank over one new database: a client that sets up the accounts, then the clients that make
-/// transfers, side by side, then one that adds up the balances. It writes the report and the lines of
-/// the status, and reads no file. A client comes to the gate before each of its steps.
-pub fn run_bank<R: Threads + Wait + Sync, O: Out, G: Gate + Sync>(
+/// Runs a bank over the database on the disk: a client that sets up the accounts, then the clients that
+/// make transfers, side by side, then one that adds up the balances. It writes the report and the lines
+/// of the status, reads no file, and hands the disk back in every case. A client comes to the gate
+/// before each of its steps.
+pub fn run_bank<R: Threads + Wait + Sync, D: Disk + Send + Drop, O: Out, G: Gate + Sync>(
     rt: &R,
     alloc: Global,
+    disk: D,
     out: &mut O,
     gate: &G,
     bank: Bank,
-) -> Report
+) -> Outcome<D>
     requires { IsBank bank }
-    ensures { BankResult bank (O.state out.old) (O.state out.new) result }
+    ensures { BankResult bank (state_of D.Disk) disk (O.state out.old) (O.state out.new) result }
 {
     let Ok(names) = names_of(alloc, bank.clients) else {
-        return refused(alloc, out, &[], Refusal::NoMemory);
+        let report = refused(alloc, out, &[], Refusal::NoMemory);
+        return Outcome { report, disk };
     };
     match load(alloc, bank) {
-        Err(refusal) => refused(alloc, out, &names, refusal),
+        Err(refusal) => {
+            let report = refused(alloc, out, &names, refusal);
+            Outcome { report, disk }
+        }
         Ok(loaded) => {
             let Loaded {
                 schema,
-                database,
-                tasks,
+                clients,
                 ends,
             } = loaded;
             let form = ReportForm {
@@ -68,19 +73,18 @@ pub fn run_bank<R: Threads + Wait + Sync, O: Out, G: Gate + Sync>(
                 schema: &schema,
                 names: &names,
             };
-            execute(rt, alloc, out, gate, &form, database, tasks, ends)
+            execute(rt, alloc, disk, out, gate, &form, clients, ends)
         }
     }
 }
 
-/// Compiles the sources, begins the clients, and opens a new database. All memory that is needed before
-/// the first phase is taken, but for that of its threads.
+/// Compiles the sources and begins the clients. All memory that is needed before the first phase is
+/// taken, but for that of the database and of the threads.
 fn load(alloc: Global, bank: Bank) -> Result<Loaded, Refusal>
     requires { IsBank bank }
-    ensures ready { IfOk result (λ loaded. IsBankReady bank loaded.schema loaded.tasks.items) }
-    ensures many { IfOk result (λ loaded. length loaded.tasks.items ≡ bank.clients + 2) }
-    ensures new { IfOk result (λ loaded. IsNew (⟦<RunStore as RowStore>⟧.state loaded.database.rows) (⟦<RunStore as RowStore>⟧.left loaded.database.rows) (⟦<RunStore as RowStore>⟧.times loaded.database.rows) loaded.database loaded.schema (length loaded.tasks.items)) }
-    ensures room { IfOk result (λ loaded. (loaded.ends.items ≡ []) × (length loaded.tasks.items ≤ vec_capacity loaded.ends)) }
+    ensures ready { IfOk result (λ loaded. IsBankReady bank loaded.schema loaded.clients.items) }
+    ensures many { IfOk result (λ loaded. length loaded.clients.items ≡ bank.clients + 2) }
+    ensures room { IfOk result (λ loaded. (loaded.ends.items ≡ []) × (length loaded.clients.items ≤ vec_capacity loaded.ends)) }
     ensures prevented { IfErr result (PreventsBank bank) }
 {
     let Ok(texts) = texts_of(alloc, bank) else {
@@ -93,7 +97,7 @@ fn load(alloc: Global, bank: Bank) -> Result<Loaded, Refusal>
     }
 }
 
-/// The clients of these codes and texts, and a new database for them.
+/// The clients of these codes and texts, and room for their ends.
 fn ready(
     alloc: Global,
     schema: Schema,
@@ -101,20 +105,16 @@ fn ready(
     texts: Vec<ClientTexts>,
 ) -> Result<Loaded, AllocError>
     requires many { length codes.items ≡ length texts.items }
-    requires few { length texts.items ≤ 16 }
     ensures schema { IfOk result (λ loaded. loaded.schema ≡ schema) }
-    ensures clients { IfOk result (λ loaded. AreClientsOf BANK_UNITS bank_schema.tables codes.items texts.items loaded.tasks.items) }
-    ensures new { IfOk result (λ loaded. IsNew (⟦<RunStore as RowStore>⟧.state loaded.database.rows) (⟦<RunStore as RowStore>⟧.left loaded.database.rows) (⟦<RunStore as RowStore>⟧.times loaded.database.rows) loaded.database bank_schema (length loaded.tasks.items)) }
-    ensures room { IfOk result (λ loaded. (loaded.ends.items ≡ []) × (length loaded.tasks.items ≤ vec_capacity loaded.ends)) }
+    ensures clients { IfOk result (λ loaded. AreClientsOf BANK_UNITS bank_schema.tables codes.items texts.items loaded.clients.items) }
+    ensures room { IfOk result (λ loaded. (loaded.ends.items ≡ []) × (length loaded.clients.items ≤ vec_capacity loaded.ends)) }
 {
-    let mut tasks = Vec::new(alloc);
-    begin_clients(alloc, codes, texts, &mut tasks)?;
-    let ends = Vec::with_capacity(alloc, tasks.len())?;
-    let database = open_database(alloc, BANK_SCHEMA, tasks.len() as u16)?;
+    let mut clients = Vec::new(alloc);
+    begin_clients(alloc, codes, texts, &mut clients)?;
+    let ends = Vec::with_capacity(alloc, clients.len())?;
     Ok(Loaded {
         schema,
-        database,
-        tasks,
+        clients,
         ends,
     })
 }
@@ -124,27 +124,27 @@ fn begin_clients(
     alloc: Global,
     codes: Vec<Code>,
     texts: Vec<ClientTexts>,
-    tasks: &mut Vec<RunTask>,
+    clients: &mut Vec<Client>,
 ) -> Result<(), AllocError>
     requires { length codes.items ≡ length texts.items }
-    ensures { OnOk result ((more : List _) × (tasks.new.items ≡ tasks.old.items ++ more) × AreClientsOf BANK_UNITS bank_schema.tables codes.items texts.items more) }
+    ensures { OnOk result ((more : List _) × (clients.new.items ≡ clients.old.items ++ more) × AreClientsOf BANK_UNITS bank_schema.tables codes.items texts.items more) }
 {
     let mut codes = codes;
     let mut texts = texts;
     if codes.is_empty() || texts.is_empty() {
         return Ok(());
     }
-    tasks.reserve(1)?;
+    clients.reserve(1)?;
     let code = codes.remove(0);
     let text = texts.remove(0);
-    let task = begin_client(alloc, code, text)?;
-    tasks.push_reserved(task);
-    begin_clients(alloc, codes, texts, tasks)
+    let client = begin_client(alloc, code, text)?;
+    clients.push_reserved(client);
+    begin_clients(alloc, codes, texts, clients)
 }
 
 /// The client of this code with the input of its texts. The schema breaks no rule, so that an error in it
 /// means out of memory.
-fn begin_client(alloc: Global, code: Code, texts: ClientTexts) -> Result<RunTask, AllocError>
+fn begin_client(alloc: Global, code: Code, texts: ClientTexts) -> Result<Client, AllocError>
     ensures { IfOk result (IsClientOf BANK_UNITS bank_schema.tables code texts.input []) }
 {
     let Ok(schema) = schema_of(alloc, BANK_SCHEMA) else {
@@ -157,26 +157,39 @@ fn begin_client(alloc: Global, code: Code, texts: ClientTexts) -> Result<RunTask
 
 /// Runs the clients in three phases, and writes the report and the lines of the status. Room for the ends
 /// is in `ends`.
-fn execute<R: Threads + Wait + Sync, O: Out, G: Gate + Sync>(
+fn execute<R: Threads + Wait + Sync, D: Disk + Send + Drop, O: Out, G: Gate + Sync>(
     rt: &R,
     alloc: Global,
+    disk: D,
     out: &mut O,
     gate: &G,
     form: &ReportForm<'_>,
-    database: RunDatabase,
-    tasks: Vec<RunTask>,
+    clients: Vec<Client>,
     ends: Vec<ClientEnd>,
-) -> Report
-    requires some { 3 ≤ length tasks.items }
-    requires few { length tasks.items ≤ 16 }
-    requires new { IsNew (⟦<RunStore as RowStore>⟧.state database.rows) (⟦<RunStore as RowStore>⟧.left database.rows) (⟦<RunStore as RowStore>⟧.times database.rows) database form.now.schema.now (length tasks.items) }
+) -> Outcome<D>
+    requires some { 3 ≤ length clients.items }
+    requires few { length clients.items ≤ 16 }
+    requires schema { form.now.schema.now ≡ bank_schema }
     requires none { ends.items ≡ [] }
-    requires room { length tasks.items ≤ vec_capacity ends }
-    ensures { (units clients : ℕ) (works : List Work) → length tasks.items ≡ clients + 2 → AreToDo units works tasks.items → HasRunPhases form.now.mode form.now.schema.now form.now.names.now units clients works (O.state out.old) (O.state out.new) result }
+    requires room { length clients.items ≤ vec_capacity ends }
+    ensures { (units between : ℕ) (works : List Work) → length clients.items ≡ between + 2 → AreToDo units works clients.items →
+        HasRunPhases form.now.mode form.now.schema.now form.now.names.now units between works (state_of D.Disk disk) (state_of D.Disk result.disk) (O.state out.old) (O.state out.new) result.report
+        ⊎ HasNotRun form.now.schema.now form.now.names.now (state_of D.Disk disk) (state_of D.Disk result.disk) (O.state out.old) (O.state out.new) result.report }
 {
-    let mut tasks = tasks;
-    let database = run_phases(rt, alloc, database, tasks.as_mut_slice(), gate);
-    let (rows, trace) = database.close();
-    drop(rows);
-    report(out, form, tasks, trace, ends)
+    match run_in_phases(rt, alloc, disk, BANK_SCHEMA, clients, gate) {
+        Ok(ran) => {
+            let Ran {
+                disk,
+                trace,
+                clients,
+            } = ran;
+            let report = report(out, form, clients, trace, ends);
+            Outcome { report, disk }
+        }
+        Err(not_run) => {
+            let NotRun { disk, refusal } = not_run;
+            let report = refused(alloc, out, form.names, refusal);
+            Outcome { report, disk }
+        }
+    }
 }

@@ -1,19 +1,13 @@
 -- What is compiled and begun is what the bank needs, or prevents it.
-use Rattle.std.proofs.Common.{◌≡◌, ◌⊎◌, ◌≤◌, inl, inr, Err, None, List, sym, ap, ◌∙◌, subst, arith, length}
+use Rattle.std.proofs.Common.{◌≡◌, ◌≤◌, Err, List, sym, ap, ◌∙◌, subst, arith, length}
 use Rattle.std.specs.Prelude.{All}
 use Rattle.std.proofs.lemmas.Result.{err_from_is_err_and}
-use Rattle.abl_schema.specs.Rules.{violation_of}
-use Rattle.abl_values.specs.Schema.{SchemaData}
 use Rattle.source_files.specs.declared.files.ClientTexts.{ClientTexts}
 use Rattle.source_files.specs.declared.files.TheConstants.{MAX_FILE_BYTES}
-use Rattle.source_files.specs.Compiled.{BreaksSchema, HaveCodes, OneSourceBreaks}
+use Rattle.source_files.specs.Compiled.{HaveCodes}
 use Rattle.source_files.proofs.Causes.{of_error}
-use Rattle.run_report.specs.declared.refusal.Refusal.TheVariants.{NoMemory}
-use Rattle.bank_inputs.specs.declared.sources.TheConstants.{BANK_SCHEMA}
-use Rattle.run_works.proofs.Databases.{as_new}
 use Rattle.bank_run.specs.declared.bank.TheConstants.{BANK_UNITS}
-use Rattle.bank_run.specs.Result.{AreTextWorks, PreventsBank, bank_schema, bank_wants, schema_breaks, source_breaks}
-use Rattle.bank_run.specs.Texts.{bank_texts}
+use Rattle.bank_run.specs.Result.{AreTextWorks, bank_schema, bank_wants}
 use Rattle.bank_run.proofs.Begun.{as_many_clients, as_many_codes, as_many_texts, begun, prevents, short_texts}
 use Rattle.bank_run.proofs.bank.load.Goals as goal
 
@@ -38,24 +32,19 @@ returns-in_err-schema-clause-prevented c =
     let is : c.from_residual.result ≡ Err refusal = cc (p.1, p.2) in
     of_error _ is (prevents c.args.bank c.deref.result.now refusal (c.deref.ensures.value ∙ c.in-Ok.ensures) c.in_err-schema.ensures.refused)
 
-pub ready-requires-clause-many : goal.ready-requires-clause-many
-ready-requires-clause-many c =
-    as_many_codes bank_schema c.in-Ok.texts.items c.in_ok-schema.field-0.codes.items
-    (subst (λ (ts : List ClientTexts). HaveCodes bank_schema ts c.in_ok-schema.field-0.codes.items) c.deref.ensures.value c.in_ok-schema.ensures.codes)
-
-pub ready-requires-clause-few : goal.ready-requires-clause-few
-ready-requires-clause-few c =
-    let many = as_many_texts c.args.bank in
-    let same = ap (λ (ts : List ClientTexts). length ts) c.in-Ok.ensures in
-    let few = c.requires.few in
-    omega (arith, same, many, few)
+pub ready-requires : goal.ready-requires
+ready-requires c = record {
+  many =
+      as_many_codes bank_schema c.in-Ok.texts.items c.in_ok-schema.field-0.codes.items
+      (subst (λ (ts : List ClientTexts). HaveCodes bank_schema ts c.in_ok-schema.field-0.codes.items) c.deref.ensures.value c.in_ok-schema.ensures.codes);
+}
 
 pub returns-in-Ok-ready-clause-ready : goal.returns-in-Ok-ready-clause-ready
 returns-in-Ok-ready-clause-ready c =
     let codes = c.in_ok-schema.field-0.codes.items in
-    let tasks = c.in-Ok-ready.loaded.tasks.items in
+    let clients = c.in-Ok-ready.loaded.clients.items in
     let have = subst (λ (ts : List ClientTexts). HaveCodes bank_schema ts codes) c.deref.ensures.value c.in_ok-schema.ensures.codes in
-    let done = begun bank_schema BANK_UNITS c.in-Ok.texts.items codes tasks have c.in-Ok-ready.ensures.clients in
+    let done = begun bank_schema BANK_UNITS c.in-Ok.texts.items codes clients have c.in-Ok-ready.ensures.clients in
     record {
       schema_is = c.in-Ok-ready.ensures.schema ∙ c.in_ok-schema.ensures.schema;
       works = done.works;
@@ -65,7 +54,7 @@ returns-in-Ok-ready-clause-ready c =
 
 pub returns-in-Ok-ready-clause-many : goal.returns-in-Ok-ready-clause-many
 returns-in-Ok-ready-clause-many c =
-    as_many_clients bank_schema BANK_UNITS c.in_ok-schema.field-0.codes.items c.in-Ok.texts.items c.in-Ok-ready.loaded.tasks.items c.in-Ok-ready.ensures.clients
+    as_many_clients bank_schema BANK_UNITS c.in_ok-schema.field-0.codes.items c.in-Ok.texts.items c.in-Ok-ready.loaded.clients.items c.in-Ok-ready.ensures.clients
     ∙ ap (λ (ts : List ClientTexts). length ts) c.in-Ok.ensures ∙ as_many_texts c.args.bank
 
 pub returns-in-Err-clause-prevented : goal.returns-in-Err-clause-prevented
