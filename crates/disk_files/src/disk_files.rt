@@ -3,6 +3,7 @@
 ghost use Rattle.std.specs.Prelude.{◌≡◌, ◌+◌, ◌≤◌, ◌^◌, is_ok, IsTrue, IfOk, true, false};
 ghost use Rattle.abl_storage.specs.Disk.{HasCause};
 
+use crate::fault::{Fault, Place};
 use crate::names::Names;
 use crate::open_files::OpenFiles;
 use abl_storage::{Disk, DiskFailed};
@@ -22,6 +23,7 @@ pub struct DiskFiles<'a, R> {
     files: OpenFiles<'a, R>,
     time: u64,
     failed: u64,
+    first: Option<Fault>,
 }
 
 impl<'a, R: Machine<File = File>> DiskFiles<'a, R> {
@@ -39,7 +41,17 @@ impl<'a, R: Machine<File = File>> DiskFiles<'a, R> {
             files: OpenFiles::new(machine, Names::new(alloc, database)?),
             time: 0,
             failed: 0,
+            first: None,
         })
+    }
+
+    /// Why the first call that failed did so: the name of the file that it was on, or of the directory of
+    /// the files, and the error of the machine. `WouldBlock` is that of a file under another lock.
+    pub fn first_fault(&self) -> Option<(&str, io::Error)> {
+        match self.first {
+            Some(fault) => Some((self.files.name_of(fault.place), fault.error)),
+            None => None,
+        }
     }
 
     /// Goes to the next moment, and returns false where this is the last.
@@ -57,19 +69,27 @@ impl<'a, R: Machine<File = File>> DiskFiles<'a, R> {
     }
 
     /// The outcome of a call, whose failure is counted.
-    fn counted<T: Drop>(&mut self, outcome: io::Result<T>) -> Result<T, DiskFailed>
+    fn counted<T: Drop>(&mut self, outcome: Result<T, Fault>) -> Result<T, DiskFailed>
         ensures same { is_ok result ≡ is_ok outcome }
         ensures time { self.new.time ≡ self.old.time }
         ensures cause { HasCause self.old.failed self.new.failed (is_ok result) }
     {
         match outcome {
             Ok(value) => Ok(value),
-            Err(_) => {
+            Err(fault) => {
                 self.failed = self.failed.saturating_add(1);
+                if self.first.is_none() {
+                    self.first = Some(fault);
+                }
                 Err(DiskFailed)
             }
         }
     }
+}
+
+/// The fault of a call that is made at the last moment.
+fn no_moment(area: u8) -> Fault {
+    Fault::new(Place::Area(area as usize), ErrorKind::Other.into())
 }
 
 impl<R: Machine<File = File>> Disk for DiskFiles<'_, R> {
@@ -110,7 +130,7 @@ impl<R: Machine<File = File>> Disk for DiskFiles<'_, R> {
 
     fn write(&mut self, area: u8, at: u64, bytes: &[u8]) -> Result<(), DiskFailed> {
         if !self.goes_on() {
-            return self.counted(Err(ErrorKind::Other.into()));
+            return self.counted(Err(no_moment(area)));
         }
         let outcome = self.files.write(area as usize, at, bytes);
         self.counted(outcome)
@@ -118,7 +138,7 @@ impl<R: Machine<File = File>> Disk for DiskFiles<'_, R> {
 
     fn sync(&mut self, area: u8) -> Result<(), DiskFailed> {
         if !self.goes_on() {
-            return self.counted(Err(ErrorKind::Other.into()));
+            return self.counted(Err(no_moment(area)));
         }
         let outcome = self.files.sync(area as usize);
         self.counted(outcome)

@@ -6,6 +6,7 @@
 
 mod area_file;
 mod disk_files;
+mod fault;
 mod names;
 mod open_files;
 mod transfers;

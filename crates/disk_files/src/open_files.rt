@@ -2,6 +2,7 @@
 
 ghost use Rattle.std.specs.Prelude.{◌+◌, ◌<◌, ◌^◌, length};
 
+use crate::fault::{Fault, Place};
 use crate::names::Names;
 use crate::transfers::{read_from, write_to};
 use std::fs::{File, OpenOptions};
@@ -46,13 +47,21 @@ impl<'a, R: Machine<File = File>> OpenFiles<'a, R> {
         }
     }
 
+    /// The name of the file.
+    pub fn name_of(&self, place: Place) -> &str {
+        match place {
+            Place::Area(area) => self.names.of_area(area),
+            Place::Directory => self.names.directory(),
+        }
+    }
+
     /// The area's bytes from there on, with zeros past its end. A missing file has no byte.
-    pub fn read(&mut self, area: usize, at: u64, into: &mut [u8]) -> io::Result<()>
+    pub fn read(&mut self, area: usize, at: u64, into: &mut [u8]) -> Result<(), Fault>
         requires area { area < 3 }
         requires end { at + length into.old < 2 ^ 41 }
     {
         match &self.opened()?.files[area] {
-            Some(file) => read_from(file, at, into),
+            Some(file) => Fault::at(Place::Area(area), read_from(file, at, into)),
             None => {
                 into.fill(0);
                 Ok(())
@@ -61,17 +70,17 @@ impl<'a, R: Machine<File = File>> OpenFiles<'a, R> {
     }
 
     /// How many bytes the area has.
-    pub fn length(&mut self, area: usize) -> io::Result<u64>
+    pub fn length(&mut self, area: usize) -> Result<u64, Fault>
         requires area { area < 3 }
     {
         match &self.opened()?.files[area] {
-            Some(file) => Ok(file.metadata()?.len()),
+            Some(file) => Ok(Fault::at(Place::Area(area), file.metadata())?.len()),
             None => Ok(0),
         }
     }
 
     /// Puts the bytes there, with zeros between the area's old end and them.
-    pub fn write(&mut self, area: usize, at: u64, bytes: &[u8]) -> io::Result<()>
+    pub fn write(&mut self, area: usize, at: u64, bytes: &[u8]) -> Result<(), Fault>
         requires area { area < 3 }
         requires end { at + length bytes.now < 2 ^ 40 }
     {
@@ -80,45 +89,47 @@ impl<'a, R: Machine<File = File>> OpenFiles<'a, R> {
         self.make_if_missing(0)?;
         self.make_if_missing(area)?;
         match &mut self.opened()?.files[area] {
-            Some(file) => write_to(file, at, bytes),
-            None => Err(ErrorKind::NotFound.into()),
+            Some(file) => Fault::at(Place::Area(area), write_to(file, at, bytes)),
+            None => Err(Fault::new(Place::Area(area), ErrorKind::NotFound.into())),
         }
     }
 
     /// Makes what reads of the area give durable, and the entry of its file in the directory.
-    pub fn sync(&mut self, area: usize) -> io::Result<()>
+    pub fn sync(&mut self, area: usize) -> Result<(), Fault>
         requires area { area < 3 }
     {
         self.opened()?;
         if self.has_failed_sync {
-            return Err(ErrorKind::Other.into());
+            return Err(Fault::new(Place::Area(area), ErrorKind::Other.into()));
         }
         let outcome = self.sync_names().and_then(|()| self.sync_area(area));
         self.has_failed_sync = outcome.is_err();
         outcome
     }
 
-    fn sync_area(&mut self, area: usize) -> io::Result<()>
+    fn sync_area(&mut self, area: usize) -> Result<(), Fault>
         requires area { area < 3 }
     {
         match &self.opened()?.files[area] {
-            Some(file) => file.sync_data(),
+            Some(file) => Fault::at(Place::Area(area), file.sync_data()),
             None => Ok(()),
         }
     }
 
     /// Syncs the directory, if there is a file and no sync of the directory since the last was made.
-    fn sync_names(&mut self) -> io::Result<()> {
+    fn sync_names(&mut self) -> Result<(), Fault> {
         let has_file = self.opened()?.files.iter().any(|file| file.is_some());
         if has_file && !self.has_synced_names {
-            File::open(self.machine, self.names.directory())?.sync_all()?;
+            let directory = File::open(self.machine, self.names.directory());
+            let directory = Fault::at(Place::Directory, directory)?;
+            Fault::at(Place::Directory, directory.sync_all())?;
             self.has_synced_names = true;
         }
         Ok(())
     }
 
     /// The files, opened if they are not open yet.
-    fn opened(&mut self) -> io::Result<&mut AreaFiles> {
+    fn opened(&mut self) -> Result<&mut AreaFiles, Fault> {
         let areas = match self.areas.take() {
             Some(areas) => areas,
             None => open_all(self.machine, &self.names)?,
@@ -127,14 +138,15 @@ impl<'a, R: Machine<File = File>> OpenFiles<'a, R> {
     }
 
     /// Makes the area's file, if there is none.
-    fn make_if_missing(&mut self, area: usize) -> io::Result<()>
+    fn make_if_missing(&mut self, area: usize) -> Result<(), Fault>
         requires area { area < 3 }
     {
         if self.opened()?.files[area].is_some() {
             return Ok(());
         }
-        let file = File::create_new(self.machine, self.names.of_area(area))?;
-        let file = under_lock(file)?;
+        let place = Place::Area(area);
+        let file = File::create_new(self.machine, self.names.of_area(area));
+        let file = Fault::at(place, under_lock(Fault::at(place, file)?))?;
         self.has_synced_names = false;
         self.opened()?.files[area] = Some(file);
         Ok(())
@@ -143,13 +155,13 @@ impl<'a, R: Machine<File = File>> OpenFiles<'a, R> {
 
 /// The files of a database that are there, each under its lock. A database without a name has none,
 /// and none can be made.
-fn open_all<R: Machine<File = File>>(machine: &R, names: &Names) -> io::Result<AreaFiles> {
+fn open_all<R: Machine<File = File>>(machine: &R, names: &Names) -> Result<AreaFiles, Fault> {
     if !names.has_database() {
-        return Err(ErrorKind::InvalidInput.into());
+        return Err(Fault::new(Place::Area(0), ErrorKind::InvalidInput.into()));
     }
-    let d0 = open_file(machine, names.of_area(0))?;
-    let b1 = open_file(machine, names.of_area(1))?;
-    let b2 = open_file(machine, names.of_area(2))?;
+    let d0 = Fault::at(Place::Area(0), open_file(machine, names.of_area(0)))?;
+    let b1 = Fault::at(Place::Area(1), open_file(machine, names.of_area(1)))?;
+    let b2 = Fault::at(Place::Area(2), open_file(machine, names.of_area(2)))?;
     Ok(AreaFiles {
         files: [d0, b1, b2],
     })
