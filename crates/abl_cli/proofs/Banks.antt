@@ -1,11 +1,10 @@
 -- The bank that arguments name, and what follows from its result.
-use Rattle.std.proofs.Common.{◌≡◌, ◌∙◌, ℕ, List, Some, sym, ap, subst, arith}
-use Rattle.abl_arguments.specs.CommandLine.{NamesBank, number_of}
+use Rattle.std.proofs.Common.{◌≡◌, ℕ, List, arith}
+use Rattle.abl_arguments.specs.CommandLine.{NamesBank}
 use Rattle.abl_arguments.specs.declared.bank.BankArguments.{BankArguments}
 use Rattle.bank_inputs.specs.declared.bank.Bank.{Bank as BankNumbers}
-use Rattle.bank_run.specs.Result.{PreventsBank, schema_breaks, source_breaks, bank_wants}
+use Rattle.bank_run.specs.Result.{PreventsBank, schema_breaks, source_breaks}
 use Rattle.bank_run.specs.Texts.{IsBank}
-use Rattle.run_report.specs.declared.refusal.Refusal.{Refusal}
 use Rattle.run_report.specs.declared.refusal.Refusal.TheVariants.{Usage, Output}
 use Rattle.source_files.specs.declared.files.ClientTexts.{ClientTexts}
 use Rattle.source_files.specs.Compiled.{OneSourceBreaks, this_source, later_source}

@@ -13,15 +13,17 @@ use Rattle.block_listing.specs.Listing.{listing}
 use Rattle.abl_source.specs.Sources.{BreaksRule}
 use Rattle.abl_source.proofs.Violations.{one_rule, one_tree_of, trees_break_none}
 use Rattle.abl_arguments.specs.CommandLine.{Check, check_arguments}
-use Rattle.abl_arguments.proofs.CheckForms.{bank_or_check, other_command}
+use Rattle.abl_cli.proofs.Marks.{check_or_bank, check_or_create, check_or_dump, run_or_check}
 use Rattle.run_report.specs.declared.refusal.Refusal.{Refusal}
 use Rattle.run_report.specs.declared.refusal.Refusal.TheVariants.{File, TooLong, Schema, Source, NoMemory}
 use Rattle.run_report.specs.declared.ending.Report.{Report}
+use Rattle.run_works.specs.declared.outcome.Outcome.{Outcome as Result}
+use Rattle.run_works.specs.Disks.{DiskState}
 use Rattle.source_files.specs.declared.files.TheConstants.{MAX_FILE_BYTES}
 use Rattle.abl_cli.specs.Check.{IsListing, HaveListings, OneBreaks, this_breaks, later_breaks, program_breaks, program_wants, check_text}
 use Rattle.source_files.specs.Compiled.{schema_in}
 use Rattle.source_files.specs.Files.{HaveTexts, IsNotRead, OneIsNotRead, this_one, later_one}
-use Rattle.abl_cli.specs.Command.{CheckTexts, PreventsCheck, no_schema_file, no_program, schema_is_broken, one_breaks, AreListed, HasChecked, wrong_argument, prevented, check_prevented, CommandResult, Refused, Ran, Checked, Banked, IsRefusal, AreThere}
+use Rattle.abl_cli.specs.Command.{CheckTexts, PreventsCheck, no_schema_file, no_program, schema_is_broken, one_breaks, AreListed, HasChecked, wrong_argument, prevented, check_prevented, create_prevented, dump_prevented, CommandResult, Refused, NotRun, Ran, Checked, Banked, Created, Dumped, IsRefusal, AreThere}
 use Rattle.run_report.specs.Ending.{WritesStatus, output_refusal, status_after}
 use Rattle.abl_cli.specs.CheckFiles.{AreThereWith, NamesSources, check_files}
 use Rattle.abl_cli.proofs.FileCauses.{wants, same_text, same_texts, have_none, have_long, unread, none_unread, one_missing, one_long, same_violation, no_violation}
@@ -87,19 +89,27 @@ same_check a b s p = λ i. record { schema = s i; programs = p i }
 one_check : (a b : Check) → check_arguments a ≡ check_arguments b → a ≡ b
 one_check a b same = let s : a.schema ≡ b.schema = cc same in let p : a.programs ≡ b.programs = cc same in same_check a b s p
 
-module _ (arguments : List (List ℕ)) (files : FileState) (faults : ℕ) (old new : OutState) (report : Report) (check : Check) (names : NamesSources arguments files check) where
+module _ {D : Type 0} (seen : D → DiskState) (disk : D) (arguments : List (List ℕ)) (files : FileState) (faults : ℕ) (old new : OutState) (result : Result D) (check : Check) (names : NamesSources arguments files check) where
+  abbrev report : Report
+  report = result.report
+
   data Outcome : Type 0 where
     was_prevented : (refusal : Refusal) → report.refusal ≡ Some refusal → report.status ≡ status_after (Some refusal) → PreventsCheck files faults check refusal → Outcome
     had_listed : (listings : List (List ℕ)) → AreListed files check listings → HasChecked check.programs listings old new report → Outcome
 
-  outcome : CommandResult arguments files faults old new report → Outcome
-  outcome (Refused name refusal (wrong_argument wrong) is) = absurd (wrong_or_formed arguments _ wrong (inr (inl (check, (names.is_check, names.arguments_are)))))
-  outcome (Refused name refusal (prevented run is_run are prevents) is) = absurd (other_command (sym are ∙ names.arguments_are))
-  outcome (Refused name refusal (check_prevented other is_other are prevents) is) =
+  outcome : CommandResult seen disk arguments files faults old new result → Outcome
+  outcome (Refused name refusal (wrong_argument wrong) same_disk is) = absurd (wrong_or_formed arguments _ wrong (inr (inl (check, (names.is_check, names.arguments_are)))))
+  outcome (Refused name refusal (prevented run is_run are prevents) same_disk is) = absurd (run_or_check arguments run check are names.arguments_are)
+  outcome (Refused name refusal (check_prevented other is_other are prevents) same_disk is) =
       was_prevented refusal is.refusal is.status (subst (λ (c : Check). PreventsCheck files faults c refusal) (one_check other check (sym are ∙ names.arguments_are)) prevents)
-  outcome (Ran named is_named are texts clean works are_works ran) = absurd (other_command (sym are ∙ names.arguments_are))
-  outcome (Banked bank is_bank are result) = absurd (bank_or_check (sym are ∙ names.arguments_are))
-  outcome (Checked other is_other are listings listed told) =
+  outcome (Refused name refusal (create_prevented named is_create are prevents) same_disk is) = absurd (check_or_create arguments check named names.arguments_are are)
+  outcome (Refused name refusal (dump_prevented named is_dump are prevents) same_disk is) = absurd (check_or_dump arguments check named names.arguments_are are)
+  outcome (NotRun named is_named are texts clean works are_works not_run) = absurd (run_or_check arguments named check are names.arguments_are)
+  outcome (Ran named is_named are texts clean works are_works ran) = absurd (run_or_check arguments named check are names.arguments_are)
+  outcome (Banked bank is_bank are did) = absurd (check_or_bank arguments check bank names.arguments_are are)
+  outcome (Created named is_create are schema has did) = absurd (check_or_create arguments check named names.arguments_are are)
+  outcome (Dumped named is_dump are schema table has did) = absurd (check_or_dump arguments check named names.arguments_are are)
+  outcome (Checked other is_other are listings listed same_disk told) =
       let same = one_check other check (sym are ∙ names.arguments_are) in
       had_listed listings (subst (λ (c : Check). AreListed files c listings) same listed) (subst (λ (c : Check). HasChecked c.programs listings old new report) same told)
 
@@ -124,11 +134,11 @@ module _ (arguments : List (List ℕ)) (files : FileState) (faults : ℕ) (old n
     file_is by none = refusal_by (λ refusal prevents. file_by (by refusal) none prevents)
         (λ listings listed. none (listed.texts.df ∷ listed.texts.sources) (subst (λ ns. HaveTexts files ns (listed.texts.df ∷ listed.texts.sources)) split (all_texts listed.texts)))
 
-    pub no_file_is_reported : CommandResult arguments files faults old new report → files.file name ≡ None → IsRefusal report.refusal (File name)
+    pub no_file_is_reported : CommandResult seen disk arguments files faults old new result → files.file name ≡ None → IsRefusal report.refusal (File name)
     no_file_is_reported did none =
         file_is (λ refusal h. one_missing files names.observable names.sound faults before after are none h) (λ texts have. have_none files names.observable names.sound before after texts none have) (outcome did)
 
-    pub long_file_is_reported : {text : List ℕ} → CommandResult arguments files faults old new report → files.file name ≡ Some text → MAX_FILE_BYTES < length text → IsRefusal report.refusal (TooLong name MAX_FILE_BYTES)
+    pub long_file_is_reported : {text : List ℕ} → CommandResult seen disk arguments files faults old new result → files.file name ≡ Some text → MAX_FILE_BYTES < length text → IsRefusal report.refusal (TooLong name MAX_FILE_BYTES)
     long_file_is_reported did there long =
         file_is (λ refusal h. one_long files names.observable names.sound faults before after are there long h) (λ texts have. have_long files names.observable names.sound before after texts there long have) (outcome did)
 
@@ -162,7 +172,7 @@ module _ (arguments : List (List ℕ)) (files : FileState) (faults : ℕ) (old n
     schema_by broken (schema_is_broken texts h) = same_violation texts.df df broken (schema_read texts) h
     schema_by broken (one_breaks texts clean h) = let both = sym (schema_read texts ∙ broken) ∙ clean in absurd (cc both)
 
-    pub broken_schema_is_reported : {rule : Rule} {line : ℕ} → CommandResult arguments files faults old new report → violation_of df ≡ Some (record { rule = rule; line = line }) → IsRefusal report.refusal (Schema rule line)
+    pub broken_schema_is_reported : {rule : Rule} {line : ℕ} → CommandResult seen disk arguments files faults old new result → violation_of df ≡ Some (record { rule = rule; line = line }) → IsRefusal report.refusal (Schema rule line)
     broken_schema_is_reported did broken =
         refusal_by (λ refusal prevents. schema_by broken prevents) (λ listings listed. let both = sym (schema_read listed.texts ∙ broken) ∙ listed.clean in cc both) (outcome did)
 
@@ -173,7 +183,7 @@ module _ (arguments : List (List ℕ)) (files : FileState) (faults : ℕ) (old n
       source_by by (schema_is_broken texts h) = wants (no_violation (schema_read texts ∙ clean) h)
       source_by by (one_breaks texts fine h) = by (its_break texts h)
 
-      pub broken_source_is_reported : (before lists after : List (List ℕ)) (text : List ℕ) {rule : Rule} {place : Place} → CommandResult arguments files faults old new report → sources ≡ before ++ text ∷ after → HaveListings (schema_in df) before lists →
+      pub broken_source_is_reported : (before lists after : List (List ℕ)) (text : List ℕ) {rule : Rule} {place : Place} → CommandResult seen disk arguments files faults old new result → sources ≡ before ++ text ∷ after → HaveListings (schema_in df) before lists →
           BreaksRule (schema_in df) text rule place → IsRefusal report.refusal (Source (length before) rule place)
       broken_source_is_reported before lists after text did split have first =
           refusal_by (λ refusal prevents. source_by (λ h. first_broken (schema_in df) before lists after text have first (subst (λ ts. OneBreaks (schema_in df) 0 ts refusal) split h)) prevents)
@@ -188,7 +198,7 @@ module _ (arguments : List (List ℕ)) (files : FileState) (faults : ℕ) (old n
       module _ (lists : List (List ℕ)) (have : HaveListings (schema_in df) sources lists) (quiet : Rose old.faults new.faults → ⊥) (known : IsTrue old.observable) where
         listed_whole : (whole : Bool) (listings : List (List ℕ)) (told : HasChecked check.programs listings old new report) → told.whole ≡ whole → listings ≡ lists →
             ((report.status ≡ 0) × (new.texts ≡ appended Standard (check_text check.programs lists) old.texts)) ⊎ (report.status ≡ 7)
-        listed_whole false listings told is same = absurd (quiet (rose_in_check arguments files faults old new report check.programs listings told is))
+        listed_whole false listings told is same = absurd (quiet (rose_in_check seen disk arguments files faults old new result check.programs listings told is))
         listed_whole true listings told is same =
             let none : report.refusal ≡ None = told.refusal ∙ ap output_refusal is in
             let ends : new ≡ told.between = subst (λ r. WritesStatus [] [] r told.between new) none told.lines in
@@ -199,5 +209,5 @@ module _ (arguments : List (List ℕ)) (files : FileState) (faults : ℕ) (old n
         listed_by (had_listed listings listed told) =
             listed_whole told.whole listings told refl (same_listings (schema_in df) sources listings lists (its_listings listings listed.texts listed.have) have)
 
-        pub sources_are_listed : CommandResult arguments files faults old new report → ((report.status ≡ 0) × (new.texts ≡ appended Standard (check_text check.programs lists) old.texts)) ⊎ (report.status ≡ 7)
+        pub sources_are_listed : CommandResult seen disk arguments files faults old new result → ((report.status ≡ 0) × (new.texts ≡ appended Standard (check_text check.programs lists) old.texts)) ⊎ (report.status ≡ 7)
         sources_are_listed did = listed_by (outcome did)

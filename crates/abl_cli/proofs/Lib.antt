@@ -1,9 +1,16 @@
+pub mod Creations
+pub mod Dumps
+pub mod BankEnds
 pub mod Banks
 pub mod CheckPrevented
 pub mod Checks
 pub mod Commands
+pub mod Databases
+pub mod Undisturbed
+pub mod Marks
 pub mod FileCauses
 pub mod Judged
 pub mod Loads
+pub mod Made
 pub mod Named
 pub mod Prevented

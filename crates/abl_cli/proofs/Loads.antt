@@ -1,7 +1,7 @@
 -- What a run has loaded, and what prevents it once its texts are read.
-use Rattle.std.proofs.Common.{◌≡◌, ◌⊎◌, inl, inr, ◌≤◌, ◌<◌, ℕ, suc, List, [], ◌∷◌, ◌++◌, None, refl, sym, ap, ◌∙◌, subst, arith, length}
+use Rattle.std.proofs.Common.{◌≡◌, ◌⊎◌, inl, inr, ◌≤◌, ℕ, suc, List, [], ◌∷◌, ◌++◌, None, refl, sym, ap, ◌∙◌, subst, length}
 use Rattle.std.specs.List.{flat_map}
-use Rattle.std.specs.Prelude.{IsTrue, All, remove, slice_index_or}
+use Rattle.std.specs.Prelude.{IsTrue, All}
 use Rattle.std.proofs.lemmas.List.Elements.{All-cons, All-nil}
 use Rattle.abl_schema.specs.Rules.{violation_of}
 use Rattle.abl_values.specs.declared.schema.TableDef.{TableDef}
@@ -10,21 +10,21 @@ use Rattle.abl_outside.specs.Files.{FileState}
 use Rattle.bound_tree.specs.Bound.{source_of}
 use Rattle.bound_tree.specs.Tree.{Source as Tree}
 use Rattle.block_code.specs.declared.code.Code.{Code}
-use Rattle.block_clients.specs.Ran.{ClientTask}
+use Rattle.block_vm.specs.ClientView.{ClientView}
 use Rattle.abl_arguments.specs.CommandLine.{ClientFiles}
 use Rattle.source_files.specs.declared.files.ClientTexts.{ClientTexts}
 use Rattle.source_files.specs.declared.files.TheConstants.{MAX_FILE_BYTES}
 use Rattle.run_report.specs.declared.refusal.Refusal.{Refusal}
 use Rattle.run_report.specs.declared.refusal.Refusal.TheVariants.{NoMemory}
 use Rattle.source_files.specs.Compiled.{schema_in, BreaksSchema, OneSourceBreaks}
-use Rattle.source_files.specs.Files.{HasText, HasInput, HaveTexts, HaveClients, OneIsNotRead, later_one, AreSame, client_files}
+use Rattle.source_files.specs.Files.{HasText, HaveTexts, HaveClients, OneIsNotRead, later_one, AreSame, client_files}
 use Rattle.abl_cli.specs.Command.{Texts, AreTrees, AreWorks, Prevents, no_file, schema_breaks, source_breaks, no_named_input, run_wants, named_inputs}
-use Rattle.run_works.specs.Works.{Work}
+use Rattle.served_works.specs.Works.{Work}
 use Rattle.abl_cli.specs.Inside.{AreBegun, IsReady, inputs_of}
-use Rattle.run_works.specs.Inside.{AreToDo}
+use Rattle.served_works.specs.Served.{AreToDo}
 use Rattle.source_files.specs.Compiled.{HaveCodes}
-use Rattle.run_works.proofs.Runs.{as_many_tasks}
-use Rattle.source_files.proofs.Causes.{still_have, still_one, unread_first, unread_later, input_texts}
+use Rattle.run_works.proofs.Runs.{as_many_clients}
+use Rattle.source_files.proofs.Causes.{still_have, still_one}
 
 -- ---- numbers of clients
 
@@ -46,10 +46,10 @@ as_many_works files schema [] (w ∷ ws) are = absurd are
 as_many_works files schema (t ∷ ts) [] are = absurd are
 as_many_works files schema (t ∷ ts) (w ∷ ws) are = ap (λ k. suc k) (as_many_works files schema ts ws are.1)
 
--- there is a task for each client
-pub tasks_of : {D : Type 0} (files : FileState) (schema : List ℕ) (cs : List ClientFiles) (units : ℕ) (denoted : SchemaData) (tasks : List (ClientTask D)) → IsReady files schema cs units denoted tasks → length tasks ≡ length cs
-tasks_of files schema cs units denoted tasks ready =
-    as_many_tasks units ready.works tasks ready.to_do ∙ as_many_works files (schema_in ready.texts.df) ready.texts.texts ready.works ready.are ∙ as_many_texts files cs ready.texts.texts ready.texts.have
+-- as many clients are begun as the arguments name
+pub begun_of : (files : FileState) (schema : List ℕ) (cs : List ClientFiles) (units : ℕ) (denoted : SchemaData) (tasks : List ClientView) → IsReady files schema cs units denoted tasks → length tasks ≡ length cs
+begun_of files schema cs units denoted tasks ready =
+    as_many_clients units ready.works tasks ready.to_do ∙ as_many_works files (schema_in ready.texts.df) ready.texts.texts ready.works ready.are ∙ as_many_texts files cs ready.texts.texts ready.texts.have
 
 -- the sources that were read are short
 pub short_sources : (files : FileState) (cs : List ClientFiles) (ts : List ClientTexts) → HaveClients files cs ts → All (λ (t : ClientTexts). length t.source ≤ MAX_FILE_BYTES) ts
@@ -80,12 +80,12 @@ denoted schema (t ∷ ts) (code ∷ codes) have =
     }
 
 -- the works of the clients that were begun
-pub record Begun {D : Type 0} (files : FileState) (schema : SchemaData) (units : ℕ) (ts : List ClientTexts) (tasks : List (ClientTask D)) : Type 0 where
+pub record Begun (files : FileState) (schema : SchemaData) (units : ℕ) (ts : List ClientTexts) (tasks : List ClientView) : Type 0 where
   pub works : List Work
   pub are : AreWorks files schema ts works
   pub to_do : AreToDo units works tasks
 
-pub begun_works : {D : Type 0} (files : FileState) (schema : SchemaData) (units : ℕ) (ts : List ClientTexts) (codes : List Code) (tasks : List (ClientTask D)) → HaveCodes schema ts codes → AreBegun files units schema.tables codes ts tasks → Begun files schema units ts tasks
+pub begun_works : (files : FileState) (schema : SchemaData) (units : ℕ) (ts : List ClientTexts) (codes : List Code) (tasks : List ClientView) → HaveCodes schema ts codes → AreBegun files units schema.tables codes ts tasks → Begun files schema units ts tasks
 begun_works files schema units [] [] [] have begun = record { works = []; are = tt; to_do = tt }
 begun_works files schema units [] [] (task ∷ tasks) have begun = absurd begun
 begun_works files schema units [] (code ∷ codes) tasks have begun = absurd have
@@ -102,7 +102,7 @@ begun_works files schema units (t ∷ ts) (code ∷ codes) (task ∷ tasks) have
     }
 
 module _ (files later : FileState) (same : AreSame files later) (sound_observable : IsTrue files.sound → IsTrue files.observable) where
-  pub still_begun : {D : Type 0} (units : ℕ) (tables : List TableDef) (codes : List Code) (ts : List ClientTexts) (tasks : List (ClientTask D)) → AreBegun later units tables codes ts tasks → AreBegun files units tables codes ts tasks
+  pub still_begun : (units : ℕ) (tables : List TableDef) (codes : List Code) (ts : List ClientTexts) (tasks : List ClientView) → AreBegun later units tables codes ts tasks → AreBegun files units tables codes ts tasks
   still_begun units tables [] [] [] begun = tt
   still_begun units tables [] [] (task ∷ tasks) begun = absurd begun
   still_begun units tables [] (t ∷ ts) tasks begun = absurd begun
@@ -152,7 +152,7 @@ module _ (files : FileState) (schema : List ℕ) (clients : List ClientFiles) (d
           no_named_input texts_of is_clean d.trees d.are (subst (λ ns. OneIsNotRead files faults ns refusal) d.inputs (still_one files later same sound_observable h))
 
       -- the clients are begun
-      pub is_ready : {D : Type 0} (units : ℕ) (denoted : SchemaData) (tasks : List (ClientTask D)) → denoted ≡ schema_in d → AreBegun later units (schema_in d).tables codes ts tasks → IsReady files schema clients units denoted tasks
+      pub is_ready : (units : ℕ) (denoted : SchemaData) (tasks : List ClientView) → denoted ≡ schema_in d → AreBegun later units (schema_in d).tables codes ts tasks → IsReady files schema clients units denoted tasks
       unfolding texts_of
       is_ready units denoted tasks schema_is begun =
           let done = begun_works files (schema_in df) units ts codes tasks are_codes (still_begun files later same sound_observable units (schema_in df).tables codes ts tasks (subst (λ t. AreBegun later units (schema_in t).tables codes ts tasks) is_df begun)) in

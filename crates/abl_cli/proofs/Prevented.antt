@@ -1,5 +1,5 @@
 -- The first cause that prevents a run is its refusal, and without one the clients run.
-use Rattle.std.proofs.Common.{◌≡◌, ◌⊎◌, inl, inr, ◌+◌, ◌<◌, ℕ, Bool, true, false, if◌then◌else◌, List, [], ◌∷◌, ◌++◌, Option, Some, None, refl, sym, ap, ◌∙◌, subst, arith, length, get_or}
+use Rattle.std.proofs.Common.{◌≡◌, inl, inr, ◌+◌, ◌<◌, ℕ, Bool, true, false, if◌then◌else◌, List, [], ◌∷◌, ◌++◌, Option, Some, None, refl, sym, ap, ◌∙◌, subst, arith, length, get_or}
 use Rattle.std.specs.List.{flat_map}
 use Rattle.std.specs.Prelude.{IsTrue, map}
 use Rattle.fault_count.specs.Faults.{Rose}
@@ -15,7 +15,7 @@ use Rattle.abl_arguments.specs.CommandLine.{Run, ClientFiles, arguments_of, clie
 use Rattle.abl_arguments.specs.declared.parts.Mode.{Mode}
 use Rattle.abl_arguments.specs.declared.parts.Mode.TheVariants.{Trace, Quiet}
 use Rattle.abl_arguments.proofs.Clients.{same_clients}
-use Rattle.abl_arguments.proofs.CheckForms.{bank_or_run, other_command}
+use Rattle.abl_cli.proofs.Marks.{run_or_bank, run_or_check, run_or_create, run_or_dump}
 use Rattle.run_report.specs.declared.refusal.Refusal.{Refusal}
 use Rattle.run_report.specs.declared.refusal.Refusal.TheVariants.{File, TooLong, Schema, Source, NoMemory}
 use Rattle.run_report.specs.declared.ending.Report.{Report}
@@ -24,9 +24,13 @@ use Rattle.source_files.specs.declared.files.ClientTexts.{ClientTexts}
 use Rattle.abl_source.specs.Sources.{BreaksRule, IsTreeOf}
 use Rattle.source_files.specs.Compiled.{schema_in, breaks_rule, source_wants, OneSourceBreaks, this_source, later_source}
 use Rattle.source_files.specs.Files.{HaveTexts, HaveClients, OneIsNotRead, client_files, input_file}
-use Rattle.abl_cli.specs.Command.{AreTrees, Texts, Prevents, no_file, schema_breaks, source_breaks, no_named_input, run_wants, AreWorks, named_inputs, run_files, client_names, wrong_argument, prevented, check_prevented, CommandResult, Refused, Ran, Checked, Banked, IsRefusal, IsInputThere, AreThere, ClientsThere, AllThere, AreSources, NamesRun}
-use Rattle.run_works.specs.Works.{Work, HasRun}
-use Rattle.run_report.specs.Ending.{refusal_after, failure_refusal, first_failure, one_lacks_memory, status_after}
+use Rattle.abl_cli.specs.Command.{AreTrees, Texts, Prevents, no_file, schema_breaks, source_breaks, no_named_input, run_wants, AreWorks, named_inputs, run_files, client_names, wrong_argument, prevented, check_prevented, create_prevented, dump_prevented, CommandResult, Refused, NotRun, Ran, Checked, Banked, Created, Dumped, IsRefusal, IsInputThere, AreThere, ClientsThere, AllThere, AreSources, NamesRun}
+use Rattle.abl_cli.specs.Undisturbed.{RunEnd, IsDone, all_well, a_client_failed, memory_was_out, disk_failed, ended, not_opened}
+use Rattle.served_works.specs.Works.{Work}
+use Rattle.run_works.specs.declared.outcome.Outcome.{Outcome as Result}
+use Rattle.run_works.specs.Disks.{DiskState}
+use Rattle.run_works.specs.Works.{HasRun}
+use Rattle.run_report.specs.Ending.{refusal_after, failure_refusal, first_failure, has_closed, one_lacks_memory, status_after}
 use Rattle.source_files.proofs.Causes.{input_texts}
 use Rattle.abl_cli.proofs.FileCauses.{wants, same_text, have_none, have_long, none_lacks, one_missing, one_long, same_violation, no_violation}
 use Rattle.abl_source.proofs.Violations.{one_rule, one_tree_of, trees_break_none}
@@ -53,14 +57,16 @@ one_run a b is_a is_b same =
 
 -- ---- how a run without faults ends
 
-fine_by : (lacks : Bool) (first : Option ℕ) (whole : Bool) → (whole ≡ false → ⊥) → let status = status_after (if lacks then Some NoMemory else failure_refusal first whole) in (status ≡ 0) ⊎ ((status ≡ 8) ⊎ (status ≡ 7))
-fine_by true first whole unbroken = inr (inr refl)
-fine_by false None true unbroken = inl refl
-fine_by false None false unbroken = absurd (unbroken refl)
-fine_by false (Some n) whole unbroken = inr (inl refl)
+module _ (report : Report) where
+  done_by : (lacks : Bool) (first : Option ℕ) (whole : Bool) → (whole ≡ false → ⊥) → report.status ≡ status_after (if lacks then Some NoMemory else failure_refusal first whole) → RunEnd report
+  done_by true first whole unbroken is = memory_was_out is
+  done_by false None true unbroken is = all_well is
+  done_by false None false unbroken is = absurd (unbroken refl)
+  done_by false (Some n) whole unbroken is = a_client_failed is
 
-fine_ends : (whole : Bool) (ends : List ClientEnd) → (whole ≡ false → ⊥) → (status_after (refusal_after ends whole) ≡ 0) ⊎ ((status_after (refusal_after ends whole) ≡ 8) ⊎ (status_after (refusal_after ends whole) ≡ 7))
-fine_ends whole ends unbroken = fine_by (one_lacks_memory ends) (first_failure 0 ends) whole unbroken
+  pub done_ends : (closed whole : Bool) (ends : List ClientEnd) → has_closed report.trace ≡ closed → (whole ≡ false → ⊥) → report.status ≡ status_after (refusal_after closed ends whole) → RunEnd report
+  done_ends true whole ends closed unbroken is = disk_failed closed is
+  done_ends false whole ends closed unbroken is = done_by (one_lacks_memory ends) (first_failure 0 ends) whole unbroken is
 
 -- ---- the texts of the clients' files
 
@@ -188,35 +194,43 @@ worked files schema (t ∷ ts) (w ∷ ws) are =
       have = have_both files w.tree.inputs (named_inputs rest.trees) w.inputs rest.texts are.0.1.1.1 rest.have;
     }
 
-module _ (arguments : List (List ℕ)) (files : FileState) (faults : ℕ) (old new : OutState) (report : Report) (run : Run) (names : NamesRun arguments files run) where
+module _ {D : Type 0} (seen : D → DiskState) (disk : D) (arguments : List (List ℕ)) (files : FileState) (faults : ℕ) (old new : OutState) (result : Result D) (run : Run) (names : NamesRun arguments files run) where
+  abbrev report : Report
+  report = result.report
+
   -- the outcome of the run that the arguments name
   data Outcome : Type 0 where
     was_prevented : (refusal : Refusal) → report.refusal ≡ Some refusal → report.status ≡ status_after (Some refusal) → Prevents files faults run.schema run.clients refusal → Outcome
     had_run : (texts : Texts files run.schema run.clients) → violation_of texts.df ≡ None → (works : List Work) → AreWorks files (schema_in texts.df) texts.texts works →
-        ((Rose old.faults new.faults → ⊥) → (report.status ≡ 0) ⊎ ((report.status ≡ 8) ⊎ (report.status ≡ 7))) → Outcome
+        ((Rose old.faults new.faults → ⊥) → IsDone seen disk (schema_in texts.df) result) → Outcome
 
-  done_well : (named : Run) (schema : SchemaData) (units : ℕ) (works : List Work) → HasRun named.mode schema (client_names named) units works old new report → (Rose old.faults new.faults → ⊥) → (report.status ≡ 0) ⊎ ((report.status ≡ 8) ⊎ (report.status ≡ 7))
+  done_well : (named : Run) (schema : SchemaData) (units : ℕ) (works : List Work) → HasRun named.mode schema (client_names named) units works (seen disk) (seen result.disk) old new report → (Rose old.faults new.faults → ⊥) → IsDone seen disk schema result
   done_well named schema units works ran quiet =
       let r = ran.reported in
-      subst (λ status. (status ≡ 0) ⊎ ((status ≡ 8) ⊎ (status ≡ 7))) (sym (r.status ∙ ap status_after r.refusal))
-      (fine_ends r.whole ran.ends (λ broken. quiet (rose_in_report arguments files faults old new report named.mode schema (client_names named) ran.ends ran.parts r broken)))
+      ended (done_ends report (has_closed report.trace) r.whole ran.ends refl (λ broken. quiet (rose_in_report seen disk arguments files faults old new result named.mode schema (client_names named) ran.ends ran.parts r broken)) (r.status ∙ ap status_after r.refusal))
 
   moved : (named : Run) → named ≡ run → (texts : Texts files named.schema named.clients) → violation_of texts.df ≡ None → (works : List Work) → AreWorks files (schema_in texts.df) texts.texts works →
-      ((Rose old.faults new.faults → ⊥) → (report.status ≡ 0) ⊎ ((report.status ≡ 8) ⊎ (report.status ≡ 7))) → Outcome
+      ((Rose old.faults new.faults → ⊥) → IsDone seen disk (schema_in texts.df) result) → Outcome
   moved named same =
       subst
       (λ (r : Run). (texts : Texts files r.schema r.clients) → violation_of texts.df ≡ None → (works : List Work) → AreWorks files (schema_in texts.df) texts.texts works →
-      ((Rose old.faults new.faults → ⊥) → (report.status ≡ 0) ⊎ ((report.status ≡ 8) ⊎ (report.status ≡ 7))) → Outcome)
+      ((Rose old.faults new.faults → ⊥) → IsDone seen disk (schema_in texts.df) result) → Outcome)
       (sym same) had_run
 
-  outcome : CommandResult arguments files faults old new report → Outcome
-  outcome (Refused given refusal (wrong_argument wrong) is) = absurd (wrong_or_formed arguments _ wrong (inl (run, (names.is_run, names.arguments_are))))
-  outcome (Refused given refusal (prevented other is_other are prevents) is) =
+  outcome : CommandResult seen disk arguments files faults old new result → Outcome
+  outcome (Refused given refusal (wrong_argument wrong) same_disk is) = absurd (wrong_or_formed arguments _ wrong (inl (run, (names.is_run, names.arguments_are))))
+  outcome (Refused given refusal (prevented other is_other are prevents) same_disk is) =
       was_prevented refusal is.refusal is.status
       (subst (λ (r : Run). Prevents files faults r.schema r.clients refusal) (one_run other run is_other names.is_run (sym are ∙ names.arguments_are)) prevents)
-  outcome (Refused given refusal (check_prevented check is_check are prevents) is) = absurd (other_command (sym names.arguments_are ∙ are))
-  outcome (Checked check is_check are listings listed told) = absurd (other_command (sym names.arguments_are ∙ are))
-  outcome (Banked bank is_bank are result) = absurd (bank_or_run (sym are ∙ names.arguments_are))
+  outcome (Refused given refusal (check_prevented check is_check are prevents) same_disk is) = absurd (run_or_check arguments run check names.arguments_are are)
+  outcome (Refused given refusal (create_prevented named is_create are prevents) same_disk is) = absurd (run_or_create arguments run named names.arguments_are are)
+  outcome (Refused given refusal (dump_prevented named is_dump are prevents) same_disk is) = absurd (run_or_dump arguments run named names.arguments_are are)
+  outcome (Checked check is_check are listings listed same_disk told) = absurd (run_or_check arguments run check names.arguments_are are)
+  outcome (Banked bank is_bank are did) = absurd (run_or_bank arguments run bank names.arguments_are are)
+  outcome (Created named is_create are schema has did) = absurd (run_or_create arguments run named names.arguments_are are)
+  outcome (Dumped named is_dump are schema table has did) = absurd (run_or_dump arguments run named names.arguments_are are)
+  outcome (NotRun named is_named are texts clean works worked not_run) =
+      moved named (one_run named run is_named names.is_run (sym are ∙ names.arguments_are)) texts clean works worked (λ quiet. not_opened not_run.refusal not_run.reported.refusal not_run.reported.status not_run.cause)
   outcome (Ran named is_named are texts clean works worked ran) =
       moved named (one_run named run is_named names.is_run (sym are ∙ names.arguments_are)) texts clean works worked (done_well named (schema_in texts.df) _ works ran)
 
@@ -245,11 +259,11 @@ module _ (arguments : List (List ℕ)) (files : FileState) (faults : ℕ) (old n
     file_is : {want : Refusal} → ((refusal : Refusal) → OneIsNotRead files faults (before ++ name ∷ after) refusal → IsRefusal (Some refusal) want) → ((texts : List (List ℕ)) → HaveTexts files (before ++ name ∷ after) texts → ⊥) → Outcome → IsRefusal report.refusal want
     file_is by none = refusal_by (λ refusal prevents. file_by (by refusal) none prevents) (λ texts clean works done. not_all none texts)
 
-    pub no_file_is_reported : CommandResult arguments files faults old new report → files.file name ≡ None → IsRefusal report.refusal (File name)
+    pub no_file_is_reported : CommandResult seen disk arguments files faults old new result → files.file name ≡ None → IsRefusal report.refusal (File name)
     no_file_is_reported did none =
         file_is (λ refusal h. one_missing files names.observable names.sound faults before after are none h) (λ texts have. have_none files names.observable names.sound before after texts none have) (outcome did)
 
-    pub long_file_is_reported : {text : List ℕ} → CommandResult arguments files faults old new report → files.file name ≡ Some text → MAX_FILE_BYTES < length text → IsRefusal report.refusal (TooLong name MAX_FILE_BYTES)
+    pub long_file_is_reported : {text : List ℕ} → CommandResult seen disk arguments files faults old new result → files.file name ≡ Some text → MAX_FILE_BYTES < length text → IsRefusal report.refusal (TooLong name MAX_FILE_BYTES)
     long_file_is_reported did there long =
         file_is (λ refusal h. one_long files names.observable names.sound faults before after are there long h) (λ texts have. have_long files names.observable names.sound before after texts there long have) (outcome did)
 
@@ -284,7 +298,7 @@ module _ (arguments : List (List ℕ)) (files : FileState) (faults : ℕ) (old n
     schema_by broken (no_named_input texts clean trees are h) = let both = sym (schema_read texts ∙ broken) ∙ clean in absurd (cc both)
     schema_by broken run_wants = inr refl
 
-    pub broken_schema_is_reported : {rule : Rule} {line : ℕ} → CommandResult arguments files faults old new report → violation_of df ≡ Some (record { rule = rule; line = line }) → IsRefusal report.refusal (Schema rule line)
+    pub broken_schema_is_reported : {rule : Rule} {line : ℕ} → CommandResult seen disk arguments files faults old new result → violation_of df ≡ Some (record { rule = rule; line = line }) → IsRefusal report.refusal (Schema rule line)
     broken_schema_is_reported did broken =
         refusal_by (λ refusal prevents. schema_by broken prevents) (λ texts clean works are. let both = sym (schema_read texts ∙ broken) ∙ clean in cc both) (outcome did)
 
@@ -313,7 +327,7 @@ module _ (arguments : List (List ℕ)) (files : FileState) (faults : ℕ) (old n
         source_by (no_named_input texts fine found denote h) = absurd (no_trees texts.texts before found (split_sources texts) (its_trees texts found denote))
         source_by run_wants = inr refl
 
-        pub broken_source_is_reported : CommandResult arguments files faults old new report → IsRefusal report.refusal (Source (length before) rule place)
+        pub broken_source_is_reported : CommandResult seen disk arguments files faults old new result → IsRefusal report.refusal (Source (length before) rule place)
         broken_source_is_reported did = refusal_by (λ refusal prevents. source_by prevents) (λ texts fine works h. no_works texts works h) (outcome did)
 
       -- ---- all sources denote trees
@@ -338,12 +352,12 @@ module _ (arguments : List (List ℕ)) (files : FileState) (faults : ℕ) (old n
               let done = worked files (schema_in texts.df) texts.texts works h in
               none done.texts (subst (λ ns. HaveTexts files ns done.texts) (ap named_inputs (same_trees texts done.trees done.are) ∙ split) done.have)
 
-          pub no_named_is_reported : CommandResult arguments files faults old new report → files.file name ≡ None → IsRefusal report.refusal (File name)
+          pub no_named_is_reported : CommandResult seen disk arguments files faults old new result → files.file name ≡ None → IsRefusal report.refusal (File name)
           no_named_is_reported did none =
               refusal_by (λ refusal prevents. named_by (λ h. one_missing files names.observable names.sound faults before after are_there none h) prevents)
               (λ texts fine works h. not_worked (λ ts have. have_none files names.observable names.sound before after ts none have) texts works h) (outcome did)
 
-          pub long_named_is_reported : {text : List ℕ} → CommandResult arguments files faults old new report → files.file name ≡ Some text → MAX_FILE_BYTES < length text → IsRefusal report.refusal (TooLong name MAX_FILE_BYTES)
+          pub long_named_is_reported : {text : List ℕ} → CommandResult seen disk arguments files faults old new result → files.file name ≡ Some text → MAX_FILE_BYTES < length text → IsRefusal report.refusal (TooLong name MAX_FILE_BYTES)
           long_named_is_reported did there_is long =
               refusal_by (λ refusal prevents. named_by (λ h. one_long files names.observable names.sound faults before after are_there there_is long h) prevents)
               (λ texts fine works h. not_worked (λ ts have. have_long files names.observable names.sound before after ts there_is long have) texts works h) (outcome did)
@@ -358,9 +372,9 @@ module _ (arguments : List (List ℕ)) (files : FileState) (faults : ℕ) (old n
           only_memory {refusal} (no_named_input texts fine found denote h) = none_lacks files names.observable names.sound faults (named_inputs trees) inputs_there (subst (λ ns. OneIsNotRead files faults ns refusal) (ap named_inputs (same_trees texts found denote)) h)
           only_memory run_wants = refl
 
-          fine_by_outcome : (Rose old.faults new.faults → ⊥) → Outcome → (report.status ≡ 0) ⊎ ((report.status ≡ 8) ⊎ (report.status ≡ 7))
-          fine_by_outcome quiet (was_prevented refusal given status prevents) = inr (inr (status ∙ ap (λ r. status_after (Some r)) (only_memory prevents)))
-          fine_by_outcome quiet (had_run texts fine works h well) = well quiet
+          done_by_outcome : (Rose old.faults new.faults → ⊥) → Outcome → IsDone seen disk (schema_in df) result
+          done_by_outcome quiet (was_prevented refusal given status prevents) = ended (memory_was_out (status ∙ ap (λ r. status_after (Some r)) (only_memory prevents)))
+          done_by_outcome quiet (had_run texts fine works h well) = subst (λ (d : List ℕ). IsDone seen disk (schema_in d) result) (same_df texts) (well quiet)
 
-          pub run_is_done : CommandResult arguments files faults old new report → (Rose old.faults new.faults → ⊥) → (report.status ≡ 0) ⊎ ((report.status ≡ 8) ⊎ (report.status ≡ 7))
-          run_is_done did quiet = fine_by_outcome quiet (outcome did)
+          pub run_is_done : CommandResult seen disk arguments files faults old new result → (Rose old.faults new.faults → ⊥) → IsDone seen disk (schema_in df) result
+          run_is_done did quiet = done_by_outcome quiet (outcome did)

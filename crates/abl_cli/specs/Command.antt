@@ -1,49 +1,36 @@
--- The result of a command: it was refused by the first cause that prevented it, or it ran.
-use Rattle.std.specs.Prelude.{◌≡◌, ◌⊎◌, ◌+◌, ◌<◌, ◌≤◌, ℕ, All, length, map, Bool, true, false, if◌then◌else◌, IsTrue, List, [], ◌∷◌, Option, Some, None}
+-- The result of a command: it was refused by the first cause that prevented it, or it did its work on the disk.
+use Rattle.std.specs.Prelude.{◌≡◌, ◌⊎◌, ◌≤◌, ℕ, length, map, Bool, IsTrue, List, [], ◌∷◌, Option, Some, None}
 use Rattle.std.specs.List.{flat_map}
-use Rattle.fault_count.specs.Faults.{Rose}
-use Rattle.abl_base.specs.declared.rule.Rule.{Rule}
-use Rattle.abl_base.specs.declared.place.Place.{Place}
 use Rattle.abl_schema.specs.Rules.{violation_of}
-use Rattle.abl_schema.specs.Meaning.{schema_of}
-use Rattle.schema_lines.specs.Files.{items_of}
-use Rattle.abl_outside.specs.declared.out.Stream.TheVariants.{Output as Standard, Diagnostics}
-use Rattle.abl_outside.specs.Files.{FileState, IsLonger}
-use Rattle.database_meaning.specs.Traces.{IsLegal}
-use Rattle.new_database.specs.Contents.{new_contents}
-use Rattle.client_database.specs.declared.ends.ClientEnd.{ClientEnd}
-use Rattle.client_database.specs.declared.ends.ClientEnd.TheVariants as end
+use Rattle.abl_outside.specs.declared.out.Stream.TheVariants.{Output as Standard}
+use Rattle.abl_outside.specs.Files.{FileState}
 use Rattle.bound_tree.specs.Tree.{Source as Tree}
-use Rattle.abl_source.specs.Sources.{BreaksRule, IsTreeOf}
-use Rattle.bound_tree.specs.Bound.{source_of}
-use Rattle.bound_tree.specs.declared.procedure.Bound.{Bound}
-use Rattle.block_code.specs.declared.code.Code.{Code}
-use Rattle.block_code.specs.Code.{IsCompiled}
-use Rattle.abl_eval.specs.Forms.{AreForms}
-use Rattle.abl_format.specs.Imports.{line_at}
-use Rattle.block_meaning.specs.Program.{Program}
-use Rattle.block_meaning.specs.Meaning.{run}
-use Rattle.client_database.specs.declared.event.Event.{Event}
+use Rattle.abl_source.specs.Sources.{IsTreeOf}
 use Rattle.client_output.specs.declared.section.Section.{Section}
 use Rattle.run_report.specs.declared.refusal.Refusal.{Refusal}
-use Rattle.run_report.specs.declared.refusal.Refusal.TheVariants.{Usage, File, TooLong, Schema, Source, Client, Output, NoMemory}
+use Rattle.run_report.specs.declared.refusal.Refusal.TheVariants.{Usage, NoMemory}
 use Rattle.run_report.specs.declared.ending.Report.{Report}
 use Rattle.source_files.specs.declared.files.TheConstants.{MAX_FILE_BYTES}
 use Rattle.source_files.specs.declared.files.ClientTexts.{ClientTexts}
-use Rattle.abl_arguments.specs.CommandLine.{Run, ClientFiles, IsRun, arguments_of, Check, IsCheck, check_arguments, Bank, IsBank, bank_arguments, IsWrong, number_of}
+use Rattle.abl_arguments.specs.CommandLine.{Run, ClientFiles, IsRun, arguments_of, Check, IsCheck, check_arguments, Bank, IsBank, bank_arguments, Create, IsCreate, create_arguments, Dump, IsDump, dump_arguments, IsWrong, number_of}
 use Rattle.bank_inputs.specs.declared.bank.Bank.{Bank as BankNumbers}
 use Rattle.bank_run.specs.Texts.{bank_names}
 use Rattle.bank_run.specs.Result.{BankResult}
 use Rattle.source_files.specs.Files.{HasText, HaveClients, HaveTexts, IsNotRead, OneIsNotRead, client_files}
 use Rattle.source_files.specs.Compiled.{BreaksSchema, OneSourceBreaks, schema_in}
 use Rattle.run_report.specs.Ending.{IsRefused, WritesStatus, output_refusal, status_after}
-use Rattle.run_works.specs.Works.{HasRun, Work}
+use Rattle.run_works.specs.declared.outcome.Outcome.{Outcome}
+use Rattle.run_works.specs.Disks.{DiskState}
+use Rattle.served_works.specs.Works.{Work}
+use Rattle.run_works.specs.Works.{HasNotRun, HasRun}
 use Rattle.abl_cli.specs.Check.{HaveListings, OneBreaks, check_text}
-use Rattle.abl_arguments.specs.declared.parts.Mode.{Mode}
-use Rattle.abl_values.specs.declared.schema.TableDef.{TableDef}
-use Rattle.abl_values.specs.Schema.{SchemaData}
-use Rattle.run_report.specs.Report.{reports, run_text, status_lines, status_of}
-use Rattle.run_works.specs.ClientRun.{ClientOutcome, own_events}
+use Rattle.abl_cli.specs.Stored.{CreateResult, DumpResult, HasSchema, HasTable, PreventsDump, PreventsSchema}
+use Rattle.abl_values.specs.Schema.{SchemaData, primary_of}
+use Rattle.abl_rows.specs.declared.store.FoundRow.{FoundRow}
+use Rattle.log_meaning.specs.Images.{Recovers}
+use Rattle.stored_rows.specs.Decoded.{decoded}
+use Rattle.table_dump.specs.Order.{AreAll, export_lines}
+use Rattle.run_report.specs.Report.{reports, run_text}
 use Rattle.abl_outside.specs.Out.{OutState, Writes, appended}
 
 -- the files that a run reads before the rules are looked at, in order
@@ -111,11 +98,13 @@ AreWorks files schema (t ∷ ts) (w ∷ ws) = (IsTreeOf schema t.source w.tree �
 abbrev pub client_names : Run → List (List ℕ)
 client_names run = map (λ (c : ClientFiles). c.name) run.clients
 
--- why a command was refused before a run began: the arguments have no form, or they name a run or a check that is prevented
+-- why a command was refused before it came to the disk: the arguments have no form, or they name a command that is prevented
 pub data Cause (arguments : List (List ℕ)) (files : FileState) (faults : ℕ) : List (List ℕ) → Refusal → Type 0 where
   wrong_argument : {names : List (List ℕ)} {arg : ℕ} → IsWrong arguments arg → Cause arguments files faults names (Usage arg)
   prevented : {refusal : Refusal} (run : Run) → IsRun run → arguments ≡ arguments_of run → Prevents files faults run.schema run.clients refusal → Cause arguments files faults (client_names run) refusal
   check_prevented : {refusal : Refusal} (check : Check) → IsCheck check → arguments ≡ check_arguments check → PreventsCheck files faults check refusal → Cause arguments files faults check.programs refusal
+  create_prevented : {refusal : Refusal} (create : Create) → IsCreate create → arguments ≡ create_arguments create → PreventsSchema files faults create.schema refusal → Cause arguments files faults [] refusal
+  dump_prevented : {refusal : Refusal} (dump : Dump) → IsDump dump → arguments ≡ dump_arguments dump → PreventsDump files faults dump refusal → Cause arguments files faults [] refusal
 
 -- the report of a check of the sources of these names with these listings: its text is on standard output, or a prefix where a write
 -- failed, and then the line on standard error
@@ -133,21 +122,31 @@ pub record HasChecked (names listings : List (List ℕ)) (old new : OutState) (r
 abbrev pub bank_of : Bank → BankNumbers
 bank_of bank = record { start = number_of bank.start; clients = number_of bank.clients; accounts = number_of bank.accounts; transfers = number_of bank.transfers }
 
--- the result of a command: the arguments, the files before it and their count of faults after it, the streams before and after it,
--- and its report
-pub data CommandResult (arguments : List (List ℕ)) (files : FileState) (faults : ℕ) (old new : OutState) (report : Report) : Type 0 where
-  -- it was refused before a run began
-  Refused : (names : List (List ℕ)) (refusal : Refusal) → Cause arguments files faults names refusal → IsRefused names refusal old new report →
-      CommandResult arguments files faults old new report
-  -- it ran the clients that the arguments name, over a schema that breaks no rule
+-- THE RESULT OF A COMMAND: the disk as contracts see it and as it was given, the arguments, the files before the command and their count of
+-- faults after it, the streams before and after it, and what it did, with the disk that it hands back
+pub data CommandResult {D : Type 0} (seen : D → DiskState) (disk : D) (arguments : List (List ℕ)) (files : FileState) (faults : ℕ) (old new : OutState) (outcome : Outcome D) : Type 0 where
+  -- it was refused before it came to the disk, which is as it was
+  Refused : (names : List (List ℕ)) (refusal : Refusal) → Cause arguments files faults names refusal → outcome.disk ≡ disk → IsRefused names refusal old new outcome.report →
+      CommandResult seen disk arguments files faults old new outcome
+  -- it opened no database for the clients that the arguments name, over a schema and sources that break no rule
+  NotRun : (named : Run) → IsRun named → arguments ≡ arguments_of named →
+      (texts : Texts files named.schema named.clients) → violation_of texts.df ≡ None → (works : List Work) → AreWorks files (schema_in texts.df) texts.texts works →
+      HasNotRun (schema_in texts.df) (client_names named) (seen disk) (seen outcome.disk) old new outcome.report → CommandResult seen disk arguments files faults old new outcome
+  -- it ran these clients
   Ran : (named : Run) → IsRun named → arguments ≡ arguments_of named →
       (texts : Texts files named.schema named.clients) → violation_of texts.df ≡ None → (works : List Work) → AreWorks files (schema_in texts.df) texts.texts works →
-      HasRun named.mode (schema_in texts.df) (client_names named) (number_of named.steps) works old new report → CommandResult arguments files faults old new report
-  -- it listed the sources that the arguments name, over a schema that breaks no rule
-  Checked : (check : Check) → IsCheck check → arguments ≡ check_arguments check → (listings : List (List ℕ)) → AreListed files check listings → HasChecked check.programs listings old new report →
-      CommandResult arguments files faults old new report
+      HasRun named.mode (schema_in texts.df) (client_names named) (number_of named.steps) works (seen disk) (seen outcome.disk) old new outcome.report → CommandResult seen disk arguments files faults old new outcome
+  -- it listed the sources that the arguments name, over a schema that breaks no rule; the disk is as it was
+  Checked : (check : Check) → IsCheck check → arguments ≡ check_arguments check → (listings : List (List ℕ)) → AreListed files check listings → outcome.disk ≡ disk → HasChecked check.programs listings old new outcome.report →
+      CommandResult seen disk arguments files faults old new outcome
   -- it was a bank, whatever the files are
-  Banked : (bank : Bank) → IsBank bank → arguments ≡ bank_arguments bank → BankResult (bank_of bank) old new report → CommandResult arguments files faults old new report
+  Banked : (bank : Bank) → IsBank bank → arguments ≡ bank_arguments bank → BankResult (bank_of bank) seen disk old new outcome → CommandResult seen disk arguments files faults old new outcome
+  -- it made the database of the schema that the arguments name, or could not
+  Created : (create : Create) → IsCreate create → arguments ≡ create_arguments create → (schema : SchemaData) → HasSchema files create.schema schema → CreateResult schema (seen disk) (seen outcome.disk) old new outcome.report →
+      CommandResult seen disk arguments files faults old new outcome
+  -- it wrote the rows of the table that the arguments name, or could not
+  Dumped : (dump : Dump) → IsDump dump → arguments ≡ dump_arguments dump → (schema : SchemaData) (table : ℕ) → HasTable files dump schema table → DumpResult schema table (seen disk) (seen outcome.disk) old new outcome.report →
+      CommandResult seen disk arguments files faults old new outcome
 
 -- ---- for laws
 
@@ -160,15 +159,19 @@ abbrev pub IsUsage : Option Refusal → Type 0
 IsUsage (Some (Usage arg)) = Unit {0}
 IsUsage refusal = ⊥
 
--- the whole text of a command was appended to standard output, and nothing to standard error: that of the run, the bank or the check that
--- the arguments name
-pub data HasWholeText (arguments : List (List ℕ)) (files : FileState) (report : Report) (old new : OutState) : Type 0 where
+-- the whole text of a command was appended to standard output, and nothing to standard error: that of the run, the bank, the check or the dump
+-- that the arguments name. A creation has none
+pub data HasWholeText {D : Type 0} (seen : D → DiskState) (disk : D) (arguments : List (List ℕ)) (files : FileState) (report : Report) (old new : OutState) : Type 0 where
   of_run : (run : Run) → arguments ≡ arguments_of run → (texts : Texts files run.schema run.clients) → (parts : List (List Section)) →
-      new.texts ≡ appended Standard (run_text run.mode (schema_in texts.df) (client_names run) parts report.trace) old.texts → HasWholeText arguments files report old new
+      new.texts ≡ appended Standard (run_text run.mode (schema_in texts.df) (client_names run) parts report.trace) old.texts → HasWholeText seen disk arguments files report old new
   of_bank : (bank : Bank) → arguments ≡ bank_arguments bank → (parts : List (List Section)) →
-      new.texts ≡ appended Standard (reports (bank_names (number_of bank.clients)) parts) old.texts → HasWholeText arguments files report old new
+      new.texts ≡ appended Standard (reports (bank_names (number_of bank.clients)) parts) old.texts → HasWholeText seen disk arguments files report old new
   of_check : (check : Check) → arguments ≡ check_arguments check → (listings : List (List ℕ)) → AreListed files check listings → new.texts ≡ appended Standard (check_text check.programs listings) old.texts →
-      HasWholeText arguments files report old new
+      HasWholeText seen disk arguments files report old new
+  of_create : (create : Create) → arguments ≡ create_arguments create → new.texts ≡ old.texts → HasWholeText seen disk arguments files report old new
+  of_dump : (dump : Dump) → arguments ≡ dump_arguments dump → (schema : SchemaData) (table : ℕ) → HasTable files dump schema table → (list : List FoundRow) →
+      (IsTrue (seen disk).observable → (slots : ℕ → List ℕ) → Recovers (seen disk).seen slots → AreAll schema (decoded schema slots) table (primary_of schema table) None list) →
+      new.texts ≡ appended Standard (export_lines list) old.texts → HasWholeText seen disk arguments files report old new
 
 -- the arguments name the run, and the files are observable and fail for a missing file alone
 pub record NamesRun (arguments : List (List ℕ)) (files : FileState) (run : Run) : Type 0 where

@@ -6,36 +6,45 @@ use Rattle.abl_values.specs.declared.schema.TableDef.{TableDef}
 use Rattle.abl_values.specs.Schema.{SchemaData}
 use Rattle.abl_outside.specs.Files.{FileState}
 use Rattle.block_code.specs.declared.code.Code.{Code}
-use Rattle.block_clients.specs.Ran.{ClientTask}
-use Rattle.abl_arguments.specs.CommandLine.{ClientFiles}
+use Rattle.block_vm.specs.ClientView.{ClientView}
 use Rattle.source_files.specs.declared.files.ClientTexts.{ClientTexts}
 use Rattle.source_files.specs.Files.{HaveTexts}
 use Rattle.source_files.specs.Compiled.{schema_in}
-use Rattle.run_works.specs.Works.{Work}
-use Rattle.run_works.specs.Inside.{AreToDo, IsClientOf}
-use Rattle.abl_cli.specs.Command.{AreWorks, Texts}
+use Rattle.served_works.specs.Works.{Work}
+use Rattle.served_works.specs.Served.{AreToDo, IsClientOf}
+use Rattle.abl_outside.specs.Out.{OutState}
+use Rattle.abl_arguments.specs.CommandLine.{Check, ClientFiles}
+use Rattle.run_report.specs.declared.ending.Report.{Report}
+use Rattle.run_report.specs.declared.refusal.Refusal.{Refusal}
+use Rattle.run_report.specs.Ending.{IsRefused}
+use Rattle.abl_cli.specs.Command.{AreListed, AreWorks, HasChecked, PreventsCheck, Texts}
 
 -- the files after INPUT FROM that the codes name, in order
 abbrev pub inputs_of : List Code → List (List ℕ)
 inputs_of codes = flat_map (λ (code : Code). code.inputs.items) codes
 
 -- the client is to run what the code denotes over these tables, with this input and the files that the code names
-pub record IsBegun {D : Type 0} (files : FileState) (units : ℕ) (tables : List TableDef) (code : Code) (input : List ℕ) (task : ClientTask D) : Type 0 where
+pub record IsBegun (files : FileState) (units : ℕ) (tables : List TableDef) (code : Code) (input : List ℕ) (client : ClientView) : Type 0 where
   pub inputs : List (List ℕ)
   pub have : HaveTexts files code.inputs.items inputs
-  pub to_run : IsClientOf units tables code input inputs task
+  pub to_run : IsClientOf units tables code input inputs client
 
 -- and so is each of these clients
-abbrev pub AreBegun : {D : Type 0} → FileState → ℕ → List TableDef → List Code → List ClientTexts → List (ClientTask D) → Type 0
+abbrev pub AreBegun : FileState → ℕ → List TableDef → List Code → List ClientTexts → List ClientView → Type 0
 AreBegun files units tables [] [] [] = Unit {0}
-AreBegun files units tables (code ∷ codes) (t ∷ ts) (task ∷ tasks) = IsBegun files units tables code t.input task × AreBegun files units tables codes ts tasks
-AreBegun files units tables codes ts tasks = ⊥
+AreBegun files units tables (code ∷ codes) (t ∷ ts) (client ∷ clients) = IsBegun files units tables code t.input client × AreBegun files units tables codes ts clients
+AreBegun files units tables codes ts clients = ⊥
 
 -- the files are read, the schema breaks no rule and is this one, and the clients are to do the works that the texts denote
-pub record IsReady {D : Type 0} (files : FileState) (schema : List ℕ) (clients : List ClientFiles) (units : ℕ) (denoted : SchemaData) (tasks : List (ClientTask D)) : Type 0 where
+pub record IsReady (files : FileState) (schema : List ℕ) (clients : List ClientFiles) (units : ℕ) (denoted : SchemaData) (begun : List ClientView) : Type 0 where
   pub texts : Texts files schema clients
   pub clean : violation_of texts.df ≡ None
   pub schema_is : denoted ≡ schema_in texts.df
   pub works : List Work
   pub are : AreWorks files (schema_in texts.df) texts.texts works
-  pub to_do : AreToDo units works tasks
+  pub to_do : AreToDo units works begun
+
+-- the result of a check, whatever the disk is
+pub data CheckResult (check : Check) (files : FileState) (faults : ℕ) (old new : OutState) (report : Report) : Type 0 where
+  HasListed : (listings : List (List ℕ)) → AreListed files check listings → HasChecked check.programs listings old new report → CheckResult check files faults old new report
+  HasNotListed : (refusal : Refusal) → PreventsCheck files faults check refusal → IsRefused check.programs refusal old new report → CheckResult check files faults old new report

@@ -1,4 +1,6 @@
 pub mod Check
+pub mod Stored
 pub mod Command
 pub mod CheckFiles
+pub mod Undisturbed
 pub mod Inside

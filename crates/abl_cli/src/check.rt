@@ -5,8 +5,9 @@ ghost use Rattle.abl_outside.specs.declared.out.Stream.{Stream};
 ghost use Rattle.abl_outside.specs.Out.{Writes};
 ghost use Rattle.abl_schema.specs.Rules.{violation_of};
 ghost use Rattle.abl_cli.specs.Check.{BreaksProgram, HaveListings, IsListing, OneBreaks, check_text};
-ghost use Rattle.abl_arguments.specs.CommandLine.{NamesCheck, check_of};
-ghost use Rattle.abl_cli.specs.Command.{AreListed, CommandResult, HasChecked, PreventsCheck};
+ghost use Rattle.abl_arguments.specs.CommandLine.{check_of};
+ghost use Rattle.abl_cli.specs.Command.{AreListed, HasChecked, PreventsCheck};
+ghost use Rattle.abl_cli.specs.Inside.{CheckResult};
 ghost use Rattle.source_files.specs.Compiled.{BreaksSchema, schema_in};
 
 use abl_arguments::{Arg, CheckArguments};
@@ -25,13 +26,12 @@ use std::alloc::Global;
 /// Lists the blocks of the sources that the arguments name. It reads no input and opens no database.
 pub fn check_sources<F: Files, O: Out>(
     alloc: Global,
-    arguments: &[Arg],
     files: &mut F,
     out: &mut O,
     check: &CheckArguments<'_>,
 ) -> Report
-    requires { NamesCheck arguments.now check.now }
-    ensures { CommandResult arguments.now (F.state files.old) (F.state files.new).faults (O.state out.old) (O.state out.new) result }
+    requires { length check.now.programs.now ≤ 16 }
+    ensures { CheckResult (check_of check.now) (F.state files.old) (F.state files.new).faults (O.state out.old) (O.state out.new) result }
 {
     match listings_of(alloc, files, check) {
         Err(refusal) => refused(alloc, out, check.programs, refusal),

@@ -1,57 +1,88 @@
-//! One run, from the arguments to the report.
+//! One command, from the arguments to the report.
 
 ghost use Rattle.std.specs.Prelude.{ℕ};
 ghost use Rattle.abl_outside.specs.Files.{FileState};
-ghost use Rattle.abl_arguments.specs.CommandLine.{Names, NamesBank};
+ghost use Rattle.abl_arguments.specs.CommandLine.{Names, NamesBank, NamesCheck};
+ghost use Rattle.run_works.specs.Disks.{state_of};
 ghost use Rattle.abl_cli.specs.Command.{CommandResult};
 
 use crate::check::check_sources;
 use crate::clients::{clients_of, names_of};
+use crate::creating::create_schema;
+use crate::dumping::dump_table;
 use crate::load::{Loaded, load};
-use abl_arguments::{Arg, BankArguments, Command, RunArguments, read_command};
+use abl_arguments::{Arg, BankArguments, CheckArguments, Command, RunArguments, read_command};
 use abl_outside::{Files, Gate, Out};
+use abl_storage::Disk;
 use bank_inputs::Bank;
 use bank_run::run_bank;
-use run_report::{Refusal, Report, ReportForm, refused};
-use run_works::execute;
+use run_report::{Refusal, ReportForm, refused};
+use run_works::{Outcome, execute};
 use std::alloc::Global;
 use std::sync::Wait;
 use std::thread::Threads;
 
-/// Does what the arguments say. `run` reads the schema file, the sources and the inputs, compiles the
-/// sources, and runs each client on a thread of its own over one new database. `check` reads the schema
-/// file and the sources, and lists the blocks of each source. `bank` reads no file, and runs clients that
-/// transfer amounts between accounts. It writes the report to standard output and the lines of the
-/// status to standard error. A client comes to the gate before each of its steps.
-pub fn run_abl<R: Threads + Wait + Sync, F: Files, O: Out, G: Gate + Sync>(
+/// Does what the arguments say with the database on the disk, and hands the disk back in every case.
+/// `create` makes the database of a schema file. `run` reads the schema file, the sources and the
+/// inputs, compiles the sources, opens the database, and runs each client on a thread of its own over
+/// it. `check` reads the schema file and the sources, and lists the blocks of each source. `dump`
+/// writes the committed rows of a table. `bank` reads no file, and runs clients that transfer amounts
+/// between accounts. The report is written to standard output, and the lines of the status to standard
+/// error. A client comes to the gate before each of its steps.
+pub fn run_abl<R: Threads + Wait + Sync, F: Files, D: Disk + Send + Drop, O: Out, G: Gate + Sync>(
     rt: &R,
     alloc: Global,
     arguments: &[Arg],
     files: &mut F,
+    disk: D,
     out: &mut O,
     gate: &G,
-) -> Report
-    ensures { CommandResult arguments.now (F.state files.old) (F.state files.new).faults (O.state out.old) (O.state out.new) result }
+) -> Outcome<D>
+    ensures { CommandResult (state_of D.Disk) disk arguments.now (F.state files.old) (F.state files.new).faults (O.state out.old) (O.state out.new) result }
 {
     match read_command(arguments) {
-        Err(argument) => refused(alloc, out, &[], Refusal::Usage { argument }),
-        Ok(Command::Run(run)) => run_sources(rt, alloc, arguments, files, out, gate, &run),
-        Ok(Command::Bank(bank)) => run_bank_of(rt, alloc, arguments, out, gate, bank),
-        Ok(Command::Check(check)) => check_sources(alloc, arguments, files, out, &check),
+        Err(argument) => {
+            let report = refused(alloc, out, &[], Refusal::Usage { argument });
+            Outcome { report, disk }
+        }
+        Ok(Command::Create(create)) => {
+            create_schema(alloc, arguments, files, disk, out, &create)
+        }
+        Ok(Command::Run(run)) => run_sources(rt, alloc, arguments, files, disk, out, gate, &run),
+        Ok(Command::Check(check)) => list_sources(alloc, arguments, files, disk, out, &check),
+        Ok(Command::Dump(dump)) => dump_table(alloc, arguments, files, disk, out, &dump),
+        Ok(Command::Bank(bank)) => run_bank_of(rt, alloc, arguments, disk, out, gate, bank),
     }
 }
 
+/// Lists the sources that the arguments name. It does not come to the disk.
+fn list_sources<F: Files, D: Disk + Drop, O: Out>(
+    alloc: Global,
+    arguments: &[Arg],
+    files: &mut F,
+    disk: D,
+    out: &mut O,
+    check: &CheckArguments<'_>,
+) -> Outcome<D>
+    requires { NamesCheck arguments.now check.now }
+    ensures { CommandResult (state_of D.Disk) disk arguments.now (F.state files.old) (F.state files.new).faults (O.state out.old) (O.state out.new) result }
+{
+    let report = check_sources(alloc, files, out, check);
+    Outcome { report, disk }
+}
+
 /// Runs the bank that the arguments name. It reads no file.
-fn run_bank_of<R: Threads + Wait + Sync, O: Out, G: Gate + Sync>(
+fn run_bank_of<R: Threads + Wait + Sync, D: Disk + Send + Drop, O: Out, G: Gate + Sync>(
     rt: &R,
     alloc: Global,
     arguments: &[Arg],
+    disk: D,
     out: &mut O,
     gate: &G,
     read: BankArguments,
-) -> Report
+) -> Outcome<D>
     requires { NamesBank arguments.now read }
-    ensures { (files : FileState) (faults : ℕ) → CommandResult arguments.now files faults (O.state out.old) (O.state out.new) result }
+    ensures { (files : FileState) (faults : ℕ) → CommandResult (state_of D.Disk) disk arguments.now files faults (O.state out.old) (O.state out.new) result }
 {
     let bank = Bank {
         start: read.start,
@@ -59,42 +90,48 @@ fn run_bank_of<R: Threads + Wait + Sync, O: Out, G: Gate + Sync>(
         accounts: read.accounts,
         transfers: read.transfers,
     };
-    run_bank(rt, alloc, out, gate, bank)
+    run_bank(rt, alloc, disk, out, gate, bank)
 }
 
 /// Runs the clients that the arguments name.
-fn run_sources<R: Threads + Wait + Sync, F: Files, O: Out, G: Gate + Sync>(
+fn run_sources<R: Threads + Wait + Sync, F: Files, D: Disk + Send + Drop, O: Out, G: Gate + Sync>(
     rt: &R,
     alloc: Global,
     arguments: &[Arg],
     files: &mut F,
+    disk: D,
     out: &mut O,
     gate: &G,
     run: &RunArguments<'_>,
-) -> Report
+) -> Outcome<D>
     requires { Names arguments.now run.now }
-    ensures { CommandResult arguments.now (F.state files.old) (F.state files.new).faults (O.state out.old) (O.state out.new) result }
+    ensures { CommandResult (state_of D.Disk) disk arguments.now (F.state files.old) (F.state files.new).faults (O.state out.old) (O.state out.new) result }
 {
     let Ok(clients) = clients_of(alloc, run.clients) else {
-        return refused(alloc, out, &[], Refusal::NoMemory);
+        let report = refused(alloc, out, &[], Refusal::NoMemory);
+        return Outcome { report, disk };
     };
     let Ok(names) = names_of(alloc, &clients) else {
-        return refused(alloc, out, &[], Refusal::NoMemory);
+        let report = refused(alloc, out, &[], Refusal::NoMemory);
+        return Outcome { report, disk };
     };
     match load(alloc, files, run.schema, &clients, run.steps) {
-        Err(refusal) => refused(alloc, out, &names, refusal),
+        Err(refusal) => {
+            let report = refused(alloc, out, &names, refusal);
+            Outcome { report, disk }
+        }
         Ok(loaded) => {
             let Loaded {
+                df,
                 schema,
-                database,
-                tasks,
+                clients,
             } = loaded;
             let form = ReportForm {
                 mode: run.mode,
                 schema: &schema,
                 names: &names,
             };
-            execute(rt, alloc, out, gate, &form, database, tasks)
+            execute(rt, alloc, out, gate, &form, disk, df.as_slice(), clients)
         }
     }
 }

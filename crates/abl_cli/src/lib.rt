@@ -5,6 +5,8 @@
 mod check;
 mod clients;
 pub mod command;
+mod creating;
+mod dumping;
 pub mod laws;
 mod load;
 
@@ -12,4 +14,5 @@ pub use abl_arguments::{Arg, Mode};
 pub use abl_source::{SourceFault, read_syntax};
 pub use command::run_abl;
 pub use run_report::{Ends, Refusal, Report};
+pub use run_works::Outcome;
 pub use source_files::{MAX_FILE_BYTES, compile_source};

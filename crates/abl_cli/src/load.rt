@@ -2,7 +2,6 @@
 
 ghost use Rattle.std.specs.Prelude.{◌≡◌, ◌≤◌, ◌⊎◌, ◌++◌, ◌∷◌, [], List, IfErr, IfOk, OnOk, length, map};
 ghost use Rattle.abl_arguments.specs.CommandLine.{client_in};
-ghost use Rattle.new_database.specs.New.{IsNew};
 ghost use Rattle.run_report.specs.declared.refusal.Refusal.TheVariants.{NoMemory};
 ghost use Rattle.source_files.specs.Files.{AreSame, OneIsNotRead};
 ghost use Rattle.source_files.specs.Compiled.{schema_in};
@@ -12,25 +11,25 @@ ghost use Rattle.abl_cli.specs.Inside.{AreBegun, IsBegun, IsReady, inputs_of};
 use abl_arguments::ClientArgument;
 use abl_base::Bytes;
 use abl_outside::Files;
-use abl_rows::RowStore;
 use abl_values::Schema;
 use block_code::Code;
+use block_vm::Client;
 use run_report::Refusal;
-use run_works::{RunDatabase, RunStore, RunTask, client_to_run, open_database};
+use served_works::client_to_run;
 use source_files::{ClientTexts, Compiled, compiled_in, read, read_clients, read_named, schema_of};
 use std::alloc::Global;
 
-/// What a run needs: the schema, a new database of it, and the clients, ready to run.
+/// What a run needs: the text of the schema file, its schema, and the clients, ready to run.
 #[derive(Drop)]
 pub struct Loaded {
+    pub df: Bytes,
     pub schema: Schema,
-    pub database: RunDatabase,
-    pub tasks: Vec<RunTask>,
+    pub clients: Vec<Client>,
 }
 
 /// Reads the schema file, and the source and the input of each client, compiles the sources where the
-/// schema breaks no rule, reads the files after INPUT FROM, and opens a new database. Each client may
-/// spend this number of units.
+/// schema breaks no rule, and reads the files after INPUT FROM. Each client may spend this number of
+/// units.
 pub fn load<F: Files>(
     alloc: Global,
     files: &mut F,
@@ -39,8 +38,8 @@ pub fn load<F: Files>(
     units: u64,
 ) -> Result<Loaded, Refusal>
     requires { length clients.now ≤ 16 }
-    ensures ready { IfOk result (λ loaded. IsReady (F.state files.old) schema.now (map client_in clients.now) units loaded.schema loaded.tasks.items) }
-    ensures new { IfOk result (λ loaded. IsNew (⟦<RunStore as RowStore>⟧.state loaded.database.rows) (⟦<RunStore as RowStore>⟧.left loaded.database.rows) (⟦<RunStore as RowStore>⟧.times loaded.database.rows) loaded.database loaded.schema (length loaded.tasks.items)) }
+    ensures ready { IfOk result (λ loaded. IsReady (F.state files.old) schema.now (map client_in clients.now) units loaded.schema loaded.clients.items) }
+    ensures schema { IfOk result (λ loaded. loaded.schema ≡ schema_in loaded.df) }
     ensures prevented { IfErr result (Prevents (F.state files.old) (F.state files.new).faults schema.now (map client_in clients.now)) }
 {
     let df = read(alloc, files, schema)?;
@@ -48,16 +47,13 @@ pub fn load<F: Files>(
     read_clients(alloc, files, clients, &mut texts)?;
     let compiled = compiled_in(alloc, df.as_slice(), &texts)?;
     let Compiled { schema, codes } = compiled;
-    let mut tasks = Vec::new(alloc);
-    begin_clients(alloc, files, df.as_slice(), units, codes, texts, &mut tasks)?;
-    match open_database(alloc, df.as_slice(), clients.len() as u16) {
-        Ok(database) => Ok(Loaded {
-            schema,
-            database,
-            tasks,
-        }),
-        Err(_) => Err(Refusal::NoMemory),
-    }
+    let mut begun = Vec::new(alloc);
+    begin_clients(alloc, files, df.as_slice(), units, codes, texts, &mut begun)?;
+    Ok(Loaded {
+        df,
+        schema,
+        clients: begun,
+    })
 }
 
 /// Reads the files after INPUT FROM, and adds a client for each code, with its input and a schema of
@@ -69,10 +65,10 @@ fn begin_clients<F: Files>(
     units: u64,
     codes: Vec<Code>,
     texts: Vec<ClientTexts>,
-    tasks: &mut Vec<RunTask>,
+    clients: &mut Vec<Client>,
 ) -> Result<(), Refusal>
     requires { length codes.items ≡ length texts.items }
-    ensures begun { OnOk result ((more : List _) × (tasks.new.items ≡ tasks.old.items ++ more) × AreBegun (F.state files.old) units (schema_in df.now).tables codes.items texts.items more) }
+    ensures begun { OnOk result ((more : List _) × (clients.new.items ≡ clients.old.items ++ more) × AreBegun (F.state files.old) units (schema_in df.now).tables codes.items texts.items more) }
     ensures refused { IfErr result (λ refusal. (refusal ≡ NoMemory) ⊎ OneIsNotRead (F.state files.old) (F.state files.new).faults (inputs_of codes.items) refusal) }
 {
     let mut codes = codes;
@@ -82,8 +78,8 @@ fn begin_clients<F: Files>(
     }
     let code = codes.remove(0);
     let text = texts.remove(0);
-    add_client(alloc, files, df, units, code, text, tasks)?;
-    begin_clients(alloc, files, df, units, codes, texts, tasks)
+    add_client(alloc, files, df, units, code, text, clients)?;
+    begin_clients(alloc, files, df, units, codes, texts, clients)
 }
 
 /// Adds the client of this code with the input of its texts, and the files after INPUT FROM that the
@@ -95,19 +91,19 @@ fn add_client<F: Files>(
     units: u64,
     code: Code,
     text: ClientTexts,
-    tasks: &mut Vec<RunTask>,
+    clients: &mut Vec<Client>,
 ) -> Result<(), Refusal>
-    ensures begun { OnOk result ((task : _) × (tasks.new.items ≡ tasks.old.items ++ task ∷ []) × IsBegun (F.state files.old) units (schema_in df.now).tables code text.input task) }
+    ensures begun { OnOk result ((client : _) × (clients.new.items ≡ clients.old.items ++ client ∷ []) × IsBegun (F.state files.old) units (schema_in df.now).tables code text.input client) }
     ensures same { OnOk result (AreSame (F.state files.old) (F.state files.new)) }
     ensures refused { IfErr result (λ refusal. (refusal ≡ NoMemory) ⊎ OneIsNotRead (F.state files.old) (F.state files.new).faults code.inputs.items refusal) }
 {
-    let Ok(()) = tasks.reserve(1) else {
+    let Ok(()) = clients.reserve(1) else {
         return Err(Refusal::NoMemory);
     };
     let ClientTexts { source, input } = text;
     drop(source);
-    let task = begin_client(alloc, files, df, units, code, input)?;
-    tasks.push_reserved(task);
+    let client = begin_client(alloc, files, df, units, code, input)?;
+    clients.push_reserved(client);
     Ok(())
 }
 
@@ -120,7 +116,7 @@ fn begin_client<F: Files>(
     units: u64,
     code: Code,
     input: Bytes,
-) -> Result<RunTask, Refusal>
+) -> Result<Client, Refusal>
     ensures begun { IfOk result (IsBegun (F.state files.old) units (schema_in df.now).tables code input) }
     ensures same { OnOk result (AreSame (F.state files.old) (F.state files.new)) }
     ensures refused { IfErr result (λ refusal. (refusal ≡ NoMemory) ⊎ OneIsNotRead (F.state files.old) (F.state files.new).faults code.inputs.items refusal) }
@@ -130,7 +126,7 @@ fn begin_client<F: Files>(
         return Err(Refusal::NoMemory);
     };
     match client_to_run(alloc, schema, units, code, input, named) {
-        Ok(task) => Ok(task),
+        Ok(client) => Ok(client),
         Err(_) => Err(Refusal::NoMemory),
     }
 }

@@ -22,6 +22,15 @@ pub fn arguments(rt: &(impl Env + AllocGlobal)) -> Result<Vec<Arg>, AllocError> 
     Ok(arguments)
 }
 
+/// The argument DATABASE: the path of the files of the database without their suffixes. Without one, and
+/// where it is not UTF-8, it is empty, which names no database.
+pub fn database_in(arguments: &[Arg]) -> &str {
+    match arguments.first() {
+        Some(database) => str::from_utf8(database.as_slice()).unwrap_or(""),
+        None => "",
+    }
+}
+
 /// The argument of this number, where there is one.
 fn argument(rt: &(impl Env + AllocGlobal), at: usize) -> Result<Option<Arg>, AllocError> {
     for size in BUFFER_BYTES {

@@ -1,8 +1,9 @@
-//! The program `abl DATABASE COMMAND...`: gives the top call the arguments, the real files and the
-//! real streams, and ends with its status. The argument DATABASE is not read yet.
+//! The program `abl DATABASE COMMAND...`: gives the top call the arguments, the real files, the disk of
+//! the three files of DATABASE and the real streams, and ends with its status.
 #![tactic(auto)]
 
 mod arguments;
+mod disk_fault;
 mod explain;
 mod real_files;
 mod real_out;
@@ -10,7 +11,9 @@ mod real_out;
 use abl_cli::run_abl;
 use abl_help::HELP;
 use abl_outside::OpenGate;
-use arguments::arguments;
+use arguments::{arguments, database_in};
+use disk_fault::explain_fault;
+use disk_files::DiskFiles;
 use explain::{explain, list_pages, print};
 use real_files::RealFiles;
 use real_out::RealOut;
@@ -19,6 +22,9 @@ use std::process::ExitCode;
 
 /// The line on standard error where there is no memory for the arguments.
 const NO_MEMORY: &str = "abl: no memory\n";
+
+/// The status of a command whose disk failed.
+const DISK_FAILED: u8 = 5;
 
 const VERSION: &str = "abl 0.1.0\n";
 
@@ -42,16 +48,24 @@ fn main(rt: HostRuntime) -> io::Result<ExitCode> {
         }
         _ => {}
     }
+    let Ok(disk) = DiskFiles::new(&rt, rt.alloc(), database_in(&arguments)) else {
+        let _ = rt.stderr().write_all(NO_MEMORY.as_bytes());
+        return Ok(ExitCode::from(7));
+    };
     let mut files = RealFiles::new(&rt, rt.alloc());
     let mut out = RealOut::new(rt.stdout(), rt.stderr());
     let after_database = arguments.get(1..).unwrap_or(&[]);
-    let report = run_abl(
+    let outcome = run_abl(
         &rt,
         rt.alloc(),
         after_database,
         &mut files,
+        disk,
         &mut out,
         &OpenGate,
     );
-    Ok(ExitCode::from(report.status))
+    if outcome.report.status == DISK_FAILED {
+        explain_fault(rt.alloc(), &mut rt.stderr(), outcome.disk.first_fault());
+    }
+    Ok(ExitCode::from(outcome.report.status))
 }

@@ -1,7 +1,8 @@
 use Rattle.abl_cli.proofs.Prevented.{run_is_done}
+use Rattle.run_works.specs.Disks.{state_of}
 use Rattle.abl_cli.proofs.laws.a_run_without_faults_is_done.Goals as goal
 
 pub returns : goal.returns
-returns c =
-    λ arguments files faults old new report run did names df sources there clean trees are inputs quiet.
-    run_is_done arguments files faults old new report run names df sources there clean trees are inputs did quiet
+returns g c =
+    λ disk arguments files faults old new outcome run did names df sources there clean trees are inputs quiet.
+    run_is_done (state_of g.D.Disk) disk arguments files faults old new outcome run names df sources there clean trees are inputs did quiet

@@ -3,7 +3,7 @@ use Rattle.std.proofs.Common.{◌≡◌, ◌⊎◌, inl, inr, ◌<◌, ◌++◌,
 use Rattle.std.proofs.lemmas.Result.{err_from_is_err_and}
 use Rattle.abl_outside.specs.Files.{FileState}
 use Rattle.block_code.specs.declared.code.Code.{Code}
-use Rattle.block_clients.specs.Ran.{ClientTask}
+use Rattle.block_vm.specs.ClientView.{ClientView}
 use Rattle.source_files.specs.declared.files.ClientTexts.{ClientTexts}
 use Rattle.run_report.specs.declared.refusal.Refusal.{Refusal}
 use Rattle.run_report.specs.declared.refusal.Refusal.TheVariants.{NoMemory}
@@ -11,7 +11,7 @@ use Rattle.source_files.specs.Files.{OneIsNotRead}
 use Rattle.source_files.specs.Compiled.{schema_in}
 use Rattle.abl_cli.specs.Inside.{AreBegun, inputs_of}
 use Rattle.source_files.proofs.Causes.{of_error, still_one, unread_first, unread_later}
-use Rattle.run_works.proofs.Runs.{first_removed}
+use Rattle.served_works.proofs.Vectors.{first_removed}
 use Rattle.abl_cli.proofs.Loads.{still_begun}
 use Rattle.source_files.proofs.Causes.{on_ok, if_err}
 use Rattle.abl_cli.proofs.load.+begin_clients.Goals as goal
@@ -46,14 +46,14 @@ returns-clause-begun g t c =
     let begun = c.in_ok-add_client.ensures.begun in
     let first = begun.0 in
     let tables = (schema_in c.args.df.now).tables in
-    let old = c.args.tasks.now.items in
-    let new = c.begin_clients.new.tasks.items in
+    let old = c.args.clients.now.items in
+    let new = c.begin_clients.new.clients.items in
     on_ok c.begin_clients.result
-    ((more : List (ClientTask _)) × (new ≡ c.add_client.new.tasks.items ++ more) × AreBegun later c.args.units tables codes texts more)
-    ((more : List (ClientTask _)) × (new ≡ old ++ more) × AreBegun files c.args.units tables c.args.codes.items c.args.texts.items more)
+    ((more : List ClientView) × (new ≡ c.add_client.new.clients.items ++ more) × AreBegun later c.args.units tables codes texts more)
+    ((more : List ClientView) × (new ≡ old ++ more) × AreBegun files c.args.units tables c.args.codes.items c.args.texts.items more)
     (λ rest. (
       first ∷ rest.0,
-      rest.1 ∙ ap (λ (tasks : List (ClientTask _)). tasks ++ rest.0) begun.1 ∙ append_assoc old (first ∷ []) rest.0,
+      rest.1 ∙ ap (λ (clients : List ClientView). clients ++ rest.0) begun.1 ∙ append_assoc old (first ∷ []) rest.0,
       subst (λ (cs : List Code). AreBegun files c.args.units tables cs c.args.texts.items (first ∷ rest.0)) (sym codes_are)
           (subst (λ (ts : List ClientTexts). AreBegun files c.args.units tables (c.remove-code.result ∷ codes) ts (first ∷ rest.0)) (sym texts_are)
           (begun.2, still_begun files later c.in_ok-add_client.ensures.same sound c.args.units tables codes texts rest.0 rest.2)),

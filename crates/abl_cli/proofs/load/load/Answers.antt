@@ -6,18 +6,17 @@ use Rattle.std.proofs.lemmas.Result.{err_from_is_err_and}
 use Rattle.abl_schema.specs.Rules.{violation_of}
 use Rattle.abl_outside.specs.Files.{FileState}
 use Rattle.abl_arguments.specs.CommandLine.{ClientFiles, client_in}
-use Rattle.block_clients.specs.Ran.{ClientTask}
+use Rattle.block_vm.specs.ClientView.{ClientView}
 use Rattle.source_files.specs.declared.files.ClientTexts.{ClientTexts}
 use Rattle.source_files.specs.declared.files.TheConstants.{MAX_FILE_BYTES}
 use Rattle.run_report.specs.declared.refusal.Refusal.TheVariants.{NoMemory}
 use Rattle.source_files.specs.Compiled.{BreaksSchema, OneSourceBreaks, schema_in}
 use Rattle.source_files.specs.Files.{HaveClients, this_one}
-use Rattle.abl_cli.specs.Command.{no_file, run_wants}
+use Rattle.abl_cli.specs.Command.{no_file}
 use Rattle.abl_cli.specs.Inside.{AreBegun}
 use Rattle.source_files.specs.Compiled.{HaveCodes}
 use Rattle.source_files.proofs.Causes.{of_error, same_further, still_one, still_clients}
-use Rattle.run_works.proofs.Databases.{as_new}
-use Rattle.abl_cli.proofs.Loads.{as_many_texts, as_many_codes, short_sources, files_prevent, rules_prevent, named_prevents, is_ready, tasks_of}
+use Rattle.abl_cli.proofs.Loads.{as_many_texts, as_many_codes, short_sources, files_prevent, rules_prevent, named_prevents, is_ready}
 use Rattle.abl_cli.proofs.load.load.Goals as goal
 
 pub returns-in_err-df-clause-prevented : goal.returns-in_err-df-clause-prevented
@@ -110,8 +109,8 @@ returns-in_err-begin_clients-clause-prevented g c =
     of_error _ is (named_prevents files c.args.schema.now clients c.in_ok-df.df c.in_ok-df.ensures.text texts have d c.as_slice.ensures c.in_ok-compiled.ensures.clean codes are named same sound
     (g.F.Files.state c.begin_clients.new.files).faults refusal c.in_err-begin_clients.ensures.refused)
 
-pub returns-in-Ok-clause-ready : goal.returns-in-Ok-clause-ready
-returns-in-Ok-clause-ready g c =
+pub returns-clause-ready : goal.returns-clause-ready
+returns-clause-ready g c =
     let files : FileState = g.F.Files.state c.args.files.now in
     let later : FileState = g.F.Files.state c.read.new.files in
     let sound = g.met.F.Files.sound_observable c.args.files.now in
@@ -126,17 +125,10 @@ returns-in-Ok-clause-ready g c =
     let are = subst (λ (ts : List ClientTexts). HaveCodes (schema_in d) ts codes) c.deref.ensures.value c.in_ok-compiled.ensures.codes in
     let same = same_further c.in_ok-df.ensures.same c.in_ok-read_clients.ensures.same in
     let begun = c.in_ok-begin_clients.ensures.begun in
-    let tasks_are = begun.1 ∙ ap (λ (ts : List (ClientTask _)). ts ++ begun.0) c.new-tasks.ensures.items in
-    is_ready files c.args.schema.now clients c.in_ok-df.df c.in_ok-df.ensures.text texts have d c.as_slice.ensures c.in_ok-compiled.ensures.clean codes are named same sound c.args.units c.in_ok-compiled.compiled.schema c.begin_clients.new.tasks.items c.in_ok-compiled.ensures.schema
-    (subst (λ (text : List ℕ). AreBegun named c.args.units (schema_in text).tables codes texts c.begin_clients.new.tasks.items) (c.as_slice-2.ensures ∙ sym c.as_slice.ensures)
-    (subst (λ (ts : List (ClientTask _)). AreBegun named c.args.units (schema_in c.as_slice-2.result.now).tables codes texts ts) (sym tasks_are) begun.2))
+    let begun_are = begun.1 ∙ ap (λ (ts : List ClientView). ts ++ begun.0) c.new-begun.ensures.items in
+    is_ready files c.args.schema.now clients c.in_ok-df.df c.in_ok-df.ensures.text texts have d c.as_slice.ensures c.in_ok-compiled.ensures.clean codes are named same sound c.args.units c.in_ok-compiled.compiled.schema c.begin_clients.new.clients.items c.in_ok-compiled.ensures.schema
+    (subst (λ (text : List ℕ). AreBegun named c.args.units (schema_in text).tables codes texts c.begin_clients.new.clients.items) (c.as_slice-2.ensures ∙ sym c.as_slice.ensures)
+    (subst (λ (ts : List ClientView). AreBegun named c.args.units (schema_in c.as_slice-2.result.now).tables codes texts ts) (sym begun_are) begun.2))
 
-pub returns-in-Ok-clause-new : goal.returns-in-Ok-clause-new
-returns-in-Ok-clause-new g c =
-    let many = tasks_of _ _ (map client_in c.args.clients.now) _ c.in_ok-compiled.compiled.schema c.begin_clients.new.tasks.items (returns-in-Ok-clause-ready g c) in
-    let mapped = length-map c.args.clients.now client_in in
-    let schema_is = ap (λ (text : List ℕ). schema_in text) (c.as_slice-3.ensures ∙ sym c.as_slice.ensures) ∙ sym c.in_ok-compiled.ensures.schema in
-    as_new _ _ _ _ _ _ _ _ c.in-Ok.ensures schema_is (sym (many ∙ mapped))
-
-pub returns-clause-prevented : goal.returns-clause-prevented
-returns-clause-prevented g c = run_wants
+pub returns-clause-schema : goal.returns-clause-schema
+returns-clause-schema g c = c.in_ok-compiled.ensures.schema ∙ ap (λ (text : List ℕ). schema_in text) c.as_slice.ensures

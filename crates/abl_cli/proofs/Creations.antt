@@ -1,0 +1,41 @@
+-- The schema of a file; why a database was not made, and what that leaves.
+use Rattle.std.proofs.Common.{◌≡◌, ◌∙◌, ℕ, List, None, Ok, Err, Result, ap, refl, subst}
+use Rattle.std.specs.Prelude.{IfOk, IsTrue, OnOk}
+use Rattle.abl_outside.specs.Files.{FileState}
+use Rattle.abl_schema.specs.Rules.{violation_of}
+use Rattle.abl_values.specs.Schema.{SchemaData}
+use Rattle.fault_count.specs.Faults.{Rose}
+use Rattle.abl_storage.specs.Disk.{Stays}
+use Rattle.disk_database.specs.declared.refusals.CreateRefusal.{CreateRefusal}
+use Rattle.disk_database.specs.declared.refusals.CreateRefusal.TheVariants as create
+use Rattle.disk_database.specs.Answers.{HasOpenLog}
+use Rattle.run_report.specs.declared.refusal.Refusal.{Refusal}
+use Rattle.run_works.specs.Disks.{DiskState}
+use Rattle.source_files.specs.Files.{HasText}
+use Rattle.source_files.specs.Compiled.{schema_in}
+use Rattle.abl_cli.specs.Stored.{HasSchema, IsNotMade, creation_refusal}
+
+-- ---- the schema
+
+-- the schema that a text denotes which was read from the file
+pub schema_from : {files : FileState} {name df text : List ℕ} {schema : SchemaData} → HasText files name df → text ≡ df → schema ≡ schema_in text → violation_of text ≡ None → HasSchema files name schema
+schema_from {df = df} has same is clean = record { df = df; has = has; clean = subst (λ (t : List ℕ). violation_of t ≡ None) same clean; is = is ∙ ap (λ (t : List ℕ). schema_in t) same }
+
+pub is_schema : {E : Type 0} (files : FileState) (name df text : List ℕ) (result : Result SchemaData E) → HasText files name df → text ≡ df → IfOk result (λ (schema : SchemaData). schema ≡ schema_in text) → OnOk result (violation_of text ≡ None) → IfOk result (HasSchema files name)
+is_schema files name df text (Ok schema) has same is clean = schema_from has same is clean
+is_schema files name df text (Err e) has same is clean = tt
+
+-- ---- the disk
+
+-- the disk is as it was
+abbrev Same : DiskState → DiskState → Type 0
+Same was now = Stays was.observable now.observable was.seen now.seen was.time now.time was.left now.left
+
+unless_disk : (was now : DiskState) (why : CreateRefusal) → (why ≡ create.AlreadyCreated → Same was now) → (why ≡ create.NoMemory → Same was now) → (why ≡ create.Disk → ⊥) → Same was now
+unless_disk was now create.AlreadyCreated there memory fine = there refl
+unless_disk was now create.NoMemory there memory fine = memory refl
+unless_disk was now create.Disk there memory fine = absurd (fine refl)
+
+pub not_made : (was now : DiskState) (why : CreateRefusal) (refusal : Refusal) → refusal ≡ creation_refusal why → (why ≡ create.AlreadyCreated → IsTrue was.observable → HasOpenLog was.seen) → (why ≡ create.AlreadyCreated → Same was now) → (why ≡ create.NoMemory → Same was now) →
+    (why ≡ create.Disk → Rose was.failures now.failures) → IsNotMade was now refusal
+not_made was now why refusal is already there memory rose = record { why = why; is = is; already = already; rose = rose; stays = unless_disk was now why there memory }
