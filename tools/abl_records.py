@@ -79,9 +79,9 @@ def schema_of(text):
         elif words and words[0] == "INDEX-FIELD":
             item.parts.append((table.field(unquoted(words[1]).lower()), words[2].startswith("DESC")))
     for table in tables:
-        table.indexes = [i for i in table.indexes if not i.word]
-        if table.primary is None and table.indexes:
-            table.primary = table.indexes[0]
+        table.indexes = [i for i in table.indexes if not i.word and all(table.fields[f][1] for f, _ in i.parts)]
+        if table.primary not in table.indexes:
+            table.primary = table.indexes[0] if table.indexes else None
     return tables, sequences
 
 
@@ -633,6 +633,15 @@ class Database:
         self.tables, sequences = schema
         self.rows, self.levels, self.touched = {}, [], set()
         self.sequences = [[q[1], q[2]] for q in sequences]
+        self.committed = [q[1] for q in sequences]
+
+    def close(self):
+        """Leaves what the next command finds: the committed rows, and the sequence values of the last commit."""
+        if self.levels:
+            self.rows = self.levels[0]
+        self.levels, self.touched = [], set()
+        for sequence, value in zip(self.sequences, self.committed):
+            sequence[0] = value
 
     def enter(self):
         self.levels.append(dict(self.rows))
@@ -645,6 +654,7 @@ class Database:
         self.levels.pop()
         if not self.levels:
             self.touched = set()
+            self.committed = [value for value, _ in self.sequences]
 
     def key(self, index, values):
         return [values[f] for f, _ in index.parts]
@@ -765,7 +775,7 @@ class Buffer:
 class RecordClient(Client):
     """Runs a source over a database of its own."""
 
-    def __init__(self, schema, src, units, inp=b'', files=None):
+    def __init__(self, schema, src, units, inp=b'', files=None, db=None):
         self.parser = RecordParser(src, schema)
         self.main = self.parser.main
         self.units, self.inp, self.files = (units, inp, files or {})
@@ -774,7 +784,7 @@ class RecordClient(Client):
         self.size = self.at = self.made = 0
         self.streams = [dict(out=None, inp=None, at=0) for _ in range(1 + getattr(self.parser, 'nstreams', 0))]
         self.ops, self.frames = [], []
-        self.db = Database(schema)
+        self.db = db or Database(schema)
 
     def new_frame(self, proc):
         f = plain_reference.new_frame(self.parser.allvars[proc])
@@ -1405,8 +1415,37 @@ def thawed(c):
     return None if c is None else ('R', c[1], list(c[2])) + c[3:] if c[0] == 'R' else ('P', list(c[1]), list(c[2]), c[3])
 
 
-def run(schema, src, units, mode='quiet', name='a', inp=b'', files=None):
-    """The report, the lines of the status, and the status of a run over an empty database."""
+def run(schema, src, units, mode='quiet', name='a', inp=b'', files=None, db=None):
+    """The report, the lines of the status, and the status of a run over this database, or over an empty one."""
     sys.setrecursionlimit(100000)
-    c = RecordClient(schema_of(schema), src, units, inp, files)
-    return plain_reference.report(name, c, mode, c.run())
+    c = RecordClient(schema_of(schema), src, units, inp, files, db)
+    end = c.run()
+    c.db.close()
+    return plain_reference.report(name, c, mode, end)
+
+
+def canonical(schema):
+    """What two schema files of one database have in common: all but masks and the case of names."""
+    tables, sequences = schema_of(schema)
+    return (
+        [
+            (
+                t.name.lower(),
+                [(f[0].lower(), f[1], f[2], f[4]) for f in t.fields],
+                [(i.name.lower(), i.unique, i is t.primary, i.parts) for i in t.indexes],
+            )
+            for t in tables
+        ],
+        [(q[0].lower(), q[1], q[2]) for q in sequences],
+    )
+
+
+def dump(db, number):
+    """The lines of the table's rows, in the order of its primary index, or of their identities without one."""
+    index = db.tables[number].primary
+
+    def place(row):
+        parts = [Part(v, d) for v, (_, d) in zip(db.key(index, db.rows[row][1]), index.parts)] if index else []
+        return parts + [row]
+    rows = sorted((row for row, (t, _, _) in db.rows.items() if t == number), key=place)
+    return b''.join(b' '.join(plain_reference.export(v) for v in db.rows[row][1]) + b'\n' for row in rows)

@@ -1,5 +1,5 @@
 #!/usr/bin/env python3
-"""Writes `stdout` of crates/command_tables, the answers to the rows of its `stdin`.
+"""Writes `stdout` of crates/command_tables, language_tables, record_tables, database_tables and crash_tables, the answers to the rows of their `stdin`.
 
 Each row that runs sources without records is answered by tools/abl_reference.py, each row that runs one
 source over a schema by tools/abl_records.py, each row of `bank` by the balances that its transfers leave, and each row of `check` that lists sources by the reference of
@@ -15,7 +15,7 @@ import abl_records
 import abl_reference
 import scope_rows
 
-TABLE = Path(__file__).parent.parent / "crates" / "command_tables"
+TABLES = [Path(__file__).parent.parent / "crates" / name for name in ("command_tables", "language_tables", "record_tables", "database_tables", "crash_tables")]
 MOST_SHOWN, SHOWN_AT_ENDS, MOST_FILE = 400, 80, 1048576
 COMMAND = re.compile(r"run s\.df ([1-9]\d{0,8}) (quiet|trace)((?: [A-Za-z0-9]{1,16}=[^ <]+(?:<[^ <]+)?){1,16})$")
 CLIENT = re.compile(r" ([^=]+)=([^ <]+)(?:<([^ <]+))?")
@@ -24,10 +24,12 @@ CHECK = re.compile(r"check s\.df( [^ ]+){1,16}$")
 SCHEMA_LINE = re.compile(r'ADD (?:TABLE|FIELD "(\w+)" OF) "(\w+)"')
 BANK = re.compile(r"bank (0|[1-9]\d*) ([1-9]\d*) ([1-9]\d*) ([1-9]\d*)$")
 KEPT = re.compile(r"(1|2|3|4|6|7|10) ")
+BETWEEN = " ; "
+BANK_FILE = Path(__file__).parent.parent / "examples" / "bank" / "bank.df"
 
 
 def text_of(written):
-    """The bytes that a row writes so, as crates/command_tables/README.md says."""
+    """The bytes that a row writes so, as crates/command_rows/README.md says."""
 
     def plain(text, number):
         return text.replace("|", "\n").replace("^", "x" * 10000).replace("`", "^").replace("@", number)
@@ -68,6 +70,8 @@ def answered(row, schema_before):
     files = dict(field.split("=", 1) for field in fields[4:] if field)
     files.setdefault("p", source)
     files.setdefault("s.df", schema)
+    if BETWEEN in arguments or arguments.startswith(("create", "dump")):
+        return over_a_disk(arguments.split(BETWEEN), files, faults)
     if CHECK.match(arguments) and not faults:
         return listed(arguments.split()[2:], schema, files)
     bank = BANK.match(arguments)
@@ -91,7 +95,12 @@ def draws(state):
 
 
 def banked(start, clients, accounts, transfers):
-    """The answer to a bank: each transfer is made, in whatever order."""
+    """The answer to a bank."""
+    return f"0 {shown(bank_of(start, clients, accounts, transfers)[0])} "
+
+
+def bank_of(start, clients, accounts, transfers):
+    """What a bank prints, and the balances that it leaves: each transfer is made, in whatever order."""
     balances, drawn = [1000] * (accounts + 1), draws(start)
     for _ in range(transfers):
         giver = next(drawn) % accounts + 1
@@ -103,7 +112,76 @@ def banked(start, clients, accounts, transfers):
     weighted = sum(number * balances[number] for number in range(1, accounts + 1))
     names = ["setup", *(f"c{number + 1}" for number in range(clients)), "total"]
     out = "".join(f"== {name} ==\n" for name in names) + f"total {sum(balances[1:])} weighted {weighted}\n"
-    return f"0 {shown(out.encode())} "
+    return out.encode(), balances[1:]
+
+
+class Stored:
+    """A database between two commands: what its schema file says, and its rows."""
+
+    def __init__(self, df):
+        self.schema = abl_records.canonical(df)
+        self.rows = abl_records.Database(abl_records.schema_of(df))
+
+
+def over_a_disk(commands, files, faults):
+    """The answers to commands over one disk, one after the other; None where the reference does not judge one."""
+    if faults not in ("", "uncreated", WHOLE, f"uncreated {WHOLE}"):
+        return None
+    files = {key.encode(): text_of(text) for key, text in files.items()}
+    files[b"bank.df"] = BANK_FILE.read_bytes()
+    first = "bank.df" if commands[0].startswith("bank") else "s.df"
+    stored = None if "uncreated" in faults else Stored(files[first.encode()].decode())
+    answers = []
+    for command in commands:
+        told = after_command(command.split(" "), files, stored)
+        if told is None:
+            return None
+        stored, text, line, status = told
+        answers.append(f"{status} {plain(text) if WHOLE in faults else shown(text)} {shown(line)}")
+    return BETWEEN.join(answers)
+
+
+def after_command(words, files, stored):
+    """The database after a command, what is on the two streams, and the status; None where it is not judged."""
+    df = files.get(b"bank.df" if words[0] == "bank" else words[1].encode() if len(words) > 1 else None)
+    if words[0] not in ("create", "run", "dump", "bank") or df is None:
+        return None
+    try:
+        given = abl_records.canonical(df.decode())
+    except (AttributeError, IndexError, KeyError, StopIteration, TypeError, ValueError):
+        return None
+    table = None
+    if words[0] == "dump":
+        tables = abl_records.schema_of(df.decode())[0]
+        table = next((n for n, t in enumerate(tables) if t.name.lower() == words[2].lower()), None)
+        if table is None:
+            return stored, b"", b"abl: no table %s\n" % words[2].encode(), 3
+    if words[0] == "create":
+        if stored is None:
+            return Stored(df.decode()), b"", b"", 0
+        return stored, b"", b"abl: already created\n", 9
+    if stored is None:
+        return stored, b"", b"abl: not created\n", 9
+    if stored.schema != given:
+        return stored, b"", b"abl: schema differs\n", 9
+    if words[0] == "dump":
+        return stored, abl_records.dump(stored.rows, table), b"", 0
+    if words[0] == "bank":
+        text, balances = bank_of(*(int(number) for number in words[1:]))
+        stored = Stored(df.decode())
+        for number, balance in enumerate(balances):
+            stored.rows.insert(0, [("I", number + 1), ("L", balance)])
+        stored.rows.close()
+        return stored, text, b"", 0
+    return (stored, *ran_over(stored, words, files))
+
+
+def ran_over(stored, words, files):
+    """What a run of one client over the database writes, and its status."""
+    name, program, given = CLIENT.match(" " + words[4]).groups()
+    own = files[given.encode()] if given else b""
+    schema = files[words[1].encode()].decode()
+    return abl_records.run(schema, files[program.encode()], int(words[2]), words[3], name, own, files, stored.rows)
 
 
 def ran_over_records(units, mode, clients, files, whole):
@@ -176,11 +254,11 @@ def listed(names, schema, files):
     return f"0 {shown(out.encode())} "
 
 
-def main():
-    sys.setrecursionlimit(1000000)
-    rows = (TABLE / "stdin").read_text().splitlines()
+def answers(table):
+    """The lines of the table's `stdout`, and the committed answers that the reference denies."""
+    rows = (table / "stdin").read_text().splitlines()
     known = {}
-    for line in (TABLE / "stdout").read_text().splitlines():
+    for line in (table / "stdout").read_text().splitlines():
         row, _, answer = line.rpartition("\t")
         known[row] = answer
     lines, denied, schema = [], [], ""
@@ -190,7 +268,7 @@ def main():
             lines.append(row)
             continue
         old = known.get(row)
-        if old is not None and KEPT.match(old) and "N1 at" not in old:
+        if old is not None and KEPT.match(old) and "N1 at" not in old and BETWEEN not in row:
             new = old
         else:
             new = answered(row, schema) or old
@@ -199,10 +277,20 @@ def main():
         if old is not None and new != old:
             denied.append(f"{row[:200]}\n  was {old[:200]}\n  is  {new[:200]}")
         lines.append(f"{row}\t{new}")
+    return lines, denied
+
+
+def main():
+    sys.setrecursionlimit(1000000)
+    all_denied = []
+    for table in TABLES:
+        lines, denied = answers(table)
+        all_denied += denied
+        if "--check" not in sys.argv:
+            (table / "stdout").write_text("\n".join(lines) + "\n")
     if "--check" in sys.argv:
-        print("\n".join(denied))
-        raise SystemExit(bool(denied))
-    (TABLE / "stdout").write_text("\n".join(lines) + "\n")
+        print("\n".join(all_denied))
+        raise SystemExit(bool(all_denied))
 
 
 if __name__ == "__main__":

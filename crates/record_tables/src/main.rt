@@ -1,0 +1,18 @@
+//! Rows of whole commands over records, locks and sequences, of one client and of several, and the
+//! bank. `stdin` has the rows, and `stdout` each row with its answer; what a row says is in
+//! `command_rows`. The answers are read off the description of the language and of the program
+//! (`docs/language.md`, `docs/formats.md`, `docs/outside.md`), never off the program.
+#![tactic(auto)]
+
+use command_rows::Lines;
+use std::io;
+
+fn main(rt: HostRuntime) -> io::Result<()> {
+    let mut lines = Lines::new(rt.alloc());
+    for line in rt.lines(rt.alloc()) {
+        let row = line?;
+        let answered = lines.answered(&rt, row.as_str())?;
+        println!(rt; "{answered}")?;
+    }
+    Ok(())
+}
