@@ -1,5 +1,5 @@
 -- What the calls of an array of slots with transactions do.
-use Rattle.std.specs.Prelude.{◌≡◌, ◌≢◌, ◌⊎◌, ℕ, ◌+◌, ◌-◌, ◌<◌, ◌≤◌, ◌==◌, nat_le, Bool, true, false, ◌||◌, ◌&&◌, if◌then◌else◌, List, [], ◌∷◌, ◌++◌, take, drop, IsTrue, Result, IsErrOf}
+use Rattle.std.specs.Prelude.{◌≡◌, ◌≢◌, ◌⊎◌, ℕ, ◌+◌, ◌-◌, ◌<◌, ◌≤◌, ◌^◌, ◌==◌, nat_le, Bool, true, false, ◌||◌, ◌&&◌, if◌then◌else◌, List, [], ◌∷◌, ◌++◌, replicate, take, drop, IsTrue, Result, IsErrOf}
 use Rattle.fault_count.specs.Faults.{Rose}
 use Rattle.abl_storage.specs.declared.slots.Undo.{Undo}
 use Rattle.abl_storage.specs.declared.slots.SlotFault.{SlotFault}
@@ -56,6 +56,10 @@ pub record SlotState : Type 0 where
   pub moment : ℕ
   pub since : ℕ
   pub short : Bool
+
+-- each slot from there on reads zeros, up to the last one
+abbrev pub AreBlankFrom : ℕ → (ℕ → List ℕ) → Type 0
+AreBlankFrom end reads = (k : ℕ) → end ≤ k → k < 2 ^ 20 → reads k ≡ replicate 256 0
 
 -- reads are observable, and no call has answered Disk
 abbrev pub IsReadable : SlotState → Type 0

@@ -1,7 +1,7 @@
 //! The array of 256-byte slots with transactions.
 
 ghost use Rattle.std.specs.Prelude.{◌≡◌, ◌<◌, ◌≤◌, ◌^◌, ◌↔◌, ℕ, List, length, true, false, IsTrue, IfOk, OnOk, OnErr, IsErrOf};
-ghost use Rattle.abl_storage.specs.Slots.{SlotState, IsReadable, Rests, Begins, Writes, GoesBack, Ends, Commits, Fails, Grows, Goes, HasCause, OnlyDisk, NeverFull, IsAlone, IsFull, IsStop, is_low};
+ghost use Rattle.abl_storage.specs.Slots.{SlotState, IsReadable, AreBlankFrom, Rests, Begins, Writes, GoesBack, Ends, Commits, Fails, Grows, Goes, HasCause, OnlyDisk, NeverFull, IsAlone, IsFull, IsStop, is_low};
 
 /// Why a call on the slots was refused.
 #[derive(Clone, Copy, Debug, PartialEq, Eq)]
@@ -41,6 +41,12 @@ pub trait Slots {
     /// How often the disk has failed, at most 2^64 - 1.
     fn faults(&self) -> u64
         ensures { result ≡ (state self.now).faults };
+
+    /// A number of slots, at most 1,048,576: each slot from there on reads zeros. It makes no disk call
+    /// and takes no memory.
+    fn end(&self) -> u32
+        ensures small { result ≤ 2 ^ 20 }
+        ensures blank { IsReadable (state self.now) → AreBlankFrom result (state self.now).reads };
 
     /// Reads the slot's bytes. It takes no memory.
     fn read(&mut self, slot: u32, into: &mut [u8; 256]) -> Result<(), SlotFault>
