@@ -27,6 +27,10 @@ impl<S: Slots + Drop, G: Guard + Drop> Slots for Guarded<S, G> {
         faults
     }
 
+    fn end(&self) -> u32 {
+        self.slots.end()
+    }
+
     fn read(&mut self, slot: u32, into: &mut [u8; 256]) -> Result<(), SlotFault> {
         self.slots.read(slot, into)
     }

@@ -1,5 +1,5 @@
 -- A call that changes one client and slots: the type's invariant after it, and what the slots then mean.
-use Rattle.std.proofs.Common.{◌≡◌, ℕ, ◌+◌, ◌<◌, ◌≤◌, Bool, true, List, length, drop, slice_index_or, slice_set, sym, ◌∙◌, ap, subst, refl, arith, nat_eq, is_some, BuildHasherDefault, FoldHasher}
+use Rattle.std.proofs.Common.{◌≡◌, ℕ, ◌+◌, ◌<◌, ◌≤◌, Bool, true, false, List, length, drop, slice_index_or, slice_set, sym, ◌∙◌, ap, subst, refl, arith, nat_eq, is_some, BuildHasherDefault, FoldHasher}
 use Rattle.std.proofs.lemmas.List.{length-set}
 use Rattle.std.specs.HashMap.{HashMap, spare, get}
 use Rattle.abl_storage.specs.Slots.{Transaction, Becomes, KeepsCommitted, Rests, undone}
@@ -12,11 +12,13 @@ use Rattle.mem_slots.specs.Sparse.{part_of, slot_in, committed_in, holds, AllHel
 use Rattle.mem_slots.proofs.Clients.{transaction_of_one, transaction_same, becomes, held_set, promised_set, held_none}
 
 -- the type's invariant, in terms of the slots and the clients
-abbrev pub Stands : {S : Type 0} → HashMap ℕ Slot S → List Client → Type 0
-Stands ss cs = record {
+abbrev pub Stands : {S : Type 0} → HashMap ℕ Slot S → List Client → ℕ → Type 0
+Stands ss cs end = record {
   sixteen : length cs ≡ 16;
   has_room : promised cs ≤ spare ss;
   held : (k : ℕ) → AllHeld ss (transaction_in cs k).undo;
+  small : end ≤ 1048576;
+  blank : (k : ℕ) → end ≤ k → holds ss k ≡ false;
 }
 
 -- a client's writes have their places if the writes of the transaction that it represents do
@@ -39,8 +41,8 @@ module _ {S : Type 0} (ss new : HashMap ℕ Slot S) (same : (q : ℕ) → get na
   pub same_committed : (j : ℕ) → committed_in new j ≡ committed_in ss j
   same_committed j = ap (part_of (λ (s : Slot). s.committed)) (same j)
 
-  pub same_places : (j : ℕ) → holds ss j ≡ true → holds new j ≡ true
-  same_places j h = ap is_some (same j) ∙ h
+  pub same_places : (j : ℕ) → holds new j ≡ holds ss j
+  same_places j = ap is_some (same j)
 
 -- one of the clients of slots in memory
 module _ (s : MemSlots) {k : ℕ} {old : Client} (lt : k < 16) (is : old ≡ slice_index_or s.clients.items k old) where
@@ -62,22 +64,30 @@ module _ (s : MemSlots) {k : ℕ} {old : Client} (lt : k < 16) (is : old ≡ sli
 
   -- where other slots are there
   module _ (new : HashMap ℕ Slot (BuildHasherDefault FoldHasher)) where
-    -- the invariant holds if no place is lost, each write of the client has one, and there is memory for what it was promised more
-    pub stands : (x : Client) → ((j : ℕ) → holds s.slots j ≡ true → holds new j ≡ true) → (AllHeld new old.undo.items → AllHeld new x.undo.items) → promised s.clients.items + promised_to x ≤ spare new + promised_to old
-        → Stands new (slice_set s.clients.items k x)
-    stands x more held fits =
+    -- the invariant holds if no place is lost, each write of the client has one, there is memory for what it was promised more, and there is no
+    -- place from the end on
+    pub stands : (x : Client) (end : ℕ) → ((j : ℕ) → holds s.slots j ≡ true → holds new j ≡ true) → (AllHeld new old.undo.items → AllHeld new x.undo.items) → promised s.clients.items + promised_to x ≤ spare new + promised_to old
+        → end ≤ 1048576 → ((j : ℕ) → end ≤ j → holds new j ≡ false) → Stands new (slice_set s.clients.items k x) end
+    stands x end more held fits small blank =
         let within : k < length s.clients.items = omega (arith, s.sixteen, lt) in
         let sum = promised_set s.clients.items k old x within is in
         record {
           sixteen = length-set s.clients.items k x ∙ s.sixteen;
           has_room = omega (arith, sum, fits);
           held = held_set s.slots new s.clients.items k x within more s.held (held (λ i il. more _ (held_here i il)));
+          small = small;
+          blank = blank;
         }
 
-    -- the same where the places are the same, and the client is promised no more
+    -- the same where the places are the same
+    pub stands_there : (x : Client) → ((j : ℕ) → holds new j ≡ holds s.slots j) → (AllHeld new old.undo.items → AllHeld new x.undo.items) → promised s.clients.items + promised_to x ≤ spare new + promised_to old
+        → Stands new (slice_set s.clients.items k x) s.end
+    stands_there x same held fits = stands x s.end (λ j h. same j ∙ h) held fits s.small (λ j le. same j ∙ s.blank j le)
+
+    -- the same where the client is promised no more besides
     pub stands_same : (x : Client) → ((j : ℕ) → holds new j ≡ holds s.slots j) → (AllHeld new old.undo.items → AllHeld new x.undo.items) → promised_to x ≤ promised_to old → spare new ≡ spare s.slots
-        → Stands new (slice_set s.clients.items k x)
-    stands_same x same held fits room = stands x (λ j h. same j ∙ h) held (omega (arith, fits, room, s.has_room))
+        → Stands new (slice_set s.clients.items k x) s.end
+    stands_same x same held fits room = stands_there x same held (omega (arith, fits, room, s.has_room))
 
     -- what is committed stays
     pub keeps : (cs : List Client) → ((j : ℕ) → committed_in new j ≡ committed_in s.slots j) → KeepsCommitted (state_of s.slots s.clients.items) (state_of new cs)

@@ -23,7 +23,7 @@ IsWith old new n x = (q : ℕ) → new q ≡ cond (nat_eq n q) (Some x) (old q)
 with_here : (old new : ℕ → Option Slot) (n : ℕ) (x : Slot) → IsWith old new n x → new n ≡ Some x
 with_here old new n x is = is n ∙ ap (λ (b : Bool). cond b (Some x) (old n)) (eq-eqb n n refl)
 
-with_other : (old new : ℕ → Option Slot) (n k : ℕ) (x : Slot) → k ≢ n → IsWith old new n x → new k ≡ old k
+pub with_other : (old new : ℕ → Option Slot) (n k : ℕ) (x : Slot) → k ≢ n → IsWith old new n x → new k ≡ old k
 with_other old new n k x ne is = is k ∙ ap (λ (b : Bool). cond b (Some x) (old k)) (ne_eqb n k (λ e. ne (sym e)))
 
 put_id : (f : ℕ → List ℕ) (n : ℕ) (v : List ℕ) → f n ≡ v → (k : ℕ) → put f n v k ≡ f k

@@ -3,7 +3,7 @@
 ghost use Rattle.std.specs.Prelude.{◌≡◌, ◌^◌, ◌<◌, ◌≤◌, ℕ, List, [], length, true, false, refl, IfOk, OnErr};
 ghost use Rattle.std.specs.HashMap.{spare};
 ghost use Rattle.abl_storage.specs.Slots.{is_low, Grows, Rests, Writes};
-ghost use Rattle.mem_slots.specs.Sparse.{AllHeld, has_written};
+ghost use Rattle.mem_slots.specs.Sparse.{AllHeld, has_written, holds};
 ghost use Rattle.mem_slots.specs.Promised.{promised, promised_to};
 ghost use Rattle.mem_slots.specs.Mem.{transaction_in, transaction_of, state_of, at_rest};
 ghost use Rattle.std.proofs.Common.{rules};
@@ -22,9 +22,13 @@ const MAX_SLOT_WRITES: u32 = 7989;
 pub struct MemSlots {
     slots: HashMap<u32, Slot>,
     clients: Vec<Client>,
+    /// One more than the greatest slot that was ever written.
+    end: u32,
     ghost sixteen: { length clients.items ≡ 16 },
     ghost has_room: { promised clients.items ≤ spare slots },
     ghost held: { (k : ℕ) → AllHeld slots (transaction_in clients.items k).undo },
+    ghost small: { end ≤ 1048576 },
+    ghost blank: { (k : ℕ) → end ≤ k → holds slots k ≡ false },
 }
 
 /// A client without a transaction.
@@ -68,6 +72,17 @@ fn all_promised(clients: &[Client]) -> u32
     total
 }
 
+/// The end, once this slot was written.
+fn end_after(end: u32, slot: u32) -> u32
+    requires end { end ≤ 2 ^ 20 }
+    requires slot { slot < 2 ^ 20 }
+    ensures above { end ≤ result }
+    ensures past { slot < result }
+    ensures small { result ≤ 2 ^ 20 }
+{
+    if slot < end { end } else { slot + 1 }
+}
+
 impl MemSlots {
     /// Slots of zeros, with no transaction begun, at moment 0. Out of memory is the only refusal.
     pub fn new(alloc: Global) -> Result<MemSlots, AllocError>
@@ -76,6 +91,7 @@ impl MemSlots {
         Ok(MemSlots {
             slots: HashMap::new(alloc),
             clients: idle_clients(alloc)?,
+            end: 0,
         })
     }
 
@@ -100,6 +116,7 @@ impl MemSlots {
     /// Writes the slot, for which there is memory.
     fn put(&mut self, client: usize, slot: u32, bytes: &[u8; 256])
         requires client { client < 16 }
+        requires slot { slot < 2 ^ 20 }
         requires begun { (transaction_in self.old.clients.items client).begun ≡ true }
         requires room { is_low slot ≡ false → 0 < (transaction_in self.old.clients.items client).room }
         requires counted { is_low slot ≡ false → (transaction_in self.old.clients.items client).counted < 7989 }
@@ -107,6 +124,7 @@ impl MemSlots {
         ensures { Writes (state_of self.old.slots self.old.clients.items) (state_of self.new.slots self.new.clients.items) client slot bytes.now }
     {
         reach(&mut self.slots, slot);
+        self.end = end_after(self.end, slot);
         let before = put_bytes(&mut self.slots, slot, bytes);
         let client = &mut self.clients[client];
         client.add(slot, before);
@@ -124,6 +142,10 @@ impl Slots for MemSlots {
 
     fn faults(&self) -> u64 {
         0
+    }
+
+    fn end(&self) -> u32 {
+        self.end
     }
 
     fn read(&mut self, slot: u32, into: &mut [u8; 256]) -> Result<(), SlotFault> {

@@ -1,6 +1,6 @@
 //! The slots that were written, by their numbers, each with what reads give and what was committed.
 
-ghost use Rattle.std.specs.Prelude.{◌≡◌, ◌<◌, ◌≤◌, ◌+◌, ℕ, true, false, length, take, drop};
+ghost use Rattle.std.specs.Prelude.{◌≡◌, ◌≢◌, ◌<◌, ◌≤◌, ◌+◌, ℕ, true, false, length, take, drop};
 ghost use Rattle.std.specs.HashMap.{spare};
 ghost use Rattle.std.specs.Vec.{vec_capacity};
 ghost use Rattle.abl_storage.specs.Slots.{put, undone, joined};
@@ -33,6 +33,7 @@ pub fn reach(slots: &mut HashMap<u32, Slot>, number: u32)
     ensures committed { (k : ℕ) → committed_in slots.new k ≡ committed_in slots.old k }
     ensures here { holds slots.new number ≡ true }
     ensures held { (k : ℕ) → holds slots.old k ≡ true → holds slots.new k ≡ true }
+    ensures others { (k : ℕ) → k ≢ number → holds slots.new k ≡ holds slots.old k }
     ensures spare { spare slots.old ≤ spare slots.new + 1 }
 {
     if !slots.contains_key(&number) {

@@ -35,6 +35,10 @@ with_some slot (Some x) f h =
     let p = cond_some (x.slot == slot) x f h in
     (ap Some p.1, subst (λ (y : Frame). y.slot ≡ slot) p.1 (eqb-true x.slot slot p.0))
 
+pub with_none_of : (slot : ℕ) (o : Option Frame) → ((f : Frame) → o ≡ Some f → f.slot ≢ slot) → with_slot slot o ≡ None
+with_none_of slot None apart = refl
+with_none_of slot (Some f) apart = with_other slot f (apart f refl)
+
 -- a frame without a change shows none, whichever slot is asked for
 pub with_none : (slot : ℕ) (f : Frame) → f.note ≡ None → note_of (with_slot slot (Some f)) ≡ None
 with_none slot f none = elim (cases_Bool (f.slot == slot)) [
@@ -52,6 +56,11 @@ at_place frames places slot i is = ap (λ (p : ℕ). with_slot slot (frame_at fr
 
 pub no_place : (frames : List Frame) (places : List ℕ) (slot : ℕ) → get_or places slot 0 ≡ 0 → frame_of frames places slot ≡ None
 no_place frames places slot is = ap (λ (p : ℕ). with_slot slot (frame_at frames p)) is
+
+-- no frame of the list has the slot, so no place of a table leads to one
+pub no_frame : (frames : List Frame) (slot place : ℕ) → ((i : ℕ) (f : Frame) → slice_get frames i ≡ Some f → f.slot ≢ slot) → with_slot slot (frame_at frames place) ≡ None
+no_frame frames slot zero apart = refl
+no_frame frames slot (suc i) apart = with_none_of slot (slice_get frames i) (apart i)
 
 -- a changed frame is that of its slot
 pub is_placed : (frames : List Frame) (places : List ℕ) (i : ℕ) (f : Frame) (note : ℕ) → ArePlaced frames places → slice_get frames i ≡ Some f → f.note ≡ Some note → frame_of frames places f.slot ≡ Some f

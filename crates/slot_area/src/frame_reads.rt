@@ -10,6 +10,20 @@ ghost use Rattle.slot_area.specs.Held.{frame_in};
 use crate::frame::Frame;
 use crate::frames::Frames;
 
+/// The bound, or one more than this slot where that is greater. A number past the last slot does not
+/// count.
+fn raised(bound: u32, slot: u32) -> u32
+    requires { bound ≤ 2 ^ 20 }
+    ensures above { bound ≤ result }
+    ensures small { result ≤ 2 ^ 20 }
+    ensures past { slot < 2 ^ 20 → slot < result }
+{
+    if slot < bound || slot >= 1_048_576 {
+        return bound;
+    }
+    slot + 1
+}
+
 impl Frames {
     /// The number of frames.
     pub fn count(&self) -> usize
@@ -90,5 +104,23 @@ impl Frames {
             Some(index) => Some(index),
             None => self.free_between(0, self.hand, settled),
         }
+    }
+
+    /// A number of slots, no less than `end` and at most 1,048,576: no slot from there on has a frame.
+    pub fn bound(&self, end: u32) -> u32
+        requires { end ≤ 2 ^ 20 }
+        ensures above { end ≤ result }
+        ensures small { result ≤ 2 ^ 20 }
+        ensures none { (slot : ℕ) → result ≤ slot → slot < 2 ^ 20 → frame_in self.now slot ≡ None }
+    {
+        let count = self.frames.len();
+        let mut bound = end;
+        let mut i = 0;
+        'frames: while i < count {
+            let frame = self.at(i);
+            bound = raised(bound, frame.slot);
+            i += 1;
+        }
+        bound
     }
 }

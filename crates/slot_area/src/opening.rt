@@ -31,6 +31,15 @@ impl SlotArea {
         self.end
     }
 
+    /// A number of slots, at most 1,048,576: no slot from there on has a frame, and area 0 has none of
+    /// them. So each of them reads zeros. It looks at each frame once, and makes no call of the disk.
+    pub fn bound(&self) -> u32
+        ensures small { result ≤ 2 ^ 20 }
+        ensures blank { (stored : List ℕ) (slot : ℕ) → result ≤ slot → slot < 2 ^ 20 → view self.now stored slot ≡ zeros }
+    {
+        self.frames.bound(self.end)
+    }
+
     /// Whether the slot has no frame, and area 0 does not have it. It reads zeros: neither a frame nor
     /// a call of the disk is needed for it.
     pub fn is_blank(&self, slot: u32) -> bool

@@ -14,6 +14,10 @@ use open_transactions::has_low_number;
 /// The most slots that a transaction may write, those of low numbers aside.
 const MAX_SLOT_WRITES: u32 = 7989;
 
+/// The number of slots. It is the end too while writes are still to be undone: what an undo restores
+/// may be past the slots that area 0 and the memory have.
+const SLOTS: u32 = 1_048_576;
+
 impl<D: Disk + Drop> SlotTxn<D> {
     /// Whether the client's transaction has all the writes that count, and a write of the slot would
     /// count too.
@@ -44,6 +48,13 @@ impl<D: Disk + Drop> Slots for SlotTxn<D> {
             return faults + 1;
         }
         faults
+    }
+
+    fn end(&self) -> u32 {
+        match self.slots.transactions.first_due() {
+            Some(_) => SLOTS,
+            None => self.slots.slots.bound(),
+        }
     }
 
     fn read(&mut self, slot: u32, into: &mut [u8; 256]) -> Result<(), SlotFault> {

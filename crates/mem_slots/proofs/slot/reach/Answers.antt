@@ -1,8 +1,8 @@
-use Rattle.std.proofs.Common.{◌≡◌, None, Some, nat_eq, sym, ◌∙◌}
+use Rattle.std.proofs.Common.{◌≡◌, None, Some, nat_eq, is_some, sym, ◌∙◌, ap}
 use Rattle.std.specs.HashMap.{get, Updates}
 use Rattle.mem_slots.specs.declared.slot.Slot.{Slot}
 use Rattle.mem_slots.specs.Sparse.{zeros}
-use Rattle.mem_slots.proofs.Places.{is_none, part_none, part_same}
+use Rattle.mem_slots.proofs.Places.{is_none, part_none, part_same, with_other}
 use Rattle.mem_slots.proofs.slot.reach.Goals as goal
 
 pub returns-then-not-contains_key-clause-reads : goal.returns-then-not-contains_key-clause-reads
@@ -24,3 +24,12 @@ returns-then-not-contains_key-clause-committed c =
     let added : Updates nat_eq old new c.args.number (Some x) = rw c.unwrap.ensures at c.insert-inserted.ensures.updates in
     let none : get nat_eq old c.args.number ≡ None = is_none _ (sym c.contains_key.ensures ∙ c.if-not-contains_key.true) in
     part_same (λ (s : Slot). s.committed) (get nat_eq old) (get nat_eq new) c.args.number x added.0 (part_none (λ (s : Slot). s.committed) _ none)
+
+pub returns-then-not-contains_key-clause-others : goal.returns-then-not-contains_key-clause-others
+unfolding zeros
+returns-then-not-contains_key-clause-others c =
+    let old = c.args.slots.now in
+    let new = c.insert-inserted.new.self in
+    let x : Slot = record { now = zeros; committed = zeros } in
+    let added : Updates nat_eq old new c.args.number (Some x) = rw c.unwrap.ensures at c.insert-inserted.ensures.updates in
+    λ k other. ap is_some (with_other (get nat_eq old) (get nat_eq new) c.args.number k x other added.0)

@@ -4,7 +4,7 @@ use Rattle.abl_storage.specs.declared.slots.Undo.{Undo}
 use Rattle.mem_slots.specs.Promised.{promised}
 use Rattle.mem_slots.specs.Sparse.{AllHeld}
 use Rattle.mem_slots.proofs.Clients.{promised_most}
-use Rattle.mem_slots.proofs.Changes.{as_one, same_reads, same_committed, same_places, here, stands, keeps, becomes_one, rests}
+use Rattle.mem_slots.proofs.Changes.{as_one, same_reads, same_committed, same_places, here, stands_there, keeps, becomes_one, rests}
 use Rattle.mem_slots.proofs.mem_slots.MemSlots.make_room.Goals as goal
 
 pub overflow_add-total : goal.overflow_add-total
@@ -17,7 +17,7 @@ make_room-requires-clause-begun c = sym (ap (λ (t : Transaction). t.begun) (her
 
 pub invariant_of-self : goal.invariant_of-self
 invariant_of-self c =
-    stands c.args.self.now c.requires.client c.index_mut-client.ensures.value c.reserve.new.self c.make_room.new.self
+    stands_there c.args.self.now c.requires.client c.index_mut-client.ensures.value c.reserve.new.self c.make_room.new.self
     (same_places c.args.self.now.slots c.reserve.new.self c.reserve.ensures.entries.2)
     (λ held. subst (λ (l : List Undo). AllHeld c.reserve.new.self l) (sym c.make_room.ensures.undo) held)
     (omega (arith, c.all_promised-total.ensures, ap promised c.deref.ensures.value, c.make_room.ensures.promised, c.in-Ok.ensures.ok))

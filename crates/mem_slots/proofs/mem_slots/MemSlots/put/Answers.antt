@@ -46,10 +46,15 @@ invariant_of-self c =
     let old = c.index_mut-client.result.now in
     let new = c.put_bytes-before.new.slots in
     let more : (j : ℕ) → holds c.reach.new.slots j ≡ true → holds new j ≡ true = λ j h. c.put_bytes-before.ensures.held j ∙ h in
-    stands s c.requires.client c.index_mut-client.ensures.value new c.add.new.self
+    stands s c.requires.client c.index_mut-client.ensures.value new c.add.new.self c.end_after-self.result
     (λ j h. more j (c.reach.ensures.held j h))
     (λ held. subst (λ (l : List Undo). AllHeld new l) (sym c.add.ensures.undo) (held_push new old.undo.items (record { slot = c.args.slot; old = c.put_bytes-before.result }) held (more c.args.slot c.reach.ensures.here)))
     (omega (arith, c.add.ensures.promised, c.reach.ensures.spare, c.put_bytes-before.ensures.spare, s.has_room))
+    c.end_after-self.ensures.small
+    (λ j le.
+    let above = c.end_after-self.ensures.above in
+    let past = c.end_after-self.ensures.past in
+    c.put_bytes-before.ensures.held j ∙ c.reach.ensures.others j (λ e. omega (arith, e, le, past)) ∙ s.blank j (omega (arith, le, above)))
 
 pub returns : goal.returns
 returns c =

@@ -1,7 +1,7 @@
 use Rattle.std.proofs.Common.{true, ap, refl, arith}
 use Rattle.mem_slots.specs.Promised.{promised}
 use Rattle.mem_slots.proofs.Clients.{held_none, promised_most, either_way}
-use Rattle.mem_slots.proofs.Changes.{as_one, same_reads, same_committed, same_places, held_as, stands, keeps, becomes_one, rests}
+use Rattle.mem_slots.proofs.Changes.{as_one, same_reads, same_committed, same_places, held_as, stands_there, keeps, becomes_one, rests}
 use Rattle.mem_slots.proofs.mem_slots.MemSlotsSlots.begin.Goals as goal
 
 pub overflow_add-total : goal.overflow_add-total
@@ -11,7 +11,7 @@ overflow_add-total c =
 
 pub invariant_of-self : goal.invariant_of-self
 invariant_of-self c =
-    stands c.args.self.now c.requires.client c.index_mut-client.ensures.value c.reserve.new.self c.begin.new.self
+    stands_there c.args.self.now c.requires.client c.index_mut-client.ensures.value c.reserve.new.self c.begin.new.self
     (same_places c.args.self.now.slots c.reserve.new.self c.reserve.ensures.entries.2)
     (λ held. either_way c.begin.result (λ yes. held_as c.reserve.new.self c.begin.new.self (c.begin.ensures.yes yes) (held_none c.reserve.new.self)) (λ no. held_as c.reserve.new.self c.begin.new.self (c.begin.ensures.no no) held))
     (omega (arith, c.all_promised-total.ensures, ap promised c.deref.ensures.value, c.begin.ensures.promised, c.in-Ok.ensures.ok))
