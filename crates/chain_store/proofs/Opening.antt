@@ -1,5 +1,5 @@
 -- A store is opened: what was found of the slots is noted.
-use Rattle.std.proofs.Common.{◌≡◌, ◌≢◌, ◌⊎◌, inl, inr, ⊎_elim, ℕ, ◌<◌, ◌≤◌, cond, eqb, true, false, List, [], drop, length, refl, sym, ◌∙◌, ap, subst, arith}
+use Rattle.std.proofs.Common.{◌≡◌, ◌≢◌, ◌⊎◌, inl, inr, ⊎_elim, ℕ, ◌<◌, ◌≤◌, ◌&&◌, not, cond, eqb, Bool, true, false, List, [], drop, length, None, refl, sym, ◌∙◌, ap, subst, arith}
 use Rattle.std.proofs.lemmas.Bool.{cases_lt}
 use Rattle.std.proofs.lemmas.List.{get_or_past}
 use Rattle.abl_storage.specs.Slots.{SlotState, Transaction, IsReadable, Rests, wrote}
@@ -8,8 +8,9 @@ use Rattle.abl_values.specs.Rows.{number_at_head}
 use Rattle.free_slots.specs.Free.{free_in}
 use Rattle.free_slots.proofs.Popped.{far}
 use Rattle.row_chain.specs.Calls.{Covers}
-use Rattle.row_chain.specs.Fragments.{ends, kind_in, next_in}
+use Rattle.row_chain.specs.Fragments.{begins, ends, kind_in, next_in, row_at}
 use Rattle.row_chain.specs.Tied.{IsValue}
+use Rattle.row_chain.proofs.Chained.{no_row_at}
 use Rattle.row_chain.proofs.Composes.{readable_on}
 use Rattle.chain_store.specs.declared.client.Client.{Client}
 use Rattle.chain_store.specs.declared.places.Place.{Place}
@@ -61,6 +62,16 @@ past_end places end k rest le lt = ⊎_elim
     (λ (short : length places ≤ end). ap (λ (p : Place). p.row) (get_or_past places k no_place (omega (arith, short, le))))
     (λ (is : end ≡ 1048576). absurd (omega (arith, is, le, lt)))
     rest
+
+-- no row begins from the end on
+pub none_from : (s : SlotState) (places : List Place) (end k : ℕ) → IsKept s places → IsReadable s → (length places ≤ end) ⊎ (end ≡ 1048576) → end ≤ k → row_at s.reads k ≡ None
+none_from s places end k kept readable rest le = no_row_at s.reads k (by_end (ends k) refl)
+  where
+    by_end : (b : Bool) → ends k ≡ b → begins s.reads k ≡ false
+    by_end true e = ap (λ (b : Bool). not b && eqb (kind_in (s.reads k)) 1) e
+    by_end false e =
+        let free : kind_in (s.reads k) ≡ 0 = (kept.fits readable k (s.reads k) e (inl refl)).free (past_end places end k rest le (high_bound k e)) in
+        ap (λ (b : Bool). not b && eqb (kind_in (s.reads k)) 1) e ∙ ap (λ (kind : ℕ). eqb kind 1) free
 
 pub free_found : (places : List Place) (back : List ℕ) (last end : ℕ) → (length places ≤ end) ⊎ (end ≡ 1048576) → end ≤ 1048576
     → ((k : ℕ) → end ≤ k → k < 1048576 → free_in back last k ≡ 1) → ((k : ℕ) → k < 8192 → free_in back last k ≡ 0)

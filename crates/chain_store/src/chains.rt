@@ -18,7 +18,7 @@ ghost use Rattle.std.proofs.Props.{props};
 use crate::client::Client;
 use crate::clients::{idle_clients, settle_idle};
 use crate::fault::{ChainFault, failed_after};
-use crate::opened::free_of;
+use crate::opened::{end_of, free_of};
 use crate::places::Place;
 use crate::scan::scan;
 use abl_base::RowId;
@@ -139,6 +139,15 @@ impl<S: Slots + Drop> Chains<S> {
         ensures counted { (S.Slots.state self.now.slots).failed ≡ false → ((S.Slots.state self.now.slots).transaction client).begun ≡ true → result ≡ ((S.Slots.state self.now.slots).transaction client).counted }
     {
         u64::from(self.clients[client as usize].written)
+    }
+
+    /// A number from 8,192 to 1,048,576: no row begins from there on. It reads no slot.
+    pub fn end(&self) -> u32
+        ensures low { 8192 ≤ result }
+        ensures high { result ≤ 1048576 }
+        ensures none { IsReadable (S.Slots.state self.now.slots) → (k : ℕ) → result ≤ k → row_at (S.Slots.state self.now.slots).reads k ≡ None }
+    {
+        end_of(&self.places)
     }
 
     /// The row, if there is one. A row of one fragment reads one slot, and each byte is copied once.

@@ -15,7 +15,7 @@ const FIRST_ROW: u32 = 8192;
 const ROW_LIMIT: u32 = 1_048_576;
 
 /// The number from which on no slot for rows is known to be taken.
-fn end_of(places: &[Place]) -> u32
+pub fn end_of(places: &[Place]) -> u32
     ensures low { 8192 ≤ result }
     ensures high { result ≤ 1048576 }
     ensures rest { length places.now ≤ result ⊎ (result ≡ 1048576) }

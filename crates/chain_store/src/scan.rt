@@ -1,7 +1,7 @@
 //! Reading which row each slot belongs to, when a store is opened.
 
 ghost use Rattle.std.specs.Prelude.{◌≡◌, ◌<◌, ◌≤◌, ◌^◌, ℕ, List, [], length, true, false, IfOk, OnOk};
-ghost use Rattle.abl_storage.specs.Slots.{IsReadable, NeverFull, OnlyDisk};
+ghost use Rattle.abl_storage.specs.Slots.{AreBlankFrom, IsReadable, NeverFull, OnlyDisk};
 ghost use Rattle.row_chain.specs.Calls.{Looked};
 ghost use Rattle.row_chain.specs.Fragments.{ends, kind_in};
 ghost use Rattle.chain_store.specs.Places.{Fits, IsKept, owner_in, row_in};
@@ -12,10 +12,21 @@ use abl_storage::{SlotFault, Slots};
 use row_chain::fragment::{kind, next};
 use std::alloc::Global;
 
-/// The first slot for rows, and the first number past them.
+/// The first slot for rows.
 const FIRST_ROW: u32 = 8192;
 
-const ROW_LIMIT: u32 = 1_048_576;
+/// A number of a slot for rows, or the number past them: each slot from there on reads zeros.
+fn used_end<S: Slots>(slots: &S) -> u32
+    ensures low { 8192 ≤ result }
+    ensures high { result ≤ 1048576 }
+    ensures blank { IsReadable (S.Slots.state slots.now) → AreBlankFrom result (S.Slots.state slots.now).reads }
+{
+    let end = slots.end();
+    if end < FIRST_ROW {
+        return FIRST_ROW;
+    }
+    end
+}
 
 /// Whether the bytes of the slot fit what is known of it, nothing is known of it where it is free,
 /// and no client changes it.
@@ -76,12 +87,13 @@ fn spread<S: Slots>(
     Ok(())
 }
 
-/// Notes the slots of each row.
-fn note_rows<S: Slots>(slots: &mut S, places: &mut Vec<Place>) -> Result<(), SlotFault>
+/// Notes the slots of each row that begins below `end`.
+fn note_rows<S: Slots>(slots: &mut S, places: &mut Vec<Place>, end: u32) -> Result<(), SlotFault>
+    requires high { end ≤ 1048576 }
     ensures looked { Looked (S.Slots.state slots.old) (S.Slots.state slots.new) (S.Slots.stop slots.old) (S.Slots.stop slots.new) result }
     ensures only { NeverFull result }
 {
-    for at in FIRST_ROW..ROW_LIMIT {
+    for at in FIRST_ROW..end {
         let mut slot = [0u8; 256];
         read(slots, at, &mut slot)?;
         if kind(&slot) == 1 {
@@ -91,15 +103,22 @@ fn note_rows<S: Slots>(slots: &mut S, places: &mut Vec<Place>) -> Result<(), Slo
     Ok(())
 }
 
-/// Whether each slot for rows fits what is known of it.
-fn all_fit<S: Slots>(slots: &mut S, places: &[Place]) -> Result<bool, SlotFault>
+/// Whether each slot for rows fits what is known of it. The slots from `end` on read zeros, and fit
+/// where nothing is known of them.
+fn all_fit<S: Slots>(slots: &mut S, places: &[Place], end: u32) -> Result<bool, SlotFault>
+    requires low { 8192 ≤ end }
+    requires high { end ≤ 1048576 }
+    requires blank { IsReadable (S.Slots.state slots.old) → AreBlankFrom end (S.Slots.state slots.old).reads }
     ensures fit { IfOk result (λ fit. fit ≡ true → IsReadable (S.Slots.state slots.old) → (k : ℕ) → 8192 ≤ k → k < 1048576 → Fits places.now k ((S.Slots.state slots.old).reads k)) }
     ensures free { IfOk result (λ fit. fit ≡ true → IsReadable (S.Slots.state slots.old) → (k : ℕ) → 8192 ≤ k → k < 1048576 → kind_in ((S.Slots.state slots.old).reads k) ≡ 0 → row_in places.now k ≡ 0) }
     ensures unowned { IfOk result (λ fit. fit ≡ true → (k : ℕ) → 8192 ≤ k → k < 1048576 → owner_in places.now k ≡ 0) }
     ensures looked { Looked (S.Slots.state slots.old) (S.Slots.state slots.new) (S.Slots.stop slots.old) (S.Slots.stop slots.new) result }
     ensures only { OnlyDisk result }
 {
-    for at in FIRST_ROW..ROW_LIMIT {
+    if (end as usize) < places.len() {
+        return Ok(false);
+    }
+    for at in FIRST_ROW..end {
         let mut slot = [0u8; 256];
         read(slots, at, &mut slot)?;
         if !fits(places, at, &slot) {
@@ -110,8 +129,8 @@ fn all_fit<S: Slots>(slots: &mut S, places: &[Place]) -> Result<bool, SlotFault>
 }
 
 /// What is known of the slots when no transaction is begun: which row each slot belongs to, by
-/// reading all slots for rows. A slot that holds nothing is free. The refusals are Disk, and NoMemory
-/// also where slots are no chains of rows.
+/// reading the slots for rows up to the last one that may hold something. A slot that holds nothing is
+/// free. The refusals are Disk, and NoMemory also where slots are no chains of rows.
 pub fn scan<S: Slots>(alloc: Global, slots: &mut S) -> Result<Vec<Place>, SlotFault>
     requires idle { (c : ℕ) → ((S.Slots.state slots.old).transaction c).begun ≡ false }
     requires clean { (c : ℕ) → ((S.Slots.state slots.old).transaction c).undo ≡ [] }
@@ -121,9 +140,10 @@ pub fn scan<S: Slots>(alloc: Global, slots: &mut S) -> Result<Vec<Place>, SlotFa
     ensures looked { Looked (S.Slots.state slots.old) (S.Slots.state slots.new) (S.Slots.stop slots.old) (S.Slots.stop slots.new) result }
     ensures only { NeverFull result }
 {
+    let end = used_end(slots);
     let mut places = Vec::new(alloc);
-    note_rows(slots, &mut places)?;
-    let fit = all_fit(slots, &places)?;
+    note_rows(slots, &mut places, end)?;
+    let fit = all_fit(slots, &places, end)?;
     if !fit {
         return Err(SlotFault::NoMemory);
     }

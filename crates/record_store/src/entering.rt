@@ -26,10 +26,8 @@ use stored_rows::StoredRows;
 /// The client that enters all rows, and ends after the last.
 const CLIENT: u16 = 0;
 
-/// The first identity of a row, and the first number past them.
+/// The first identity of a row.
 const FIRST_ROW: u32 = 8192;
-
-const ROW_LIMIT: u32 = 1_048_576;
 
 /// Tests the keys of a row of the table: no key is too long, and no row in the indexes has one of its
 /// unique keys.
@@ -157,7 +155,8 @@ fn enter_rows<S: Slots + Drop>(
     ensures keepers { OnOk result ((j : ℕ) (key : List ℕ) (c : ℕ) → c ≢ CLIENT → keepers_of indexes.new.items j key ≡ Some c → keepers_of indexes.old.items j key ≡ Some c) }
     ensures count { length indexes.new.items ≡ length indexes.old.items }
 {
-    for at in FIRST_ROW..ROW_LIMIT {
+    let end = rows.end();
+    for at in FIRST_ROW..end {
         enter_at(alloc, rows, indexes, at)?;
     }
     Ok(())

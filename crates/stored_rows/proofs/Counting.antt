@@ -1,5 +1,5 @@
 -- The number of fragments of the committed rows, over the calls that do not commit.
-use Rattle.std.proofs.Common.{◌≡◌, inl, inr, ℕ, ◌+◌, ◌-◌, ◌^◌, ◌<◌, ◌≤◌, Bool, true, false, eqb, List, Option, None, Result, Ok, Err, OnOk, OnErr, IsTrue, ℤ, refl, sym, ap, ◌∙◌, subst, arith}
+use Rattle.std.proofs.Common.{◌≡◌, inl, inr, ℕ, ◌+◌, ◌-◌, ◌^◌, ◌<◌, ◌≤◌, Bool, true, false, eqb, List, Option, None, Result, Ok, Err, OnOk, OnErr, IsTrue, ℤ, is_some, refl, sym, ap, ◌∙◌, subst, arith}
 use Rattle.std.proofs.lemmas.Bool.{cases_eq, cases_lt}
 use Rattle.std.proofs.lemmas.Bool.Decides.{nat_tests}
 use Rattle.abl_storage.specs.Slots.{SlotState, Begins, GoesBack, HasCause, IsReadable, KeepsCommitted, Rests}
@@ -10,7 +10,7 @@ use Rattle.chain_store.specs.declared.fault.ChainFault.{ChainFault}
 use Rattle.database_meaning.specs.declared.state.StoredRow.{StoredRow}
 use Rattle.database_meaning.specs.Counts.{sum_below}
 use Rattle.database_meaning.specs.Setting.{fragments}
-use Rattle.row_chain.specs.Fragments.{ends, kind_in}
+use Rattle.row_chain.specs.Fragments.{StoredBytes, ends, kind_in, row_at}
 use Rattle.row_chain.proofs.Chained.{no_row_at}
 use Rattle.abl_rows.specs.Changes.{RowsById}
 use Rattle.abl_rows.specs.Questions.{IsUsed}
@@ -21,7 +21,7 @@ use Rattle.stored_rows.specs.Decoded.{decoded, row_of}
 use Rattle.stored_rows.specs.Opens.{open_in}
 use Rattle.stored_rows.specs.State.{Reserved, rows_if, state_of}
 use Rattle.stored_rows.proofs.Opening.{not_begins}
-use Rattle.stored_rows.proofs.Weights.{below_few, below_none, map_sum}
+use Rattle.stored_rows.proofs.Weights.{below_end, below_few, below_none, map_sum}
 
 -- a call that leaves no failure found none
 pub failed_before : {T : Type 0} (s t : SlotState) (r : Result T SlotFault) → HasCause s t r → t.failed ≡ false → s.failed ≡ false
@@ -100,15 +100,28 @@ one_more P at below here k low lt = elim (cases_eq k at) [
 none_few : (schema : SchemaData) (slots : ℕ → List ℕ) (k : ℕ) → decoded schema slots k ≡ None → fragments (decoded schema slots k) ≤ 125
 none_few schema slots k none = subst (λ (r : Option StoredRow). fragments r ≤ 125) (sym none) (omega arith)
 
-pub counted_all : (schema : SchemaData) (slots : ℕ → List ℕ) (used end : ℕ) → end ≡ 1048576 → used + fragments_below 8192 (decoded schema slots) ≡ fragments_below end (decoded schema slots)
-    → ((k : ℕ) → 8192 ≤ k → k < end → fragments (decoded schema slots k) ≤ 125) → AreCounted (decoded schema slots) used
-counted_all schema slots used end all is few = record {
+-- no row has an identity from the end on
+pub counted_all : (schema : SchemaData) (slots : ℕ → List ℕ) (used end at : ℕ) → at ≡ end → end ≤ 1048576 → ((k : ℕ) → end ≤ k → decoded schema slots k ≡ None)
+    → used + fragments_below 8192 (decoded schema slots) ≡ fragments_below at (decoded schema slots) → ((k : ℕ) → 8192 ≤ k → k < at → fragments (decoded schema slots k) ≤ 125) → AreCounted (decoded schema slots) used
+counted_all schema slots used end at all high past is few = record {
   few = λ k. elim (cases_lt k 8192) [
     | inl lt ↦ none_few schema slots k (low_none schema slots k lt)
-    | inr low ↦ elim (cases_lt k 1048576) [
+    | inr low ↦ elim (cases_lt k end) [
       | inl lt ↦ few k low (omega (arith, lt, all))
-      | inr le ↦ none_few schema slots k (past_none schema slots k le)
+      | inr le ↦ none_few schema slots k (past k le)
     ]
   ];
-  sum = let none = below_none 8192 (decoded schema slots) (λ k lt. low_none schema slots k lt) in let moved = ap (λ (n : ℕ). fragments_below n (decoded schema slots)) all in omega (arith, is, none, moved);
+  sum =
+      let none = below_none 8192 (decoded schema slots) (λ k lt. low_none schema slots k lt) in
+      let moved = ap (λ (n : ℕ). fragments_below n (decoded schema slots)) all in
+      let rest = below_end 1048576 end (decoded schema slots) high past in
+      omega (arith, is, none, moved, rest);
 }
+
+-- the rows below the end are read, and none begins from there on
+pub read_all : (schema : SchemaData) (slots : ℕ → List ℕ) (end at : ℕ) → at ≡ end → ((k : ℕ) → end ≤ k → row_at slots k ≡ None) → ((k : ℕ) → 8192 ≤ k → k < at → is_some (decoded schema slots k) ≡ is_some (row_at slots k))
+    → (k : ℕ) → 8192 ≤ k → k < 1048576 → is_some (decoded schema slots k) ≡ is_some (row_at slots k)
+read_all schema slots end at all past below k low lt = elim (cases_lt k end) [
+  | inl short ↦ below k low (omega (arith, short, all))
+  | inr le ↦ ap (λ (r : Option StoredBytes). is_some (row_of schema r)) (past k le) ∙ sym (ap (λ (r : Option StoredBytes). is_some r) (past k le))
+]

@@ -59,6 +59,18 @@ below_none (suc n) rows none =
     let rest = below_none n rows (λ k lt. none k (omega (arith, lt))) in
     omega (arith, here, rest)
 
+-- where there is no row from a number on, the fragments are those below it
+pub below_end : (n end : ℕ) (rows : RowsById) → end ≤ n → ((k : ℕ) → end ≤ k → rows k ≡ None) → fragments_below n rows ≡ fragments_below end rows
+unfolding fragments_below
+below_end zero end rows le none = let is : end ≡ 0 = omega (arith, le) in ap (λ (m : ℕ). fragments_below m rows) (sym is)
+below_end (suc n) end rows le none = elim (cases_eq end (suc n)) [
+  | inl e ↦ ap (λ (m : ℕ). fragments_below m rows) (sym e)
+  | inr ne ↦
+      let here = ap fragments (none n (omega (arith, le, ne))) in
+      let rest = below_end n end rows (omega (arith, le, ne)) none in
+      omega (arith, here, rest)
+]
+
 pub below_more : (n : ℕ) (rows : RowsById) → fragments_below (n + 1) rows ≡ fragments_below n rows + fragments (rows n)
 unfolding fragments_below
 below_more n rows =

@@ -1,6 +1,6 @@
 //! What is asked of rows without memory, and a free identity.
 
-ghost use Rattle.std.specs.Prelude.{◌≡◌, ◌<◌, ◌≤◌, ℤ, List, length, IfOk, OnOk};
+ghost use Rattle.std.specs.Prelude.{◌≡◌, ◌<◌, ◌≤◌, ℕ, ℤ, List, length, None, IfOk, OnOk};
 ghost use Rattle.database_meaning.specs.Counts.{sum_below};
 ghost use Rattle.abl_storage.specs.Slots.{Goes, IsReadable, KeepsCommitted};
 ghost use Rattle.database_meaning.specs.Setting.{fragments as fragments_in};
@@ -111,6 +111,15 @@ impl<S: Slots + Drop> StoredRows<S> {
             Ok(row) => Ok(row),
             Err(fault) => Err(error_of(fault)),
         }
+    }
+
+    /// A number from 8,192 to 1,048,576: no row has an identity from there on. It reads no slot.
+    pub fn end(&self) -> u32
+        ensures low { 8192 ≤ result }
+        ensures high { result ≤ 1048576 }
+        ensures none { IsReadable (S.Slots.state self.now.chains.slots) → (k : ℕ) → result ≤ k → decoded self.now.schema (S.Slots.state self.now.chains.slots).reads k ≡ None }
+    {
+        self.chains.end()
     }
 
     /// The number of used fragments: those of the committed rows, and those that open transactions

@@ -21,10 +21,8 @@ use chain_store::{ChainFault, Chains};
 use row_chain::StoredRow;
 use std::alloc::{AllocError, Global};
 
-/// The first identity of a row, and the first number past them.
+/// The first identity of a row.
 const FIRST_ROW: u32 = 8192;
-
-const ROW_LIMIT: u32 = 1_048_576;
 
 /// Sixteen clients without a transaction.
 fn idle_opens(alloc: Global) -> Result<Vec<Open>, AllocError>
@@ -88,8 +86,9 @@ fn count_rows<S: Slots + Drop>(
     ensures counted { IfOk result (λ used. IsReadable (S.Slots.state chains.old.slots) → AreCounted (decoded schema.now (S.Slots.state chains.old.slots).reads) used) }
     ensures looked { Looked (S.Slots.state chains.old.slots) (S.Slots.state chains.new.slots) (S.Slots.stop chains.old.slots) (S.Slots.stop chains.new.slots) result }
 {
+    let end = chains.end();
     let mut used = 0u64;
-    for at in FIRST_ROW..ROW_LIMIT {
+    for at in FIRST_ROW..end {
         let many = weigh_row(alloc, chains, schema, RowId(at))?;
         used += u64::from(many);
     }

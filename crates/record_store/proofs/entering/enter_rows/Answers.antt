@@ -1,4 +1,4 @@
-use Rattle.std.proofs.Common.{◌+◌, ◌≤◌, [], refl, sym, ap, ◌∙◌, subst, arith}
+use Rattle.std.proofs.Common.{◌≡◌, ◌+◌, [], refl, sym, ap, ◌∙◌, subst, arith}
 use Rattle.abl_rows.specs.Changes.{RowsById}
 use Rattle.chain_store.specs.Still.{Still}
 use Rattle.chain_store.proofs.Reading.{still_both}
@@ -10,7 +10,7 @@ use Rattle.record_store.specs.Opened.{AreEntered}
 use Rattle.record_store.specs.State.{no_reserved}
 use Rattle.record_store.proofs.Entered.{entered_as}
 use Rattle.record_store.proofs.Refused.{still_read, still_same}
-use Rattle.record_store.proofs.Sound.{before_all, before_none, decoded_low, decoded_past}
+use Rattle.record_store.proofs.Sound.{before_all, before_none, decoded_low}
 use Rattle.record_store.proofs.entering.enter_rows.Goals as goal
 
 pub enter_at-requires : goal.enter_at-requires
@@ -59,5 +59,5 @@ pub returns-clause-entered : goal.returns-clause-entered
 returns-clause-entered g c = λ readable none.
     let rows = c.args.rows.now in
     let reads = (g.S.Slots.state rows.chains.slots).reads in
-    let end : 1048576 ≤ c.loop-at.at = omega arith in
-    subst (λ (r : RowsById). AreEntered rows.schema r c.loop-at.indexes.items) (before_all c.loop-at.at (decoded rows.schema reads) (λ k le. decoded_past rows.schema reads k (omega (arith, le, end)))) (c.loop-at.invariant.entered readable none)
+    let all : c.loop-at.at ≡ c.end-end.result = omega arith in
+    subst (λ (r : RowsById). AreEntered rows.schema r c.loop-at.indexes.items) (before_all c.loop-at.at (decoded rows.schema reads) (λ k le. c.end-end.ensures.none readable k (omega (arith, le, all)))) (c.loop-at.invariant.entered readable none)

@@ -5,8 +5,8 @@ use Rattle.row_chain.specs.Fragments.{row_at}
 use Rattle.row_chain.proofs.Composes.{readable_on}
 use Rattle.chain_store.specs.Still.{Still}
 use Rattle.chain_store.proofs.Reading.{still_both}
-use Rattle.stored_rows.specs.Decoded.{decoded}
-use Rattle.stored_rows.proofs.Counting.{counted_all, one_more}
+use Rattle.stored_rows.specs.Decoded.{decoded, row_of}
+use Rattle.stored_rows.proofs.Counting.{counted_all, one_more, read_all}
 use Rattle.stored_rows.proofs.Weights.{below_more}
 use Rattle.stored_rows.proofs.opened.count_rows.Goals as goal
 
@@ -37,7 +37,12 @@ loop-at-preserved g c =
       few = let before = i.few in omega (arith, before, few);
     }
 
+pub returns-clause-read : goal.returns-clause-read
+returns-clause-read g c = λ readable.
+    read_all c.args.schema.now (g.S.Slots.state c.args.chains.now.slots).reads c.end-end.result c.loop-at.at (omega arith) (c.end-end.ensures.none readable) (c.loop-at.invariant.read readable)
+
 pub returns-clause-counted : goal.returns-clause-counted
 returns-clause-counted g c = λ readable.
     let i = c.loop-at.invariant in
-    counted_all c.args.schema.now (g.S.Slots.state c.args.chains.now.slots).reads c.loop-at.used c.loop-at.at (omega arith) (i.sum readable) (i.weighs readable)
+    let schema = c.args.schema.now in
+    counted_all schema (g.S.Slots.state c.args.chains.now.slots).reads c.loop-at.used c.end-end.result c.loop-at.at (omega arith) c.end-end.ensures.high (λ k le. ap (row_of schema) (c.end-end.ensures.none readable k le)) (i.sum readable) (i.weighs readable)
