@@ -226,10 +226,11 @@ impl Machine {
                 outer,
                 left,
             } => self.again(fuel, place, outer, left, completion),
-            StackEntry::Called(_) => Err(AllocError),
-            StackEntry::End(_) => Err(AllocError),
-            StackEntry::Read(_) => Err(AllocError),
-            StackEntry::Change(_) => Err(AllocError),
+            _ => {
+                drop(entry);
+                drop(completion);
+                Err(AllocError)
+            }
         }
     }
 
@@ -239,6 +240,8 @@ impl Machine {
         ensures err { OnErr result (IsUnchanged self.old.output self.new.output) }
     {
         if !can_reach(&task, &completion) {
+            drop(task);
+            drop(completion);
             return Err(AllocError);
         }
         let mode = mode_then(task, completion);

@@ -37,6 +37,7 @@ use client_memory::Memory;
 use client_output::Output;
 use client_values::value::{Status, value_of};
 use std::alloc::{AllocError, Global};
+use std::mem;
 
 /// A machine between two steps.
 #[derive(Drop)]
@@ -68,11 +69,16 @@ pub struct Machine {
 }
 
 impl Machine {
-    /// Sets the mode. Each assignment to that field drops the old mode by cases, so there is one alone.
+    /// Sets the mode. A step has mostly taken the old one already, and then there is nothing to drop:
+    /// dropping it by cases costs more than the rest of the step.
     pub fn set_mode(&mut self, mode: Mode)
         ensures { self.new ≡ record self.old { mode = mode } }
     {
-        self.mode = mode;
+        if owns_nothing(&self.mode) {
+            mem::forget(mem::replace(&mut self.mode, mode));
+        } else {
+            drop(mem::replace(&mut self.mode, mode));
+        }
     }
 
     /// Takes a unit, or stops the client.
@@ -252,6 +258,14 @@ impl Machine {
     }
 }
 
+/// Whether the mode is one of those without owned memory that a step leaves in place of the one it takes.
+fn owns_nothing(mode: &Mode) -> bool {
+    matches!(
+        mode,
+        Mode::Unwind(Completion::Normal) | Mode::Execute(Task::RunsFrom { .. })
+    )
+}
+
 /// The task follows a normal completion.
 pub fn mode_then(task: Task, completion: Completion) -> Mode
     ensures order { (n : Nesting) (os : List StackEntry) → CanReach task completion → CompletesInOrder n completion (StackEntry.Then task ∷ os) → ModeInOrder n result os }
@@ -259,7 +273,10 @@ pub fn mode_then(task: Task, completion: Completion) -> Mode
 {
     match completion {
         Completion::Normal => Mode::Execute(task),
-        _ => Mode::Unwind(completion),
+        _ => {
+            drop(task);
+            Mode::Unwind(completion)
+        }
     }
 }
 

@@ -239,6 +239,7 @@ impl Machine {
         ensures err { OnErr result (IsUnchanged self.old.output self.new.output) }
     {
         if !self.charge() {
+            drop(completion);
             return Ok(());
         }
         self.stack.push(StackEntry::Then(Task::RunsFrom {
