@@ -1,0 +1,4 @@
+pub mod Images
+pub mod Acknowledged
+pub mod Opened
+pub mod Histories

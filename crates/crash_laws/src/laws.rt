@@ -1,0 +1,52 @@
+//! The laws. Each is the contract of a function with an empty body.
+
+ghost use Rattle.std.specs.Prelude.{◌≤◌, ◌++◌, ◌∷◌, [], ℕ, List, IsTrue};
+ghost use Rattle.abl_values.specs.Schema.{SchemaData};
+ghost use Rattle.client_database.specs.declared.event.Event.{Event};
+ghost use Rattle.database_meaning.specs.declared.contents.Contents.{Contents};
+ghost use Rattle.database_meaning.specs.Setting.{Setting};
+ghost use Rattle.database_meaning.specs.Traces.{IsLegal, acknowledged, commits, is_acknowledged};
+ghost use Rattle.disk_steps.specs.Steps.{Image};
+ghost use Rattle.log_meaning.specs.Images.{Recovers};
+ghost use Rattle.db_core.specs.Crashes.{AreMoments};
+ghost use Rattle.disk_database.specs.Images.{AreImagesOf, IsImageOf, created};
+ghost use Rattle.crash_laws.specs.Disks.{ComesNext, IsBeingMade, IsMade, MayBeOpened, view_of};
+ghost use Rattle.crash_laws.specs.History.{PastRun, History, IsDurable, IsHistory, IsLeftBy, IsOpenedAfter, NothingIsLost};
+
+use abl_storage::Disk;
+
+/// A disk on which `create` answered Ok may be opened, after a crash too: with no rows, and with each
+/// sequence at its initial value.
+pub fn a_creation_is_opened<D: Disk>()
+    ensures { (schema : SchemaData) (made disk : D) → IsMade schema (view_of D.Disk made) → ComesNext (view_of D.Disk made) (view_of D.Disk disk) → ∥ MayBeOpened schema (created schema) (view_of D.Disk disk) ∥₁ }
+{}
+
+/// A crash during a creation on an empty disk leaves nothing, or the new database: whatever the image
+/// recovers to, it is one of the new database.
+pub fn a_creation_is_whole_or_nothing<D: Disk>()
+    ensures { (schema : SchemaData) (was now : D) (m : ℕ) (image : Image) (slots : ℕ → List ℕ) → IsBeingMade schema (view_of D.Disk was) (view_of D.Disk now) →
+        D.time was ≤ m → D.left now m image → Recovers image slots → ∥ IsImageOf schema (created schema) image ∥₁ }
+{}
+
+/// What survives a crash is opened again. A run over contents that the disk held crashed, or ended, and
+/// left a disk: this one may be opened, with the contents after some first commits of the run, among
+/// which is each one that was acknowledged by then, and of the others at most one.
+pub fn what_survives_is_opened<D: Disk>()
+    ensures { (schema : SchemaData) (contents : Contents) (run : PastRun D) (disk : D) → IsDurable (view_of D.Disk) schema run →
+        AreImagesOf (D.observable run.was) (D.time run.was) (D.left run.was) schema contents → IsLeftBy (view_of D.Disk) run disk → ∥ IsOpenedAfter (view_of D.Disk) schema contents run disk ∥₁ }
+{}
+
+/// Nothing acknowledged is lost, in any history of a database: a creation, then runs, each over what the
+/// one before left, at a crash or at its end. The first run opens a new database, each other one the
+/// contents after the commits of the run before that were acknowledged by then, or after one more, and so
+/// does whoever opens the disk that is left at last.
+pub fn nothing_acknowledged_is_lost<D: Disk>()
+    ensures { (history : History D) → IsHistory (view_of D.Disk) history → ∥ NothingIsLost (view_of D.Disk) history.schema (created history.schema) history.runs history.last ∥₁ }
+{}
+
+/// An acknowledged commit is among the first ones of its trace: through an event that was answered
+/// Committed by a moment, the trace has no more commits than were acknowledged by that moment.
+pub fn an_acknowledged_commit_is_among_the_first()
+    ensures { (f : Setting) (contents : Contents) (before later : List Event) (e : Event) (from now m : ℕ) → IsLegal f contents (before ++ e ∷ later) → AreMoments from (before ++ e ∷ later) now →
+        IsTrue (is_acknowledged m e.answer) → commits f contents (before ++ e ∷ []) ≤ acknowledged m (before ++ e ∷ later) }
+{}
