@@ -5,14 +5,14 @@ use mem_disk::Torn;
 /// What is done to the disk between two commands of a row.
 #[derive(Clone, Copy)]
 pub enum DiskStep {
-    /// The machine stopped so many writes and syncs before the last one was done. Each write that was not
-    /// synced by then became this; without it the disk is as it reads now.
+    /// The machine stopped the given number of writes and syncs before the last one was done. Each write
+    /// that was not synced by then became this; without it the disk is as it reads now.
     Crash { before: u64, torn: Option<Torn> },
     /// Another outcome of a stop of the same disk.
     Or { before: u64, torn: Option<Torn> },
     /// Of the next command one disk call fails: this one counted from the end, where 1 is the last.
     Fail { from_last: u64 },
-    /// The area keeps so many bytes from its beginning.
+    /// The area keeps the given number of bytes from its beginning.
     Cut { area: u64, length: u64 },
     /// Each byte of the area becomes this one.
     Fill { area: u64, value: u8 },

@@ -112,7 +112,8 @@ fn area_of(alloc: Global, disk: &mut RowDisk, area: u8) -> Result<Bytes, AllocEr
     }
 }
 
-/// The disk, and what a stop of it leaves, so many writes and syncs before the last one was done.
+/// The disk, and what a stop of it leaves, the given number of writes and syncs before the last one was
+/// done.
 pub fn crashed(
     alloc: Global,
     disk: RowDisk,
