@@ -16,7 +16,7 @@ text_chain schema = counted 1 (fragments_of (length (canonical_text schema)))
 abbrev pub values_at : ℕ → ℕ → ℕ
 values_at n i = min (n - 30 * i) 30
 
--- the bytes of a slot that holds so many sequence values
+-- the bytes of a slot that holds the given number of sequence values
 pub record AreValues (count : ℕ) (bytes : List ℕ) : Type 0 where
   pub values : List ℤ
   pub many : length values ≡ count

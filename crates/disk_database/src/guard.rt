@@ -72,7 +72,8 @@ impl<K: Opening> SlotGuard<K> {
     {}
 }
 
-/// How many of so many values are in the slot with this number, counted from the first one.
+/// How many of the given number of sequence values are in the slot with this number, counted from the
+/// first of their slots.
 fn count_at(sequences: usize, number: u32) -> usize
     requires { number < 9 }
     ensures is { result ≡ values_at sequences number }
@@ -83,7 +84,7 @@ fn count_at(sequences: usize, number: u32) -> usize
         .min(MOST_VALUES)
 }
 
-/// Whether the slot holds so many values, byte for byte.
+/// Whether the slot holds the given number of values, byte for byte.
 fn are_values(count: usize, bytes: &[u8; 256]) -> bool
     requires { count ≤ 30 }
     ensures { IsTrue result → AreValues count bytes.now }

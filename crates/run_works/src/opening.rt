@@ -23,8 +23,8 @@ pub struct NotRun<D> {
     pub refusal: Refusal,
 }
 
-/// Opens the database on the disk for so many clients, over the schema of this text. The text is that
-/// of a schema file which breaks no rule, so that an error in it means out of memory.
+/// Opens the database on the disk for the given number of clients, over the schema of this text. The
+/// text is that of a schema file which breaks no rule, so that an error in it means out of memory.
 pub(crate) fn open_database<D: Disk + Drop, K: Opening>(
     alloc: Global,
     disk: D,
