@@ -10,3 +10,4 @@ pub mod Inside
 pub mod Formals
 pub mod Finding
 pub mod Grouped
+pub mod Scenes

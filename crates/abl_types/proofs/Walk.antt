@@ -1,7 +1,7 @@
 -- The items of a source, one after the other.
 use Rattle.std.proofs.Common.{◌≡◌, ◌<◌, ◌+◌, ℕ, suc, List, [], ◌∷◌, ◌++◌, length, drop, get_or, map, Bool, true, false, refl, ap, sym, ◌∙◌, append_assoc, append-nil, subst}
 use Rattle.std.specs.List.{list_any}
-use Rattle.std.specs.Prelude.{not, ◌||◌}
+use Rattle.std.specs.Prelude.{not, ◌||◌, Result, Ok, Err, IfOk}
 use Rattle.abl_base.specs.declared.place.Place.{Place}
 use Rattle.abl_base.specs.declared.rule.Rule.TheVariants.{Y3}
 use Rattle.abl_values.specs.Schema.{SchemaData, same_name}
@@ -21,8 +21,7 @@ use Rattle.bind_names.specs.Judged.{Judged, first_of, unless}
 use Rattle.bind_names.specs.Names.{Context, Scene}
 use Rattle.bind_names.specs.declared.names.Naming.{Naming}
 use Rattle.bind_names.specs.declared.names.Signature.{Signature}
-use Rattle.bind_names.specs.declared.scene.Scene.{Scene as TypedScene}
-use Rattle.bind_names.specs.Views.{IsJudged, scene_of}
+use Rattle.bind_names.specs.Views.{IsJudged}
 use Rattle.bind_names.proofs.Joined.{first_of_append}
 use Rattle.abl_types.proofs.Choices.{append_nothing}
 use Rattle.abl_types.proofs.Onward.{append_again, body_of_append, drop_all, next_item}
@@ -30,9 +29,9 @@ use Rattle.bind_expressions.specs.Parts.{Done, append, scene_after}
 use Rattle.abl_types.specs.Statements.{statement}
 use Rattle.bind_expressions.specs.Parts.{done_with}
 use Rattle.abl_types.specs.declared.sources.Parts.{Parts as BoundParts}
-use Rattle.abl_types.specs.Items.{IsNaming, IsOneMore, named_after}
+use Rattle.abl_types.specs.Items.{IsNaming, IsOneMore, bound_parts, named_after}
 use Rattle.abl_types.specs.Sources.{Parts, beginning, has_word, items, judged, procedure_with, signatures, source_with}
-use Rattle.abl_types.specs.Views.{Procedured, internal, procedured}
+use Rattle.abl_types.specs.Views.{Procedured, internal, judged_from, procedured}
 
 length_append_one : {A : Type 0} (xs : List A) (x : A) → length (xs ++ x ∷ []) ≡ suc (length xs)
 length_append_one [] x = refl
@@ -149,9 +148,6 @@ one_more_item w all i it v u old new begun n m lt e add is_u h =
       names = rw (place, a.names) (rw append_assoc names1);
     }
 
-abbrev pub bound_parts : BoundParts → Known → Parts
-bound_parts p k = record { body = body_of p.body.items; procedures = map procedure_of p.procedures.items; after = k }
-
 pub items_judged : (w : Scene) (all : List TypedItem) (i : ℕ) (v : Scene) (parts : BoundParts) (begun n : Notes) → i ≡ length all → ItemsContinue w all i v parts n begun →
     IsJudged (items w [] (map item_of all)) (bound_parts parts v.known) begun n
 items_judged w all i v parts begun n e h =
@@ -170,9 +166,6 @@ items_judged w all i v parts begun n e h =
 abbrev pub context_of : SchemaData → List Naming → List Signature → Context
 context_of schema said procedures = record { schema = schema; namings = said; procedures = procedures }
 
-pub at_the_beginning : (s : TypedScene) (w : Scene) → scene_of s ≡ w → scene_of s ≡ scene_after w s.known
-at_the_beginning s w e = ap (λ (p : Scene). scene_after p s.known) e
-
 pub items_begin : (w v : Scene) (all : List TypedItem) (parts : BoundParts) (n : Notes) → v ≡ w → parts.body.items ≡ [] → parts.procedures.items ≡ [] → parts.names ≡ [] → ItemsContinue w all 0 v parts n n
 items_begin w v all parts n e body procedures names = record {
   named = [];
@@ -185,18 +178,22 @@ items_begin w v all parts n e body procedures names = record {
   names = rw e refl;
 }
 
-pub source_judged : (schema : SchemaData) (program : Program) (said : List Naming) (procedures : List Signature) → procedures ≡ signatures program →
-    (v : Scene) → v ≡ scene_after (beginning (context_of schema said procedures)) v.known → (p : Parts) (o n : Notes) → IsJudged (items (beginning (context_of schema said procedures)) [] program) p o n →
-    (made : Source) → made ≡ source_with v p → IsJudged (judged schema program said) made o n
-source_judged schema program said procedures is v place p o n j made is_made =
-    let k : IsJudged (items (beginning (context_of schema said (signatures program))) [] program) p o n = subst (λ (q : List Signature). IsJudged (items (beginning (context_of schema said q)) [] program) p o n) is j in
-    let e : made ≡ source_with (beginning (context_of schema said (signatures program))) p =
-    is_made ∙ ap (λ (x : Scene). source_with x p) place ∙ ap (λ (q : List Signature). source_with (beginning (context_of schema said q)) p) is in
+pub items_done : (w v : Scene) (program : Program) → v ≡ scene_after w v.known → (p : Parts) (o n : Notes) → IsJudged (items w [] program) p o n →
+    (made : Source) → made ≡ source_with v p → IsJudged (judged_from w program) made o n
+items_done w v program place p o n j made is_made =
+    let e : made ≡ source_with w p = is_made ∙ ap (λ (x : Scene). source_with x p) place in
     record {
-      is = e ∙ ap (source_with (beginning (context_of schema said (signatures program)))) k.is;
-      first = k.first;
-      names = k.names;
+      is = e ∙ ap (source_with w) j.is;
+      first = j.first;
+      names = j.names;
     }
+
+pub source_judged : {T E : Type 0} (f : T → Source) (schema : SchemaData) (program : Program) (said : List Naming) (procedures : List Signature) → procedures ≡ signatures program →
+    (w : Scene) → w ≡ beginning (context_of schema said procedures) → (o n : Notes) (r : Result T E) → IfOk r (λ t. IsJudged (judged_from w program) (f t) o n) → IfOk r (λ t. IsJudged (judged schema program said) (f t) o n)
+source_judged f schema program said procedures is w place o n (Ok t) j =
+    let k : IsJudged (judged_from (beginning (context_of schema said procedures)) program) (f t) o n = subst (λ (x : Scene). IsJudged (judged_from x program) (f t) o n) place j in
+    subst (λ (q : List Signature). IsJudged (judged_from (beginning (context_of schema said q)) program) (f t) o n) is k
+source_judged f schema program said procedures is w place o n (Err e) j = tt
 
 -- a source of these parts
 abbrev the_source : List b.Procedure → ℕ → List (List ℕ) → List (List ℕ) → Source

@@ -37,3 +37,7 @@ pub record IsAdding (j : Judged Parts) (named : List Word) (old new : BoundParts
 abbrev pub IsOneMore : Scene → Item → BoundParts → BoundParts → Known → Notes → Notes → Type 0
 IsOneMore w item old new known before after =
     (named : List Word) → IsNaming old.names named → length old.procedures.items ≡ length named → IsAdding (items w named (item ∷ [])) (named_after item named) old new known before after
+
+-- the parts as the definition has them, after which this is known
+abbrev pub bound_parts : BoundParts → Known → Parts
+bound_parts p k = record { body = body_of p.body.items; procedures = map procedure_of p.procedures.items; after = k }

@@ -1,13 +1,15 @@
 -- How the contracts see the values of the program.
-use Rattle.std.specs.Prelude.{◌≡◌, ℕ, List, map}
+use Rattle.std.specs.Prelude.{◌≡◌, ℕ, List, [], ◌∷◌, map}
 use Rattle.bound_tree.specs.Tree as b
-use Rattle.abl_syntax.specs.Syntax.{Statements}
+use Rattle.abl_syntax.specs.Syntax.{Program, Statements}
 use Rattle.bind_names.specs.declared.names.Known.{Known}
 use Rattle.bind_names.specs.Judged.{Judged}
-use Rattle.bind_names.specs.Names.{Scene}
+use Rattle.bind_names.specs.declared.names.Naming.{Naming}
+use Rattle.bind_names.specs.Names.{Scene, buffers_in, named_in}
 use Rattle.abl_types.specs.Statements.{statements}
 use Rattle.abl_types.specs.declared.procedures.Frame.{Frame}
-use Rattle.abl_types.specs.Sources.{buffer_def, references_in, inside_procedure, outside_again, procedure_with}
+use Rattle.abl_types.specs.declared.procedures.Position.{Position}
+use Rattle.abl_types.specs.Sources.{buffer_def, items, references_in, inside_procedure, outside_again, procedure_block, procedure_with, source_with}
 
 -- an internal procedure, and what is known after it
 pub record Procedured : Type 0 where
@@ -26,6 +28,29 @@ internal w number line name body =
 
 abbrev pub procedured : b.Procedure → Known → Procedured
 procedured p k = record { procedure = p; after = k }
+
+-- what a place has of its procedure, and the blocks around it
+abbrev pub position_of : Scene → Position
+position_of w = record { procedure = w.procedure; buffers = w.buffers; named = w.named; around = w.around; block = w.block }
+
+abbrev pub moved_to : Position → Scene → Scene
+moved_to p w = record w { procedure = p.procedure; buffers = p.buffers; named = p.named; around = p.around; block = p.block }
+
+-- the position at the beginning of the procedure of this number, whose block has this number, in a source with these namings
+abbrev pub opening : ℕ → ℕ → List Naming → Position
+opening procedure block said = record {
+  procedure = procedure;
+  buffers = buffers_in procedure said;
+  named = named_in procedure said;
+  around = procedure_block block ∷ [];
+  block = block;
+}
+
+-- the source with these items, from the place at its beginning on
+abbrev pub judged_from : Scene → Program → Judged b.Source
+judged_from w program =
+    let x = items w [] program in
+    record { is = source_with w x.is; breaks = x.breaks; names = x.names }
 
 -- the parts of the procedure that its namings of buffers determine
 pub record IsFrame (w : Scene) (f : Frame) : Type 0 where

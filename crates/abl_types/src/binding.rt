@@ -12,7 +12,7 @@ use crate::sources::judged;
 use abl_base::{Items, Place, Rule};
 use abl_syntax::Program;
 use abl_values::Schema;
-use bind_names::{BindFault, Naming, Notes, Signature, Violation};
+use bind_names::{BindFault, Listed, Naming, Notes, Signature, Violation};
 use bound_tree::Bound;
 use std::alloc::Global;
 
@@ -43,7 +43,7 @@ fn namings(
     schema: &Schema,
     program: &Program,
     said: &[Naming],
-    procedures: &[Signature],
+    procedures: &Listed<Signature>,
 ) -> Result<Items<Naming>, BindFault>
     ensures { procedures.now ≡ signatures (program_of program.now) → IfOk result (λ r. r ≡ (judged schema.now (program_of program.now) said.now).names) }
 {
@@ -60,15 +60,16 @@ fn namings(
     Ok(names)
 }
 
-/// The bound tree of a source that breaks none of the rules Y; else the first violation, by place
-/// and then by number. The source is walked three times: for the explicit namings of buffers, for
-/// all namings, and for the tree.
-pub fn bind(alloc: Global, schema: &Schema, program: &Program) -> Result<Bound, TypeRefusal>
-    ensures ok { IfOk result (λ r. bound schema.now (program_of program.now) ≡ Ok (source_of r)) }
-    ensures broken { (v : TheViolation) → result ≡ Err (TypeRefusal.Broken v) → bound schema.now (program_of program.now) ≡ Err v }
+/// The bound tree of a source with these internal procedures, or the first violation.
+fn bound_with(
+    alloc: Global,
+    schema: &Schema,
+    program: &Program,
+    procedures: &Listed<Signature>,
+) -> Result<Bound, TypeRefusal>
+    ensures ok { procedures.now ≡ signatures (program_of program.now) → IfOk result (λ r. bound schema.now (program_of program.now) ≡ Ok (source_of r)) }
+    ensures broken { (v : TheViolation) → procedures.now ≡ signatures (program_of program.now) → result ≡ Err (TypeRefusal.Broken v) → bound schema.now (program_of program.now) ≡ Err v }
 {
-    let procedures = signatures(alloc, program)?;
-    let procedures = procedures.as_slice();
     let explicit = namings(alloc, schema, program, &[], procedures)?;
     let said = namings(alloc, schema, program, explicit.as_slice(), procedures)?;
     let mut notes = Notes {
@@ -88,4 +89,15 @@ pub fn bind(alloc: Global, schema: &Schema, program: &Program) -> Result<Bound, 
         None => Ok(tree),
         Some(violation) => Err(TypeRefusal::Broken(violation)),
     }
+}
+
+/// The bound tree of a source that breaks none of the rules Y; else the first violation, by place
+/// and then by number. The source is walked three times: for the explicit namings of buffers, for
+/// all namings, and for the tree.
+pub fn bind(alloc: Global, schema: &Schema, program: &Program) -> Result<Bound, TypeRefusal>
+    ensures ok { IfOk result (λ r. bound schema.now (program_of program.now) ≡ Ok (source_of r)) }
+    ensures broken { (v : TheViolation) → result ≡ Err (TypeRefusal.Broken v) → bound schema.now (program_of program.now) ≡ Err v }
+{
+    let procedures = signatures(alloc, program)?;
+    bound_with(alloc, schema, program, &procedures)
 }

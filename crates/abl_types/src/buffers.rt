@@ -4,33 +4,23 @@ ghost use Rattle.std.specs.Prelude.{◌≡◌, ◌∷◌, ◌++◌, [], IfOk, On
 ghost use Rattle.bind_names.specs.Names.{buffers_in, distinct, named_in};
 ghost use Rattle.abl_types.specs.Sources.{buffer_def, kind_of_reference, reference, references_in};
 
-use crate::taken::TakenNames;
-use abl_base::Items;
-use bind_names::meaning::number_named;
-use bind_names::{BindFault, NamedBuffer, Naming, NamingKind};
+use bind_names::{BindFault, ByTable, Listed, NamedBuffer, Naming, NamingKind};
 use bound_tree::{BufferDef, Reference, ReferenceKind};
 use std::alloc::Global;
 
-/// Adds the buffer of a naming, unless it is there, where these are the names of the buffers so far.
-/// It returns their names with that of the buffer.
-#[tactic(auto, using(crate::proofs::Named::is_there, crate::proofs::Named::one_more_name))]
-fn add(
-    found: &mut Items<NamedBuffer>,
-    names: TakenNames,
-    naming: &Naming,
-) -> Result<TakenNames, BindFault>
-    ensures found { names ≡ map (λ b. b.name) found.old → OnOk result (found.new ≡ distinct found.old (naming.now ∷ [])) }
-    ensures names { names ≡ map (λ b. b.name) found.old → IfOk result (λ more. more ≡ map (λ b. b.name) found.new) }
+/// Adds the buffer of a naming, unless it is there.
+#[tactic(auto, using(crate::proofs::Named::is_there))]
+fn add(found: &mut Listed<NamedBuffer>, naming: &Naming) -> Result<(), BindFault>
+    ensures { OnOk result (found.new ≡ distinct found.old (naming.now ∷ [])) }
 {
-    if names.has(naming.name.as_slice()) {
-        return Ok(names);
+    if found.find(naming.name.as_slice()).is_some() {
+        return Ok(());
     }
-    let more = names.with(&naming.name)?;
     found.push(NamedBuffer {
         name: naming.name.copy()?,
         table: naming.table,
     })?;
-    Ok(more)
+    Ok(())
 }
 
 /// The buffers of a procedure, in the order of their first namings.
@@ -38,35 +28,41 @@ pub fn buffers_in(
     alloc: Global,
     procedure: u32,
     said: &[Naming],
-) -> Result<Items<NamedBuffer>, BindFault>
+) -> Result<Listed<NamedBuffer>, BindFault>
     ensures { IfOk result (λ r. r ≡ buffers_in procedure said.now) }
 {
-    let mut found = Items::empty(alloc);
-    let mut names = TakenNames::empty(alloc);
+    let mut found = Listed::empty(alloc);
     for naming in said {
         if naming.procedure == procedure {
-            names = add(&mut found, names, naming)?;
+            add(&mut found, naming)?;
+        }
+    }
+    Ok(found)
+}
+
+/// Those that it names explicitly, in the order of their first namings.
+fn named_list(
+    alloc: Global,
+    procedure: u32,
+    said: &[Naming],
+) -> Result<Listed<NamedBuffer>, BindFault>
+    ensures { IfOk result (λ r. r ≡ named_in procedure said.now) }
+{
+    let mut found = Listed::empty(alloc);
+    for naming in said {
+        if naming.explicit && naming.procedure == procedure {
+            add(&mut found, naming)?;
         }
     }
     Ok(found)
 }
 
 /// Those that it names explicitly.
-pub fn named_in(
-    alloc: Global,
-    procedure: u32,
-    said: &[Naming],
-) -> Result<Items<NamedBuffer>, BindFault>
+pub fn named_in(alloc: Global, procedure: u32, said: &[Naming]) -> Result<ByTable, BindFault>
     ensures { IfOk result (λ r. r ≡ named_in procedure said.now) }
 {
-    let mut found = Items::empty(alloc);
-    let mut names = TakenNames::empty(alloc);
-    for naming in said {
-        if naming.explicit && naming.procedure == procedure {
-            names = add(&mut found, names, naming)?;
-        }
-    }
-    Ok(found)
+    let list = named_list(alloc, procedure, said)?;
+    Ok(ByTable::of(alloc, list)?)
 }
 
 /// A buffer as the bound tree has it.
@@ -106,7 +102,7 @@ fn kind_of_reference(kind: NamingKind) -> Option<ReferenceKind>
 /// Adds the reference that a naming is.
 fn refer(
     found: &mut Vec<Reference>,
-    buffers: &[NamedBuffer],
+    buffers: &Listed<NamedBuffer>,
     naming: &Naming,
 ) -> Result<(), BindFault>
     ensures { OnOk result (found.new.items ≡ found.old.items ++ reference buffers.now naming.now (kind_of_reference naming.now.kind)) }
@@ -114,7 +110,7 @@ fn refer(
     let Some(kind) = kind_of_reference(naming.kind) else {
         return Ok(());
     };
-    let number = number_named(buffers, naming.name.as_slice()).unwrap_or(0);
+    let number = buffers.find(naming.name.as_slice()).unwrap_or(0);
     let Ok(buffer) = u32::try_from(number) else {
         return Err(BindFault);
     };
@@ -131,7 +127,7 @@ fn refer(
 pub fn references_in(
     alloc: Global,
     procedure: u32,
-    buffers: &[NamedBuffer],
+    buffers: &Listed<NamedBuffer>,
     said: &[Naming],
 ) -> Result<Vec<Reference>, BindFault>
     ensures { IfOk result (λ r. r.items ≡ references_in procedure buffers.now said.now) }

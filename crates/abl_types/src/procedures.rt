@@ -1,24 +1,28 @@
 //! Procedures: their blocks, what they define, and the procedures themselves.
 
-ghost use Rattle.std.specs.Prelude.{◌≡◌, ◌∷◌, [], false, IfOk, OnOk, None, Some, map};
+ghost use Rattle.std.specs.Prelude.{◌≡◌, ◌+◌, ◌∷◌, [], List, false, IfOk, OnOk, None, Some, map};
 ghost use Rattle.bound_tree.specs.declared.block.BlockKind.TheVariants.{Procedure as ProcedureBlock};
 ghost use Rattle.bound_tree.specs.Bound.{body_of, header_of, procedure_of};
 ghost use Rattle.abl_syntax.specs.Typed.{statements_of};
 ghost use Rattle.bind_names.specs.declared.names.Defined.{Defined as TheDefined};
+ghost use Rattle.bind_names.specs.declared.names.Naming.{Naming as TheNaming};
 ghost use Rattle.bind_names.specs.Names.{Scene as TheScene};
 ghost use Rattle.bind_names.specs.Views.{IsJudged, scene_of};
 ghost use Rattle.bind_blocks.specs.Headers.{header};
-ghost use Rattle.bind_expressions.specs.Parts.{IsAfter};
+ghost use Rattle.bind_expressions.specs.Parts.{IsAfter, scene_after};
 ghost use Rattle.abl_types.specs.Groups.{own_namings};
 ghost use Rattle.abl_types.specs.Sources.{inside_procedure, nothing_defined, outside_again, procedure_block, procedure_with};
-ghost use Rattle.abl_types.specs.Views.{IsFrame, internal, procedured};
+ghost use Rattle.abl_types.specs.Views.{IsFrame, internal, moved_to, opening, position_of, procedured};
 
 use crate::buffers::{buffer_defs, buffers_in, named_in, references_in};
 use crate::statements::body;
 use abl_base::{Bytes, Items};
 use abl_syntax::{Statement, Word};
 use abl_values::Schema;
-use bind_names::{Around, BindFault, Defined, Known, Naming, Notes, Scene, Signature};
+use bind_names::{
+    Around, BindFault, ByTable, Defined, Known, Listed, NamedBuffer, Naming, Notes, Scene,
+    Signature,
+};
 use bound_tree::{BlockKind, BufferDef, Flags, Header, Procedure, Reference, Stmt};
 use std::alloc::Global;
 use std::mem;
@@ -28,12 +32,12 @@ pub fn nothing_defined(alloc: Global) -> Defined
     ensures { result ≡ nothing_defined }
 {
     Defined {
-        variables: Items::empty(alloc),
+        variables: Listed::empty(alloc),
         undoable: Items::empty(alloc),
         no_undo: Items::empty(alloc),
         parameters: Items::empty(alloc),
-        buffers: Items::empty(alloc),
-        streams: Items::empty(alloc),
+        buffers: Listed::empty(alloc),
+        streams: Listed::empty(alloc),
     }
 }
 
@@ -84,15 +88,16 @@ pub struct Frame {
 }
 
 /// The frame of the procedure that the scene is in, where these are its own namings.
-#[tactic(auto, using(crate::proofs::Grouped::own_references))]
 pub fn frame_of(alloc: Global, scene: &Scene<'_>, own: &[Naming]) -> Result<Frame, BindFault>
     ensures { own.now ≡ own_namings scene.now.procedure scene.now.namings.now → IfOk result (λ r. IsFrame (scene_of scene.now) r) }
 {
-    let buffers = scene.buffers.as_slice();
+    let listed = &scene.buffers;
+    let buffers = buffer_defs(alloc, listed.as_slice())?;
+    let references = references_in(alloc, scene.procedure, listed, own)?;
     Ok(Frame {
         block: scene.block,
-        buffers: buffer_defs(alloc, buffers)?,
-        references: references_in(alloc, scene.procedure, buffers, own)?,
+        buffers,
+        references,
     })
 }
 
@@ -131,103 +136,115 @@ pub fn procedure_with(
     })
 }
 
-/// Nothing known.
-fn nothing_known(alloc: Global) -> Known {
-    Known {
-        own: nothing_defined(alloc),
-        outer: None,
-        variables: 0,
-        streams: 0,
-        blocks: 0,
-        inputs: Items::empty(alloc),
-        outputs: Items::empty(alloc),
-    }
-}
-
 /// What is known inside an internal procedure, where this is known before it.
-fn known_inside(alloc: Global, known: Known, blocks: u32) -> Known
-    ensures { result ≡ record known { own = nothing_defined; outer = Some known.own; blocks = blocks } }
+fn know_inside(alloc: Global, known: &mut Known) -> Result<(), BindFault>
+    ensures { OnOk result (known.new ≡ record known.old { own = nothing_defined; outer = Some known.old.own; blocks = known.old.blocks + 1 }) }
 {
-    let Known {
-        own,
-        variables,
-        streams,
-        inputs,
-        outputs,
-        ..
-    } = known;
-    let inside = nothing_defined(alloc);
-    Known {
-        own: inside,
-        outer: Some(own),
-        variables,
-        streams,
-        blocks,
-        inputs,
-        outputs,
-    }
-}
-
-/// What is known after an internal procedure, where this is known at its end, and what it has
-/// defined.
-fn known_after(known: Known) -> Result<(Known, Defined), BindFault>
-    ensures after { (own : TheDefined) → known.outer ≡ Some own → IfOk result (λ r. r.0 ≡ outside_again own known) }
-    ensures defined { IfOk result (λ r. r.1 ≡ known.own) }
-{
-    let Known {
-        own,
-        outer,
-        variables,
-        streams,
-        blocks,
-        inputs,
-        outputs,
-    } = known;
-    let Some(outer) = outer else {
+    let Some(blocks) = known.blocks.checked_add(1) else {
         return Err(BindFault);
     };
-    let after = Known {
-        own: outer,
-        outer: None,
-        variables,
-        streams,
-        blocks,
-        inputs,
-        outputs,
-    };
-    Ok((after, own))
+    let own = mem::replace(&mut known.own, nothing_defined(alloc));
+    known.outer = Some(own);
+    known.blocks = blocks;
+    Ok(())
 }
 
-/// At the beginning of the internal procedure of this number, where this is known before it, and
+/// What is known after an internal procedure, where this is known at its end. It returns what the
+/// procedure has defined.
+fn know_after(known: &mut Known) -> Result<Defined, BindFault>
+    ensures after { (own : TheDefined) → known.old.outer ≡ Some own → OnOk result (known.new ≡ outside_again own known.old) }
+    ensures defined { IfOk result (λ r. r ≡ known.old.own) }
+{
+    let outer = mem::replace(&mut known.outer, None);
+    let Some(own) = outer else {
+        return Err(BindFault);
+    };
+    let defined = mem::replace(&mut known.own, own);
+    Ok(defined)
+}
+
+/// What a place of a source has of its procedure, and the blocks around it.
+#[derive(Drop)]
+pub struct Position {
+    pub procedure: u32,
+    pub buffers: Listed<NamedBuffer>,
+    pub named: ByTable,
+    pub around: Items<Around>,
+    pub block: u32,
+}
+
+/// The position at the beginning of the procedure of this number, whose block has this number, where
 /// these are its own namings.
-#[tactic(auto, using(crate::proofs::Grouped::own_buffers, crate::proofs::Grouped::own_named))]
-fn inside_procedure<'a>(
+pub fn opening(
     alloc: Global,
-    schema: &'a Schema,
-    said: &'a [Naming],
+    procedure: u32,
+    block: u32,
     own: &[Naming],
-    procedures: &'a [Signature],
-    number: u32,
-    known: Known,
-) -> Result<Scene<'a>, BindFault>
-    ensures { (w : TheScene) → w.context ≡ record { schema = schema.now; namings = said.now; procedures = procedures.now } → w.known ≡ known → own.now ≡ own_namings number said.now
-        → IfOk result (λ r. scene_of r ≡ inside_procedure number w) }
+) -> Result<Position, BindFault>
+    ensures { (said : List TheNaming) → own.now ≡ own_namings procedure said → IfOk result (λ r. r ≡ opening procedure block said) }
 {
-    let block = known.blocks;
-    let Some(blocks) = block.checked_add(1) else {
-        return Err(BindFault);
-    };
-    Ok(Scene {
-        schema,
-        namings: said,
-        procedures,
-        known: known_inside(alloc, known, blocks),
-        procedure: number,
-        buffers: buffers_in(alloc, number, own)?,
-        named: named_in(alloc, number, own)?,
-        around: procedure_block(alloc, block)?,
+    let buffers = buffers_in(alloc, procedure, own)?;
+    let named = named_in(alloc, procedure, own)?;
+    let around = procedure_block(alloc, block)?;
+    Ok(Position {
+        procedure,
+        buffers,
+        named,
+        around,
         block,
     })
+}
+
+/// Goes to a position, and returns that before.
+fn go_to(scene: &mut Scene<'_>, position: Position) -> Position
+    ensures scene { scene_of scene.new ≡ moved_to position (scene_of scene.old) }
+    ensures before { result ≡ position_of (scene_of scene.old) }
+{
+    let Position {
+        procedure,
+        buffers,
+        named,
+        around,
+        block,
+    } = position;
+    let before = Position {
+        procedure: scene.procedure,
+        buffers: mem::replace(&mut scene.buffers, buffers),
+        named: mem::replace(&mut scene.named, named),
+        around: mem::replace(&mut scene.around, around),
+        block: scene.block,
+    };
+    scene.procedure = procedure;
+    scene.block = block;
+    before
+}
+
+/// Goes to the beginning of the internal procedure of this number, where these are its own namings,
+/// and returns the position before.
+fn go_inside(
+    alloc: Global,
+    scene: &mut Scene<'_>,
+    own: &[Naming],
+    number: u32,
+) -> Result<Position, BindFault>
+    ensures scene { own.now ≡ own_namings number scene.old.namings.now → OnOk result (scene_of scene.new ≡ inside_procedure number (scene_of scene.old)) }
+    ensures context { OnOk result ((scene_of scene.new).context ≡ (scene_of scene.old).context) }
+    ensures before { IfOk result (λ r. r ≡ position_of (scene_of scene.old)) }
+{
+    let inside = opening(alloc, number, scene.known.blocks, own)?;
+    know_inside(alloc, &mut scene.known)?;
+    Ok(go_to(scene, inside))
+}
+
+/// Goes back from an internal procedure to a position, and returns what the procedure has defined.
+fn go_back(scene: &mut Scene<'_>, outside: Position) -> Result<Defined, BindFault>
+    ensures scene { OnOk result (scene_of scene.new ≡ moved_to outside (scene_after (scene_of scene.old) scene.new.known)) }
+    ensures after { (own : TheDefined) → scene.old.known.outer ≡ Some own → OnOk result (scene.new.known ≡ outside_again own scene.old.known) }
+    ensures defined { IfOk result (λ r. r ≡ scene.old.known.own) }
+{
+    let defined = know_after(&mut scene.known)?;
+    let _ = go_to(scene, outside);
+    Ok(defined)
 }
 
 /// An internal procedure of this number, where these are its own namings. What the external one has
@@ -245,22 +262,10 @@ pub fn internal(
     ensures judged { own.now ≡ own_namings number scene.old.namings.now → IfOk result (λ r. IsJudged (internal (scene_of scene.old) number line name.now.spelling (statements_of statements.now)) (procedured (procedure_of r) scene.new.known) notes.old notes.new) }
     ensures scene { OnOk result (IsAfter scene.old scene.new) }
 {
-    let known = mem::replace(&mut scene.known, nothing_known(alloc));
-    let mut inner = inside_procedure(
-        alloc,
-        scene.schema,
-        scene.namings,
-        own,
-        scene.procedures,
-        number,
-        known,
-    )?;
-    let frame = frame_of(alloc, &inner, own)?;
-    let bound = body(alloc, &mut inner, statements, notes)?;
-    let Scene { known, .. } = inner;
-    let ended = known_after(known)?;
-    let (after, defined) = ended;
-    scene.known = after;
+    let outside = go_inside(alloc, scene, own, number)?;
+    let frame = frame_of(alloc, scene, own)?;
+    let bound = body(alloc, scene, statements, notes)?;
+    let defined = go_back(scene, outside)?;
     let spelling = name.spelling.copy()?;
     let made = procedure_with(alloc, frame, line, spelling, defined, bound)?;
     Ok(made)

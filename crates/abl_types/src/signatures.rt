@@ -7,7 +7,7 @@ ghost use Rattle.abl_types.specs.Sources.{formals_in, formals_of, signatures};
 
 use abl_base::Items;
 use abl_syntax::{Definition, Item, Program, Statement};
-use bind_names::{BindFault, Formal, Signature};
+use bind_names::{BindFault, Formal, Listed, Signature};
 use std::alloc::Global;
 
 /// Adds the parameters that a statement defines.
@@ -88,7 +88,7 @@ fn defined_formal(definition: &Definition, found: &mut Items<Formal>) -> Result<
 }
 
 /// Adds the signature of an internal procedure.
-fn signature(alloc: Global, item: &Item, found: &mut Items<Signature>) -> Result<(), BindFault>
+fn signature(alloc: Global, item: &Item, found: &mut Listed<Signature>) -> Result<(), BindFault>
     ensures { OnOk result (found.new ≡ found.old ++ signatures (item_of item.now ∷ [])) }
 {
     match item {
@@ -106,10 +106,10 @@ fn signature(alloc: Global, item: &Item, found: &mut Items<Signature>) -> Result
 }
 
 /// The internal procedures of a source.
-pub fn signatures(alloc: Global, program: &Program) -> Result<Items<Signature>, BindFault>
+pub fn signatures(alloc: Global, program: &Program) -> Result<Listed<Signature>, BindFault>
     ensures { IfOk result (λ r. r ≡ signatures (program_of program.now)) }
 {
-    let mut found = Items::empty(alloc);
+    let mut found = Listed::empty(alloc);
     for item in &program.items {
         signature(alloc, item, &mut found)?;
     }

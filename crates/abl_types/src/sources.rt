@@ -1,25 +1,25 @@
 //! Whole sources: the items of a source, and the walks over it.
 
 ghost use Rattle.std.specs.List.{list_any};
-ghost use Rattle.std.specs.Prelude.{◌≡◌, ◌+◌, ◌++◌, ◌∷◌, [], IfOk, OnOk, length, map};
+ghost use Rattle.std.specs.Prelude.{◌≡◌, ◌+◌, ◌++◌, ◌∷◌, [], IfOk, None, OnOk, length, map};
 ghost use Rattle.bound_tree.specs.Bound.{body_of, procedure_of, source_of};
 ghost use Rattle.abl_values.specs.Schema.{same_name};
 ghost use Rattle.abl_syntax.specs.Typed.{item_of, program_of};
 ghost use Rattle.bind_names.specs.Views.{IsJudged, scene_of};
 ghost use Rattle.bind_expressions.specs.Parts.{IsAfter};
 ghost use Rattle.abl_types.specs.Groups.{IsGrouped, own_namings};
-ghost use Rattle.abl_types.specs.Items.{IsOneMore};
-ghost use Rattle.abl_types.specs.Sources.{beginning, judged, signatures, source_with};
+ghost use Rattle.abl_types.specs.Items.{IsOneMore, bound_parts};
+ghost use Rattle.abl_types.specs.Sources.{beginning, items, judged, nothing_defined, signatures, source_with};
+ghost use Rattle.abl_types.specs.Views.{judged_from, opening};
 
-use crate::buffers::{buffers_in, named_in};
 use crate::groups::Groups;
-use crate::procedures::{frame_of, internal, nothing_defined, procedure_block, procedure_with};
+use crate::procedures::{Position, frame_of, internal, nothing_defined, opening, procedure_with};
 use crate::statements::{join, statement};
 use crate::taken::TakenNames;
 use abl_base::{Items, Rule};
 use abl_syntax::{Item, Program, Word};
 use abl_values::Schema;
-use bind_names::{BindFault, Known, Naming, Notes, Scene, Signature};
+use bind_names::{BindFault, Known, Listed, Naming, Notes, Scene, Signature};
 use bound_tree::{Bound, Procedure, Stmt};
 use std::alloc::Global;
 use std::mem;
@@ -33,36 +33,49 @@ pub struct Parts {
     pub names: TakenNames,
 }
 
-/// The place at the beginning of a source, where these are the external procedure's own namings.
-#[tactic(auto, using(crate::proofs::Grouped::own_buffers, crate::proofs::Grouped::own_named))]
+/// What is known at the beginning of a source, where the external procedure's block has number 0.
+fn known_first(alloc: Global) -> Known
+    ensures { result ≡ record { own = nothing_defined; outer = None; variables = 0; streams = 0; blocks = 1; inputs = []; outputs = [] } }
+{
+    Known {
+        own: nothing_defined(alloc),
+        outer: None,
+        variables: 0,
+        streams: 0,
+        blocks: 1,
+        inputs: Items::empty(alloc),
+        outputs: Items::empty(alloc),
+    }
+}
+
+/// The place at the beginning of a source, where this is its position.
 fn beginning<'a>(
     alloc: Global,
     schema: &'a Schema,
     said: &'a [Naming],
-    own: &[Naming],
-    procedures: &'a [Signature],
-) -> Result<Scene<'a>, BindFault>
-    ensures { own.now ≡ own_namings 0 said.now → IfOk result (λ r. scene_of r ≡ beginning (record { schema = schema.now; namings = said.now; procedures = procedures.now })) }
+    procedures: &'a Listed<Signature>,
+    position: Position,
+) -> Scene<'a>
+    ensures { position ≡ opening 0 0 said.now → scene_of result ≡ beginning (record { schema = schema.now; namings = said.now; procedures = procedures.now }) }
 {
-    Ok(Scene {
+    let Position {
+        procedure,
+        buffers,
+        named,
+        around,
+        block,
+    } = position;
+    Scene {
         schema,
         namings: said,
         procedures,
-        known: Known {
-            own: nothing_defined(alloc),
-            outer: None,
-            variables: 0,
-            streams: 0,
-            blocks: 1,
-            inputs: Items::empty(alloc),
-            outputs: Items::empty(alloc),
-        },
-        procedure: 0,
-        buffers: buffers_in(alloc, 0, own)?,
-        named: named_in(alloc, 0, own)?,
-        around: procedure_block(alloc, 0)?,
-        block: 0,
-    })
+        known: known_first(alloc),
+        procedure,
+        buffers,
+        named,
+        around,
+        block,
+    }
 }
 
 /// The number of the next internal procedure.
@@ -126,28 +139,57 @@ fn item(
     }
 }
 
+/// The items of a source, one after the other, where these are its namings.
+fn all_items(
+    alloc: Global,
+    scene: &mut Scene<'_>,
+    groups: &Groups,
+    all: &[Item],
+    notes: &mut Notes,
+) -> Result<Parts, BindFault>
+    ensures judged { IsGrouped scene.old.namings.now groups.now → IfOk result (λ r. IsJudged (items (scene_of scene.old) [] (map item_of all.now)) (bound_parts r scene.new.known) notes.old notes.new) }
+    ensures scene { OnOk result (IsAfter scene.old scene.new) }
+{
+    let mut parts = Parts {
+        body: Vec::new(alloc),
+        procedures: Vec::new(alloc),
+        names: TakenNames::empty(alloc),
+    };
+    for one in all {
+        item(alloc, scene, groups, &mut parts, one, notes)?;
+    }
+    Ok(parts)
+}
+
 /// The source as it is judged where these are the namings of buffers in it.
 pub fn judged(
     alloc: Global,
     schema: &Schema,
     program: &Program,
     said: &[Naming],
-    procedures: &[Signature],
+    procedures: &Listed<Signature>,
     notes: &mut Notes,
 ) -> Result<Bound, BindFault>
     ensures { procedures.now ≡ signatures (program_of program.now) → IfOk result (λ r. IsJudged (judged schema.now (program_of program.now) said.now) (source_of r) notes.old notes.new) }
 {
     let groups = Groups::of(alloc, said)?;
-    let own = groups.in_procedure(0);
-    let mut scene = beginning(alloc, schema, said, own, procedures)?;
-    let mut parts = Parts {
-        body: Vec::new(alloc),
-        procedures: Vec::new(alloc),
-        names: TakenNames::empty(alloc),
-    };
-    for one in &program.items {
-        item(alloc, &mut scene, &groups, &mut parts, one, notes)?;
-    }
+    let position = opening(alloc, 0, 0, groups.in_procedure(0))?;
+    let mut scene = beginning(alloc, schema, said, procedures, position);
+    judged_from(alloc, &mut scene, &groups, &program.items, notes)
+}
+
+/// The source with these items, from its beginning on, where these are its namings.
+fn judged_from(
+    alloc: Global,
+    scene: &mut Scene<'_>,
+    groups: &Groups,
+    all: &[Item],
+    notes: &mut Notes,
+) -> Result<Bound, BindFault>
+    ensures { IsGrouped scene.old.namings.now groups.now → IfOk result (λ r. IsJudged (judged_from (scene_of scene.old) (map item_of all.now)) (source_of r) notes.old notes.new) }
+{
+    let own = groups.in_procedure(scene.procedure);
+    let parts = all_items(alloc, scene, groups, all, notes)?;
     let made = source(alloc, scene, own, parts)?;
     Ok(made)
 }
@@ -167,19 +209,21 @@ fn all_procedures(
     Ok(all)
 }
 
-/// The source with its external procedure first, whose own namings these are.
-fn source(alloc: Global, scene: Scene<'_>, own: &[Naming], parts: Parts) -> Result<Bound, BindFault>
-    ensures { own.now ≡ own_namings scene.entry.procedure scene.entry.namings.now → IfOk result (λ r. source_of r ≡ source_with (scene_of scene.entry) (record { body = body_of parts.body.items; procedures = map procedure_of parts.procedures.items; after = scene.entry.known })) }
+/// The source with its external procedure first, whose own namings these are. What the procedure has
+/// defined, and the files, are taken from the scene.
+fn source(
+    alloc: Global,
+    scene: &mut Scene<'_>,
+    own: &[Naming],
+    parts: Parts,
+) -> Result<Bound, BindFault>
+    ensures { own.now ≡ own_namings scene.old.procedure scene.old.namings.now → IfOk result (λ r. source_of r ≡ source_with (scene_of scene.old) (record { body = body_of parts.body.items; procedures = map procedure_of parts.procedures.items; after = scene.old.known })) }
 {
-    let frame = frame_of(alloc, &scene, own)?;
-    let Scene { known, .. } = scene;
-    let Known {
-        own: defined,
-        streams,
-        inputs,
-        outputs,
-        ..
-    } = known;
+    let frame = frame_of(alloc, scene, own)?;
+    let defined = mem::replace(&mut scene.known.own, nothing_defined(alloc));
+    let outputs = mem::replace(&mut scene.known.outputs, Items::empty(alloc));
+    let inputs = mem::replace(&mut scene.known.inputs, Items::empty(alloc));
+    let streams = scene.known.streams;
     let Parts {
         body,
         procedures,

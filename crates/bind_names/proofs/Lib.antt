@@ -1,3 +1,5 @@
 pub mod Joined
 pub mod Numbers
 pub mod Having
+pub mod ByTables
+pub mod Firsts

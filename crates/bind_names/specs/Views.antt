@@ -1,8 +1,8 @@
 -- How the contracts see the values of the program.
 use Rattle.std.specs.Prelude.{◌≡◌, List, [], ◌∷◌, ◌++◌, Option, Some, None}
 use Rattle.bind_names.specs.declared.meaning.Buffer.{Buffer}
-use Rattle.bind_names.specs.declared.meaning.Having.{Having}
-use Rattle.bind_names.specs.declared.meaning.Having.TheVariants as h
+use Rattle.bind_names.specs.declared.among.Having.{Having}
+use Rattle.bind_names.specs.declared.among.Having.TheVariants as h
 use Rattle.bind_names.specs.declared.meaning.Meaning.{Meaning as TypedMeaning}
 use Rattle.bind_names.specs.declared.meaning.Meaning.TheVariants as m
 use Rattle.bind_names.specs.declared.names.NamedBuffer.{NamedBuffer}

@@ -4,7 +4,6 @@ ghost use Rattle.std.specs.Option.{is_some, option_map};
 ghost use Rattle.std.specs.Prelude.{◌≡◌, MatchOption, None, Some};
 ghost use Rattle.bind_names.specs.Names.{stream_in, stream_named, variable_in, variable_named};
 
-use crate::meaning::number_named;
 use crate::names::{Defined, Known, NamedStream, NamedVariable};
 use bound_tree::Variable;
 
@@ -12,7 +11,7 @@ use bound_tree::Variable;
 pub fn variable_in<'a>(defined: &'a Defined, name: &[u8]) -> Option<&'a NamedVariable>
     ensures { MatchOption result (variable_in defined.now name.now ≡ None) (λ v. variable_in defined.now name.now ≡ Some v.now) }
 {
-    let number = number_named(defined.variables.as_slice(), name)?;
+    let number = defined.variables.find(name)?;
     Some(&defined.variables.as_slice()[number])
 }
 
@@ -20,7 +19,7 @@ pub fn variable_in<'a>(defined: &'a Defined, name: &[u8]) -> Option<&'a NamedVar
 fn stream_in<'a>(defined: &'a Defined, name: &[u8]) -> Option<&'a NamedStream>
     ensures { MatchOption result (stream_in defined.now name.now ≡ None) (λ v. stream_in defined.now name.now ≡ Some v.now) }
 {
-    let number = number_named(defined.streams.as_slice(), name)?;
+    let number = defined.streams.find(name)?;
     Some(&defined.streams.as_slice()[number])
 }
 

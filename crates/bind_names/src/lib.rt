@@ -4,9 +4,12 @@
 //! `specs/Sorts.antt` has the sorts, `specs/Names.antt` the meaning of names.
 #![tactic(auto)]
 
+mod among;
+mod by_table;
 pub mod fault;
 pub mod functions;
 pub mod known;
+mod listed;
 pub mod meaning;
 pub mod names;
 pub mod notes;
@@ -14,7 +17,9 @@ pub mod scene;
 pub mod sort;
 pub mod violation;
 
+pub use by_table::ByTable;
 pub use fault::BindFault;
+pub use listed::Listed;
 pub use names::{
     Around, Defined, Formal, Known, NamedBuffer, NamedStream, NamedVariable, Naming, NamingKind,
     Signature,

@@ -9,6 +9,7 @@ ghost use Rattle.bind_names.specs.Names.{buffer, buffer_named, buffer_number, bu
 ghost use Rattle.abl_syntax.specs.declared.name.Named.TheVariants.{Plain, Qualified};
 ghost use Rattle.bind_names.specs.Views.{IsHaving, IsJudged, buffer_of, maybe_buffer_of, maybe_meaning_of, meaning_of, scene_of, variable_meaning};
 
+use crate::among::{Having, with_field};
 use crate::fault::BindFault;
 use crate::known::{stream_number, variable_in};
 use crate::names::{Defined, Known, NamedBuffer, Naming, NamingKind};
@@ -61,7 +62,7 @@ pub fn number_named<T: HasName>(items: &[T], name: &[u8]) -> Option<usize>
 fn defined_buffer<'a>(defined: &'a Defined, name: &[u8]) -> Option<&'a NamedBuffer>
     ensures { MatchOption result (defined_buffer defined.now name.now ≡ None) (λ v. defined_buffer defined.now name.now ≡ Some v.now) }
 {
-    let number = number_named(defined.buffers.as_slice(), name)?;
+    let number = defined.buffers.find(name)?;
     Some(&defined.buffers.as_slice()[number])
 }
 
@@ -87,7 +88,7 @@ fn variable_named<'a>(known: &'a Known, name: &[u8]) -> Option<Meaning<'a>>
 
 /// The number of the table's field of this name, in any case; none where there is no such table.
 #[tactic(auto, unfolding(abl_values::specs::Schema::field_named))]
-fn field_named(schema: &Schema, table: u16, name: &[u8]) -> Option<u16>
+pub fn field_named(schema: &Schema, table: u16, name: &[u8]) -> Option<u16>
     ensures { result ≡ field_named schema.now table name.now }
 {
     if table >= schema.tables() {
@@ -118,7 +119,7 @@ pub fn buffer_named<'a>(scene: &'a Scene<'_>, name: &[u8]) -> Option<Buffer<'a>>
 pub fn buffer_number(scene: &Scene<'_>, name: &[u8]) -> Result<u32, BindFault>
     ensures { IfOk result (λ n. n ≡ buffer_number (scene_of scene.now) name.now) }
 {
-    match number_named(scene.buffers.as_slice(), name) {
+    match scene.buffers.find(name) {
         None => Ok(0),
         Some(number) => match u32::try_from(number) {
             Ok(number) => Ok(number),
@@ -243,44 +244,6 @@ fn field_of<'a>(
             Ok(Meaning::Nothing)
         }
         Some(field) => the_field(alloc, scene, buffer, field, explicit, place, notes),
-    }
-}
-
-/// Whether the buffer is known here and its table has such a field.
-fn has_field(scene: &Scene<'_>, name: &[u8], buffer: &NamedBuffer) -> bool
-    ensures { result ≡ has_field (scene_of scene.now) name.now buffer.now }
-{
-    buffer_named(scene, buffer.name.as_slice()).is_some()
-        && field_named(scene.schema, buffer.table, name).is_some()
-}
-
-/// How many of the buffers that the procedure names have a field.
-#[derive(Clone, Copy)]
-enum Having<'a> {
-    None,
-    One(Buffer<'a>),
-    Several,
-}
-
-/// The buffers that have the field, among those that the procedure names.
-fn with_field<'a>(scene: &'a Scene<'_>, name: &[u8]) -> Having<'a>
-    ensures { IsHaving (with_field (scene_of scene.now) name.now) result }
-{
-    let mut first: Option<Buffer<'a>> = None;
-    for buffer in scene.named.as_slice() {
-        if has_field(scene, name, buffer) {
-            if first.is_some() {
-                return Having::Several;
-            }
-            first = Some(Buffer {
-                name: buffer.name.as_slice(),
-                table: buffer.table,
-            });
-        }
-    }
-    match first {
-        None => Having::None,
-        Some(buffer) => Having::One(buffer),
     }
 }
 

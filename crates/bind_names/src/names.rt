@@ -1,5 +1,6 @@
 //! What has a name, and where buffers are named.
 
+use crate::listed::Listed;
 use abl_base::{Bytes, Items, Kind, Place, Row};
 use abl_syntax::Direction;
 use abl_values::HasName;
@@ -54,13 +55,13 @@ impl HasName for NamedStream {
 /// What a procedure has defined so far.
 #[derive(Drop)]
 pub struct Defined {
-    pub variables: Items<NamedVariable>,
+    pub variables: Listed<NamedVariable>,
     /// The initial values of the variables that an UNDO restores, and of the NO-UNDO ones.
     pub undoable: Row,
     pub no_undo: Row,
     pub parameters: Items<Variable>,
-    pub buffers: Items<NamedBuffer>,
-    pub streams: Items<NamedStream>,
+    pub buffers: Listed<NamedBuffer>,
+    pub streams: Listed<NamedStream>,
 }
 
 /// What is known at a place. A definition holds from its place on.

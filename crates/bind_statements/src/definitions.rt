@@ -15,7 +15,7 @@ ghost use Rattle.bind_names.specs.Views.{IsJudged, scene_of};
 use abl_base::{Bytes, Items, Kind, Place, Row, Rule, Value};
 use abl_syntax::{Definition, VariableOption, Word};
 use abl_values::{ArithFault, fit, mask_fits};
-use bind_names::meaning::{Buffer, names_it, number_named};
+use bind_names::meaning::{Buffer, names_it};
 use bind_names::{
     BindFault, Defined, NamedBuffer, NamedStream, NamedVariable, NamingKind, Notes, Scene, Sort,
     Violation,
@@ -156,9 +156,9 @@ pub fn default_mask(kind: Kind) -> &'static [u8]
 fn is_taken(defined: &Defined, name: &[u8]) -> bool
     ensures { result ≡ is_taken defined.now name.now }
 {
-    number_named(defined.variables.as_slice(), name).is_some()
-        || number_named(defined.buffers.as_slice(), name).is_some()
-        || number_named(defined.streams.as_slice(), name).is_some()
+    defined.variables.find(name).is_some()
+        || defined.buffers.find(name).is_some()
+        || defined.streams.find(name).is_some()
 }
 
 /// Whether a place is before another in the text.

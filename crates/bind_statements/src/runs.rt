@@ -269,7 +269,7 @@ fn formals_of<'a>(scene: &'a Scene<'_>, number: usize) -> &'a [Formal]
     requires { number < length scene.now.procedures.now }
     ensures { result.now ≡ formals_of (scene_of scene.now) number }
 {
-    scene.procedures[number].formals.as_slice()
+    scene.procedures.as_slice()[number].formals.as_slice()
 }
 
 /// The statement RUN with these arguments.
@@ -307,7 +307,7 @@ pub fn run(
 ) -> Result<Stmt, BindFault>
     ensures { IfOk result (λ r. IsJudged (run (scene_of scene.now) name.now (map syntax_argument_of given.now) quiet) (does (scene_of scene.now) (stmt_of r)) notes.old notes.new) }
 {
-    match number_named(scene.procedures, name.spelling.as_slice()) {
+    match scene.procedures.find(name.spelling.as_slice()) {
         None => run_unknown(alloc, scene, name, given, notes),
         Some(number) => run_known(alloc, scene, name, given, quiet, number, notes),
     }

@@ -1,22 +1,7 @@
-use Rattle.std.proofs.Common.{◌≡◌, ◌∙◌, ap, refl, Option, Err}
-use Rattle.bound_tree.specs.Bound.{source_of}
-use Rattle.abl_syntax.specs.Typed.{program_of}
-use Rattle.bind_names.specs.declared.violation.Violation.{Violation}
-use Rattle.abl_types.specs.Sources.{or_first, signatures}
-use Rattle.abl_types.proofs.Bound.{source_bound}
 use Rattle.abl_types.proofs.binding.bind.Goals as goal
 
-pub returns-in-None-clause-ok : goal.returns-in-None-clause-ok
-returns-in-None-clause-ok c =
-    let listed : c.as_slice-procedures.result.now ≡ signatures (program_of c.args.program.now) = c.as_slice-procedures.ensures ∙ c.in_ok-procedures.ensures in
-    source_bound c.args.schema.now (program_of c.args.program.now) c.in_ok-explicit.explicit c.in_ok-said.said c.as_slice.result.now c.as_slice-2.result.now c.as_slice-3.result.now (source_of c.in_ok-tree.tree) _ c.judged.new.notes c.in_ok-first.first
-    refl c.empty.ensures (c.in_ok-explicit.ensures listed) c.as_slice.ensures (c.in_ok-said.ensures listed) c.as_slice-2.ensures (c.in_ok-tree.ensures listed) c.as_slice-3.ensures c.in_ok-first.ensures
-    ∙ ap (λ (x : Option Violation). or_first x (source_of c.in_ok-tree.tree)) c.in-None.is
+pub returns-clause-ok : goal.returns-clause-ok
+returns-clause-ok c = c.bound_with.ensures.ok c.in_ok-procedures.ensures
 
 pub returns-clause-broken : goal.returns-clause-broken
-returns-clause-broken c = λ v e.
-    let listed : c.as_slice-procedures.result.now ≡ signatures (program_of c.args.program.now) = c.as_slice-procedures.ensures ∙ c.in_ok-procedures.ensures in
-    let same : c.in-Some.violation ≡ v = cc in
-    source_bound c.args.schema.now (program_of c.args.program.now) c.in_ok-explicit.explicit c.in_ok-said.said c.as_slice.result.now c.as_slice-2.result.now c.as_slice-3.result.now (source_of c.in_ok-tree.tree) _ c.judged.new.notes c.in_ok-first.first
-    refl c.empty.ensures (c.in_ok-explicit.ensures listed) c.as_slice.ensures (c.in_ok-said.ensures listed) c.as_slice-2.ensures (c.in_ok-tree.ensures listed) c.as_slice-3.ensures c.in_ok-first.ensures
-    ∙ ap (λ (x : Option Violation). or_first x (source_of c.in_ok-tree.tree)) c.in-Some.is ∙ ap Err same
+returns-clause-broken c = λ v e. c.bound_with.ensures.broken v c.in_ok-procedures.ensures e

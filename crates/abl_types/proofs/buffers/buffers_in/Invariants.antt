@@ -5,7 +5,4 @@ use Rattle.bind_names.specs.Names.{buffers_in, distinct}
 use Rattle.abl_types.proofs.buffers.buffers_in.Given as goal
 
 abbrev pub invariant-loop-naming : goal.invariant-loop-naming
-invariant-loop-naming l = record {
-  found : distinct l.found (filter (λ n. n.procedure == l.procedure) (drop l.naming-index l.said)) ≡ buffers_in l.procedure l.said;
-  names : l.names ≡ map (λ b. b.name) l.found;
-}
+invariant-loop-naming l = distinct l.found (filter (λ n. n.procedure == l.procedure) (drop l.naming-index l.said)) ≡ buffers_in l.procedure l.said
