@@ -1,5 +1,5 @@
 -- A database that was made is opened, and one that was closed is opened again.
-use Rattle.std.proofs.Common.{◌≡◌, ⊎_elim, ℕ, ◌≤◌, Bool, true, false, cond, List, [], ◌∷◌, length, map, Option, Some, None, is_some, ℤ, refl, sym, ap, ◌∙◌, subst}
+use Rattle.std.proofs.Common.{◌≡◌, ⊎_elim, ℕ, ◌≤◌, Bool, true, false, cond, List, [], ◌∷◌, length, map, Option, Some, None, ℤ, refl, sym, ap, ◌∙◌, subst}
 use Rattle.std.proofs.Math.Logic.{∥∥₁_elim}
 use Rattle.std.proofs.Props.{props}
 use Rattle.std.proofs.lemmas.List.{length-map}
@@ -20,7 +20,7 @@ use Rattle.db_core.specs.Crashes.{Holds}
 use Rattle.disk_steps.specs.Steps.{Image}
 use Rattle.logged_slots.specs.Stops.{HasSlots}
 use Rattle.record_store.specs.Opened.{AreSoundRows, HoldStore}
-use Rattle.row_chain.specs.Fragments.{row_at}
+use Rattle.row_chain.specs.Fragments.{StoredBytes, row_at}
 use Rattle.sequence_reads.proofs.Contents.{length_values_in}
 use Rattle.sequence_slots.specs.Values.{HoldValues, values_in}
 use Rattle.slot_contents.specs.Born.{IsBorn}
@@ -38,9 +38,9 @@ use Rattle.disk_database.proofs.Survivals.{image_of}
 
 -- ---- a new database
 
-none_there : {A : Type 0} (o : Option A) → is_some o ≡ false → o ≡ None
-none_there None is = refl
-none_there (Some x) is = absurd (cc is)
+none_there : (schema : SchemaData) (o : Option StoredBytes) → row_of schema o ≡ None → o ≡ None
+none_there schema None is = refl
+none_there schema (Some stored) is = absurd (cc is)
 
 module _ (schema : SchemaData) (image : Image) (born : IsBorn image (new_contents schema)) (short : length (canonical_text schema) ≤ 1048576) where
   text_is : canonical_text schema ≡ canonical_text born.schema
@@ -57,7 +57,7 @@ module _ (schema : SchemaData) (image : Image) (born : IsBorn image (new_content
   no_row : (k : ℕ) → row_at born.slots k ≡ None
   no_row k =
       let none : decoded born.schema born.slots k ≡ None = sym (ap (λ (c : slot.Contents). c.rows k) born.are) in
-      none_there (row_at born.slots k) (sym (born.held.rows.read k) ∙ ap is_some none)
+      none_there born.schema (row_at born.slots k) none
 
   new_slots_are : AreSlotsOf schema (created schema) born.slots
   new_slots_are = record {

@@ -1,5 +1,5 @@
 -- Rows that a store may have: no key of theirs is too long, and no two of them have a unique key in common.
-use Rattle.std.proofs.Common.{◌≡◌, inl, inr, ℕ, zero, suc, ◌+◌, ◌<◌, ◌≤◌, Bool, true, false, cond, eqb, eqb-true, eq-eqb, nat_le, nat_lt, List, length, Option, Some, None, IsTrue, refl, sym, ap, ◌∙◌, subst, arith}
+use Rattle.std.proofs.Common.{◌≡◌, inl, inr, ℕ, zero, suc, ◌+◌, ◌<◌, ◌≤◌, Bool, true, false, cond, eqb, eqb-true, eq-eqb, nat_le, nat_lt, List, length, Option, Some, None, is_some, IsTrue, refl, sym, ap, ◌∙◌, subst, arith}
 use Rattle.std.proofs.Math.Path.{fun_ext}
 use Rattle.std.proofs.lemmas.Bool.{cases_eq, cases_lt, ne_eqb}
 use Rattle.std.proofs.lemmas.Bool.Decides.{nat_tests}
@@ -15,9 +15,9 @@ use Rattle.database_meaning.specs.Waiting.{row_in}
 use Rattle.abl_rows.specs.Changes.{RowsById, with_row}
 use Rattle.abl_rows.specs.Questions.{IsLongKey, setting_of}
 use Rattle.indexed_rows.proofs.Parts.{or_first, or_true}
-use Rattle.row_chain.specs.Fragments.{StoredBytes, ends, kind_in}
+use Rattle.row_chain.specs.Fragments.{StoredBytes, ends, kind_in, row_at}
 use Rattle.row_chain.proofs.Chained.{no_row_at}
-use Rattle.stored_rows.specs.Decoded.{decoded, row_of}
+use Rattle.stored_rows.specs.Decoded.{AreRead, decoded, is_read, or_no_table, row_of, values_of}
 use Rattle.stored_rows.proofs.Opening.{not_begins}
 use Rattle.row_keys.specs.Entries.{AreFitting}
 use Rattle.row_keys.specs.Questions.{IsLeastDuplicateIn}
@@ -190,3 +190,16 @@ decoded_past schema slots k le = no_row schema slots k (or_true (nat_lt k 8192) 
 
 pub decoded_low : (schema : SchemaData) (slots : ℕ → List ℕ) (k : ℕ) → k < 8192 → decoded schema slots k ≡ None
 decoded_low schema slots k lt = no_row schema slots k (or_first (nat_lt k 8192) (nat_le 1048576 k) (low_is k lt))
+
+-- ---- rows that are sound are read
+
+values_read : (schema : SchemaData) (table : ℕ) (values : Option (List Value)) → IsSoundRow schema (or_no_table schema table values) → is_some values ≡ true
+values_read schema table None sound = let within = sound.table in absurd (omega (arith, within))
+values_read schema table (Some vs) sound = refl
+
+row_read : (schema : SchemaData) (stored : Option StoredBytes) → ((row : StoredRow) → row_of schema stored ≡ Some row → IsSoundRow schema row) → is_read schema stored ≡ true
+row_read schema None sound = refl
+row_read schema (Some stored) sound = values_read schema stored.table (values_of schema stored) (sound (or_no_table schema stored.table (values_of schema stored)) refl)
+
+pub rows_read : (schema : SchemaData) (slots : ℕ → List ℕ) → AreSoundRows schema (decoded schema slots) → AreRead schema slots
+rows_read schema slots sound k = row_read schema (row_at slots k) (λ row is. sound.each k row is)

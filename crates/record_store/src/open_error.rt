@@ -2,19 +2,22 @@
 
 ghost use Rattle.std.specs.Prelude.{◌≡◌, ◌≢◌};
 ghost use Rattle.abl_storage.specs.declared.slots.SlotFault.TheVariants.{Disk as SlotDisk};
+ghost use Rattle.stored_rows.specs.State.{slot_fault};
 
 use abl_rows::RowFault;
 use abl_storage::SlotFault;
+use stored_rows::OpenFault;
 
 /// Why slots were not opened as a store.
 #[derive(Clone, Copy, Debug, PartialEq, Eq)]
 pub enum OpenError {
     /// The disk failed.
     Disk,
-    /// Out of memory. It comes too where a slot for rows fits no row of the schema's tables.
+    /// Out of memory. It comes too where a slot is in the chain of no row, or of two, and each row is
+    /// one of its table.
     NoMemory,
-    /// The slots hold no values for the sequences of the schema, a key of a row is longer than 200
-    /// bytes, or two rows have a unique key in common.
+    /// The slots hold no values for the sequences of the schema, a row is no row of a table of the
+    /// schema, a key of a row is longer than 200 bytes, or two rows have a unique key in common.
     Unsound,
 }
 
@@ -28,6 +31,18 @@ impl OpenError {
         match fault {
             SlotFault::Disk => OpenError::Disk,
             SlotFault::TxFull | SlotFault::NoMemory => OpenError::NoMemory,
+        }
+    }
+
+    /// Why the rows of slots were not opened.
+    pub(crate) fn of_opening(fault: OpenFault) -> OpenError
+        ensures disk { result ≡ OpenError.Disk → slot_fault fault ≡ SlotDisk }
+        ensures fine { result ≢ OpenError.Disk → slot_fault fault ≢ SlotDisk }
+        ensures broken { result ≡ OpenError.Unsound → fault ≡ OpenFault.Broken }
+    {
+        match fault {
+            OpenFault::Broken => OpenError::Unsound,
+            OpenFault::Slot(fault) => OpenError::of_slots(fault),
         }
     }
 

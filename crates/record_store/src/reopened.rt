@@ -38,7 +38,7 @@ fn rows_and_values<S: Slots + Drop>(
     ensures values { IfOk result (λ o. IsTrue (S.Slots.state slots).observable → o.1.items ≡ values_in (length schema.sequences) (S.Slots.state slots).reads) }
     ensures held { IfOk result (λ o. IsTrue (S.Slots.state slots).observable → HoldValues (S.Slots.state slots).reads o.1.items) }
     ensures refused { IfErr result (λ e. IsRefused (S.Slots.state slots) (S.Slots.state e.1) (S.Slots.stop slots) (S.Slots.stop e.1) e.0) }
-    ensures unsound { IfErr result (λ e. e.0 ≡ OpenError.Unsound → IsTrue (S.Slots.state slots).observable → ¬ HoldValues (S.Slots.state slots).reads (values_in (length schema.sequences) (S.Slots.state slots).reads)) }
+    ensures unsound { IfErr result (λ e. e.0 ≡ OpenError.Unsound → IsTrue (S.Slots.state slots).observable → ¬ HoldStore schema (S.Slots.state slots).reads) }
 {
     let count = schema.sequences().len();
     if MAX_SEQUENCES < count {
@@ -51,7 +51,7 @@ fn rows_and_values<S: Slots + Drop>(
     };
     match StoredRows::open(slots, schema, alloc) {
         Ok(rows) => Ok((rows, values)),
-        Err((fault, slots)) => Err((OpenError::of_slots(fault), slots)),
+        Err((fault, slots)) => Err((OpenError::of_opening(fault), slots)),
     }
 }
 

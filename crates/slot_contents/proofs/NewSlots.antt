@@ -10,7 +10,7 @@ use Rattle.database_meaning.specs.declared.state.Key.{Key}
 use Rattle.database_meaning.specs.Setting.{unique_keys, has_key}
 use Rattle.row_chain.specs.Fragments.{StoredBytes, kind_in, row_at}
 use Rattle.chain_store.specs.Places.{HoldNothing}
-use Rattle.stored_rows.specs.Decoded.{decoded}
+use Rattle.stored_rows.specs.Decoded.{decoded, row_of}
 use Rattle.stored_rows.proofs.Opening.{holds_no_row, no_row_read}
 use Rattle.sequence_slots.specs.Values.{HoldValues, values_in}
 use Rattle.sequence_slots.proofs.Reading.{values_read}
@@ -31,7 +31,7 @@ module _ (schema : SchemaData) (slots : ℕ → List ℕ) (new : AreNew schema s
       ∙ values_read slots (initial_values schema) new.values
 
   no_row_begins : (row : ℕ) (stored : StoredBytes) → row_at slots row ≡ Some stored → ⊥
-  no_row_begins row stored at = true≢false (sym (sym (ap is_some (holds_no_row schema slots empty row)) ∙ no_row_read schema slots empty row ∙ ap is_some at))
+  no_row_begins row stored at = true≢false (sym (ap is_some (sym (holds_no_row schema slots empty row) ∙ ap (row_of schema) at)))
 
   no_row : (row : ℕ) (stored : StoredRow) → decoded schema slots row ≡ Some stored → ⊥
   no_row row stored at = true≢false (sym (ap is_some (sym (holds_no_row schema slots empty row) ∙ at)))

@@ -1,5 +1,5 @@
 -- A change of one row, said of the state of a store.
-use Rattle.std.proofs.Common.{◌≡◌, ◌≢◌, inl, inr, ℕ, zero, suc, ◌+◌, ◌-◌, ◌<◌, ◌≤◌, max, ◌||◌, ◌&&◌, not, Bool, true, false, cond, eqb, List, [], ◌∷◌, ◌++◌, length, slice_index_or, slice_set, Option, is_some, IsTrue, ℤ, refl, sym, ap, ◌∙◌, subst, arith}
+use Rattle.std.proofs.Common.{◌≡◌, ◌≢◌, inl, inr, ℕ, zero, suc, ◌+◌, ◌-◌, ◌<◌, ◌≤◌, max, ◌||◌, ◌&&◌, not, Bool, true, false, cond, eqb, List, [], ◌∷◌, ◌++◌, length, slice_index_or, slice_set, Option, IsTrue, ℤ, refl, sym, ap, ◌∙◌, subst, arith}
 use Rattle.std.specs.List.{Contains}
 use Rattle.std.proofs.Math.Path.{fun_ext}
 use Rattle.std.proofs.lemmas.Bool.{cases_eq}
@@ -22,7 +22,7 @@ use Rattle.abl_rows.specs.Rows.{Becomes, ChangesRow, IsObservable, RowState, Row
 use Rattle.abl_rows.specs.Rows as rows
 use Rattle.stored_rows.specs.declared.log.Undone.{Undone}
 use Rattle.stored_rows.specs.declared.open.Open.{Open}
-use Rattle.stored_rows.specs.Decoded.{decoded, row_of}
+use Rattle.stored_rows.specs.Decoded.{decoded, is_read, row_of}
 use Rattle.stored_rows.specs.Mixes.{slots_of}
 use Rattle.stored_rows.specs.Opens.{OpenView, log_in, no_open, open_in, touched_in, view_of, with_change}
 use Rattle.stored_rows.specs.State.{Reserved, ReservesMoved, rows_if, state_of, transaction_of}
@@ -117,7 +117,7 @@ module _ (schema : SchemaData) (s t : SlotState) (was now : List Open) (client r
     (keeps : KeepsCommitted s t) (others : (c : ℕ) → c ≢ client → t.transaction c ≡ s.transaction c)
     (change : ChangesSlots s t client row slots to) (mark : u.mark ≡ length (s.transaction client).undo) (row_is : u.row ≡ row) (old : IsReadable s → u.old ≡ decoded schema s.reads row)
     (weighs : u.before ≡ fragments u.old) (weighs_now : IsReadable s → u.after ≡ fragments (row_of schema to)) (few : u.after ≤ 125)
-    (read : IsReadable s → is_some (row_of schema to) ≡ is_some to)
+    (read : IsReadable s → is_read schema to ≡ true)
     (own : open_in now client ≡ with_change (open_in was client) u) (same : (c : ℕ) → c ≢ client → open_in now c ≡ open_in was c) where
   still_fine : t.failed ≡ false
   still_fine = change.wrote.failed ∙ fine

@@ -1,8 +1,8 @@
 -- The number of fragments of the committed rows, over the calls that do not commit.
-use Rattle.std.proofs.Common.{◌≡◌, inl, inr, ℕ, ◌+◌, ◌-◌, ◌^◌, ◌<◌, ◌≤◌, Bool, true, false, eqb, List, Option, None, Result, Ok, Err, OnOk, OnErr, IsTrue, ℤ, is_some, refl, sym, ap, ◌∙◌, subst, arith}
+use Rattle.std.proofs.Common.{◌≡◌, inl, inr, ℕ, ◌+◌, ◌-◌, ◌^◌, ◌<◌, ◌≤◌, ◌&&◌, not, Bool, true, false, eqb, List, Option, Some, None, Result, Ok, Err, OnOk, OnErr, IsTrue, ℤ, refl, sym, ap, ◌∙◌, subst, arith}
 use Rattle.std.proofs.lemmas.Bool.{cases_eq, cases_lt}
 use Rattle.std.proofs.lemmas.Bool.Decides.{nat_tests}
-use Rattle.abl_storage.specs.Slots.{SlotState, Begins, GoesBack, HasCause, IsReadable, KeepsCommitted, Rests}
+use Rattle.abl_storage.specs.Slots.{AreBlankFrom, SlotState, Begins, GoesBack, HasCause, IsReadable, KeepsCommitted, Rests}
 use Rattle.abl_storage.specs.declared.slots.SlotFault.{SlotFault}
 use Rattle.abl_storage.specs.declared.slots.SlotFault.TheVariants.{Disk, NoMemory, TxFull}
 use Rattle.abl_values.specs.Schema.{SchemaData}
@@ -12,12 +12,13 @@ use Rattle.database_meaning.specs.Counts.{sum_below}
 use Rattle.database_meaning.specs.Setting.{fragments}
 use Rattle.row_chain.specs.Fragments.{StoredBytes, ends, kind_in, row_at}
 use Rattle.row_chain.proofs.Chained.{no_row_at}
+use Rattle.chain_store.proofs.Rewrites.{high_bound}
 use Rattle.abl_rows.specs.Changes.{RowsById}
 use Rattle.abl_rows.specs.Questions.{IsUsed}
 use Rattle.stored_rows.specs.declared.open.Open.{Open}
 use Rattle.stored_rows.specs.Commits.{FailsValues}
-use Rattle.stored_rows.specs.Counted.{AreCounted, fragments_below}
-use Rattle.stored_rows.specs.Decoded.{decoded, row_of}
+use Rattle.stored_rows.specs.Counted.{AreCounted, IsWeight, fragments_below}
+use Rattle.stored_rows.specs.Decoded.{decoded, is_read, row_of}
 use Rattle.stored_rows.specs.Opens.{open_in}
 use Rattle.stored_rows.specs.State.{Reserved, rows_if, state_of}
 use Rattle.stored_rows.proofs.Opening.{not_begins}
@@ -118,10 +119,22 @@ counted_all schema slots used end at all high past is few = record {
       omega (arith, is, none, moved, rest);
 }
 
--- the rows below the end are read, and none begins from there on
-pub read_all : (schema : SchemaData) (slots : ℕ → List ℕ) (end at : ℕ) → at ≡ end → ((k : ℕ) → end ≤ k → row_at slots k ≡ None) → ((k : ℕ) → 8192 ≤ k → k < at → is_some (decoded schema slots k) ≡ is_some (row_at slots k))
-    → (k : ℕ) → 8192 ≤ k → k < 1048576 → is_some (decoded schema slots k) ≡ is_some (row_at slots k)
-read_all schema slots end at all past below k low lt = elim (cases_lt k end) [
-  | inl short ↦ below k low (omega (arith, short, all))
-  | inr le ↦ ap (λ (r : Option StoredBytes). is_some (row_of schema r)) (past k le) ∙ sym (ap (λ (r : Option StoredBytes). is_some r) (past k le))
-]
+-- ---- opening
+
+not_of_kind : (a : Bool) (kind : ℕ) → kind ≡ 0 → (not a && eqb kind 1) ≡ false
+not_of_kind true kind e = refl
+not_of_kind false kind e = ap (λ (k : ℕ). eqb k 1) e
+
+-- no row begins in a slot of zeros
+pub blank_none : (slots : ℕ → List ℕ) (end : ℕ) → AreBlankFrom end slots → (k : ℕ) → end ≤ k → row_at slots k ≡ None
+blank_none slots end blank k le = by_end (ends k) refl
+  where
+    by_end : (b : Bool) → ends k ≡ b → row_at slots k ≡ None
+    by_end true e = no_row_at slots k (not_begins (ends k) (eqb (kind_in (slots k)) 1) e)
+    by_end false e =
+        let high = high_bound k e in
+        no_row_at slots k (not_of_kind (ends k) (kind_in (slots k)) (ap kind_in (blank k le (omega (arith, high)))))
+
+-- what a weight says
+pub weight_some : (schema : SchemaData) (stored : Option StoredBytes) (found : Option ℕ) (many : ℕ) → found ≡ Some many → IsWeight schema stored found → (is_read schema stored ≡ true) × (many ≡ fragments (row_of schema stored))
+weight_some schema stored found many is weight = subst (IsWeight schema stored) is weight

@@ -14,7 +14,7 @@ use Rattle.row_chain.specs.Fragments.{StoredBytes}
 use Rattle.row_chain.specs.Measures.{length_of, table_of}
 use Rattle.abl_rows.specs.Questions.{table_in}
 use Rattle.stored_rows.specs.declared.log.Undone.{Undone}
-use Rattle.stored_rows.specs.Decoded.{AreRead, of_table, row_of}
+use Rattle.stored_rows.specs.Decoded.{AreRead, is_read, or_no_table, row_of, values_of}
 use Rattle.stored_rows.specs.Mixes.{IsMixed, slots_of}
 use Rattle.stored_rows.specs.Stored.{IsStored, has, mark_in}
 use Rattle.stored_rows.proofs.Histories.{clash, not_true}
@@ -33,22 +33,21 @@ all_read schema s log touched stored readable = (stored.mixes readable (λ c. le
       rest = λ k none. refl;
     }
 
-table_of_values : (b : Bool) (table : ℕ) (values : Option (List Value)) → is_some (cond b (of_table table values) None) ≡ true → table_in (cond b (of_table table values) None) ≡ Some table
-table_of_values false table values e = absurd (cc e)
-table_of_values true table None e = absurd (cc e)
-table_of_values true table (Some vs) e = refl
+table_of_values : (schema : SchemaData) (table : ℕ) (values : Option (List Value)) → is_some values ≡ true → table_in (Some (or_no_table schema table values)) ≡ Some table
+table_of_values schema table None e = absurd (cc e)
+table_of_values schema table (Some vs) e = refl
 
-pub table_known : (schema : SchemaData) (stored : Option StoredBytes) → is_some (row_of schema stored) ≡ is_some stored → table_of stored ≡ table_in (row_of schema stored)
+pub table_known : (schema : SchemaData) (stored : Option StoredBytes) → is_read schema stored ≡ true → table_of stored ≡ table_in (row_of schema stored)
 table_known schema None e = refl
-table_known schema (Some stored) e = sym (table_of_values (nat_lt stored.table (length schema.tables)) stored.table (bytes.row_in (kinds_of schema stored.table) stored.bytes) e)
+table_known schema (Some stored) e = sym (table_of_values schema stored.table (values_of schema stored) e)
 
 counts_values : (schema : SchemaData) (b : Bool) (stored : StoredBytes) → AreBytes stored.bytes → (values : Option (List Value)) → bytes.row_in (kinds_of schema stored.table) stored.bytes ≡ values
-    → is_some (cond b (of_table stored.table values) None) ≡ true → fragments_of (length stored.bytes) ≡ fragments (cond b (of_table stored.table values) None)
+    → is_some (cond b values None) ≡ true → fragments_of (length stored.bytes) ≡ fragments (Some (or_no_table schema stored.table (cond b values None)))
 counts_values schema false stored small values is e = absurd (cc e)
 counts_values schema true stored small None is e = absurd (cc e)
 counts_values schema true stored small (Some vs) is e = ap (λ (bs : List ℕ). fragments_of (length bs)) (sym (row_in-back (kinds_of schema stored.table) stored.bytes vs small is).0)
 
-pub fragments_known : (schema : SchemaData) (stored : Option StoredBytes) (n : ℕ) → is_some (row_of schema stored) ≡ is_some stored → IfSome stored (λ one. AreBytes one.bytes) → Some n ≡ length_of stored
+pub fragments_known : (schema : SchemaData) (stored : Option StoredBytes) (n : ℕ) → is_read schema stored ≡ true → IfSome stored (λ one. AreBytes one.bytes) → Some n ≡ length_of stored
     → fragments_of n ≡ fragments (row_of schema stored)
 fragments_known schema None n e small is = absurd (cc is)
 fragments_known schema (Some stored) n e small is =

@@ -1,15 +1,15 @@
 -- Rows do not depend on slots outside those for rows.
-use Rattle.std.proofs.Common.{◌≡◌, ℕ, zero, suc, ◌&&◌, not, eqb, Bool, true, false, cond, List, [], ◌++◌, drop, Option, Some, None, is_some, refl, sym, ap, ◌∙◌, subst}
+use Rattle.std.proofs.Common.{◌≡◌, ℕ, zero, suc, ◌&&◌, not, eqb, Bool, true, false, cond, List, [], ◌++◌, drop, Some, None, refl, sym, ap, ◌∙◌, subst}
 use Rattle.std.proofs.Math.Path.{fun_ext}
 use Rattle.abl_storage.specs.Slots as storage
 use Rattle.abl_storage.specs.Slots.{SlotState, IsReadable, wrote}
 use Rattle.abl_values.specs.Schema.{SchemaData}
-use Rattle.row_chain.specs.Fragments.{StoredBytes, bytes_from, content_in, ends, kind_in, next_in, row_at, table_in}
+use Rattle.row_chain.specs.Fragments.{bytes_from, content_in, ends, kind_in, next_in, row_at, table_in}
 use Rattle.row_chain.proofs.Chained.{no_row_at}
 use Rattle.row_chain.proofs.Composes.{undone_at}
 use Rattle.abl_rows.specs.Changes.{RowsById}
 use Rattle.stored_rows.specs.declared.log.Undone.{Undone}
-use Rattle.stored_rows.specs.Decoded.{AreRead, decoded, row_of}
+use Rattle.stored_rows.specs.Decoded.{AreRead, decoded, is_read, row_of}
 use Rattle.stored_rows.specs.Mixes.{IsMixed, rows_of, slots_of}
 use Rattle.stored_rows.specs.Stored.{AreWeighed, IsStored, changes_of, mark_in}
 use Rattle.stored_rows.proofs.Histories.{clash}
@@ -43,9 +43,7 @@ pub decoded_same : (schema : SchemaData) (a b : ℕ → List ℕ) → HaveSameRo
 decoded_same schema a b same = fun_ext (λ k. ap (row_of schema) (row_same a b k same))
 
 read_same : (schema : SchemaData) (a b : ℕ → List ℕ) → HaveSameRows a b → AreRead schema a → AreRead schema b
-read_same schema a b same read k =
-    let is = row_same a b k same in
-    sym (ap (λ (r : Option StoredBytes). is_some (row_of schema r)) is) ∙ (read k ∙ ap (λ (r : Option StoredBytes). is_some r) is)
+read_same schema a b same read k = sym (ap (is_read schema) (row_same a b k same)) ∙ read k
 
 -- the state with other slots
 abbrev pub with_slots : SlotState → (ℕ → List ℕ) → (ℕ → List ℕ) → SlotState

@@ -1,5 +1,5 @@
 -- What holds between two calls holds after each call of `StoredRows`.
-use Rattle.std.proofs.Common.{◌≡◌, ◌≢◌, inl, inr, ℕ, ◌<◌, ◌≤◌, ◌&&◌, not, nat_lt, Bool, true, false, cond, eqb, List, length, slice_index_or, slice_set, take, Some, None, Result, Ok, Err, OnOk, OnErr, ℤ, refl, sym, ap, ◌∙◌, subst, arith}
+use Rattle.std.proofs.Common.{◌≡◌, ◌≢◌, inl, inr, ℕ, ◌<◌, ◌≤◌, ◌&&◌, not, nat_lt, Bool, true, false, cond, eqb, List, length, slice_index_or, slice_set, take, Option, Some, None, Result, Ok, Err, OnOk, OnErr, ℤ, refl, sym, ap, ◌∙◌, subst, arith}
 use Rattle.std.proofs.lemmas.Bool.{cases_eq}
 use Rattle.std.proofs.lemmas.Bool.Decides.{nat_tests}
 use Rattle.abl_base.specs.declared.value.Value.{Value}
@@ -23,7 +23,7 @@ use Rattle.chain_store.specs.Noted.{IsSound}
 use Rattle.chain_store.specs.Rows.{of_slots}
 use Rattle.abl_rows.specs.Rows as rows
 use Rattle.stored_rows.specs.declared.open.Open.{Open}
-use Rattle.stored_rows.specs.Decoded.{decoded, of_table, row_of}
+use Rattle.stored_rows.specs.Decoded.{decoded, or_no_table, row_of}
 use Rattle.stored_rows.specs.Opens.{OpenView, log_in, no_open, open_in, touched_in, view_of}
 use Rattle.stored_rows.specs.State.{Reserved, state_of}
 use Rattle.stored_rows.specs.Stored.{IsStored, mark_or}
@@ -54,8 +54,8 @@ begun_touched s t at_s at_t client r touched c = elim (cases_eq c client) [
 pub encoded_is : (schema : SchemaData) (table : ℕ) (values : List Value) (stored : List ℕ) → HasTable schema table → FitsTable schema table values → stored ≡ bytes_of_row values
     → row_of schema (Some (record { table = table; bytes = stored })) ≡ Some (record { table = table; values = values })
 encoded_is schema table values stored has_table fits is =
-    ap (λ (b : Bool). cond b (of_table table (bytes.row_in (kinds_of schema table) stored)) None) within
-    ∙ ap (of_table table) (ap (bytes.row_in (kinds_of schema table)) is ∙ row_in-bytes (kinds_of schema table) values fits)
+    ap (λ (b : Bool). Some (or_no_table schema table (cond b (bytes.row_in (kinds_of schema table) stored) None))) within
+    ∙ ap (λ (o : Option (List Value)). Some (or_no_table schema table o)) (ap (bytes.row_in (kinds_of schema table)) is ∙ row_in-bytes (kinds_of schema table) values fits)
   where
     within : nat_lt table (length schema.tables) ≡ true
     within = grind (arith, nat_tests)

@@ -1,16 +1,15 @@
 -- A store that is opened.
-use Rattle.std.proofs.Common.{◌≡◌, ℕ, ◌≤◌, ◌<◌, ◌&&◌, not, eqb, Bool, true, false, List, [], length, Option, None, is_some, refl, sym, ap, ◌∙◌, subst, arith}
+use Rattle.std.proofs.Common.{◌≡◌, ℕ, ◌&&◌, not, eqb, Bool, true, false, List, [], length, None, refl, sym, ap, ◌∙◌, subst, arith}
 use Rattle.std.proofs.Math.Path.{fun_ext}
 use Rattle.abl_storage.specs.Slots.{SlotState, IsReadable, wrote}
 use Rattle.abl_storage.specs.declared.slots.Undo.{Undo}
 use Rattle.abl_values.specs.Schema.{SchemaData}
-use Rattle.row_chain.specs.Fragments.{StoredBytes, begins, ends, kind_in, row_at}
+use Rattle.row_chain.specs.Fragments.{begins, ends, kind_in}
 use Rattle.row_chain.proofs.Chained.{no_row_at}
 use Rattle.chain_store.specs.Places.{HoldNothing}
-use Rattle.chain_store.proofs.Rewrites.{high_bound, low_bound}
 use Rattle.stored_rows.specs.declared.open.Open.{Open}
 use Rattle.stored_rows.specs.Opens.{OpenView, log_in, no_open, open_in, touched_in}
-use Rattle.stored_rows.specs.Decoded.{AreRead, decoded, row_of}
+use Rattle.stored_rows.specs.Decoded.{AreRead, decoded, is_read, row_of}
 use Rattle.stored_rows.specs.Stored.{IsStored}
 use Rattle.stored_rows.proofs.Histories.{clash}
 
@@ -44,16 +43,6 @@ pub not_begins : (a b : Bool) → a ≡ true → (not a && b) ≡ false
 not_begins true b e = refl
 not_begins false b e = absurd (cc e)
 
--- rows begin in slots for rows alone
-pub all_read : (schema : SchemaData) (slots : ℕ → List ℕ) → ((k : ℕ) → 8192 ≤ k → k < 1048576 → is_some (decoded schema slots k) ≡ is_some (row_at slots k)) → AreRead schema slots
-all_read schema slots within k = by_end (ends k) refl
-  where
-    by_end : (b : Bool) → ends k ≡ b → is_some (decoded schema slots k) ≡ is_some (row_at slots k)
-    by_end true e =
-        let none : row_at slots k ≡ None = no_row_at slots k (not_begins (ends k) (eqb (kind_in (slots k)) 1) e) in
-        ap (λ (r : Option StoredBytes). is_some (row_of schema r)) none ∙ sym (ap (λ (r : Option StoredBytes). is_some r) none)
-    by_end false e = within k (low_bound k e) (high_bound k e)
-
 -- ---- slots that hold nothing
 
 none_begins : (slots : ℕ → List ℕ) → HoldNothing slots → (k : ℕ) → begins slots k ≡ false
@@ -67,6 +56,4 @@ pub holds_no_row : (schema : SchemaData) (slots : ℕ → List ℕ) → HoldNoth
 holds_no_row schema slots empty k = ap (row_of schema) (no_row_at slots k (none_begins slots empty k))
 
 pub no_row_read : (schema : SchemaData) (slots : ℕ → List ℕ) → HoldNothing slots → AreRead schema slots
-no_row_read schema slots empty k =
-    let none : row_at slots k ≡ None = no_row_at slots k (none_begins slots empty k) in
-    ap (λ (r : Option StoredBytes). is_some (row_of schema r)) none ∙ sym (ap (λ (r : Option StoredBytes). is_some r) none)
+no_row_read schema slots empty k = ap (is_read schema) (no_row_at slots k (none_begins slots empty k))

@@ -1,5 +1,5 @@
 -- What holds between two calls holds after a row was given other values, or was deleted.
-use Rattle.std.proofs.Common.{◌≡◌, ◌≢◌, ℕ, ◌<◌, ◌≤◌, Bool, true, false, cond, nat_lt, List, length, slice_index_or, slice_set, Option, Some, None, is_some, Result, Ok, Err, OnOk, OnErr, IsErrOf, ℤ, refl, sym, ap, ◌∙◌, arith}
+use Rattle.std.proofs.Common.{◌≡◌, ◌≢◌, ℕ, ◌<◌, ◌≤◌, Bool, true, false, cond, List, length, slice_index_or, slice_set, Option, Some, None, is_some, Result, Ok, Err, OnOk, OnErr, IsErrOf, ℤ, refl, sym, ap, ◌∙◌, arith}
 use Rattle.abl_base.specs.declared.value.Value.{Value}
 use Rattle.abl_storage.specs.Slots.{SlotState, IsReadable, KeepsCommitted, Rests}
 use Rattle.abl_values.specs.Schema.{SchemaData}
@@ -18,7 +18,7 @@ use Rattle.abl_values.specs.Rows.{bytes_of_row, fragments_of}
 use Rattle.abl_rows.specs.Rows as rows
 use Rattle.stored_rows.specs.declared.log.Undone.{Undone}
 use Rattle.stored_rows.specs.declared.open.Open.{Open}
-use Rattle.stored_rows.specs.Decoded.{decoded, of_table, row_of}
+use Rattle.stored_rows.specs.Decoded.{decoded, is_read, or_no_table, row_of, values_of}
 use Rattle.stored_rows.specs.Opens.{OpenView, log_in, open_in, touched_in, view_of, with_change}
 use Rattle.stored_rows.specs.State.{Reserved, ReservesMoved, state_of}
 use Rattle.stored_rows.specs.Stored.{IsStored}
@@ -30,18 +30,28 @@ use Rattle.stored_rows.proofs.Methods.{begun_touched, encoded_is, old_view, othe
 same_values : (a b : StoredRow) → Some a ≡ Some b → a ≡ b
 same_values a b e = cc
 
-table_of_row : (b : Bool) (table : ℕ) (values : Option (List Value)) (before : StoredRow) → cond b (of_table table values) None ≡ Some before → table ≡ before.table
-table_of_row false table values before e = absurd (cc e)
-table_of_row true table None before e = absurd (cc e)
-table_of_row true table (Some vs) before e = ap (λ (r : StoredRow). r.table) (same_values (record { table = table; values = vs }) before e)
+-- a row of a table of the schema is one that was read
+read_of_row : (schema : SchemaData) (table : ℕ) (values : Option (List Value)) (before : StoredRow) → HasTable schema before.table → Some (or_no_table schema table values) ≡ Some before → (is_some values ≡ true) × (table ≡ before.table)
+read_of_row schema table None before has e =
+    let same : length schema.tables ≡ before.table = ap (λ (r : StoredRow). r.table) (same_values (or_no_table schema table None) before e) in
+    absurd (omega (arith, has, same))
+read_of_row schema table (Some vs) before has e = (refl, ap (λ (r : StoredRow). r.table) (same_values (record { table = table; values = vs }) before e))
 
-row_begins : (schema : SchemaData) (b : Bool) (stored : StoredBytes) (before : StoredRow) → row_of schema (cond b (Some stored) None) ≡ Some before → (b ≡ true) × (stored.table ≡ before.table)
+row_begins : (schema : SchemaData) (b : Bool) (stored : StoredBytes) (before : StoredRow) → row_of schema (cond b (Some stored) None) ≡ Some before → b ≡ true
 row_begins schema false stored before e = absurd (cc e)
-row_begins schema true stored before e = (refl, table_of_row (nat_lt stored.table (length schema.tables)) stored.table _ before e)
+row_begins schema true stored before e = refl
 
--- a row that is decoded begins, in a slot of its table
-pub row_there : (schema : SchemaData) (reads : ℕ → List ℕ) (row : ℕ) (before : StoredRow) → decoded schema reads row ≡ Some before → (begins reads row ≡ true) × (table_in (reads row) ≡ before.table)
+row_table : (schema : SchemaData) (b : Bool) (stored : StoredBytes) (before : StoredRow) → HasTable schema before.table → row_of schema (cond b (Some stored) None) ≡ Some before → stored.table ≡ before.table
+row_table schema false stored before has e = absurd (cc e)
+row_table schema true stored before has e = (read_of_row schema stored.table (values_of schema stored) before has e).1
+
+-- a row that is decoded begins
+pub row_there : (schema : SchemaData) (reads : ℕ → List ℕ) (row : ℕ) (before : StoredRow) → decoded schema reads row ≡ Some before → begins reads row ≡ true
 row_there schema reads row before e = row_begins schema (begins reads row) _ before e
+
+-- in a slot of its table
+table_there : (schema : SchemaData) (reads : ℕ → List ℕ) (row : ℕ) (before : StoredRow) → HasTable schema before.table → decoded schema reads row ≡ Some before → table_in (reads row) ≡ before.table
+table_there schema reads row before has e = row_table schema (begins reads row) _ before has e
 
 -- ---- the change
 
@@ -50,7 +60,7 @@ module _ (schema : SchemaData) (s t : SlotState) (was : List Open) (client : ℕ
     (left_places : List SlotPlace) (left_free : ℕ → ℕ) (left_clients : List Client) (left_failed : Bool) (still_sound : IsSound t left_places left_free left_clients left_failed)
     (stored : IsStored schema s (log_in was) (touched_in was)) (fine : s.failed ≡ false) (begun : (s.transaction client).begun ≡ true)
     (row : ℕ) (before : Option StoredRow) (to : Option StoredBytes) (value : Option StoredRow) (had many : ℕ)
-    (there : IsReadable s → decoded schema s.reads row ≡ before) (value_is : IsReadable s → value ≡ row_of schema to) (read : IsReadable s → is_some (row_of schema to) ≡ is_some to)
+    (there : IsReadable s → decoded schema s.reads row ≡ before) (value_is : IsReadable s → value ≡ row_of schema to) (read : IsReadable s → is_read schema to ≡ true)
     (had_is : had ≡ fragments before) (many_is : many ≡ fragments value) (few : many ≤ 125) where
   abbrev u : Undone
   u = record { row = row; old = before; mark = length (s.transaction client).undo; before = had; after = many }
@@ -89,10 +99,10 @@ pub put_is : (schema : SchemaData) (reads : ℕ → List ℕ) (row : ℕ) (befor
     → HasTable schema before.table → FitsTable schema before.table values → encoded ≡ bytes_of_row values
     → row_of schema (Some (record { table = table_in (reads row); bytes = encoded })) ≡ Some (record { table = before.table; values = values })
 put_is schema reads row before values encoded there has_table fits is =
-    ap (λ (n : ℕ). row_of schema (Some (record { table = n; bytes = encoded }))) (row_there schema reads row before there).1 ∙ encoded_is schema before.table values encoded has_table fits is
+    ap (λ (n : ℕ). row_of schema (Some (record { table = n; bytes = encoded }))) (table_there schema reads row before has_table there) ∙ encoded_is schema before.table values encoded has_table fits is
 
-pub put_reads : (schema : SchemaData) (stored : StoredBytes) (row : StoredRow) → row_of schema (Some stored) ≡ Some row → is_some (row_of schema (Some stored)) ≡ is_some (Some stored)
-put_reads schema stored row e = ap (λ (r : Option StoredRow). is_some r) e
+pub put_reads : (schema : SchemaData) (stored : StoredBytes) (row : StoredRow) → HasTable schema row.table → row_of schema (Some stored) ≡ Some row → is_read schema (Some stored) ≡ true
+put_reads schema stored row has e = (read_of_row schema stored.table (values_of schema stored) row has e).0
 
 -- a row of 30,000 bytes at most has at most 125 fragments
 pub few_fragments : (bytes : ℕ) → bytes ≤ 30000 → fragments_of bytes ≤ 125

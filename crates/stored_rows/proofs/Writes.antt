@@ -1,5 +1,5 @@
 -- Rows stay stored where a client changes one.
-use Rattle.std.proofs.Common.{◌≡◌, ◌≢◌, inl, inr, ⊎_elim, ℕ, ◌<◌, ◌≤◌, Bool, true, false, cond, eqb, ◌||◌, List, [], ◌∷◌, ◌++◌, length, take, drop, Option, is_some, refl, sym, ap, ◌∙◌, subst, arith, length-append}
+use Rattle.std.proofs.Common.{◌≡◌, ◌≢◌, inl, inr, ⊎_elim, ℕ, ◌<◌, ◌≤◌, Bool, true, false, cond, eqb, ◌||◌, List, [], ◌∷◌, ◌++◌, length, take, drop, Option, refl, sym, ap, ◌∙◌, subst, arith, length-append}
 use Rattle.std.specs.List.{Contains}
 use Rattle.std.proofs.lemmas.Bool.{cases_eq, cases_lt}
 use Rattle.abl_storage.specs.Slots as storage
@@ -15,7 +15,7 @@ use Rattle.chain_store.specs.Rows.{ChangesRow}
 use Rattle.abl_rows.specs.declared.store.RowChange.{RowChange}
 use Rattle.abl_rows.specs.Changes.{RowsById, has_change, undone}
 use Rattle.stored_rows.specs.declared.log.Undone.{Undone}
-use Rattle.stored_rows.specs.Decoded.{AreRead, decoded, row_of}
+use Rattle.stored_rows.specs.Decoded.{AreRead, decoded, is_read, row_of}
 use Rattle.stored_rows.specs.Mixes.{IsMixed, rows_of, slots_of}
 use Rattle.stored_rows.specs.Stored.{IsStored, changes_of, mark_in, mark_or}
 use Rattle.stored_rows.proofs.Histories.{IsApart, IsLowered, Place, Returns, clash, mixed_of, not_true, others_none, place_after, place_before, place_of}
@@ -36,7 +36,7 @@ pub record Added (schema : SchemaData) (s t : SlotState) (log left : ℕ → Lis
   pub before : u.before ≡ fragments u.old
   pub after : IsReadable s → u.after ≡ fragments (row_of schema to)
   pub few : u.after ≤ 125
-  pub read : IsReadable s → is_some (row_of schema to) ≡ is_some to
+  pub read : IsReadable s → is_read schema to ≡ true
   pub alone : (c : ℕ) → c ≢ client → has_change (changes_of (log c)) row ≡ false
   pub log_own : left client ≡ log client ++ u ∷ []
   pub log_others : (c : ℕ) → c ≢ client → left c ≡ log c
@@ -259,10 +259,10 @@ module _ (schema : SchemaData) (s t : SlotState) (log left : ℕ → List Undone
       read_mixed k = elim (cases_eq k row) [
         | inl e ↦
             let is : row_at mixed k ≡ to = ap (row_at mixed) e ∙ row_mixed in
-            ap (λ (r : Option StoredBytes). is_some (row_of schema r)) is ∙ (a.read readable ∙ sym (ap (λ (r : Option StoredBytes). is_some r) is))
+            ap (is_read schema) is ∙ a.read readable
         | inr ne ↦
             let is : row_at mixed k ≡ row_at before k = others_mixed k ne in
-            ap (λ (r : Option StoredBytes). is_some (row_of schema r)) is ∙ (all_before.1 k ∙ sym (ap (λ (r : Option StoredBytes). is_some r) is))
+            ap (is_read schema) is ∙ all_before.1 k
       ]
 
       back_now : (k : ℕ) → undone (drop (at client) (now client)) after k ≡ after k

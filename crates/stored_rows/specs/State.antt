@@ -1,6 +1,7 @@
 -- The state of a store of rows, as slots and the transactions' changes have it. Which keys are reserved and which sequence values are stored are for the layer above to say.
 use Rattle.std.specs.Prelude.{◌≡◌, ◌≢◌, ℕ, ◌||◌, ◌&&◌, not, Bool, true, false, List, Option, None, ℤ}
 use Rattle.abl_storage.specs.Slots.{SlotState}
+use Rattle.abl_storage.specs.declared.slots.SlotFault.{SlotFault}
 use Rattle.abl_storage.specs.declared.slots.SlotFault.TheVariants.{Disk as SlotDisk, TxFull, NoMemory as SlotMemory}
 use Rattle.chain_store.specs.declared.fault.ChainFault.{ChainFault}
 use Rattle.chain_store.specs.declared.fault.ChainFault.TheVariants.{Full, Slot}
@@ -11,6 +12,8 @@ use Rattle.abl_rows.specs.Changes.{RowsById}
 use Rattle.abl_rows.specs.Rows.{RowState, RowTransaction, is_moved}
 use Rattle.abl_rows.specs.declared.store.RowFault.{RowFault}
 use Rattle.abl_rows.specs.declared.store.RowFault.TheVariants.{Disk, NoMemory}
+use Rattle.stored_rows.specs.declared.fault.OpenFault.{OpenFault}
+use Rattle.stored_rows.specs.declared.fault.OpenFault.TheVariants.{Broken, Slot as SlotRefusal}
 use Rattle.stored_rows.specs.declared.open.Open.{Open}
 use Rattle.stored_rows.specs.Decoded.{decoded}
 use Rattle.stored_rows.specs.Opens.{OpenView, open_in}
@@ -60,3 +63,8 @@ row_error (Slot SlotDisk) = Disk
 row_error (Slot TxFull) = NoMemory
 row_error (Slot SlotMemory) = NoMemory
 row_error Full = NoMemory
+
+-- why slots were not opened, as a refusal of theirs: Broken, which they never answer, counts as out of memory
+abbrev pub slot_fault : OpenFault → SlotFault
+slot_fault (SlotRefusal fault) = fault
+slot_fault Broken = SlotMemory

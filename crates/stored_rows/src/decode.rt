@@ -1,9 +1,9 @@
 //! The row that bytes are.
 
-ghost use Rattle.std.specs.Prelude.{◌≡◌, ◌≤◌, Some, None, MatchOption, IfOk, ⊤};
+ghost use Rattle.std.specs.Prelude.{◌≡◌, ◌≤◌, true, false, Some, MatchOption, IfOk, ⊤};
 ghost use Rattle.abl_values.specs.Rows.{fragments_of};
 ghost use Rattle.database_meaning.specs.Setting.{FitsTable, HasTable, row_size};
-ghost use Rattle.stored_rows.specs.Decoded.{row_of as row_in_bytes};
+ghost use Rattle.stored_rows.specs.Decoded.{is_read, row_of as row_in_bytes};
 
 use crate::noted::fragments;
 use abl_base::limits::MAX_ROW_BYTES;
@@ -30,8 +30,9 @@ pub fn decode(
     bytes: &[u8],
 ) -> Result<Option<OldRow>, AllocError>
     ensures row { IfOk result (λ found.
-        MatchOption found (row_in_bytes schema.now (Some (record { table = table; bytes = bytes.now })) ≡ None)
+        MatchOption found (is_read schema.now (Some (record { table = table; bytes = bytes.now })) ≡ false)
         (λ one. row_in_bytes schema.now (Some (record { table = table; bytes = bytes.now })) ≡ Some one.row)) }
+    ensures read { IfOk result (λ found. MatchOption found ⊤ (λ one. is_read schema.now (Some (record { table = table; bytes = bytes.now })) ≡ true)) }
     ensures table { IfOk result (λ found. MatchOption found ⊤ (λ one. HasTable schema.now one.row.table)) }
     ensures fits { IfOk result (λ found. MatchOption found ⊤ (λ one. FitsTable schema.now one.row.table one.row.values)) }
 {

@@ -7,6 +7,15 @@ use abl_rows::RowFault;
 use abl_storage::SlotFault;
 use chain_store::ChainFault;
 
+/// Why slots were not opened as rows of a schema.
+#[derive(Clone, Copy, Debug, PartialEq, Eq)]
+pub enum OpenFault {
+    /// A row that begins is no row of a table of the schema.
+    Broken,
+    /// The slots refused a read, or there was not enough memory.
+    Slot(SlotFault),
+}
+
 /// The error of rows. Full and TxFull count as out of memory: the caller asks for room before.
 pub(crate) fn error_of(fault: ChainFault) -> RowFault
     ensures { result ≡ row_error fault }

@@ -20,4 +20,5 @@ pub mod returns;
 pub mod rows;
 
 pub use decode::OldRow;
+pub use fault::OpenFault;
 pub use rows::StoredRows;

@@ -1,24 +1,25 @@
 //! Opening and closing a store of rows.
 
-ghost use Rattle.std.specs.Prelude.{◌≡◌, ◌<◌, ◌≤◌, ℕ, [], length, true, false, Some, None, Err, is_some, IfErr, IfOk, OnOk};
-ghost use Rattle.abl_storage.specs.Slots.{IsReadable};
-ghost use Rattle.database_meaning.specs.Setting.{fragments};
+ghost use Rattle.std.specs.Prelude.{◌≡◌, ◌<◌, ◌≤◌, ◌^◌, ℕ, [], length, false, Some, None, Err, IfErr, IfOk, MatchOption, ⊤};
+ghost use Rattle.abl_storage.specs.Slots.{AreBlankFrom, IsReadable};
 ghost use Rattle.row_chain.specs.Calls.{Looked};
 ghost use Rattle.chain_store.specs.Places.{HoldNothing};
 ghost use Rattle.chain_store.specs.Still.{Still};
 ghost use Rattle.row_chain.specs.Fragments.{row_at};
-ghost use Rattle.stored_rows.specs.Counted.{AreCounted};
-ghost use Rattle.stored_rows.specs.Decoded.{decoded, row_of as row_in_bytes};
+ghost use Rattle.stored_rows.specs.Counted.{AreCounted, IsWeight};
+ghost use Rattle.stored_rows.specs.Decoded.{AreRead, decoded};
 ghost use Rattle.stored_rows.specs.Opens.{no_open, open_in};
+ghost use Rattle.stored_rows.specs.State.{slot_fault};
 
 use crate::decode::decode;
+use crate::fault::OpenFault;
 use crate::open::Open;
 use crate::rows::StoredRows;
-use abl_base::RowId;
 use abl_storage::{SlotFault, Slots};
 use abl_values::Schema;
-use chain_store::{ChainFault, Chains};
+use chain_store::Chains;
 use row_chain::StoredRow;
+use row_chain::read::read_row;
 use std::alloc::{AllocError, Global};
 
 /// The first identity of a row.
@@ -36,69 +37,88 @@ fn idle_opens(alloc: Global) -> Result<Vec<Open>, AllocError>
     Ok(opens)
 }
 
-/// The number of fragments of the row that the bytes are. An error comes too where they are no row of
-/// their table.
-fn row_fragments(alloc: Global, schema: &Schema, stored: &StoredRow) -> Result<u32, AllocError>
-    ensures read { OnOk result (is_some (row_in_bytes schema.now (Some (record { table = stored.now.table; bytes = stored.now.bytes.items }))) ≡ true) }
-    ensures weighs { IfOk result (λ many. many ≡ fragments (row_in_bytes schema.now (Some (record { table = stored.now.table; bytes = stored.now.bytes.items })))) }
-    ensures few { IfOk result (λ many. many ≤ 125) }
+/// A number from 8,192 to 1,048,576: each slot from there on reads zeros.
+fn rows_end<S: Slots>(slots: &S) -> u32
+    ensures low { 8192 ≤ result }
+    ensures high { result ≤ 1048576 }
+    ensures blank { IsReadable (S.Slots.state slots.now) → AreBlankFrom result (S.Slots.state slots.now).reads }
+{
+    let end = slots.end();
+    if end < FIRST_ROW {
+        return FIRST_ROW;
+    }
+    end
+}
+
+/// The number of fragments of the row that the bytes are, if they are one of a table of the schema.
+fn row_fragments(
+    alloc: Global,
+    schema: &Schema,
+    stored: &StoredRow,
+) -> Result<Option<u32>, AllocError>
+    ensures found { IfOk result (λ found. IsWeight schema.now (Some (record { table = stored.now.table; bytes = stored.now.bytes.items })) found) }
+    ensures few { IfOk result (λ found. MatchOption found ⊤ (λ many. many ≤ 125)) }
 {
     match decode(alloc, schema, stored.table, stored.bytes.as_slice())? {
-        Some(found) => Ok(found.fragments),
-        None => Err(AllocError),
+        Some(found) => Ok(Some(found.fragments)),
+        None => Ok(None),
     }
 }
 
-/// The number of fragments of the row with this identity, 0 where none begins. NoMemory comes too
-/// where what begins is no row of its table.
-fn weigh_row<S: Slots + Drop>(
+/// The number of fragments of the row that begins in the slot, 0 where none begins; none where a row
+/// that begins is no row of its table.
+fn weigh_row<S: Slots>(
     alloc: Global,
-    chains: &mut Chains<S>,
+    slots: &mut S,
     schema: &Schema,
-    row: RowId,
-) -> Result<u32, SlotFault>
-    ensures read { OnOk result (IsReadable (S.Slots.state chains.old.slots) →
-        is_some (decoded schema.now (S.Slots.state chains.old.slots).reads row.0) ≡ is_some (row_at (S.Slots.state chains.old.slots).reads row.0)) }
-    ensures weighs { IfOk result (λ many. IsReadable (S.Slots.state chains.old.slots) → many ≡ fragments (decoded schema.now (S.Slots.state chains.old.slots).reads row.0)) }
-    ensures few { IfOk result (λ many. many ≤ 125) }
-    ensures looked { Looked (S.Slots.state chains.old.slots) (S.Slots.state chains.new.slots) (S.Slots.stop chains.old.slots) (S.Slots.stop chains.new.slots) result }
+    row: u32,
+) -> Result<Option<u32>, SlotFault>
+    ensures found { IfOk result (λ found. IsReadable (S.Slots.state slots.old) → IsWeight schema.now (row_at (S.Slots.state slots.old).reads row) found) }
+    ensures few { IfOk result (λ found. MatchOption found ⊤ (λ many. many ≤ 125)) }
+    ensures looked { Looked (S.Slots.state slots.old) (S.Slots.state slots.new) (S.Slots.stop slots.old) (S.Slots.stop slots.new) result }
 {
-    match chains.get(row) {
-        Ok(None) => Ok(0),
+    match read_row(alloc, slots, row) {
+        Ok(None) => Ok(Some(0)),
         Ok(Some(stored)) => match row_fragments(alloc, schema, &stored) {
-            Ok(many) => Ok(many),
+            Ok(found) => Ok(found),
             Err(_) => Err(SlotFault::NoMemory),
         },
-        Err(ChainFault::Full) => Err(SlotFault::NoMemory),
-        Err(ChainFault::Slot(fault)) => Err(fault),
+        Err(fault) => Err(fault),
     }
 }
 
-/// The number of fragments of all rows. NoMemory comes too where one that begins is no row of its
-/// table.
-fn count_rows<S: Slots + Drop>(
+/// The number of fragments of all rows; none where one that begins is no row of its table.
+fn count_rows<S: Slots>(
     alloc: Global,
-    chains: &mut Chains<S>,
+    slots: &mut S,
     schema: &Schema,
-) -> Result<u64, SlotFault>
-    ensures read { OnOk result (IsReadable (S.Slots.state chains.old.slots) → (k : ℕ) → 8192 ≤ k → k < 1048576 →
-        is_some (decoded schema.now (S.Slots.state chains.old.slots).reads k) ≡ is_some (row_at (S.Slots.state chains.old.slots).reads k)) }
-    ensures counted { IfOk result (λ used. IsReadable (S.Slots.state chains.old.slots) → AreCounted (decoded schema.now (S.Slots.state chains.old.slots).reads) used) }
-    ensures looked { Looked (S.Slots.state chains.old.slots) (S.Slots.state chains.new.slots) (S.Slots.stop chains.old.slots) (S.Slots.stop chains.new.slots) result }
+) -> Result<Option<u64>, SlotFault>
+    ensures broken { IfOk result (λ found. MatchOption found (IsReadable (S.Slots.state slots.old) → ¬ AreRead schema.now (S.Slots.state slots.old).reads) (λ used. ⊤)) }
+    ensures read { IfOk result (λ found. MatchOption found ⊤ (λ used. IsReadable (S.Slots.state slots.old) → AreRead schema.now (S.Slots.state slots.old).reads)) }
+    ensures counted { IfOk result (λ found. MatchOption found ⊤ (λ used. IsReadable (S.Slots.state slots.old) → AreCounted (decoded schema.now (S.Slots.state slots.old).reads) used)) }
+    ensures looked { Looked (S.Slots.state slots.old) (S.Slots.state slots.new) (S.Slots.stop slots.old) (S.Slots.stop slots.new) result }
 {
-    let end = chains.end();
+    let end = rows_end(slots);
     let mut used = 0u64;
     for at in FIRST_ROW..end {
-        let many = weigh_row(alloc, chains, schema, RowId(at))?;
+        let found = weigh_row(alloc, slots, schema, at)?;
+        let Some(many) = found else {
+            return Ok(None);
+        };
         used += u64::from(many);
     }
-    Ok(used)
+    Ok(Some(used))
 }
 
 impl<S: Slots + Drop> StoredRows<S> {
-    /// The rows of these slots, with no transaction. The refusals are Disk and NoMemory; the latter
-    /// comes too where the slots are no rows of the schema's tables.
-    pub fn open(slots: S, schema: Schema, alloc: Global) -> Result<StoredRows<S>, (SlotFault, S)>
+    /// The rows of these slots, with no transaction. Broken comes only where a row that begins is no
+    /// row of a table of the schema; the refusals of the slots are Disk and NoMemory. NoMemory comes
+    /// too where a slot is in the chain of no row, or of two, and each row is one of its table.
+    pub fn open(
+        mut slots: S,
+        schema: Schema,
+        alloc: Global,
+    ) -> Result<StoredRows<S>, (OpenFault, S)>
         requires idle { (c : ℕ) → ((S.Slots.state slots).transaction c).begun ≡ false }
         requires clean { (c : ℕ) → ((S.Slots.state slots).transaction c).undo ≡ [] }
         requires fine { (S.Slots.state slots).failed ≡ false }
@@ -106,26 +126,29 @@ impl<S: Slots + Drop> StoredRows<S> {
         requires certain { IsReadable (S.Slots.state slots) → (k : ℕ) → (S.Slots.state slots).doubt k ≡ (S.Slots.state slots).committed k }
         ensures same { IfOk result (λ rows. Still (S.Slots.state slots) (S.Slots.state rows.chains.slots) (S.Slots.stop slots) (S.Slots.stop rows.chains.slots)) }
         ensures schema { IfOk result (λ rows. rows.schema ≡ schema) }
-        ensures err { IfErr result (λ e. Looked {T = ℕ} (S.Slots.state slots) (S.Slots.state e.1) (S.Slots.stop slots) (S.Slots.stop e.1) (Err e.0)) }
+        ensures read { IfOk result (λ rows. IsReadable (S.Slots.state slots) → AreRead schema (S.Slots.state slots).reads) }
+        ensures err { IfErr result (λ e. Looked {T = ℕ} (S.Slots.state slots) (S.Slots.state e.1) (S.Slots.stop slots) (S.Slots.stop e.1) (Err (slot_fault e.0))) }
+        ensures broken { IfErr result (λ e. e.0 ≡ OpenFault.Broken → IsReadable (S.Slots.state slots) → ¬ AreRead schema (S.Slots.state slots).reads) }
         ensures none { IfOk result (λ rows. (c : ℕ) → open_in rows.opens.items c ≡ no_open) }
     {
         let opens = match idle_opens(alloc) {
             Ok(opens) => opens,
-            Err(_) => return Err((SlotFault::NoMemory, slots)),
+            Err(_) => return Err((OpenFault::Slot(SlotFault::NoMemory), slots)),
         };
-        let mut chains = match Chains::open(slots, alloc) {
-            Ok(chains) => chains,
-            Err(refusal) => return Err(refusal),
+        let used = match count_rows(alloc, &mut slots, &schema) {
+            Ok(Some(used)) => used,
+            Ok(None) => return Err((OpenFault::Broken, slots)),
+            Err(fault) => return Err((OpenFault::Slot(fault), slots)),
         };
-        match count_rows(alloc, &mut chains, &schema) {
-            Ok(used) => Ok(StoredRows {
+        match Chains::open(slots, alloc) {
+            Ok(chains) => Ok(StoredRows {
                 alloc,
                 chains,
                 schema,
                 opens,
                 used,
             }),
-            Err(fault) => Err((fault, chains.close())),
+            Err((fault, slots)) => Err((OpenFault::Slot(fault), slots)),
         }
     }
 

@@ -6,7 +6,7 @@ ghost use Rattle.database_meaning.specs.Setting.{FitsTable, HasTable};
 ghost use Rattle.row_chain.specs.Calls.{Looked};
 ghost use Rattle.chain_store.specs.Rows.{of_slots};
 ghost use Rattle.abl_rows.specs.Rows.{AfterError, HasCause};
-ghost use Rattle.stored_rows.specs.Decoded.{decoded};
+ghost use Rattle.stored_rows.specs.Decoded.{AreRead, decoded};
 ghost use Rattle.stored_rows.specs.State.{Reserved, state_of};
 
 use crate::decode::{OldRow, decode};
@@ -20,13 +20,15 @@ use chain_store::{ChainFault, Chains};
 use database_meaning::StoredRow;
 use std::alloc::Global;
 
-/// The row with this identity, if there is one. After an error nothing has changed.
+/// The row with this identity, if there is one, where each row is read. After an error nothing has
+/// changed.
 pub fn find<S: Slots + Drop>(
     alloc: Global,
     chains: &mut Chains<S>,
     schema: &Schema,
     row: RowId,
 ) -> Result<Option<OldRow>, ChainFault>
+    requires read { IsReadable (S.Slots.state chains.old.slots) → AreRead schema.now (S.Slots.state chains.old.slots).reads }
     ensures found { IfOk result (λ found. IsReadable (S.Slots.state chains.old.slots) →
         MatchOption found (decoded schema.now (S.Slots.state chains.old.slots).reads row.0 ≡ None)
         (λ one. decoded schema.now (S.Slots.state chains.old.slots).reads row.0 ≡ Some one.row)) }

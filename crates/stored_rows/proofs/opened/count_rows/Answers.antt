@@ -1,48 +1,50 @@
-use Rattle.std.proofs.Common.{◌≡◌, ℕ, ◌≤◌, List, is_some, ap, ◌∙◌, subst, arith}
+use Rattle.std.proofs.Common.{◌≡◌, ℕ, ◌≤◌, true, List, Option, Some, MatchOption, ap, subst, arith}
+use Rattle.std.specs.Prelude.{⊤}
 use Rattle.abl_storage.specs.Slots.{IsReadable}
 use Rattle.database_meaning.specs.Setting.{fragments}
 use Rattle.row_chain.specs.Fragments.{row_at}
 use Rattle.row_chain.proofs.Composes.{readable_on}
-use Rattle.chain_store.specs.Still.{Still}
-use Rattle.chain_store.proofs.Reading.{still_both}
-use Rattle.stored_rows.specs.Decoded.{decoded, row_of}
-use Rattle.stored_rows.proofs.Counting.{counted_all, one_more, read_all}
+use Rattle.chain_store.proofs.Reading.{looked_still, still_both}
+use Rattle.stored_rows.specs.Counted.{IsWeight}
+use Rattle.stored_rows.specs.Decoded.{decoded, is_read, row_of}
+use Rattle.stored_rows.proofs.Counting.{blank_none, counted_all, one_more, weight_some}
 use Rattle.stored_rows.proofs.Weights.{below_more}
 use Rattle.stored_rows.proofs.opened.count_rows.Goals as goal
+
+few_of : (found : Option ℕ) (many : ℕ) → found ≡ Some many → MatchOption found ⊤ (λ n. n ≤ 125) → many ≤ 125
+few_of found many is h = subst (λ x. MatchOption x ⊤ (λ n. n ≤ 125)) is h
 
 pub loop-at-preserved : goal.loop-at-preserved
 loop-at-preserved g c =
     let schema = c.args.schema.now in
-    let first = g.S.Slots.state c.args.chains.now.slots in
-    let s = g.S.Slots.state c.loop-at.chains.slots in
-    let t = g.S.Slots.state c.weigh_row.new.chains.slots in
+    let first = g.S.Slots.state c.args.slots.now in
+    let s = g.S.Slots.state c.loop-at.slots in
+    let t = g.S.Slots.state c.weigh_row.new.slots in
+    let at_first = g.S.Slots.stop c.args.slots.now in
+    let at_s = g.S.Slots.stop c.loop-at.slots in
+    let at_t = g.S.Slots.stop c.weigh_row.new.slots in
     let at = c.loop-at.at in
     let i = c.loop-at.invariant in
-    let e = c.in_ok-many.ensures in
-    let l = e.looked in
-    let step : Still s t (g.S.Slots.stop c.loop-at.chains.slots) (g.S.Slots.stop c.weigh_row.new.chains.slots) = record { rests = l.rests; time = l.time; later = l.cause.later; failed = l.cause.stays (λ q. cc q) } in
+    let w = c.in_ok-found.ensures in
     let there : IsReadable first → IsReadable s = λ r. readable_on first s i.still.rests.keeps.observable i.still.failed r in
-    let read : IsReadable first → is_some (decoded schema first.reads at) ≡ is_some (row_at first.reads at) = λ r. subst (λ (f : ℕ → List ℕ). is_some (decoded schema f at) ≡ is_some (row_at f at)) (i.still.rests.reads r) (e.read (there r)) in
-    let weighs : IsReadable first → c.in_ok-many.many ≡ fragments (decoded schema first.reads at) = λ r. e.weighs (there r) ∙ ap (λ (f : ℕ → List ℕ). fragments (decoded schema f at)) (i.still.rests.reads r) in
-    let few = e.few in
+    let weight : IsReadable first → IsWeight schema (row_at first.reads at) (Some c.in-Some.many) = λ r.
+    subst (λ (f : ℕ → List ℕ). IsWeight schema (row_at f at) (Some c.in-Some.many)) (i.still.rests.reads r) (weight_some schema (row_at s.reads at) c.in_ok-found.found c.in-Some.many (cc c.in-Some.is) (w.found (there r))) in
+    let few : c.in-Some.many ≤ 125 = few_of c.in_ok-found.found c.in-Some.many (cc c.in-Some.is) w.few in
     record {
-      still = still_both first s t (g.S.Slots.stop c.args.chains.now.slots) (g.S.Slots.stop c.loop-at.chains.slots) (g.S.Slots.stop c.weigh_row.new.chains.slots) (g.met.S.Slots.stop_known c.weigh_row.new.chains.slots) i.still step;
-      read = λ r. one_more (λ (k : ℕ). is_some (decoded schema first.reads k) ≡ is_some (row_at first.reads k)) at (i.read r) (read r);
+      still = still_both first s t at_first at_s at_t (g.met.S.Slots.stop_known c.weigh_row.new.slots) i.still (looked_still s t at_s at_t _ (λ q. cc q) w.looked);
+      read = λ r. one_more (λ (k : ℕ). is_read schema (row_at first.reads k) ≡ true) at (i.read r) (weight r).0;
       sum = λ r.
           let sum = i.sum r in
-          let weight = weighs r in
+          let here = (weight r).1 in
           let more = below_more at (decoded schema first.reads) in
-          omega (arith, sum, weight, more);
-      weighs = λ r. one_more (λ (k : ℕ). fragments (decoded schema first.reads k) ≤ 125) at (i.weighs r) (let weight = weighs r in omega (arith, weight, few));
+          omega (arith, sum, here, more);
+      weighs = λ r. one_more (λ (k : ℕ). fragments (decoded schema first.reads k) ≤ 125) at (i.weighs r) (let here = (weight r).1 in omega (arith, here, few));
       few = let before = i.few in omega (arith, before, few);
     }
-
-pub returns-clause-read : goal.returns-clause-read
-returns-clause-read g c = λ readable.
-    read_all c.args.schema.now (g.S.Slots.state c.args.chains.now.slots).reads c.end-end.result c.loop-at.at (omega arith) (c.end-end.ensures.none readable) (c.loop-at.invariant.read readable)
 
 pub returns-clause-counted : goal.returns-clause-counted
 returns-clause-counted g c = λ readable.
     let i = c.loop-at.invariant in
     let schema = c.args.schema.now in
-    counted_all schema (g.S.Slots.state c.args.chains.now.slots).reads c.loop-at.used c.end-end.result c.loop-at.at (omega arith) c.end-end.ensures.high (λ k le. ap (row_of schema) (c.end-end.ensures.none readable k le)) (i.sum readable) (i.weighs readable)
+    let reads = (g.S.Slots.state c.args.slots.now).reads in
+    counted_all schema reads c.loop-at.used c.rows_end-end.result c.loop-at.at (omega arith) c.rows_end-end.ensures.high (λ k le. ap (row_of schema) (blank_none reads c.rows_end-end.result (c.rows_end-end.ensures.blank readable) k le)) (i.sum readable) (i.weighs readable)

@@ -14,7 +14,7 @@ use Rattle.stored_rows.proofs.rows.StoredRows.delete.Goals as goal
 pub delete-requires-clause-there : goal.delete-requires-clause-there
 delete-requires-clause-there g c = λ readable.
     let rows = c.args.self.now in
-    (row_there rows.schema (g.S.Slots.state rows.chains.slots).reads c.args.row.0 c.args.old.row (c.requires.there readable)).0
+    row_there rows.schema (g.S.Slots.state rows.chains.slots).reads c.args.row.0 c.args.old.row (c.requires.there readable)
 
 pub invariant_of-self-clause-stored : goal.invariant_of-self-clause-stored
 invariant_of-self-clause-stored g c =

@@ -32,7 +32,7 @@ invariant_of-self-2-clause-stored g c =
     new.places.items (free_in (heap_items new.free.back) new.free.end) new.clients.items new.failed new.sound rows.stored c.requires.fine c.requires.begun
     c.args.row.0 None (Some (record { table = c.args.table; bytes = c.as_slice.result.now })) (Some (record { table = c.args.table; values = c.args.values.now }))
     0 (fragments_of (length c.as_slice.result.now))
-    c.requires.empty (λ readable. sym is) (λ readable. put_reads rows.schema _ _ is) refl many few
+    c.requires.empty (λ readable. sym is) (λ readable. put_reads rows.schema _ _ c.requires.table is) refl many few
     (g.S.Slots.stop old.slots) (g.S.Slots.stop new.slots) c.insert.result e.ok e.touched e.refused e.same
 
 pub returns-in-Ok-insert-clause-ok : goal.returns-in-Ok-insert-clause-ok
@@ -53,7 +53,7 @@ returns-in-Ok-insert-clause-ok g c =
     new.places.items (free_in (heap_items new.free.back) new.free.end) new.clients.items new.failed new.sound rows.stored c.requires.fine c.requires.begun
     c.args.row.0 None (Some (record { table = c.args.table; bytes = c.as_slice.result.now })) (Some (record { table = c.args.table; values = c.args.values.now }))
     0 (fragments_of (length c.as_slice.result.now))
-    c.requires.empty (λ readable. sym is) (λ readable. put_reads rows.schema _ _ is) refl many few
+    c.requires.empty (λ readable. sym is) (λ readable. put_reads rows.schema _ _ c.requires.table is) refl many few
     e.touched.others e.touched.begun e.touched.keeps e.ok
 
 pub returns-clause-err : goal.returns-clause-err

@@ -2,7 +2,9 @@ use Rattle.std.proofs.Common.{Option, Err, refl, sym, subst}
 use Rattle.abl_rows.specs.Rows.{AfterError}
 use Rattle.abl_rows.specs.declared.store.RowFault.{RowFault}
 use Rattle.stored_rows.specs.declared.decode.OldRow.{OldRow}
+use Rattle.stored_rows.specs.Opens.{log_in, touched_in}
 use Rattle.stored_rows.specs.State.{state_of}
+use Rattle.stored_rows.proofs.Known.{all_read}
 use Rattle.stored_rows.proofs.Errors.{after_refusal, state_rests}
 use Rattle.stored_rows.proofs.Looked.{looked_stored}
 use Rattle.stored_rows.proofs.Methods.{begun_rests}
@@ -44,3 +46,8 @@ pub invariant_of-self-clause-quiet : goal.invariant_of-self-clause-quiet
 invariant_of-self-clause-quiet g c =
     let rows = c.args.self.now in
     quiet_looked (g.S.Slots.state rows.chains.slots) (g.S.Slots.state c.find.new.chains.slots) (g.S.Slots.stop rows.chains.slots) (g.S.Slots.stop c.find.new.chains.slots) c.find.result c.find.ensures.looked rows.quiet
+
+pub find-requires : goal.find-requires
+find-requires g c =
+    let rows = c.args.self.now in
+    record { read = λ readable. all_read rows.schema (g.S.Slots.state rows.chains.slots) (log_in rows.opens.items) (touched_in rows.opens.items) rows.stored readable }

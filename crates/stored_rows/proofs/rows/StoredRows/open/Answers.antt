@@ -1,77 +1,108 @@
-use Rattle.std.proofs.Common.{◌≡◌, ℕ, List, Err, sym, ap, ◌∙◌, subst}
+use Rattle.std.proofs.Common.{◌≡◌, ℕ, List, Option, Some, None, MatchOption, Err, sym, ap, ◌∙◌, subst}
 use Rattle.std.proofs.Math.Path.{fun_ext}
+use Rattle.std.specs.Prelude.{⊤}
 use Rattle.abl_storage.specs.Slots.{IsReadable, Transaction}
 use Rattle.row_chain.proofs.Composes.{looked_as, readable_on}
-use Rattle.chain_store.proofs.Reading.{still_both, still_looked}
+use Rattle.chain_store.specs.Still.{Still}
+use Rattle.chain_store.proofs.Reading.{looked_still, still_both, still_looked}
 use Rattle.stored_rows.specs.Counted.{AreCounted}
 use Rattle.stored_rows.specs.Decoded.{AreRead, decoded}
-use Rattle.stored_rows.proofs.Opening.{all_read, opened_stored, stored_nowhere}
+use Rattle.stored_rows.proofs.Opening.{opened_stored, stored_nowhere}
 use Rattle.stored_rows.proofs.Quiet.{quiet_opened, quiet_rests}
 use Rattle.stored_rows.proofs.rows.StoredRows.open.Goals as goal
 
-pub returns-in-Ok-count_rows-clause-same : goal.returns-in-Ok-count_rows-clause-same
-returns-in-Ok-count_rows-clause-same g c =
+none_is : {A : Type 0} (found : Option A) (P : Type 0) (Q : A → Type 0) → found ≡ None → MatchOption found P Q → P
+none_is found P Q is h = subst (λ x. MatchOption x P Q) is h
+
+some_is : {A : Type 0} (found : Option A) (x : A) (P : Type 0) (Q : A → Type 0) → found ≡ Some x → MatchOption found P Q → Q x
+some_is found x P Q is h = subst (λ y. MatchOption y P Q) is h
+
+pub open-requires-clause-idle : goal.open-requires-clause-idle
+open-requires-clause-idle g c = λ d. ap (λ (f : ℕ → Transaction). (f d).begun) c.in-Ok-Some.ensures.looked.rests.transaction ∙ c.requires.idle d
+
+pub open-requires-clause-clean : goal.open-requires-clause-clean
+open-requires-clause-clean g c = λ d. ap (λ (f : ℕ → Transaction). (f d).undo) c.in-Ok-Some.ensures.looked.rests.transaction ∙ c.requires.clean d
+
+pub open-requires-clause-fine : goal.open-requires-clause-fine
+open-requires-clause-fine g c = c.in-Ok-Some.ensures.looked.cause.stays (λ e. cc e) ∙ c.requires.fine
+
+pub returns-in-Ok-open-clause-same : goal.returns-in-Ok-open-clause-same
+returns-in-Ok-open-clause-same g c =
     let r = g.S.Slots.state c.args.slots in
-    let s = g.S.Slots.state c.in-Ok-open.chains.slots in
-    let t = g.S.Slots.state c.count_rows.new.chains.slots in
-    let l = c.in-Ok-count_rows.ensures.looked in
-    still_both r s t (g.S.Slots.stop c.args.slots) (g.S.Slots.stop c.in-Ok-open.chains.slots) (g.S.Slots.stop c.count_rows.new.chains.slots) (g.met.S.Slots.stop_known c.count_rows.new.chains.slots)
-    c.in-Ok-open.ensures.same (record { rests = l.rests; time = l.time; later = l.cause.later; failed = l.cause.stays (λ e. cc e) })
+    let s = g.S.Slots.state c.count_rows.new.slots in
+    let t = g.S.Slots.state c.in-Ok-open.chains.slots in
+    let at_r = g.S.Slots.stop c.args.slots in
+    let at_s = g.S.Slots.stop c.count_rows.new.slots in
+    let at_t = g.S.Slots.stop c.in-Ok-open.chains.slots in
+    still_both r s t at_r at_s at_t (g.met.S.Slots.stop_known c.in-Ok-open.chains.slots) (looked_still r s at_r at_s _ (λ e. cc e) c.in-Ok-Some.ensures.looked) c.in-Ok-open.ensures.same
+
+pub returns-in-Ok-open-clause-read : goal.returns-in-Ok-open-clause-read
+returns-in-Ok-open-clause-read g c = some_is c.in-Ok-Some.field-0 c.in-Ok-Some.used ⊤ _ (cc c.in-Ok-Some.is) c.in-Ok-Some.ensures.read
 
 pub invariant_of-result-clause-stored : goal.invariant_of-result-clause-stored
 invariant_of-result-clause-stored g c =
     let r = g.S.Slots.state c.args.slots in
-    let s = g.S.Slots.state c.in-Ok-open.chains.slots in
-    let t = g.S.Slots.state c.count_rows.new.chains.slots in
-    let l = c.in-Ok-count_rows.ensures.looked in
-    let first = c.in-Ok-open.ensures.same in
-    let same : t.failed ≡ s.failed = l.cause.stays (λ e. cc e) in
-    let back : IsReadable t → IsReadable s = λ h. readable_on t s (sym l.rests.keeps.observable) (sym same) h in
-    let start : IsReadable t → IsReadable r = λ h. readable_on s r (sym first.rests.keeps.observable) (sym first.failed) (back h) in
+    let s = g.S.Slots.state c.count_rows.new.slots in
+    let t = g.S.Slots.state c.in-Ok-open.chains.slots in
+    let at_r = g.S.Slots.stop c.args.slots in
+    let at_s = g.S.Slots.stop c.count_rows.new.slots in
+    let at_t = g.S.Slots.stop c.in-Ok-open.chains.slots in
+    let f : Still r t at_r at_t =
+    still_both r s t at_r at_s at_t (g.met.S.Slots.stop_known c.in-Ok-open.chains.slots) (looked_still r s at_r at_s _ (λ e. cc e) c.in-Ok-Some.ensures.looked) c.in-Ok-open.ensures.same in
+    let start : IsReadable t → IsReadable r = λ h. readable_on t r (sym f.rests.keeps.observable) (sym f.failed) h in
+    let read : IsReadable r → AreRead c.args.schema r.reads = some_is c.in-Ok-Some.field-0 c.in-Ok-Some.used ⊤ _ (cc c.in-Ok-Some.is) c.in-Ok-Some.ensures.read in
     stored_nowhere c.args.schema t c.in-Ok.opens.items c.in-Ok.ensures.idle
     (opened_stored c.args.schema t
-    (λ d. ap (λ (f : ℕ → Transaction). (f d).undo) l.rests.transaction ∙ (ap (λ (f : ℕ → Transaction). (f d).undo) first.rests.transaction ∙ c.requires.clean d))
+    (λ d. ap (λ (x : ℕ → Transaction). (x d).undo) f.rests.transaction ∙ c.requires.clean d)
     (λ h k.
-    ap (λ (f : ℕ → List ℕ). f k) (l.rests.keeps.committed (back h).0)
-    ∙ (ap (λ (f : ℕ → List ℕ). f k) (first.rests.keeps.committed (start h).0)
-    ∙ (c.requires.settled (start h) k
-    ∙ (sym (ap (λ (f : ℕ → List ℕ). f k) (first.rests.reads (start h))) ∙ sym (ap (λ (f : ℕ → List ℕ). f k) (l.rests.reads (back h)))))))
-    (λ h. subst (AreRead c.args.schema) (sym (l.rests.reads (back h))) (all_read c.args.schema s.reads (c.in-Ok-count_rows.ensures.read (back h)))))
-
-pub returns-in-Err-count_rows-clause-err : goal.returns-in-Err-count_rows-clause-err
-returns-in-Err-count_rows-clause-err g c =
-    let r = g.S.Slots.state c.args.slots in
-    let s = g.S.Slots.state c.in-Ok-open.chains.slots in
-    let t = g.S.Slots.state c.count_rows.new.chains.slots in
-    let at_r = g.S.Slots.stop c.args.slots in
-    let at_s = g.S.Slots.stop c.in-Ok-open.chains.slots in
-    let at_t = g.S.Slots.stop c.count_rows.new.chains.slots in
-    let fault = c.in-Err-count_rows.fault in
-    rw c.close.ensures.same
-    (still_looked r s t at_r at_s at_t (g.met.S.Slots.stop_known c.count_rows.new.chains.slots) c.in-Ok-open.ensures.same {T = ℕ} (Err fault)
-    (looked_as {T = ℕ} {U = ℕ} s t at_s at_t (Err fault) (Err fault) (λ e. cc e) (λ e. cc e) c.in-Err-count_rows.ensures.looked))
+    ap (λ (x : ℕ → List ℕ). x k) (f.rests.keeps.committed (start h).0)
+    ∙ (c.requires.settled (start h) k ∙ sym (ap (λ (x : ℕ → List ℕ). x k) (f.rests.reads (start h)))))
+    (λ h. subst (AreRead c.args.schema) (sym (f.rests.reads (start h))) (read (start h))))
 
 pub invariant_of-result-clause-counted : goal.invariant_of-result-clause-counted
 invariant_of-result-clause-counted g c = λ h.
     let r = g.S.Slots.state c.args.slots in
-    let s = g.S.Slots.state c.in-Ok-open.chains.slots in
-    let t = g.S.Slots.state c.count_rows.new.chains.slots in
-    let l = c.in-Ok-count_rows.ensures.looked in
-    let first = c.in-Ok-open.ensures.same in
-    let same : t.failed ≡ s.failed = l.cause.stays (λ e. cc e) in
-    let back : IsReadable s = readable_on t s (sym l.rests.keeps.observable) (sym same) h in
-    let start : IsReadable r = readable_on s r (sym first.rests.keeps.observable) (sym first.failed) back in
-    let settled : (k : ℕ) → t.committed k ≡ s.reads k = λ k.
-    ap (λ (f : ℕ → List ℕ). f k) (l.rests.keeps.committed back.0)
-    ∙ (ap (λ (f : ℕ → List ℕ). f k) (first.rests.keeps.committed start.0) ∙ (c.requires.settled start k ∙ sym (ap (λ (f : ℕ → List ℕ). f k) (first.rests.reads start)))) in
-    subst (λ (f : ℕ → List ℕ). AreCounted (decoded c.args.schema f) c.in-Ok-count_rows.used) (sym (fun_ext settled)) (c.in-Ok-count_rows.ensures.counted back)
+    let s = g.S.Slots.state c.count_rows.new.slots in
+    let t = g.S.Slots.state c.in-Ok-open.chains.slots in
+    let at_r = g.S.Slots.stop c.args.slots in
+    let at_s = g.S.Slots.stop c.count_rows.new.slots in
+    let at_t = g.S.Slots.stop c.in-Ok-open.chains.slots in
+    let f : Still r t at_r at_t =
+    still_both r s t at_r at_s at_t (g.met.S.Slots.stop_known c.in-Ok-open.chains.slots) (looked_still r s at_r at_s _ (λ e. cc e) c.in-Ok-Some.ensures.looked) c.in-Ok-open.ensures.same in
+    let start : IsReadable r = readable_on t r (sym f.rests.keeps.observable) (sym f.failed) h in
+    let settled : (k : ℕ) → t.committed k ≡ r.reads k = λ k. ap (λ (x : ℕ → List ℕ). x k) (f.rests.keeps.committed start.0) ∙ c.requires.settled start k in
+    let counted : IsReadable r → AreCounted (decoded c.args.schema r.reads) c.in-Ok-Some.used = some_is c.in-Ok-Some.field-0 c.in-Ok-Some.used ⊤ _ (cc c.in-Ok-Some.is) c.in-Ok-Some.ensures.counted in
+    subst (λ (x : ℕ → List ℕ). AreCounted (decoded c.args.schema x) c.in-Ok-Some.used) (sym (fun_ext settled)) (counted start)
 
 pub invariant_of-result-clause-quiet : goal.invariant_of-result-clause-quiet
 invariant_of-result-clause-quiet g c =
     let r = g.S.Slots.state c.args.slots in
-    let s = g.S.Slots.state c.in-Ok-open.chains.slots in
-    let t = g.S.Slots.state c.count_rows.new.chains.slots in
-    let l = c.in-Ok-count_rows.ensures.looked in
-    let first = c.in-Ok-open.ensures.same in
-    let same : t.failed ≡ s.failed = l.cause.stays (λ e. cc e) in
-    quiet_rests s t (λ fine. sym same ∙ fine) l.rests (quiet_rests r s (λ fine. c.requires.fine) first.rests (quiet_opened r c.requires.idle c.requires.certain))
+    let s = g.S.Slots.state c.count_rows.new.slots in
+    let t = g.S.Slots.state c.in-Ok-open.chains.slots in
+    let at_r = g.S.Slots.stop c.args.slots in
+    let at_s = g.S.Slots.stop c.count_rows.new.slots in
+    let at_t = g.S.Slots.stop c.in-Ok-open.chains.slots in
+    let f : Still r t at_r at_t =
+    still_both r s t at_r at_s at_t (g.met.S.Slots.stop_known c.in-Ok-open.chains.slots) (looked_still r s at_r at_s _ (λ e. cc e) c.in-Ok-Some.ensures.looked) c.in-Ok-open.ensures.same in
+    quiet_rests r t (λ fine. c.requires.fine) f.rests (quiet_opened r c.requires.idle c.requires.certain)
+
+pub returns-in-Ok-None-clause-err : goal.returns-in-Ok-None-clause-err
+returns-in-Ok-None-clause-err g c =
+    looked_as {U = ℕ} (g.S.Slots.state c.args.slots) (g.S.Slots.state c.count_rows.new.slots) (g.S.Slots.stop c.args.slots) (g.S.Slots.stop c.count_rows.new.slots) _ _ (λ e. absurd (cc e)) (λ e. absurd (cc e)) c.in-Ok-None.ensures.looked
+
+pub returns-in-Ok-None-clause-broken : goal.returns-in-Ok-None-clause-broken
+returns-in-Ok-None-clause-broken g c = λ is. none_is c.in-Ok-None.field-0 _ _ (cc c.in-Ok-None.is) c.in-Ok-None.ensures.broken
+
+pub returns-in-Err-count_rows-clause-err : goal.returns-in-Err-count_rows-clause-err
+returns-in-Err-count_rows-clause-err g c =
+    looked_as {U = ℕ} (g.S.Slots.state c.args.slots) (g.S.Slots.state c.count_rows.new.slots) (g.S.Slots.stop c.args.slots) (g.S.Slots.stop c.count_rows.new.slots) _ _ (λ e. cc e) (λ e. cc e) c.in-Err-count_rows.ensures.looked
+
+pub returns-in-Err-open-clause-err : goal.returns-in-Err-open-clause-err
+returns-in-Err-open-clause-err g c =
+    let r = g.S.Slots.state c.args.slots in
+    let s = g.S.Slots.state c.count_rows.new.slots in
+    let t = g.S.Slots.state c.in-Err-open.slots in
+    let at_r = g.S.Slots.stop c.args.slots in
+    let at_s = g.S.Slots.stop c.count_rows.new.slots in
+    let at_t = g.S.Slots.stop c.in-Err-open.slots in
+    still_looked r s t at_r at_s at_t (g.met.S.Slots.stop_known c.in-Err-open.slots) (looked_still r s at_r at_s _ (λ e. cc e) c.in-Ok-Some.ensures.looked) {T = ℕ} (Err c.in-Err-open.fault) c.in-Err-open.ensures.err

@@ -19,7 +19,7 @@ use Rattle.stored_rows.proofs.rows.StoredRows.put.Goals as goal
 pub put-requires-clause-there : goal.put-requires-clause-there
 put-requires-clause-there g c = λ readable.
     let rows = c.args.self.now in
-    (row_there rows.schema (g.S.Slots.state rows.chains.slots).reads c.args.row.0 c.args.old.row (c.requires.there readable)).0
+    row_there rows.schema (g.S.Slots.state rows.chains.slots).reads c.args.row.0 c.args.old.row (c.requires.there readable)
 
 pub invariant_of-self-2-clause-stored : goal.invariant_of-self-2-clause-stored
 invariant_of-self-2-clause-stored g c =
@@ -40,7 +40,7 @@ invariant_of-self-2-clause-stored g c =
     new.places.items (free_in (heap_items new.free.back) new.free.end) new.clients.items new.failed new.sound rows.stored c.requires.fine c.requires.begun
     c.args.row.0 (Some before) (Some (record { table = table_in (s.reads c.args.row.0); bytes = c.as_slice.result.now })) (Some (record { table = before.table; values = c.args.values.now }))
     c.args.old.fragments (fragments_of (length c.as_slice.result.now))
-    c.requires.there (λ readable. sym (is readable)) (λ readable. put_reads rows.schema _ _ (is readable)) c.args.old.counted many few
+    c.requires.there (λ readable. sym (is readable)) (λ readable. put_reads rows.schema _ _ c.requires.table (is readable)) c.args.old.counted many few
     (g.S.Slots.stop old.slots) (g.S.Slots.stop new.slots) c.put.result e.ok e.touched e.refused e.same
 
 pub returns-in-Ok-put-clause-ok : goal.returns-in-Ok-put-clause-ok
@@ -62,7 +62,7 @@ returns-in-Ok-put-clause-ok g c =
     new.places.items (free_in (heap_items new.free.back) new.free.end) new.clients.items new.failed new.sound rows.stored c.requires.fine c.requires.begun
     c.args.row.0 (Some before) (Some (record { table = table_in (s.reads c.args.row.0); bytes = c.as_slice.result.now })) (Some (record { table = before.table; values = c.args.values.now }))
     c.args.old.fragments (fragments_of (length c.as_slice.result.now))
-    c.requires.there (λ readable. sym (is readable)) (λ readable. put_reads rows.schema _ _ (is readable)) c.args.old.counted many few
+    c.requires.there (λ readable. sym (is readable)) (λ readable. put_reads rows.schema _ _ c.requires.table (is readable)) c.args.old.counted many few
     e.touched.others e.touched.begun e.touched.keeps e.ok
 
 pub returns-clause-err : goal.returns-clause-err
