@@ -2,3 +2,4 @@ pub mod Images
 pub mod Acknowledged
 pub mod Opened
 pub mod Histories
+pub mod Calls

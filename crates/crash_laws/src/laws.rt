@@ -10,6 +10,7 @@ ghost use Rattle.disk_steps.specs.Steps.{Image};
 ghost use Rattle.log_meaning.specs.Images.{Recovers};
 ghost use Rattle.db_core.specs.Crashes.{AreMoments};
 ghost use Rattle.disk_database.specs.Images.{AreImagesOf, IsImageOf, created};
+ghost use Rattle.crash_laws.specs.Calls.{CallHistory, IsCallHistory, NothingIsLostIn};
 ghost use Rattle.crash_laws.specs.Disks.{ComesNext, IsBeingMade, IsMade, MayBeOpened, view_of};
 ghost use Rattle.crash_laws.specs.History.{PastRun, History, IsDurable, IsHistory, IsLeftBy, IsOpenedAfter, NothingIsLost};
 
@@ -42,6 +43,14 @@ pub fn what_survives_is_opened<D: Disk>()
 /// does whoever opens the disk that is left at last.
 pub fn nothing_acknowledged_is_lost<D: Disk>()
     ensures { (history : History D) → IsHistory (view_of D.Disk) history → ∥ NothingIsLost (view_of D.Disk) history.schema (created history.schema) history.runs history.last ∥₁ }
+{}
+
+/// No call on a database loses what was acknowledged, in any history: a creation, then runs and calls
+/// that keep the contents, as dumps and refused commands do, each over what the one before left, at a
+/// crash or at its end. A call after a run is over the contents after the commits of the run that were
+/// acknowledged by then, or after one more; after every other call it is over the same contents.
+pub fn no_call_loses_what_was_acknowledged<D: Disk>()
+    ensures { (history : CallHistory D) → IsCallHistory (view_of D.Disk) history → ∥ NothingIsLostIn (view_of D.Disk) history.schema (created history.schema) history.calls history.last ∥₁ }
 {}
 
 /// An acknowledged commit is among the first ones of its trace: through an event that was answered
