@@ -1,0 +1,26 @@
+//! Rows of images and of calls on slots over a disk in memory, for programs that read a row a line, as
+//! `head 1 1`, and write it with its answer. A row makes the three areas, or opens them as slots and
+//! compares these with a plain model: step by step, and after stops. What each row does is in the
+//! README. It depends on `slot_txn` and on `mem_disk`; its rows are those of the programs above.
+#![tactic(auto)]
+
+mod areas;
+mod calling;
+mod driven;
+mod histories;
+mod images;
+mod long;
+mod model;
+mod reopened;
+mod rows;
+mod schedules;
+mod steps;
+mod sweeps;
+mod words;
+
+pub use areas::Areas;
+pub use long::commit_one;
+pub use reopened::{Reopened, disk_over, images_recovered, reads};
+pub use rows::answer;
+pub use sweeps::{WAYS, stopped, torn};
+pub use words::{is_multiple, number, numbers};
