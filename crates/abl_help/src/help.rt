@@ -28,16 +28,17 @@ answered too; in MODE quiet nothing else.
 dump writes the committed records of TABLE, a line each as EXPORT writes it, in
 the order of the primary index of the table.
 
-check lists the blocks of 1 to 16 sources and comes to no database. Each block has a
-line: its line number, what it is, `transaction` if it starts one, else `sub` if
-it can be undone, else `plain`, and the buffers scoped to it.
+check lists the blocks of 1 to 16 sources and opens no database. Each block has
+a line: its line number, what it is, `transaction` if it starts one, else `sub`
+if it can be undone, else `plain`, and the buffers scoped to it.
 
-bank measures a database with a built-in workload, and reads no file: the database
-was created with examples/bank/bank.df. A client deletes all accounts and creates ACCOUNTS accounts (2 to 10000) of 1000 each; then CLIENTS clients (1 to 8)
-make TRANSFERS transfers (1 to 50000) between them at the same time, which a
-generator draws from START (0 to 2147483647); then a client prints the total, and
-the sum of each balance times the number of its account. Both are the same at each
-run of the same arguments.
+bank measures a database with a built-in workload, and reads no file: the
+database was created with examples/bank/bank.df. A client deletes all accounts
+and creates ACCOUNTS accounts (2 to 10000) of 1000 each; then CLIENTS clients (1
+to 8) make TRANSFERS transfers (1 to 50000) between them at the same time, which
+a generator draws from START (0 to 2147483647); then a client prints the total,
+and the sum of each balance times the number of its account. Both are the same
+at each run of the same arguments.
 
 How a command ended goes to standard error, with the status:
 
