@@ -4,3 +4,4 @@ pub mod NoteBytes
 pub mod ReadSteps
 pub mod Sealed
 pub mod Preparing
+pub mod Lengths

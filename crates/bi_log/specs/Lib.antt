@@ -5,3 +5,4 @@ pub mod Reading
 pub mod Outcomes
 pub mod Generations
 pub mod Carrying
+pub mod Lengths

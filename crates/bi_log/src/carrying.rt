@@ -7,6 +7,7 @@ ghost use Rattle.log_meaning.specs.declared.note.Note.{Note as LogNote};
 ghost use Rattle.bi_log.specs.Buffer.{content};
 ghost use Rattle.bi_log.specs.Generations.{IsClosed, AfterGate};
 ghost use Rattle.bi_log.specs.Carrying.{Carries};
+ghost use Rattle.bi_log.specs.Lengths.{WithinLog};
 
 use crate::buffer::MAX_BATCH_BYTES;
 use crate::generation::carry;
@@ -31,6 +32,8 @@ pub fn carry_buffer<D: Disk>(
         → Carries (D.left disk.new (D.time disk.new)) area next buffer.new generation notes) }
     ensures empty { OnOk result (content buffer.new ≡ []) }
     ensures place { IfOk result (λ next. (gate ≤ next) × (next ≤ gate + 6 * length (content buffer.old))) }
+    ensures near { IfOk result (λ next. next ≤ gate + 5 + length (content buffer.old)) }
+    ensures within { Run (D.time disk.old) (D.time disk.new) (D.left disk.old) (D.left disk.new) (WithinLog (gate + 6 + length (content buffer.old))) }
     ensures seen { IsTrue (D.observable disk.old) → Others area (D.seen disk.old) (D.seen disk.new) }
     ensures cause { HasCause (D.failures disk.old) (D.failures disk.new) (is_ok result) }
 {
@@ -61,6 +64,8 @@ pub fn make_room<D: Disk>(
         → Carries (D.left disk.new (D.time disk.new)) area next buffer.new generation notes) }
     ensures room { OnOk result (length (content buffer.new) + 525 ≤ 1048576) }
     ensures place { IfOk result (λ next. (gate ≤ next) × (next + 6 * length (content buffer.new) ≤ gate + 6 * length (content buffer.old))) }
+    ensures near { IfOk result (λ next. 20 * next + 21 * length (content buffer.new) ≤ 20 * gate + 21 * length (content buffer.old)) }
+    ensures within { Run (D.time disk.old) (D.time disk.new) (D.left disk.old) (D.left disk.new) (WithinLog (gate + 6 + length (content buffer.old))) }
     ensures seen { IsTrue (D.observable disk.old) → Others area (D.seen disk.old) (D.seen disk.new) }
     ensures cause { HasCause (D.failures disk.old) (D.failures disk.new) (is_ok result) }
 {

@@ -7,6 +7,7 @@ ghost use Rattle.log_meaning.specs.declared.note.Note.{Note as LogNote};
 ghost use Rattle.log_meaning.specs.Bytes.{after_gate, IsBatch};
 ghost use Rattle.bi_log.specs.Appending.{Held, with_batch, fresh, RestsAt};
 ghost use Rattle.bi_log.specs.Generations.{Closes, IsClosed, AfterGate, IsPrepared, Opens};
+ghost use Rattle.bi_log.specs.Lengths.{WithinLog};
 
 use crate::header::new_header;
 use abl_storage::{Disk, DiskFailed};
@@ -37,6 +38,7 @@ pub fn close_area<D: Disk>(disk: &mut D, area: u8) -> Result<(), DiskFailed>
     ensures same_observable { D.observable disk.new ≡ D.observable disk.old }
     ensures time { Run (D.time disk.old) (D.time disk.new) (D.left disk.old) (D.left disk.new) (Closes area) }
     ensures ok { OnOk result ((image : Image) → D.left disk.new (D.time disk.new) image → IsClosed (image area)) }
+    ensures within { Run (D.time disk.old) (D.time disk.new) (D.left disk.old) (D.left disk.new) (WithinLog 1) }
     ensures seen { IsTrue (D.observable disk.old) → Others area (D.seen disk.old) (D.seen disk.new) }
     ensures cause { HasCause (D.failures disk.old) (D.failures disk.new) (is_ok result) }
 {
@@ -55,6 +57,7 @@ pub fn write_header<D: Disk>(disk: &mut D, area: u8, generation: u64) -> Result<
     ensures same_observable { D.observable disk.new ≡ D.observable disk.old }
     ensures time { Run (D.time disk.old) (D.time disk.new) (D.left disk.old) (D.left disk.new) (AfterGate area) }
     ensures ok { OnOk result ((image : Image) → D.left disk.new (D.time disk.new) image → IsPrepared (image area) (fresh generation) 32) }
+    ensures within { Run (D.time disk.old) (D.time disk.new) (D.left disk.old) (D.left disk.new) (WithinLog 33) }
     ensures seen { IsTrue (D.observable disk.old) → Others area (D.seen disk.old) (D.seen disk.new) }
     ensures cause { HasCause (D.failures disk.old) (D.failures disk.new) (is_ok result) }
 {
@@ -74,6 +77,7 @@ pub fn carry<D: Disk>(disk: &mut D, area: u8, gate: u64, bytes: &[u8]) -> Result
     ensures ok { OnOk result ((log : Held) (batch : List LogNote) → bytes.now ≡ after_gate batch → IsBatch batch
         → ((image : Image) → D.left disk.old (D.time disk.old) image → IsPrepared (image area) log gate)
         → (image : Image) → D.left disk.new (D.time disk.new) image → IsPrepared (image area) (with_batch log batch) (gate + length bytes.now)) }
+    ensures within { Run (D.time disk.old) (D.time disk.new) (D.left disk.old) (D.left disk.new) (WithinLog (gate + 1 + length bytes.now)) }
     ensures seen { IsTrue (D.observable disk.old) → Others area (D.seen disk.old) (D.seen disk.new) }
     ensures cause { HasCause (D.failures disk.old) (D.failures disk.new) (is_ok result) }
 {
@@ -90,6 +94,7 @@ pub fn open_area<D: Disk>(disk: &mut D, area: u8) -> Result<(), DiskFailed>
         → Run (D.time disk.old) (D.time disk.new) (D.left disk.old) (D.left disk.new) (Opens area log) }
     ensures ok { OnOk result ((log : Held) (gate : ℕ) → ((image : Image) → D.left disk.old (D.time disk.old) image → IsPrepared (image area) log gate)
         → (image : Image) → D.left disk.new (D.time disk.new) image → RestsAt (image area) log gate) }
+    ensures within { Run (D.time disk.old) (D.time disk.new) (D.left disk.old) (D.left disk.new) (WithinLog 1) }
     ensures seen { IsTrue (D.observable disk.old) → Others area (D.seen disk.old) (D.seen disk.new) }
     ensures cause { HasCause (D.failures disk.old) (D.failures disk.new) (is_ok result) }
 {

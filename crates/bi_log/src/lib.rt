@@ -10,6 +10,7 @@ ghost use Rattle.abl_storage.specs.Disk.{Others, HasCause};
 ghost use Rattle.disk_steps.specs.Steps.{Image, Run, Any};
 ghost use Rattle.log_meaning.specs.declared.note.Note.{Note as LogNote};
 ghost use Rattle.bi_log.specs.Appending.{Held, with_batch, RestsAt, Appends, IsToBe};
+ghost use Rattle.bi_log.specs.Lengths.{WithinLog};
 
 pub mod buffer;
 pub mod carrying;
@@ -37,6 +38,7 @@ pub fn settle<D: Disk>(disk: &mut D, area: u8, gate: u64, bytes: &[u8]) -> Resul
         → Run (D.time disk.old) (D.time disk.new) (D.left disk.old) (D.left disk.new) (Appends area held batch) }
     ensures ok { OnOk result ((held : Held) (batch : List LogNote) → IsToBe (D.left disk.old (D.time disk.old)) area gate bytes.now held batch
         → (image : Image) → D.left disk.new (D.time disk.new) image → RestsAt (image area) (with_batch held batch) (gate + length bytes.now)) }
+    ensures within { Run (D.time disk.old) (D.time disk.new) (D.left disk.old) (D.left disk.new) (WithinLog (gate + 1 + length bytes.now)) }
     ensures seen { IsTrue (D.observable disk.old) → Others area (D.seen disk.old) (D.seen disk.new) }
     ensures cause { HasCause (D.failures disk.old) (D.failures disk.new) (is_ok result) }
 {

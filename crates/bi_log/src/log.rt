@@ -9,6 +9,7 @@ ghost use Rattle.log_meaning.specs.Bytes.{note_bytes, IsNote};
 ghost use Rattle.bi_log.specs.Appending.{Held, with_batch, Appends};
 ghost use Rattle.bi_log.specs.Buffer.{content};
 ghost use Rattle.bi_log.specs.Logs.{HasNotes, Keeps};
+ghost use Rattle.bi_log.specs.Lengths.{WithinLog};
 
 use crate::buffer::MAX_BATCH_BYTES;
 use crate::note_buffer::NoteBuffer;
@@ -117,6 +118,7 @@ impl Log {
             → Run (D.time disk.old) (D.time disk.new) (D.left disk.old) (D.left disk.new) (Appends self.old.area held notes) }
         ensures ok { OnOk result ((held : Held) (notes : List LogNote) → Keeps self.old (D.left disk.old (D.time disk.old)) held notes → notes ≢ []
             → Keeps self.new (D.left disk.new (D.time disk.new)) (with_batch held notes) []) }
+        ensures within { Run (D.time disk.old) (D.time disk.new) (D.left disk.old) (D.left disk.new) (WithinLog (self.old.gate + 6 + length (content self.old.buffer))) }
         ensures area { self.new.area ≡ self.old.area }
         ensures seen { IsTrue (D.observable disk.old) → Others self.old.area (D.seen disk.old) (D.seen disk.new) }
         ensures settled { OnOk result ((self.new.settled ≡ self.old.appended) × (self.new.appended ≡ self.old.appended)) }

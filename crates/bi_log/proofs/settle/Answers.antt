@@ -1,9 +1,10 @@
-use Rattle.std.proofs.Common.{inl, ℕ, ◌+◌, List, length, Bool, IsTrue, Result, Ok, Err, OnOk, sym, ◌∙◌, ap, subst}
+use Rattle.std.proofs.Common.{inl, ℕ, ◌+◌, List, length, Bool, IsTrue, Result, Ok, Err, OnOk, sym, ◌∙◌, ap, subst, arith}
 use Rattle.abl_storage.specs.Disk.{TornIn}
 use Rattle.disk_steps.specs.Steps.{Image, Has, Any}
 use Rattle.disk_steps.proofs.Runs.{joined, wider, holds}
 use Rattle.bi_log.specs.Appending.{with_batch, RestsAt, Appends}
 use Rattle.bi_log.proofs.Batches.{Laid, rests_torn, laid_from, laid_torn, laid_either, laid_open}
+use Rattle.bi_log.proofs.Lengths.{run_torn, run_twice}
 use Rattle.bi_log.proofs.settle.Goals as goal
 
 pub returns-in_err-write_through-clause-time : goal.returns-in_err-write_through-clause-time
@@ -62,3 +63,11 @@ returns-in_err-write_through-clause-past g c = wider _ _ _ _ _ _ c.write_through
 
 pub returns-clause-past : goal.returns-clause-past
 returns-clause-past g c = joined _ _ _ _ _ _ (TornIn c.args.area (c.args.gate + 1) (length c.args.bytes.now)) (TornIn c.args.area c.args.gate 1) Any c.write_through.ensures.time c.write_through-2.ensures.time (λ d image was step. tt) (λ d image was mid step. tt) (λ d e image was one mid two. tt)
+
+pub returns-in_err-write_through-clause-within : goal.returns-in_err-write_through-clause-within
+returns-in_err-write_through-clause-within g c = run_torn _ _ _ _ (c.args.gate + 1 + length c.args.bytes.now) c.args.area (c.args.gate + 1) (length c.args.bytes.now) (omega arith) c.write_through.ensures.time
+
+pub returns-clause-within : goal.returns-clause-within
+returns-clause-within g c = run_twice _ _ _ _ _ _ (c.args.gate + 1 + length c.args.bytes.now)
+    (run_torn _ _ _ _ (c.args.gate + 1 + length c.args.bytes.now) c.args.area (c.args.gate + 1) (length c.args.bytes.now) (omega arith) c.write_through.ensures.time)
+    (run_torn _ _ _ _ (c.args.gate + 1 + length c.args.bytes.now) c.args.area c.args.gate 1 (omega arith) c.write_through-2.ensures.time)

@@ -1,4 +1,4 @@
-use Rattle.std.proofs.Common.{◌≡◌, ◌≢◌, ℕ, List, [], ◌∷◌, ◌++◌, length, sym, ◌∙◌, ap, subst, arith, length-append}
+use Rattle.std.proofs.Common.{◌≡◌, ◌≢◌, ℕ, ◌+◌, ◌≤◌, List, [], ◌∷◌, ◌++◌, length, sym, ◌∙◌, ap, subst, arith, length-append}
 use Rattle.std.proofs.lemmas.List.{append-nil}
 use Rattle.std.proofs.lemmas.List.Concat.{flat_map-append}
 use Rattle.std.proofs.lemmas.List.Elements.{All-nil}
@@ -13,6 +13,7 @@ use Rattle.bi_log.specs.Appending.{with_batch}
 use Rattle.bi_log.specs.Buffer.{content}
 use Rattle.bi_log.specs.Generations.{AfterGate, IsPrepared}
 use Rattle.bi_log.proofs.Sealed.{some_bytes, is_after_gate, no_length}
+use Rattle.bi_log.proofs.Lengths.{run_more, run_none}
 use Rattle.bi_log.proofs.carrying.carry_buffer.Goals as goal
 
 pub carry-requires-clause-end : goal.carry-requires-clause-end
@@ -52,3 +53,16 @@ returns-clause-place g c =
     let long = c.len-n.ensures.length in
     let some = c.if-n-eq0.false in
     (omega arith, omega (arith, long, some))
+
+-- the sealed bytes end six past the gate and the notes
+sealed_end : (gate : ℕ) (bytes notes : List ℕ) → bytes ≡ four (length notes) ++ notes ++ 0 ∷ [] → gate + 1 + length bytes ≤ gate + 6 + length notes
+sealed_end gate bytes notes sealed = omega (arith, ap (length {A = ℕ}) sealed, length-append (four (length notes) ++ notes) (0 ∷ []), length-append (four (length notes)) notes, length-four (length notes))
+
+pub returns-then-n-eq0-clause-within : goal.returns-then-n-eq0-clause-within
+returns-then-n-eq0-clause-within g c = run_none _ _ (c.args.gate + 6 + length (content c.args.buffer.now)) (λ m image left. (g.met.D.Disk.image_known c.args.disk.now m image left).past)
+
+pub returns-in_err-carry-clause-within : goal.returns-in_err-carry-clause-within
+returns-in_err-carry-clause-within g c = run_more _ _ _ _ (c.args.gate + 6 + length (content c.args.buffer.now)) _ (sealed_end c.args.gate _ (content c.args.buffer.now) c.sealed.ensures) c.carry.ensures.within
+
+pub returns-clause-within : goal.returns-clause-within
+returns-clause-within g c = run_more _ _ _ _ (c.args.gate + 6 + length (content c.args.buffer.now)) _ (sealed_end c.args.gate _ (content c.args.buffer.now) c.sealed.ensures) c.carry.ensures.within

@@ -5,6 +5,7 @@ use Rattle.disk_steps.proofs.Writes.{has_torn, torn_none, torn_keeps_below}
 use Rattle.bi_log.specs.Appending.{with_batch}
 use Rattle.bi_log.specs.Generations.{AfterGate, IsPrepared}
 use Rattle.bi_log.proofs.Preparing.{ok_then, after_none, after_twice, prepared_more, torn_both, batch_there, length-batch_after}
+use Rattle.bi_log.proofs.Lengths.{run_torn, run_twice}
 use Rattle.bi_log.proofs.generation.carry.Goals as goal
 
 pub returns-in_err-write_through-clause-time : goal.returns-in_err-write_through-clause-time
@@ -41,3 +42,11 @@ returns-in_err-write_through-clause-seen g c = λ known. (c.write_through.ensure
 
 pub returns-clause-seen : goal.returns-clause-seen
 returns-clause-seen g c = λ known k other. (c.write_through-2.ensures.seen (subst (λ (b : Bool). IsTrue b) (sym c.write_through.ensures.same_observable) known)).others k other ∙ (c.write_through.ensures.seen known).others k other
+
+pub returns-in_err-write_through-clause-within : goal.returns-in_err-write_through-clause-within
+returns-in_err-write_through-clause-within g c = run_torn _ _ _ _ (c.args.gate + 1 + length c.args.bytes.now) c.args.area (c.args.gate + 1) (length c.args.bytes.now) (omega arith) c.write_through.ensures.time
+
+pub returns-clause-within : goal.returns-clause-within
+returns-clause-within g c = run_twice _ _ _ _ _ _ (c.args.gate + 1 + length c.args.bytes.now)
+    (run_torn _ _ _ _ (c.args.gate + 1 + length c.args.bytes.now) c.args.area (c.args.gate + 1) (length c.args.bytes.now) (omega arith) c.write_through.ensures.time)
+    (run_torn _ _ _ _ (c.args.gate + 1 + length c.args.bytes.now) c.args.area c.args.gate 1 (omega arith) c.write_through-2.ensures.time)

@@ -5,6 +5,8 @@ use Rattle.abl_storage.specs.Disk.{TornIn, Stays}
 use Rattle.log_meaning.proofs.Areas.{torn_closing, torn_gate}
 use Rattle.bi_log.specs.Generations.{Closes, IsClosed}
 use Rattle.bi_log.proofs.Preparing.{ok_then}
+use Rattle.bi_log.specs.Lengths.{WithinLog}
+use Rattle.bi_log.proofs.Lengths.{run_torn, run_twice}
 use Rattle.bi_log.proofs.generation.close_area.Goals as goal
 
 closing : (area : ℕ) (seen : List ℕ) (d image : Image) → d area ≡ seen → (get_or seen 0 0 ≡ 1) ⊎ (length seen ≡ 0) → TornIn area 0 1 d image → Closes area d image
@@ -64,3 +66,14 @@ returns-then-branch-clause-seen g c = λ known k other.
 
 pub returns-clause-seen : goal.returns-clause-seen
 returns-clause-seen g c = λ known k other. ap (λ (i : Image). i k) (c.is_open_or_empty.ensures.rest.same known)
+
+pub returns-in_err-is_open_or_empty-clause-within : goal.returns-in_err-is_open_or_empty-clause-within
+returns-in_err-is_open_or_empty-clause-within g c = stayed _ _ _ _ _ _ _ _ (WithinLog 1) c.is_open_or_empty.ensures.rest (λ m image left. (g.met.D.Disk.image_known c.args.disk.now m image left).past)
+
+pub returns-then-branch-clause-within : goal.returns-then-branch-clause-within
+returns-then-branch-clause-within g c = run_twice _ _ _ _ _ _ 1
+    (stayed _ _ _ _ _ _ _ _ (WithinLog 1) c.is_open_or_empty.ensures.rest (λ m image left. (g.met.D.Disk.image_known c.args.disk.now m image left).past))
+    (run_torn _ _ _ _ 1 c.args.area 0 1 (omega arith) c.write_through.ensures.time)
+
+pub returns-clause-within : goal.returns-clause-within
+returns-clause-within g c = stayed _ _ _ _ _ _ _ _ (WithinLog 1) c.is_open_or_empty.ensures.rest (λ m image left. (g.met.D.Disk.image_known c.args.disk.now m image left).past)

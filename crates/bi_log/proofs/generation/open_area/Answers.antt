@@ -2,6 +2,7 @@ use Rattle.std.proofs.Common.{ℕ, get_or, refl, sym, ◌∙◌, ap, arith}
 use Rattle.disk_steps.proofs.Runs.{wider, traced}
 use Rattle.disk_steps.proofs.Writes.{torn_none}
 use Rattle.bi_log.proofs.Preparing.{ok_then, opens_to, either_opens}
+use Rattle.bi_log.proofs.Lengths.{run_torn}
 use Rattle.bi_log.proofs.generation.open_area.Goals as goal
 
 pub returns-clause-past : goal.returns-clause-past
@@ -18,3 +19,6 @@ returns-clause-ok g c = ok_then c.write_through.result _ _ c.write_through.ensur
 
 pub returns-clause-seen : goal.returns-clause-seen
 returns-clause-seen g c = λ known. (c.write_through.ensures.seen known).others
+
+pub returns-clause-within : goal.returns-clause-within
+returns-clause-within g c = run_torn _ _ _ _ 1 c.args.area 0 1 (omega arith) c.write_through.ensures.time

@@ -4,6 +4,7 @@ use Rattle.disk_steps.proofs.Runs.{wider, traced}
 use Rattle.disk_steps.proofs.Writes.{torn_none, torn_keeps_below}
 use Rattle.bi_log.specs.Appending.{fresh}
 use Rattle.bi_log.proofs.Preparing.{ok_then, prepared_head}
+use Rattle.bi_log.proofs.Lengths.{run_torn}
 use Rattle.bi_log.proofs.generation.write_header.Goals as goal
 
 pub returns-clause-time : goal.returns-clause-time
@@ -18,3 +19,6 @@ returns-clause-ok g c = ok_then c.write_through.result _ _ c.write_through.ensur
 
 pub returns-clause-seen : goal.returns-clause-seen
 returns-clause-seen g c = λ known. (c.write_through.ensures.seen known).others
+
+pub returns-clause-within : goal.returns-clause-within
+returns-clause-within g c = run_torn _ _ _ _ 33 c.args.area 1 (length c.new_header.result) (omega arith) c.write_through.ensures.time
