@@ -2,3 +2,4 @@ pub mod FrameLists
 pub mod AreaRuns
 pub mod AreaViews
 pub mod Laws
+pub mod Extended

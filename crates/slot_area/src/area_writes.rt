@@ -30,7 +30,7 @@ fn write_slot<D: Disk>(disk: &mut D, slot: u32, bytes: &[u8; 256]) -> Result<(),
 
 /// Writes zeros to the slots of area 0 from its end up to a slot, one after the other, so that a
 /// write that fails changes no other slot.
-fn extend<D: Disk>(disk: &mut D, end: u32, slot: u32) -> Result<(), DiskFailed>
+pub fn extend<D: Disk>(disk: &mut D, end: u32, slot: u32) -> Result<(), DiskFailed>
     requires { slot ≤ 2 ^ 20 }
     ensures same_observable { D.observable disk.new ≡ D.observable disk.old }
     ensures past { Run (D.time disk.old) (D.time disk.new) (D.left disk.old) (D.left disk.new) (Others 0) }

@@ -4,6 +4,7 @@
 #![tactic(auto)]
 
 mod area_writes;
+mod extending;
 pub mod frame;
 mod frame_changes;
 mod frame_reads;
