@@ -9,3 +9,4 @@ pub mod Creating
 pub mod CarriedRun
 pub mod CarriedOver
 pub mod Stilling
+pub mod Lengths

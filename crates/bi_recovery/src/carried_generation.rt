@@ -5,6 +5,7 @@ ghost use Rattle.abl_storage.specs.Disk.{Others};
 ghost use Rattle.abl_storage.specs.Slots.{undone};
 ghost use Rattle.disk_steps.specs.Steps.{Image, Run};
 ghost use Rattle.log_meaning.specs.Images.{slot_of};
+ghost use Rattle.bi_log.specs.Lengths.{WithinLog};
 ghost use Rattle.bi_recovery.specs.NoteSlots.{IsAscending};
 ghost use Rattle.bi_recovery.specs.Carried.{stills, IsOpenLog, CarriesTo};
 ghost use Rattle.bi_recovery.specs.Causes.{HasOpenCause};
@@ -37,6 +38,7 @@ pub fn carried_generation<D: Disk>(
     ensures ok { IfOk result (λ gate. IsTrue (D.observable disk.old) → IsOpenLog (D.left disk.new (D.time disk.new)) area gate generation (stills (undone slots.now (slot_of (D.seen disk.old 0))) count)) }
     ensures never { IsErrOf result OpenFault.NotCreated → ⊥ }
     ensures seen { IsTrue (D.observable disk.old) → Others area (D.seen disk.old) (D.seen disk.new) }
+    ensures within { count ≤ 300000 → Run (D.time disk.old) (D.time disk.new) (D.left disk.old) (D.left disk.new) (WithinLog 167772160) }
     ensures cause { HasOpenCause (D.failures disk.old) (D.failures disk.new) result }
 {
     close_area(disk, area)?;

@@ -1,12 +1,13 @@
 //! Recovery where a slot past the end of area 0 has a note and one before it has none.
 
-ghost use Rattle.std.specs.Prelude.{◌≡◌, ◌+◌, ◌-◌, ◌*◌, ◌<◌, ◌≤◌, ◌^◌, ℕ, List, true, IsTrue, IfOk, IsErrOf};
+ghost use Rattle.std.specs.Prelude.{◌≡◌, ◌+◌, ◌-◌, ◌*◌, ◌<◌, ◌≤◌, ◌^◌, ℕ, List, true, IsTrue, IfOk, IfSome, IsErrOf};
 ghost use Rattle.abl_storage.specs.Slots.{wrote, undone};
 ghost use Rattle.disk_steps.specs.Steps.{Image, Run, Any};
 ghost use Rattle.log_meaning.specs.declared.note.Note.{Note as LogNote};
 ghost use Rattle.log_meaning.specs.Images.{slot_of};
 ghost use Rattle.log_meaning.specs.Recovered.{recovered};
 ghost use Rattle.log_meaning.specs.LogState.{notes_in, LogState};
+ghost use Rattle.bi_log.specs.Lengths.{WithinLog};
 ghost use Rattle.bi_recovery.specs.NoteSlots.{IsAscending};
 ghost use Rattle.bi_recovery.specs.Reopening.{SameAreas, SameRecovery, NewLog};
 ghost use Rattle.bi_recovery.specs.Causes.{HasOpenCause};
@@ -15,6 +16,10 @@ use crate::OpenFault;
 use crate::carried_generation::carried_generation;
 use abl_storage::{Disk, Undo};
 use std::alloc::Global;
+
+/// The most slots that a new generation carries over a gap: their notes stay below the most bytes of
+/// an area of the log, 167,772,160 (this project's choice).
+const MOST_CARRIED: u32 = 300_000;
 
 /// The least number above a slot and not below `last`.
 fn end_past(last: u32, slot: u32) -> u32
@@ -42,9 +47,23 @@ fn end_of(slots: &[Undo]) -> u32
     last
 }
 
+/// A number above each of these slots, if a generation can carry all slots below it.
+fn carried_count(slots: &[Undo]) -> Option<u32>
+    requires small { (s : ℕ) → wrote slots.now s ≡ true → s < 2 ^ 20 }
+    ensures above { IfSome result (λ n. (s : ℕ) → wrote slots.now s ≡ true → s < n) }
+    ensures few { IfSome result (λ n. n ≤ 300000) }
+{
+    let count = end_of(slots);
+    if count > MOST_CARRIED {
+        return None;
+    }
+    Some(count)
+}
+
 /// Opens a generation over these recovered slots. It carries each slot up to the last of them, and
-/// no slot of area 0 is written. Returns the place of its next gate. The clauses hold for every log
-/// of the images whose notes recover to these slots.
+/// no slot of area 0 is written. Returns the place of its next gate. NoMemory comes also where the
+/// last of them is slot 300,000 or a later one. The clauses hold for every log of the images whose
+/// notes recover to these slots.
 pub fn reopen_carrying<D: Disk>(
     disk: &mut D,
     area: u8,
@@ -66,8 +85,11 @@ pub fn reopen_carrying<D: Disk>(
         → ((image : Image) → D.left disk.old (D.time disk.old) image → LogState area generation extent batches base image) → ((below : ℕ → List ℕ) (s : ℕ) → undone slots.now below s ≡ recovered (notes_in batches) below s)
         → NewLog (D.left disk.new (D.time disk.new)) (3 - area) (generation + 1) extent gate (undone slots.now (slot_of (D.seen disk.old 0)))) }
     ensures never { IsErrOf result OpenFault.NotCreated → ⊥ }
+    ensures within { Run (D.time disk.old) (D.time disk.new) (D.left disk.old) (D.left disk.new) (WithinLog 167772160) }
     ensures cause { HasOpenCause (D.failures disk.old) (D.failures disk.new) result }
 {
-    let count = end_of(slots);
-    carried_generation(disk, 3 - area, generation + 1, slots, count, alloc)
+    match carried_count(slots) {
+        Some(count) => carried_generation(disk, 3 - area, generation + 1, slots, count, alloc),
+        None => Err(OpenFault::NoMemory),
+    }
 }

@@ -7,6 +7,7 @@ ghost use Rattle.disk_steps.specs.Steps.{Image, Run};
 ghost use Rattle.log_meaning.specs.Images.{IsOpened, slot_of};
 ghost use Rattle.log_meaning.specs.LogState.{LogState};
 ghost use Rattle.bi_log.specs.Generations.{IsClosed};
+ghost use Rattle.bi_log.specs.Lengths.{WithinLog};
 ghost use Rattle.bi_recovery.specs.Creating.{Back, Creates, zeros};
 
 use crate::slots_written::{put_back, sync_all, write_slot};
@@ -32,6 +33,7 @@ fn close_logs<D: Disk>(disk: &mut D) -> Result<(), DiskFailed>
     ensures same_observable { D.observable disk.new ≡ D.observable disk.old }
     ensures time { Run (D.time disk.old) (D.time disk.new) (D.left disk.old) (D.left disk.new) Back }
     ensures ok { OnOk result ((image : Image) → D.left disk.new (D.time disk.new) image → IsClosed (image 1) × IsClosed (image 2)) }
+    ensures within { Run (D.time disk.old) (D.time disk.new) (D.left disk.old) (D.left disk.new) (WithinLog 1) }
     ensures cause { HasCause (D.failures disk.old) (D.failures disk.new) (is_ok result) }
 {
     sync_all(disk)?;
@@ -100,6 +102,7 @@ pub fn create<D: Disk>(disk: &mut D, slots: &[Undo]) -> Result<(), DiskFailed>
     ensures time { Run (D.time disk.old) (D.time disk.new) (D.left disk.old) (D.left disk.new) (Creates slots.now) }
     ensures ok { OnOk result ((image : Image) → D.left disk.new (D.time disk.new) image → LogState 1 1 0 [] (slot_of (image 0)) image) }
     ensures are { OnOk result ((image : Image) → D.left disk.new (D.time disk.new) image → (s : ℕ) → s < 2 ^ 20 → slot_of (image 0) s ≡ undone slots.now (λ k. zeros) s) }
+    ensures within { Run (D.time disk.old) (D.time disk.new) (D.left disk.old) (D.left disk.new) (WithinLog 33) }
     ensures cause { HasCause (D.failures disk.old) (D.failures disk.new) (is_ok result) }
 {
     close_logs(disk)?;

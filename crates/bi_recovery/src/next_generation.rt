@@ -4,6 +4,7 @@ ghost use Rattle.std.specs.Prelude.{◌≡◌, ◌<◌, ◌^◌, ℕ, List, IsTr
 ghost use Rattle.abl_storage.specs.Disk.{Others, HasCause};
 ghost use Rattle.disk_steps.specs.Steps.{Image, Run};
 ghost use Rattle.bi_log.specs.Appending.{fresh, RestsAt};
+ghost use Rattle.bi_log.specs.Lengths.{WithinLog};
 ghost use Rattle.bi_recovery.specs.Reopening.{StepsTo};
 
 use abl_storage::{Disk, DiskFailed};
@@ -18,6 +19,7 @@ pub fn next_generation<D: Disk>(disk: &mut D, area: u8, generation: u64) -> Resu
     ensures time { Run (D.time disk.old) (D.time disk.new) (D.left disk.old) (D.left disk.new) (StepsTo area generation) }
     ensures ok { OnOk result ((image : Image) → D.left disk.new (D.time disk.new) image → RestsAt (image area) (fresh generation) 32) }
     ensures seen { IsTrue (D.observable disk.old) → Others area (D.seen disk.old) (D.seen disk.new) }
+    ensures within { Run (D.time disk.old) (D.time disk.new) (D.left disk.old) (D.left disk.new) (WithinLog 33) }
     ensures cause { HasCause (D.failures disk.old) (D.failures disk.new) (is_ok result) }
 {
     close_area(disk, area)?;

@@ -8,6 +8,7 @@ ghost use Rattle.log_meaning.specs.declared.note.Note.{Note as LogNote};
 ghost use Rattle.log_meaning.specs.Images.{slot_of};
 ghost use Rattle.log_meaning.specs.LogState.{MayWrite, LogState};
 ghost use Rattle.bi_log.specs.Appending.{fresh, RestsAt};
+ghost use Rattle.bi_log.specs.Lengths.{WithinLog};
 ghost use Rattle.bi_recovery.specs.Reopening.{SameAreas, SameRecovery, Gives};
 
 use crate::next_generation::next_generation;
@@ -37,6 +38,7 @@ pub fn rebuild<D: Disk>(
         → (image : Image) → D.left disk.new (D.time disk.new) image → LogState (3 - area) (generation + 1) extent [] (undone slots.now base) image) }
     ensures zero { OnOk result ((image : Image) → D.left disk.new (D.time disk.new) image → image 0 ≡ D.seen disk.new 0) }
     ensures rests { OnOk result ((image : Image) → D.left disk.new (D.time disk.new) image → RestsAt (image (3 - area)) (fresh (generation + 1)) 32) }
+    ensures within { Run (D.time disk.old) (D.time disk.new) (D.left disk.old) (D.left disk.new) (WithinLog 33) }
     ensures cause { HasCause (D.failures disk.old) (D.failures disk.new) (is_ok result) }
 {
     put_back(disk, slots)?;

@@ -4,6 +4,7 @@ ghost use Rattle.std.specs.Prelude.{◌≡◌, ◌+◌, ◌-◌, ◌*◌, ◌<�
 ghost use Rattle.disk_steps.specs.Steps.{Image, Run};
 ghost use Rattle.log_meaning.specs.Bytes.{IsNote};
 ghost use Rattle.log_meaning.specs.Images.{IsNewest, IsOpened, Recovers};
+ghost use Rattle.bi_log.specs.Lengths.{WithinLog};
 ghost use Rattle.bi_recovery.specs.Reopening.{SameAreas, SameRecovery, LogIs, Reopens};
 ghost use Rattle.bi_recovery.specs.Causes.{HasOpenCause};
 
@@ -45,6 +46,7 @@ fn reopen_with<D: Disk>(
     ensures time { Run (D.time disk.old) (D.time disk.new) (D.left disk.old) (D.left disk.new) SameRecovery }
     ensures ok { IfOk result (λ r. IsTrue (D.observable disk.old) → Reopens (D.seen disk.old) (D.left disk.new (D.time disk.new)) r.area r.generation r.extent r.gate) }
     ensures never { IsErrOf result OpenFault.NotCreated → ⊥ }
+    ensures within { Run (D.time disk.old) (D.time disk.new) (D.left disk.old) (D.left disk.new) (WithinLog 167772160) }
     ensures cause { HasOpenCause (D.failures disk.old) (D.failures disk.new) result }
 {
     let slots = recovered_slots(notes, alloc)?;
@@ -86,6 +88,7 @@ fn reopen<D: Disk>(
     ensures time { Run (D.time disk.old) (D.time disk.new) (D.left disk.old) (D.left disk.new) SameRecovery }
     ensures ok { IfOk result (λ r. IsTrue (D.observable disk.old) → Reopens (D.seen disk.old) (D.left disk.new (D.time disk.new)) r.area r.generation r.extent r.gate) }
     ensures none { IsErrOf result OpenFault.NotCreated → IsTrue (D.observable disk.old) → (slots : ℕ → List ℕ) → Recovers (D.seen disk.old) slots → ⊥ }
+    ensures within { Run (D.time disk.old) (D.time disk.new) (D.left disk.old) (D.left disk.new) (WithinLog 167772160) }
     ensures cause { HasOpenCause (D.failures disk.old) (D.failures disk.new) result }
 {
     match read_notes(disk, area, alloc)? {
@@ -103,6 +106,7 @@ pub fn recover<D: Disk>(disk: &mut D, alloc: Global) -> Result<Reopened, OpenFau
     ensures time { Run (D.time disk.old) (D.time disk.new) (D.left disk.old) (D.left disk.new) SameRecovery }
     ensures ok { IfOk result (λ r. IsTrue (D.observable disk.old) → Reopens (D.seen disk.old) (D.left disk.new (D.time disk.new)) r.area r.generation r.extent r.gate) }
     ensures none { IsErrOf result OpenFault.NotCreated → IsTrue (D.observable disk.old) → (slots : ℕ → List ℕ) → Recovers (D.seen disk.old) slots → ⊥ }
+    ensures within { Run (D.time disk.old) (D.time disk.new) (D.left disk.old) (D.left disk.new) (WithinLog 167772160) }
     ensures cause { HasOpenCause (D.failures disk.old) (D.failures disk.new) result }
 {
     sync_all(disk)?;

@@ -1,4 +1,4 @@
-use Rattle.std.proofs.Common.{◌≡◌, ◌≢◌, ℕ, List, length, Bool, IsTrue, refl, sym, ◌∙◌, ap, subst, arith, length-append}
+use Rattle.std.proofs.Common.{◌≡◌, ◌≢◌, ℕ, ◌+◌, ◌*◌, ◌≤◌, List, length, Bool, IsTrue, refl, sym, ◌∙◌, ap, subst, arith, length-append}
 use Rattle.abl_storage.specs.Slots.{undone}
 use Rattle.disk_steps.specs.Steps.{Image, Run}
 use Rattle.disk_steps.proofs.Runs.{started, joined, stayed, traced}
@@ -10,6 +10,8 @@ use Rattle.bi_log.specs.Generations.{IsClosed, AfterGate}
 use Rattle.bi_log.proofs.Preparing.{after_none, after_twice}
 use Rattle.bi_log.proofs.NoteBytes.{length-change}
 use Rattle.bi_log.specs.Carrying.{Carries}
+use Rattle.bi_log.specs.Lengths.{WithinLog}
+use Rattle.bi_log.proofs.Lengths.{run_none, run_more, run_twice}
 use Rattle.bi_recovery.specs.Carried.{stills}
 use Rattle.bi_recovery.proofs.Carrying.{carries_note, carries_stay, carries_start, carries_end, closed_step}
 use Rattle.bi_recovery.proofs.carried_slots.carry_slots.Goals as goal
@@ -20,6 +22,10 @@ then_after was mid now before between after area one two = joined _ _ _ _ _ _ (A
 closed_run : (was now : ℕ) (before after : ℕ → Image → Type 0) (area : ℕ) → Run was now before after (AfterGate area) → ((image : Image) → before was image → IsClosed (image area)) → (image : Image) → after now image → IsClosed (image area)
 closed_run was now before after area run closed image left = let h = traced _ _ _ _ (AfterGate area) run (λ d. after_none area d) image left in closed_step area (h.0) image (h.2) (closed (h.0) (h.1))
 
+-- where few slots are carried, one batch more stays below the most bytes
+room_end : (gate long n count : ℕ) → 20 * gate + 21 * long ≤ 640 + 11025 * n → n ≤ count → count ≤ 300000 → gate + 6 + long ≤ 167772160
+room_end gate long n count near within few = omega (arith, near, within, few)
+
 pub slots-init : goal.slots-init
 slots-init g c = record {
   within = omega arith;
@@ -28,6 +34,8 @@ slots-init g c = record {
   same_slots = refl;
   low = omega arith;
   place = (let e = ap (length {A = ℕ}) c.in_ok-buffer.ensures.empty in omega (arith, e));
+  near = (let e = ap (length {A = ℕ}) c.in_ok-buffer.ensures.empty in omega (arith, e));
+  longer = λ few. run_none _ _ 167772160 (λ m image left. (g.met.D.Disk.image_known c.args.disk.now m image left).past);
   same_observable = refl;
   time = started _ _ (AfterGate c.args.area) (λ m image left. (g.met.D.Disk.image_known c.args.disk.now m image left).past);
   failures = refl;
@@ -71,6 +79,10 @@ slots-preserved g c =
       same_slots = refl;
       low = omega (arith, low, up);
       place = omega (arith, place, grown, ap (length {A = ℕ}) c.push.ensures, length-append (content c.make_room.new.buffer) (note_bytes (Changed (record { tx = 0; slot = c.slots.n; old = c.in_ok-bytes.bytes; new = c.in_ok-bytes.bytes }))), size);
+      near = (let near = c.slots.invariant.near in let moved = c.in_ok-at.ensures.near in omega (arith, near, moved, ap (length {A = ℕ}) c.push.ensures, length-append (content c.make_room.new.buffer) (note_bytes (Changed (record { tx = 0; slot = c.slots.n; old = c.in_ok-bytes.bytes; new = c.in_ok-bytes.bytes }))), size));
+      longer = λ short. run_twice _ _ _ _ _ _ 167772160
+          (run_twice _ _ _ _ _ _ 167772160 (c.slots.invariant.longer short) (run_more _ _ _ _ 167772160 _ (room_end c.slots.gate (length (content c.slots.buffer)) c.slots.n c.args.count c.slots.invariant.near c.slots.invariant.within short) c.make_room.ensures.within))
+          (stayed _ _ _ _ _ _ _ _ (WithinLog 167772160) c.slot_bytes.ensures.rest (λ m image left. (g.met.D.Disk.image_known c.make_room.new.disk m image left).past));
       same_observable = c.slot_bytes.ensures.rest.same_observable ∙ c.make_room.ensures.same_observable ∙ c.slots.invariant.same_observable;
       time = then_after _ _ _ _ _ _ c.args.area after_room (stayed _ _ _ _ _ _ _ _ (AfterGate c.args.area) c.slot_bytes.ensures.rest (λ m image left. (g.met.D.Disk.image_known c.make_room.new.disk m image left).past));
       failures = c.in_ok-bytes.ensures.cause.stays refl ∙ c.in_ok-at.ensures.cause.stays refl ∙ c.slots.invariant.failures;
@@ -119,3 +131,23 @@ pub returns-clause-seen : goal.returns-clause-seen
 returns-clause-seen g c = λ known k other.
     let known1 : IsTrue (g.D.Disk.observable c.slots.disk) = subst (λ (b : Bool). IsTrue b) (sym c.slots.invariant.same_observable) known in
     c.carry_buffer.ensures.seen known1 k other ∙ c.slots.invariant.seen known k other
+
+pub returns-in_err-buffer-clause-within : goal.returns-in_err-buffer-clause-within
+returns-in_err-buffer-clause-within g c = λ short. run_none _ _ 167772160 (λ m image left. (g.met.D.Disk.image_known c.args.disk.now m image left).past)
+
+pub returns-in_err-at-clause-within : goal.returns-in_err-at-clause-within
+returns-in_err-at-clause-within g c = λ short. run_twice _ _ _ _ _ _ 167772160 (c.slots.invariant.longer short)
+    (run_more _ _ _ _ 167772160 _ (room_end c.slots.gate (length (content c.slots.buffer)) c.slots.n c.args.count c.slots.invariant.near c.slots.invariant.within short) c.make_room.ensures.within)
+
+pub returns-in_err-bytes-clause-within : goal.returns-in_err-bytes-clause-within
+returns-in_err-bytes-clause-within g c = λ short. run_twice _ _ _ _ _ _ 167772160
+    (run_twice _ _ _ _ _ _ 167772160 (c.slots.invariant.longer short) (run_more _ _ _ _ 167772160 _ (room_end c.slots.gate (length (content c.slots.buffer)) c.slots.n c.args.count c.slots.invariant.near c.slots.invariant.within short) c.make_room.ensures.within))
+    (stayed _ _ _ _ _ _ _ _ (WithinLog 167772160) c.slot_bytes.ensures.rest (λ m image left. (g.met.D.Disk.image_known c.make_room.new.disk m image left).past))
+
+pub returns-in_err-next-clause-within : goal.returns-in_err-next-clause-within
+returns-in_err-next-clause-within g c = λ short. run_twice _ _ _ _ _ _ 167772160 (c.slots.invariant.longer short)
+    (run_more _ _ _ _ 167772160 _ (room_end c.slots.gate (length (content c.slots.buffer)) c.slots.n c.args.count c.slots.invariant.near c.slots.invariant.within short) c.carry_buffer.ensures.within)
+
+pub returns-clause-within : goal.returns-clause-within
+returns-clause-within g c = λ short. run_twice _ _ _ _ _ _ 167772160 (c.slots.invariant.longer short)
+    (run_more _ _ _ _ 167772160 _ (room_end c.slots.gate (length (content c.slots.buffer)) c.slots.n c.args.count c.slots.invariant.near c.slots.invariant.within short) c.carry_buffer.ensures.within)

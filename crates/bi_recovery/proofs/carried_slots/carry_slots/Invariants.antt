@@ -7,6 +7,7 @@ use Rattle.bi_log.specs.Appending.{fresh}
 use Rattle.bi_log.specs.Buffer.{content}
 use Rattle.bi_log.specs.Generations.{IsClosed, AfterGate, IsPrepared}
 use Rattle.bi_log.specs.Carrying.{Carries}
+use Rattle.bi_log.specs.Lengths.{WithinLog}
 use Rattle.bi_recovery.specs.Carried.{stills}
 use Rattle.bi_recovery.proofs.carried_slots.carry_slots.Given as goal
 
@@ -18,6 +19,8 @@ invariant-slots g l = record {
   same_slots : l.slots ≡ l.fn.slots;
   low : 32 ≤ l.gate;
   place : l.gate + 6 * length (content l.buffer) ≤ 32 + 3150 * l.n;
+  near : 20 * l.gate + 21 * length (content l.buffer) ≤ 640 + 11025 * l.n;
+  longer : l.fn.count ≤ 300000 → Run (g.D.Disk.time l.fn.disk) (g.D.Disk.time l.disk) (g.D.Disk.left l.fn.disk) (g.D.Disk.left l.disk) (WithinLog 167772160);
   same_observable : g.D.Disk.observable l.disk ≡ g.D.Disk.observable l.fn.disk;
   time : Run (g.D.Disk.time l.fn.disk) (g.D.Disk.time l.disk) (g.D.Disk.left l.fn.disk) (g.D.Disk.left l.disk) (AfterGate l.fn.area);
   failures : g.D.Disk.failures l.disk ≡ g.D.Disk.failures l.fn.disk;

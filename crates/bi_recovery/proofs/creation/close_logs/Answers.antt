@@ -4,6 +4,8 @@ use Rattle.log_meaning.specs.Images.{IsOpened}
 use Rattle.bi_log.specs.Generations.{IsClosed}
 use Rattle.bi_log.proofs.Preparing.{ok_then}
 use Rattle.bi_recovery.proofs.Creating.{one_or_two, back_same, back_stay, back_both, closing_run, shut_area, closed_both, older_in}
+use Rattle.bi_log.proofs.Lengths.{run_same, run_twice}
+use Rattle.bi_recovery.proofs.Lengths.{none_then, then_none}
 use Rattle.bi_recovery.proofs.creation.close_logs.Goals as goal
 
 pub returns-in_err-close_area-clause-time : goal.returns-in_err-close_area-clause-time
@@ -32,3 +34,15 @@ returns-clause-ok g c = ok_then c.close_area-2.result _ _ c.close_area-2.ensures
   where
     apart : (r : ℕ) → 1 ≤ r → r ≤ 2 → r ≡ 3 - r → ⊥
     apart r low high is = omega (arith, low, high, is)
+
+pub returns-in_err-sync_all-clause-within : goal.returns-in_err-sync_all-clause-within
+returns-in_err-sync_all-clause-within g c = run_same _ _ _ _ 1 c.sync_all.ensures.time
+
+pub returns-in_err-first-clause-within : goal.returns-in_err-first-clause-within
+returns-in_err-first-clause-within g c = then_none _ _ _ _ _ _ _ _ _ _ 1 (run_same _ _ _ _ 1 c.sync_all.ensures.time) c.older_area.ensures.rest (λ m image left. (g.met.D.Disk.image_known c.sync_all.new.disk m image left).past)
+
+pub returns-in_err-close_area-clause-within : goal.returns-in_err-close_area-clause-within
+returns-in_err-close_area-clause-within g c = run_twice _ _ _ _ _ _ 1 (run_same _ _ _ _ 1 c.sync_all.ensures.time) (none_then _ _ _ _ _ _ _ _ _ _ 1 c.older_area.ensures.rest (λ m image left. (g.met.D.Disk.image_known c.sync_all.new.disk m image left).past) c.close_area.ensures.within)
+
+pub returns-clause-within : goal.returns-clause-within
+returns-clause-within g c = run_twice _ _ _ _ _ _ 1 (run_twice _ _ _ _ _ _ 1 (run_same _ _ _ _ 1 c.sync_all.ensures.time) (none_then _ _ _ _ _ _ _ _ _ _ 1 c.older_area.ensures.rest (λ m image left. (g.met.D.Disk.image_known c.sync_all.new.disk m image left).past) c.close_area.ensures.within)) c.close_area-2.ensures.within

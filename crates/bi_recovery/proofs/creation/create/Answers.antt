@@ -9,6 +9,7 @@ use Rattle.bi_log.specs.Generations.{IsClosed, AfterGate, Opens}
 use Rattle.bi_log.proofs.Preparing.{ok_then}
 use Rattle.bi_recovery.specs.Creating.{Back, Creates, zeros}
 use Rattle.bi_recovery.proofs.Creating.{then_new, no_log, both_closed, behind_closed, new_only, shut_area}
+use Rattle.bi_log.proofs.Lengths.{run_more, run_others, run_twice}
 use Rattle.bi_recovery.proofs.creation.create.Goals as goal
 
 pub returns-in_err-close_logs-clause-time : goal.returns-in_err-close_logs-clause-time
@@ -66,3 +67,15 @@ returns-clause-are g c = ok_then c.open_area.result _ _ c.open_area.ensures.ok (
     (λ d x there s k lt. ap (λ (l : List ℕ). slot_of l k) (s.others 0 (λ is. omega (arith, is))) ∙ c.in_ok-fill_area.ensures.ok d there k lt) _ image c.write_header.ensures.time.later left) in
     let h = traced _ _ _ _ (Others 1) (wider _ _ _ _ (Opens 1 (fresh 1)) (Others 1) (c.open_area.ensures.time (fresh 1) 32 c.in_ok-write_header.ensures.ok) (λ d x there s. s.others)) (λ d k other. refl) image left in
     ap (λ (l : List ℕ). slot_of l s) (h.2 0 (λ is. omega (arith, is))) ∙ are (h.0) (h.1) s lt)
+
+pub returns-in_err-close_logs-clause-within : goal.returns-in_err-close_logs-clause-within
+returns-in_err-close_logs-clause-within g c = run_more _ _ _ _ 33 1 (omega arith) c.close_logs.ensures.within
+
+pub returns-in_err-fill_area-clause-within : goal.returns-in_err-fill_area-clause-within
+returns-in_err-fill_area-clause-within g c = run_twice _ _ _ _ _ _ 33 (run_more _ _ _ _ 33 1 (omega arith) c.close_logs.ensures.within) (run_others _ _ _ _ 33 c.fill_area.ensures.time)
+
+pub returns-in_err-write_header-clause-within : goal.returns-in_err-write_header-clause-within
+returns-in_err-write_header-clause-within g c = run_twice _ _ _ _ _ _ 33 (run_twice _ _ _ _ _ _ 33 (run_more _ _ _ _ 33 1 (omega arith) c.close_logs.ensures.within) (run_others _ _ _ _ 33 c.fill_area.ensures.time)) c.write_header.ensures.within
+
+pub returns-clause-within : goal.returns-clause-within
+returns-clause-within g c = run_twice _ _ _ _ _ _ 33 (run_twice _ _ _ _ _ _ 33 (run_twice _ _ _ _ _ _ 33 (run_more _ _ _ _ 33 1 (omega arith) c.close_logs.ensures.within) (run_others _ _ _ _ 33 c.fill_area.ensures.time)) c.write_header.ensures.within) (run_more _ _ _ _ 33 1 (omega arith) c.open_area.ensures.within)

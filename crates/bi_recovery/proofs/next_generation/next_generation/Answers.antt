@@ -1,4 +1,4 @@
-use Rattle.std.proofs.Common.{inr, ℕ, Bool, IsTrue, sym, ◌∙◌, subst}
+use Rattle.std.proofs.Common.{inr, ℕ, Bool, IsTrue, sym, ◌∙◌, subst, arith}
 use Rattle.disk_steps.specs.Steps.{Image, Run}
 use Rattle.disk_steps.proofs.Runs.{joined, wider}
 use Rattle.bi_log.specs.Appending.{fresh}
@@ -6,6 +6,7 @@ use Rattle.bi_log.specs.Generations.{Closes, IsClosed, AfterGate, Opens}
 use Rattle.bi_log.proofs.Preparing.{ok_then}
 use Rattle.bi_recovery.specs.Reopening.{StepsTo}
 use Rattle.bi_recovery.proofs.Reopening.{closes_step, after_gate_step, opens_step, step_twice, shut_head}
+use Rattle.bi_log.proofs.Lengths.{run_more, run_twice}
 use Rattle.bi_recovery.proofs.next_generation.next_generation.Goals as goal
 
 -- closed, and written after the gate
@@ -41,3 +42,12 @@ pub returns-clause-seen : goal.returns-clause-seen
 returns-clause-seen g c = λ known k other.
     let known1 : IsTrue (g.D.Disk.observable c.close_area.new.disk) = subst (λ (b : Bool). IsTrue b) (sym c.close_area.ensures.same_observable) known in
     c.open_area.ensures.seen (subst (λ (b : Bool). IsTrue b) (sym c.write_header.ensures.same_observable) known1) k other ∙ c.write_header.ensures.seen known1 k other ∙ c.close_area.ensures.seen known k other
+
+pub returns-in_err-close_area-clause-within : goal.returns-in_err-close_area-clause-within
+returns-in_err-close_area-clause-within g c = run_more _ _ _ _ 33 1 (omega arith) c.close_area.ensures.within
+
+pub returns-in_err-write_header-clause-within : goal.returns-in_err-write_header-clause-within
+returns-in_err-write_header-clause-within g c = run_twice _ _ _ _ _ _ 33 (run_more _ _ _ _ 33 1 (omega arith) c.close_area.ensures.within) c.write_header.ensures.within
+
+pub returns-clause-within : goal.returns-clause-within
+returns-clause-within g c = run_twice _ _ _ _ _ _ 33 (run_twice _ _ _ _ _ _ 33 (run_more _ _ _ _ 33 1 (omega arith) c.close_area.ensures.within) c.write_header.ensures.within) (run_more _ _ _ _ 33 1 (omega arith) c.open_area.ensures.within)

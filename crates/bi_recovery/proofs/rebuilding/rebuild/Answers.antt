@@ -5,6 +5,7 @@ use Rattle.disk_steps.proofs.Runs.{joined, wider, traced}
 use Rattle.bi_log.proofs.Preparing.{ok_then}
 use Rattle.bi_recovery.specs.Reopening.{StepsTo}
 use Rattle.bi_recovery.proofs.Reopening.{put_same, rebuilt, reopened}
+use Rattle.bi_log.proofs.Lengths.{run_others, run_twice}
 use Rattle.bi_recovery.proofs.rebuilding.rebuild.Goals as goal
 
 pub next_generation-requires-clause-synced : goal.next_generation-requires-clause-synced
@@ -44,3 +45,9 @@ returns-clause-zero g c = ok_then c.next_generation.result _ _ c.next_generation
     let other : 0 ≢ 3 - c.args.area = (λ is. omega (arith, is, high)) in
     let h = traced _ _ _ _ (Others (3 - c.args.area)) (wider _ _ _ _ (StepsTo (3 - c.args.area) (c.args.generation + 1)) (Others (3 - c.args.area)) c.next_generation.ensures.time (λ d i there s. s.others)) (λ d k o. refl) image left in
     h.2 0 other ∙ c.in_ok-put_back.ensures.ok (h.0) (h.1) ∙ sym (c.next_generation.ensures.seen known1 0 other))
+
+pub returns-in_err-put_back-clause-within : goal.returns-in_err-put_back-clause-within
+returns-in_err-put_back-clause-within g c = run_others _ _ _ _ 33 c.put_back.ensures.past
+
+pub returns-clause-within : goal.returns-clause-within
+returns-clause-within g c = run_twice _ _ _ _ _ _ 33 (run_others _ _ _ _ 33 c.put_back.ensures.past) c.next_generation.ensures.within

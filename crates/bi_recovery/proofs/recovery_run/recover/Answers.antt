@@ -8,6 +8,8 @@ use Rattle.bi_log.specs.Outcomes.{FindAnswer}
 use Rattle.bi_recovery.specs.Reopening.{SameRecovery, Reopens}
 use Rattle.bi_recovery.proofs.Recovery.{after_same, after_stay, stay_synced, none_opened}
 use Rattle.bi_recovery.proofs.Reopening.{keeps_none}
+use Rattle.bi_log.proofs.Lengths.{run_same, run_twice}
+use Rattle.bi_recovery.proofs.Lengths.{none_then, then_none}
 use Rattle.bi_recovery.proofs.recovery_run.recover.Goals as goal
 
 ok_map : {T E : Type 0} (r : Result T E) (P Q : T → Type 0) → IfOk r P → ((x : T) → P x → Q x) → IfOk r Q
@@ -56,3 +58,15 @@ returns-in-Some-clause-none g c = λ is known.
     let known1 : IsTrue (g.D.Disk.observable c.sync_all.new.disk) = subst (λ (b : Bool). IsTrue b) (sym c.sync_all.ensures.same_observable) known in
     let known2 : IsTrue (g.D.Disk.observable c.find.new.disk) = subst (λ (b : Bool). IsTrue b) (sym c.find.ensures.rest.same_observable) known1 in
     subst (λ (i : Image). (slots : ℕ → List ℕ) → Recovers i slots → ⊥) (c.find.ensures.rest.same known1 ∙ c.sync_all.ensures.seen known) (c.reopen.ensures.none is known2)
+
+pub returns-in_err-sync_all-clause-within : goal.returns-in_err-sync_all-clause-within
+returns-in_err-sync_all-clause-within g c = run_same _ _ _ _ 167772160 c.sync_all.ensures.time
+
+pub returns-in_err-find-clause-within : goal.returns-in_err-find-clause-within
+returns-in_err-find-clause-within g c = then_none _ _ _ _ _ _ _ _ _ _ 167772160 (run_same _ _ _ _ 167772160 c.sync_all.ensures.time) c.find.ensures.rest (λ m image left. (g.met.D.Disk.image_known c.sync_all.new.disk m image left).past)
+
+pub returns-in-None-clause-within : goal.returns-in-None-clause-within
+returns-in-None-clause-within g c = then_none _ _ _ _ _ _ _ _ _ _ 167772160 (run_same _ _ _ _ 167772160 c.sync_all.ensures.time) c.find.ensures.rest (λ m image left. (g.met.D.Disk.image_known c.sync_all.new.disk m image left).past)
+
+pub returns-in-Some-clause-within : goal.returns-in-Some-clause-within
+returns-in-Some-clause-within g c = run_twice _ _ _ _ _ _ 167772160 (run_same _ _ _ _ 167772160 c.sync_all.ensures.time) (none_then _ _ _ _ _ _ _ _ _ _ 167772160 c.find.ensures.rest (λ m image left. (g.met.D.Disk.image_known c.sync_all.new.disk m image left).past) c.reopen.ensures.within)

@@ -7,6 +7,7 @@ use Rattle.disk_steps.specs.Steps.{Image}
 use Rattle.log_meaning.specs.declared.note.Note.{Note}
 use Rattle.bi_recovery.specs.ReadNotes.{ReadAnswer, HoldsNotes}
 use Rattle.bi_recovery.specs.Reopening.{LogIs}
+use Rattle.bi_recovery.proofs.Lengths.{none_longer, none_then}
 use Rattle.bi_recovery.proofs.recovery_run.reopen.Goals as goal
 
 pub reopen_with-requires-clause-log : goal.reopen_with-requires-clause-log
@@ -28,3 +29,12 @@ returns-in-Some-clause-none g c = λ is known slots r. absurd (c.reopen_with.ens
 
 pub reopen_with-requires-clause-sound : goal.reopen_with-requires-clause-sound
 reopen_with-requires-clause-sound g c = subst (All IsNote) (sym c.deref.ensures.value) (subst (λ (r : Option (Vec Note Global)). IfSome r (λ notes. All IsNote notes.items)) c.in-Some.is c.in_ok-read_notes.ensures.sound)
+
+pub returns-in_err-read_notes-clause-within : goal.returns-in_err-read_notes-clause-within
+returns-in_err-read_notes-clause-within g c = none_longer _ _ _ _ _ _ _ _ 167772160 c.read_notes.ensures.rest (λ m image left. (g.met.D.Disk.image_known c.args.disk.now m image left).past)
+
+pub returns-in-None-clause-within : goal.returns-in-None-clause-within
+returns-in-None-clause-within g c = none_longer _ _ _ _ _ _ _ _ 167772160 c.read_notes.ensures.rest (λ m image left. (g.met.D.Disk.image_known c.args.disk.now m image left).past)
+
+pub returns-in-Some-clause-within : goal.returns-in-Some-clause-within
+returns-in-Some-clause-within g c = none_then _ _ _ _ _ _ _ _ _ _ 167772160 c.read_notes.ensures.rest (λ m image left. (g.met.D.Disk.image_known c.args.disk.now m image left).past) c.reopen_with.ensures.within

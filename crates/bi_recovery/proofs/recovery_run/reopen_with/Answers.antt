@@ -1,4 +1,4 @@
-use Rattle.std.proofs.Common.{◌/◌, ◌+◌, ◌-◌, ℕ, Bool, IsTrue, [], length, refl, sym, ◌∙◌, ap, subst}
+use Rattle.std.proofs.Common.{◌/◌, ◌+◌, ◌-◌, ℕ, Bool, IsTrue, [], length, refl, sym, ◌∙◌, ap, subst, arith}
 use Rattle.abl_storage.specs.Slots.{undone}
 use Rattle.disk_steps.specs.Steps.{Image}
 use Rattle.log_meaning.specs.Images.{slot_of, Recovers}
@@ -7,6 +7,8 @@ use Rattle.bi_recovery.specs.NoteSlots.{IsAscending}
 use Rattle.bi_recovery.specs.Reopening.{SameRecovery}
 use Rattle.bi_recovery.proofs.NoteSlots.{slots_small}
 use Rattle.bi_recovery.proofs.Recovery.{after_stay, then_stay, with_extent, run_if, ready, ready_over}
+use Rattle.bi_log.proofs.Lengths.{run_more, run_none}
+use Rattle.bi_recovery.proofs.Lengths.{none_longer, none_then, then_none}
 use Rattle.bi_recovery.proofs.recovery_run.reopen_with.Goals as goal
 
 pub returns-in_err-rebuild-clause-time : goal.returns-in_err-rebuild-clause-time
@@ -102,3 +104,24 @@ reopen_carrying-requires-clause-ascending g c = subst IsAscending (sym c.deref-t
 
 pub rebuild-requires-clause-small : goal.rebuild-requires-clause-small
 rebuild-requires-clause-small g c = slots_small c.args.notes.now c.deref-2.result.now c.in_ok-slots.slots.items c.deref-2.ensures.value c.in_ok-slots.ensures c.requires.sound
+
+pub returns-in_err-rebuild-clause-within : goal.returns-in_err-rebuild-clause-within
+returns-in_err-rebuild-clause-within g c = none_then _ _ _ _ _ _ _ _ _ _ 167772160 c.length.ensures.rest (λ m image left. (g.met.D.Disk.image_known c.args.disk.now m image left).past) (run_more _ _ _ _ 167772160 33 (omega arith) c.rebuild.ensures.within)
+
+pub returns-in_err-after-clause-within : goal.returns-in_err-after-clause-within
+returns-in_err-after-clause-within g c = then_none _ _ _ _ _ _ _ _ _ _ 167772160 (none_then _ _ _ _ _ _ _ _ _ _ 167772160 c.length.ensures.rest (λ m image left. (g.met.D.Disk.image_known c.args.disk.now m image left).past) (run_more _ _ _ _ 167772160 33 (omega arith) c.rebuild.ensures.within)) c.length-2.ensures.rest (λ m image left. (g.met.D.Disk.image_known c.rebuild.new.disk m image left).past)
+
+pub returns-clause-within : goal.returns-clause-within
+returns-clause-within g c = then_none _ _ _ _ _ _ _ _ _ _ 167772160 (none_then _ _ _ _ _ _ _ _ _ _ 167772160 c.length.ensures.rest (λ m image left. (g.met.D.Disk.image_known c.args.disk.now m image left).past) (run_more _ _ _ _ 167772160 33 (omega arith) c.rebuild.ensures.within)) c.length-2.ensures.rest (λ m image left. (g.met.D.Disk.image_known c.rebuild.new.disk m image left).past)
+
+pub returns-in_err-gate-clause-within : goal.returns-in_err-gate-clause-within
+returns-in_err-gate-clause-within g c = none_then _ _ _ _ _ _ _ _ _ _ 167772160 c.length.ensures.rest (λ m image left. (g.met.D.Disk.image_known c.args.disk.now m image left).past) c.reopen_carrying.ensures.within
+
+pub returns-then-not-is_filled-clause-within : goal.returns-then-not-is_filled-clause-within
+returns-then-not-is_filled-clause-within g c = none_then _ _ _ _ _ _ _ _ _ _ 167772160 c.length.ensures.rest (λ m image left. (g.met.D.Disk.image_known c.args.disk.now m image left).past) c.reopen_carrying.ensures.within
+
+pub returns-in_err-slots-clause-within : goal.returns-in_err-slots-clause-within
+returns-in_err-slots-clause-within g c = run_none _ _ 167772160 (λ m image left. (g.met.D.Disk.image_known c.args.disk.now m image left).past)
+
+pub returns-in_err-length-clause-within : goal.returns-in_err-length-clause-within
+returns-in_err-length-clause-within g c = none_longer _ _ _ _ _ _ _ _ 167772160 c.length.ensures.rest (λ m image left. (g.met.D.Disk.image_known c.args.disk.now m image left).past)
