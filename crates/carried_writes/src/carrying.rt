@@ -10,6 +10,7 @@ ghost use Rattle.bi_log.specs.Buffer.{content};
 ghost use Rattle.bi_log.specs.Appending.{fresh};
 ghost use Rattle.bi_log.specs.Generations.{IsClosed, AfterGate, IsPrepared};
 ghost use Rattle.bi_log.specs.Carrying.{Carries};
+ghost use Rattle.bi_log.specs.Lengths.{WithinLog};
 ghost use Rattle.bi_recovery.specs.Carried.{IsCarried};
 ghost use Rattle.open_transactions.specs.Clients.{list_in, number_in};
 ghost use Rattle.next_log.specs.Carrying.{notes_of, notes_below};
@@ -53,6 +54,8 @@ fn carry_client<D: Disk>(
     ensures ok { IfOk result (λ next. IsTrue (D.observable disk.old) → (generation : ℕ) (notes : List LogNote) → Carries (D.left disk.old (D.time disk.old)) area first buffer.old generation notes
         → Carries (D.left disk.new (D.time disk.new)) area next buffer.new generation (notes ++ carried_of number (slot_of (D.seen disk.old 0)) (list_in transactions.now.clients.items client))) }
     ensures place { IfOk result (λ next. (first ≤ next) × (next + 6 * length (content buffer.new) ≤ first + 6 * length (content buffer.old) + 3150 * length (list_in transactions.now.clients.items client))) }
+    ensures near { IfOk result (λ next. 20 * next + 21 * length (content buffer.new) ≤ 20 * first + 21 * length (content buffer.old) + 11025 * length (list_in transactions.now.clients.items client)) }
+    ensures within { (most : ℕ) → 20 * first + 21 * length (content buffer.old) + 11025 * length (list_in transactions.now.clients.items client) + 120 ≤ 20 * most → Run (D.time disk.old) (D.time disk.new) (D.left disk.old) (D.left disk.new) (WithinLog most) }
     ensures seen { IsTrue (D.observable disk.old) → Others area (D.seen disk.old) (D.seen disk.new) }
     ensures cause { HasCause (D.failures disk.old) (D.failures disk.new) (is_ok result) }
 {
@@ -89,7 +92,7 @@ fn carry_one<D: Disk>(
     requires area { (1 ≤ area) × (area < 3) }
     requires client { client < 16 }
     requires first { 1 ≤ first }
-    requires few { length (list_in transactions.now.clients.items client) ≤ 131072 }
+    requires few { length (list_in transactions.now.clients.items client) ≤ 7999 }
     requires end { first + 6 * length (content buffer.old) + 412876800 < 2 ^ 39 }
     requires closed { (image : Image) → D.left disk.old (D.time disk.old) image → IsClosed (image area) }
     ensures same_observable { D.observable disk.new ≡ D.observable disk.old }
@@ -97,6 +100,8 @@ fn carry_one<D: Disk>(
     ensures ok { IfOk result (λ next. IsTrue (D.observable disk.old) → (generation : ℕ) (notes : List LogNote) → Carries (D.left disk.old (D.time disk.old)) area first buffer.old generation notes
         → Carries (D.left disk.new (D.time disk.new)) area next buffer.new generation (notes ++ notes_of (number_in transactions.now.clients.items client) (slot_of (D.seen disk.old 0)) (list_in transactions.now.clients.items client))) }
     ensures place { IfOk result (λ next. (first ≤ next) × (next + 6 * length (content buffer.new) ≤ first + 6 * length (content buffer.old) + 412876800)) }
+    ensures near { IfOk result (λ next. 20 * next + 21 * length (content buffer.new) ≤ 20 * first + 21 * length (content buffer.old) + 88188975) }
+    ensures within { (most : ℕ) → 20 * first + 21 * length (content buffer.old) + 88189095 ≤ 20 * most → Run (D.time disk.old) (D.time disk.new) (D.left disk.old) (D.left disk.new) (WithinLog most) }
     ensures seen { IsTrue (D.observable disk.old) → Others area (D.seen disk.old) (D.seen disk.new) }
     ensures cause { HasCause (D.failures disk.old) (D.failures disk.new) (is_ok result) }
 {
@@ -115,7 +120,7 @@ pub fn carry_all<D: Disk>(
     buffer: &mut NoteBuffer,
 ) -> Result<u64, DiskFailed>
     requires area { (1 ≤ area) × (area < 3) }
-    requires few { (client : ℕ) → client < 16 → length (list_in transactions.now.clients.items client) ≤ 131072 }
+    requires few { (client : ℕ) → client < 16 → length (list_in transactions.now.clients.items client) ≤ 7999 }
     requires empty { content buffer.old ≡ [] }
     requires closed { (image : Image) → D.left disk.old (D.time disk.old) image → IsClosed (image area) }
     ensures same_observable { D.observable disk.new ≡ D.observable disk.old }
@@ -123,6 +128,7 @@ pub fn carry_all<D: Disk>(
     ensures ok { IfOk result (λ gate. IsTrue (D.observable disk.old) → (generation : ℕ) → ((image : Image) → D.left disk.old (D.time disk.old) image → IsPrepared (image area) (fresh generation) 32)
         → IsCarried (D.left disk.new (D.time disk.new)) area gate generation (notes_below (number_in transactions.now.clients.items) (slot_of (D.seen disk.old 0)) (list_in transactions.now.clients.items) 16)) }
     ensures empty { OnOk result (content buffer.new ≡ []) }
+    ensures within { Run (D.time disk.old) (D.time disk.new) (D.left disk.old) (D.left disk.new) (WithinLog 167772160) }
     ensures seen { IsTrue (D.observable disk.old) → Others area (D.seen disk.old) (D.seen disk.new) }
     ensures cause { HasCause (D.failures disk.old) (D.failures disk.new) (is_ok result) }
 {

@@ -6,8 +6,8 @@ ghost use Rattle.open_transactions.specs.Clients.{list_in};
 
 use open_transactions::Transactions;
 
-/// The most writes of one client that are carried. A transaction has no more than 7,999.
-const MOST_WRITES: usize = 131_072;
+/// The most writes of one client that are carried: 7,989 that count, and ten of low slots.
+const MOST_WRITES: usize = 7_999;
 
 /// Whether each write of the client is of a slot below `end`.
 fn are_below(transactions: &Transactions, client: u16, end: u32) -> bool
@@ -28,7 +28,7 @@ fn are_below(transactions: &Transactions, client: u16, end: u32) -> bool
 /// Whether each client has few writes, and each is of a slot below `end`.
 pub fn may_carry(transactions: &Transactions, end: u32) -> bool
     ensures below { result ≡ true → (client slot : ℕ) → client < 16 → wrote (list_in transactions.now.clients.items client) slot ≡ true → slot < end }
-    ensures few { result ≡ true → (client : ℕ) → client < 16 → length (list_in transactions.now.clients.items client) ≤ 131072 }
+    ensures few { result ≡ true → (client : ℕ) → client < 16 → length (list_in transactions.now.clients.items client) ≤ 7999 }
 {
     let mut client = 0u16;
     'clients: while client < 16 {

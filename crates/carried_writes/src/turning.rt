@@ -5,6 +5,7 @@ ghost use Rattle.abl_storage.specs.Disk.{Others, HasCause};
 ghost use Rattle.disk_steps.specs.Steps.{Image, Run};
 ghost use Rattle.log_meaning.specs.Images.{slot_of};
 ghost use Rattle.bi_log.specs.Buffer.{content};
+ghost use Rattle.bi_log.specs.Lengths.{WithinLog};
 ghost use Rattle.bi_recovery.specs.Carried.{IsOpenLog, CarriesTo};
 ghost use Rattle.open_transactions.specs.Clients.{list_in, number_in};
 ghost use Rattle.next_log.specs.Carrying.{notes_below};
@@ -27,7 +28,7 @@ pub fn turn<D: Disk>(
 ) -> Result<u64, DiskFailed>
     requires area { (1 ≤ area) × (area < 3) }
     requires fits { generation < 2 ^ 63 }
-    requires few { (client : ℕ) → client < 16 → length (list_in transactions.now.clients.items client) ≤ 131072 }
+    requires few { (client : ℕ) → client < 16 → length (list_in transactions.now.clients.items client) ≤ 7999 }
     requires empty { content buffer.old ≡ [] }
     requires synced { (image : Image) → D.left disk.old (D.time disk.old) image → image area ≡ D.seen disk.old area }
     ensures same_observable { D.observable disk.new ≡ D.observable disk.old }
@@ -37,6 +38,7 @@ pub fn turn<D: Disk>(
     ensures ok { IfOk result (λ gate. IsTrue (D.observable disk.old) → IsOpenLog (D.left disk.new (D.time disk.new)) area gate generation
         (notes_below (number_in transactions.now.clients.items) (slot_of (D.seen disk.old 0)) (list_in transactions.now.clients.items) 16)) }
     ensures empty { OnOk result (content buffer.new ≡ []) }
+    ensures within { Run (D.time disk.old) (D.time disk.new) (D.left disk.old) (D.left disk.new) (WithinLog 167772160) }
     ensures seen { IsTrue (D.observable disk.old) → Others area (D.seen disk.old) (D.seen disk.new) }
     ensures cause { HasCause (D.failures disk.old) (D.failures disk.new) (is_ok result) }
 {

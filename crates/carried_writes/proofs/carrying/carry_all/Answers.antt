@@ -4,6 +4,7 @@ use Rattle.disk_steps.proofs.Runs.{started}
 use Rattle.log_meaning.specs.Images.{slot_of}
 use Rattle.bi_log.specs.Generations.{AfterGate}
 use Rattle.bi_log.specs.Carrying.{Carries}
+use Rattle.bi_log.proofs.Lengths.{run_none, run_more, run_twice}
 use Rattle.bi_recovery.proofs.Carrying.{carries_start, carries_end}
 use Rattle.open_transactions.specs.Clients.{list_in, number_in}
 use Rattle.next_log.specs.Carrying.{notes_below, notes_of}
@@ -21,6 +22,8 @@ clients-init g c = record {
   within = omega arith;
   low = omega arith;
   place = (let e = ap (length {A = ℕ}) c.requires.empty in omega (arith, e));
+  near = (let e = ap (length {A = ℕ}) c.requires.empty in omega (arith, e));
+  longer = run_none _ _ 167772160 (λ m image left. (g.met.D.Disk.image_known c.args.disk.now m image left).past);
   same_observable = refl;
   time = started _ _ (AfterGate c.args.area) (λ m image left. (g.met.D.Disk.image_known c.args.disk.now m image left).past);
   failures = refl;
@@ -61,6 +64,8 @@ clients-preserved g c =
       within = omega (arith, some);
       low = omega (arith, low, up);
       place = omega (arith, place, grown);
+      near = (let near = i.near in let moved = c.in_ok-next.ensures.near in omega (arith, near, moved));
+      longer = run_twice _ _ _ _ _ _ 167772160 i.longer (c.carry_one.ensures.within 167772160 (let near = i.near in omega (arith, near, some)));
       same_observable = c.carry_one.ensures.same_observable ∙ i.same_observable;
       time = then_after _ _ _ _ _ _ c.args.area i.time c.carry_one.ensures.time;
       failures = c.in_ok-next.ensures.cause.stays refl ∙ i.failures;
@@ -99,3 +104,9 @@ returns-clause-ok g c =
     carries_end _ c.args.area gate c.carry_buffer.new.buffer generation _ empty
     (subst (λ (n : ℕ). Carries (g.D.Disk.left c.carry_buffer.new.disk (g.D.Disk.time c.carry_buffer.new.disk)) c.args.area gate c.carry_buffer.new.buffer generation (notes_below (number_in items) (slot_of (g.D.Disk.seen c.args.disk.now 0)) (list_in items) n)) all
     (steps generation _ (i.carries known generation prepared))))
+
+pub returns-in_err-next-clause-within : goal.returns-in_err-next-clause-within
+returns-in_err-next-clause-within g c = run_twice _ _ _ _ _ _ 167772160 c.clients.invariant.longer (c.carry_one.ensures.within 167772160 (let near = c.clients.invariant.near in let some = c.clients-test.true in omega (arith, near, some)))
+
+pub returns-clause-within : goal.returns-clause-within
+returns-clause-within g c = run_twice _ _ _ _ _ _ 167772160 c.clients.invariant.longer (run_more _ _ _ _ 167772160 _ (let near = c.clients.invariant.near in let within = c.clients.invariant.within in omega (arith, near, within)) c.carry_buffer.ensures.within)

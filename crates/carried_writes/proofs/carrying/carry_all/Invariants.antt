@@ -6,6 +6,7 @@ use Rattle.bi_log.specs.Appending.{fresh}
 use Rattle.bi_log.specs.Buffer.{content}
 use Rattle.bi_log.specs.Generations.{IsClosed, AfterGate, IsPrepared}
 use Rattle.bi_log.specs.Carrying.{Carries}
+use Rattle.bi_log.specs.Lengths.{WithinLog}
 use Rattle.open_transactions.specs.Clients.{list_in, number_in}
 use Rattle.next_log.specs.Carrying.{notes_below}
 use Rattle.carried_writes.proofs.carrying.carry_all.Given as goal
@@ -17,6 +18,8 @@ invariant-clients g l = record {
   within : l.client ≤ 16;
   low : 32 ≤ l.gate;
   place : l.gate + 6 * length (content l.buffer) ≤ 32 + 412876800 * l.client;
+  near : 20 * l.gate + 21 * length (content l.buffer) ≤ 640 + 88188975 * l.client;
+  longer : Run (g.D.Disk.time l.fn.disk) (g.D.Disk.time l.disk) (g.D.Disk.left l.fn.disk) (g.D.Disk.left l.disk) (WithinLog 167772160);
   same_observable : g.D.Disk.observable l.disk ≡ g.D.Disk.observable l.fn.disk;
   time : Run (g.D.Disk.time l.fn.disk) (g.D.Disk.time l.disk) (g.D.Disk.left l.fn.disk) (g.D.Disk.left l.disk) (AfterGate l.fn.area);
   failures : g.D.Disk.failures l.disk ≡ g.D.Disk.failures l.fn.disk;

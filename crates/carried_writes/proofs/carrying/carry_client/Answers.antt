@@ -1,4 +1,4 @@
-use Rattle.std.proofs.Common.{◌≡◌, ◌≢◌, ◌<◌, ◌++◌, ℕ, List, length, Bool, IsTrue, refl, sym, ◌∙◌, ap, subst, arith, length-append}
+use Rattle.std.proofs.Common.{◌≡◌, ◌≢◌, ◌+◌, ◌*◌, ◌≤◌, ◌<◌, ◌++◌, ℕ, List, length, Bool, IsTrue, refl, sym, ◌∙◌, ap, subst, arith, length-append}
 use Rattle.std.proofs.lemmas.List.{take_all, append-nil}
 use Rattle.disk_steps.specs.Steps.{Image}
 use Rattle.disk_steps.proofs.Runs.{started, stayed}
@@ -10,11 +10,17 @@ use Rattle.log_meaning.specs.Logged.{carried_of}
 use Rattle.bi_log.specs.Buffer.{content}
 use Rattle.bi_log.specs.Generations.{AfterGate}
 use Rattle.bi_log.specs.Carrying.{Carries}
+use Rattle.bi_log.specs.Lengths.{WithinLog}
+use Rattle.bi_log.proofs.Lengths.{run_none, run_more, run_twice}
 use Rattle.bi_log.proofs.NoteBytes.{length-change}
 use Rattle.bi_recovery.proofs.Carrying.{carries_stay}
 use Rattle.open_transactions.specs.Clients.{list_in}
 use Rattle.carried_writes.proofs.CarriedMore.{carries_write, then_after, closed_run}
 use Rattle.carried_writes.proofs.carrying.carry_client.Goals as goal
+
+-- one batch more stays below the most bytes
+room_end : (start gate long i count most : ℕ) → 20 * gate + 21 * long ≤ start + 11025 * i → i ≤ count → start + 11025 * count + 120 ≤ 20 * most → gate + 6 + long ≤ most
+room_end start gate long i count most near within few = omega (arith, near, within, few)
 
 pub writes-init : goal.writes-init
 writes-init g c = record {
@@ -26,6 +32,8 @@ writes-init g c = record {
   within = omega arith;
   low = omega arith;
   place = omega arith;
+  near = omega arith;
+  longer = λ most few. run_none _ _ most (λ m image left. (g.met.D.Disk.image_known c.args.disk.now m image left).past);
   same_observable = refl;
   time = started _ _ (AfterGate c.args.area) (λ m image left. (g.met.D.Disk.image_known c.args.disk.now m image left).past);
   failures = refl;
@@ -69,6 +77,10 @@ writes-preserved g c =
       within = omega (arith, some);
       low = omega (arith, low, up);
       place = omega (arith, place, grown, ap (length {A = ℕ}) c.push.ensures, length-append (content c.make_room.new.buffer) (note_bytes (Changed (record { tx = c.args.number; slot = u.slot; old = u.old; new = c.in_ok-new.new }))), size);
+      near = (let near = i.near in let moved = c.in_ok-at.ensures.near in omega (arith, near, moved, ap (length {A = ℕ}) c.push.ensures, length-append (content c.make_room.new.buffer) (note_bytes (Changed (record { tx = c.args.number; slot = u.slot; old = u.old; new = c.in_ok-new.new }))), size));
+      longer = λ most few. run_twice _ _ _ _ _ _ most
+          (run_twice _ _ _ _ _ _ most (i.longer most few) (run_more _ _ _ _ most _ (room_end (20 * c.args.first + 21 * length (content c.args.buffer.now)) c.writes.gate (length (content c.writes.buffer)) c.writes.i c.len-count.result most i.near i.within few) c.make_room.ensures.within))
+          (stayed _ _ _ _ _ _ _ _ (WithinLog most) c.stored_slot.ensures.rest (λ m image left. (g.met.D.Disk.image_known c.make_room.new.disk m image left).past));
       same_observable = c.stored_slot.ensures.rest.same_observable ∙ c.make_room.ensures.same_observable ∙ i.same_observable;
       time = then_after _ _ _ _ _ _ c.args.area (then_after _ _ _ _ _ _ c.args.area i.time c.make_room.ensures.time) (stayed _ _ _ _ _ _ _ _ (AfterGate c.args.area) c.stored_slot.ensures.rest (λ m image left. (g.met.D.Disk.image_known c.make_room.new.disk m image left).past));
       failures = c.in_ok-new.ensures.cause.stays refl ∙ c.in_ok-at.ensures.cause.stays refl ∙ i.failures;
@@ -112,3 +124,20 @@ returns-clause-place g c =
     let within = i.within in
     let all = i.all in
     (omega (arith, low), omega (arith, place, within, all))
+
+pub returns-in_err-at-clause-within : goal.returns-in_err-at-clause-within
+returns-in_err-at-clause-within g c = λ most few. run_twice _ _ _ _ _ _ most (c.writes.invariant.longer most (let all = c.writes.invariant.all in omega (arith, all, few))) (run_more _ _ _ _ most _ (room_end (20 * c.args.first + 21 * length (content c.args.buffer.now)) c.writes.gate (length (content c.writes.buffer)) c.writes.i (length (list_in c.args.transactions.now.clients.items c.args.client)) most c.writes.invariant.near (let all = c.writes.invariant.all in let within = c.writes.invariant.within in omega (arith, all, within)) few) c.make_room.ensures.within)
+
+pub returns-in_err-new-clause-within : goal.returns-in_err-new-clause-within
+returns-in_err-new-clause-within g c = λ most few. run_twice _ _ _ _ _ _ most (run_twice _ _ _ _ _ _ most (c.writes.invariant.longer most (let all = c.writes.invariant.all in omega (arith, all, few))) (run_more _ _ _ _ most _ (room_end (20 * c.args.first + 21 * length (content c.args.buffer.now)) c.writes.gate (length (content c.writes.buffer)) c.writes.i (length (list_in c.args.transactions.now.clients.items c.args.client)) most c.writes.invariant.near (let all = c.writes.invariant.all in let within = c.writes.invariant.within in omega (arith, all, within)) few) c.make_room.ensures.within))
+    (stayed _ _ _ _ _ _ _ _ (WithinLog most) c.stored_slot.ensures.rest (λ m image left. (g.met.D.Disk.image_known c.make_room.new.disk m image left).past))
+
+pub returns-clause-within : goal.returns-clause-within
+returns-clause-within g c = λ most few. c.writes.invariant.longer most (let all = c.writes.invariant.all in omega (arith, all, few))
+
+pub returns-clause-near : goal.returns-clause-near
+returns-clause-near g c =
+    let near = c.writes.invariant.near in
+    let within = c.writes.invariant.within in
+    let all = c.writes.invariant.all in
+    omega (arith, near, within, all)

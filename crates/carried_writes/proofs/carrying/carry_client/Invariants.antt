@@ -7,6 +7,7 @@ use Rattle.log_meaning.specs.Logged.{carried_of}
 use Rattle.bi_log.specs.Buffer.{content}
 use Rattle.bi_log.specs.Generations.{IsClosed, AfterGate}
 use Rattle.bi_log.specs.Carrying.{Carries}
+use Rattle.bi_log.specs.Lengths.{WithinLog}
 use Rattle.open_transactions.specs.Clients.{list_in}
 use Rattle.carried_writes.proofs.carrying.carry_client.Given as goal
 
@@ -20,6 +21,8 @@ invariant-writes g l = record {
   within : l.i ≤ l.count;
   low : l.fn.first ≤ l.gate;
   place : l.gate + 6 * length (content l.buffer) ≤ l.fn.first + 6 * length (content l.fn.buffer) + 3150 * l.i;
+  near : 20 * l.gate + 21 * length (content l.buffer) ≤ 20 * l.fn.first + 21 * length (content l.fn.buffer) + 11025 * l.i;
+  longer : (most : ℕ) → 20 * l.fn.first + 21 * length (content l.fn.buffer) + 11025 * l.count + 120 ≤ 20 * most → Run (g.D.Disk.time l.fn.disk) (g.D.Disk.time l.disk) (g.D.Disk.left l.fn.disk) (g.D.Disk.left l.disk) (WithinLog most);
   same_observable : g.D.Disk.observable l.disk ≡ g.D.Disk.observable l.fn.disk;
   time : Run (g.D.Disk.time l.fn.disk) (g.D.Disk.time l.disk) (g.D.Disk.left l.fn.disk) (g.D.Disk.left l.disk) (AfterGate l.fn.area);
   failures : g.D.Disk.failures l.disk ≡ g.D.Disk.failures l.fn.disk;

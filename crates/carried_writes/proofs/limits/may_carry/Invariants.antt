@@ -9,7 +9,7 @@ invariant-clients l = record {
   same_end : l.end ≡ l.fn.end;
   within : l.client ≤ 16;
   below : (client slot : ℕ) → client < l.client → wrote (list_in l.fn.transactions.clients.items client) slot ≡ true → slot < l.fn.end;
-  few : (client : ℕ) → client < l.client → length (list_in l.fn.transactions.clients.items client) ≤ 131072;
+  few : (client : ℕ) → client < l.client → length (list_in l.fn.transactions.clients.items client) ≤ 7999;
 }
 
 abbrev pub decreases-clients : goal.decreases-clients

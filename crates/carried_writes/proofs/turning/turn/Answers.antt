@@ -5,6 +5,7 @@ use Rattle.disk_steps.proofs.Runs.{joined, wider}
 use Rattle.log_meaning.specs.declared.note.Note.{Note}
 use Rattle.log_meaning.specs.Images.{slot_of}
 use Rattle.bi_log.specs.Generations.{Closes, AfterGate}
+use Rattle.bi_log.proofs.Lengths.{run_more, run_twice}
 use Rattle.bi_recovery.specs.Carried.{IsCarried, CarriesTo}
 use Rattle.bi_recovery.proofs.CarriedRun.{OpensNone, none_closes, none_to, run_none, run_after, run_carried}
 use Rattle.open_transactions.specs.Clients.{number_in, list_in}
@@ -112,3 +113,18 @@ returns-clause-seen g c = λ known k other.
     let known2 : IsTrue (g.D.Disk.observable c.write_header.new.disk) = subst (λ (b : Bool). IsTrue b) (sym c.write_header.ensures.same_observable) known1 in
     let known3 : IsTrue (g.D.Disk.observable c.carry_all.new.disk) = subst (λ (b : Bool). IsTrue b) (sym c.carry_all.ensures.same_observable) known2 in
     c.open_area.ensures.seen known3 k other ∙ c.carry_all.ensures.seen known2 k other ∙ c.write_header.ensures.seen known1 k other ∙ c.close_area.ensures.seen known k other
+
+pub returns-in_err-close_area-clause-within : goal.returns-in_err-close_area-clause-within
+returns-in_err-close_area-clause-within g c = run_more _ _ _ _ 167772160 1 (omega arith) c.close_area.ensures.within
+
+pub returns-in_err-write_header-clause-within : goal.returns-in_err-write_header-clause-within
+returns-in_err-write_header-clause-within g c = run_twice _ _ _ _ _ _ 167772160 (run_more _ _ _ _ 167772160 1 (omega arith) c.close_area.ensures.within) (run_more _ _ _ _ 167772160 33 (omega arith) c.write_header.ensures.within)
+
+pub returns-in_err-gate-clause-within : goal.returns-in_err-gate-clause-within
+returns-in_err-gate-clause-within g c = run_twice _ _ _ _ _ _ 167772160 (run_twice _ _ _ _ _ _ 167772160 (run_more _ _ _ _ 167772160 1 (omega arith) c.close_area.ensures.within) (run_more _ _ _ _ 167772160 33 (omega arith) c.write_header.ensures.within)) c.carry_all.ensures.within
+
+pub returns-in_err-open_area-clause-within : goal.returns-in_err-open_area-clause-within
+returns-in_err-open_area-clause-within g c = run_twice _ _ _ _ _ _ 167772160 (run_twice _ _ _ _ _ _ 167772160 (run_twice _ _ _ _ _ _ 167772160 (run_more _ _ _ _ 167772160 1 (omega arith) c.close_area.ensures.within) (run_more _ _ _ _ 167772160 33 (omega arith) c.write_header.ensures.within)) c.carry_all.ensures.within) (run_more _ _ _ _ 167772160 1 (omega arith) c.open_area.ensures.within)
+
+pub returns-clause-within : goal.returns-clause-within
+returns-clause-within g c = run_twice _ _ _ _ _ _ 167772160 (run_twice _ _ _ _ _ _ 167772160 (run_twice _ _ _ _ _ _ 167772160 (run_more _ _ _ _ 167772160 1 (omega arith) c.close_area.ensures.within) (run_more _ _ _ _ 167772160 33 (omega arith) c.write_header.ensures.within)) c.carry_all.ensures.within) (run_more _ _ _ _ 167772160 1 (omega arith) c.open_area.ensures.within)
