@@ -8,3 +8,5 @@ pub mod Fills
 pub mod Composing
 pub mod Afterwards
 pub mod Turning
+pub mod Bounded
+pub mod Extending

@@ -43,6 +43,29 @@ impl<D: Disk + Drop> LoggedSlots<D> {
         }
     }
 
+    /// Writes zeros to the slots of area 0 past its end that have notes, where all notes are settled
+    /// and area 0 has each change.
+    fn extend(&mut self) -> Result<(), DiskFailed>
+        requires usable { self.old.failed ≡ false }
+        requires empty { length (content self.old.log.buffer) ≡ 0 }
+        requires written { (slot : ℕ) → unwritten self.old.slots slot ≡ None }
+        ensures calm { Calm (D.observable self.old.disk) (D.observable self.new.disk) (D.time self.old.disk) (D.time self.new.disk) (D.left self.old.disk) (D.left self.new.disk)
+            (view self.old.slots (D.seen self.old.disk 0)) (view self.new.slots (D.seen self.new.disk 0)) (undone (lists self.old.transactions.clients.items) (view self.old.slots (D.seen self.old.disk 0)))
+            (faults_of self.old.exhausted (D.failures self.old.disk)) (faults_of self.new.exhausted (D.failures self.new.disk)) self.new.failed (is_ok result) }
+        ensures book { (self.new.transactions ≡ self.old.transactions) × (self.new.doubtful ≡ self.old.doubtful) × (self.new.serial ≡ self.old.serial) × (self.new.since ≡ self.old.since) × (self.new.short ≡ self.old.short) }
+        ensures same { (self.new.log ≡ self.old.log) × (self.new.generation ≡ self.old.generation) }
+        ensures written { (slot : ℕ) → unwritten self.new.slots slot ≡ None }
+        ensures reaches { OnOk result (self.old.generation.filled ≤ self.new.slots.end) }
+    {
+        match self.slots.extend_to(&mut self.disk, self.generation.filled) {
+            Ok(()) => Ok(()),
+            Err(_) => {
+                self.failed = true;
+                Err(DiskFailed)
+            }
+        }
+    }
+
     /// Syncs an area.
     fn sync(&mut self, area: u8) -> Result<(), DiskFailed>
         requires usable { self.old.failed ≡ false }
@@ -64,18 +87,22 @@ impl<D: Disk + Drop> LoggedSlots<D> {
         }
     }
 
-    /// Settles the notes, and writes each changed slot to area 0.
+    /// Settles the notes, writes each changed slot to area 0, and zeros to those past its end that have
+    /// notes.
     fn write_out(&mut self) -> Result<(), DiskFailed>
         requires usable { self.old.failed ≡ false }
         ensures calm { Calm (D.observable self.old.disk) (D.observable self.new.disk) (D.time self.old.disk) (D.time self.new.disk) (D.left self.old.disk) (D.left self.new.disk)
             (view self.old.slots (D.seen self.old.disk 0)) (view self.new.slots (D.seen self.new.disk 0)) (undone (lists self.old.transactions.clients.items) (view self.old.slots (D.seen self.old.disk 0)))
             (faults_of self.old.exhausted (D.failures self.old.disk)) (faults_of self.new.exhausted (D.failures self.new.disk)) self.new.failed (is_ok result) }
         ensures book { (self.new.transactions ≡ self.old.transactions) × (self.new.doubtful ≡ self.old.doubtful) × (self.new.serial ≡ self.old.serial) × (self.new.since ≡ self.old.since) × (self.new.short ≡ self.old.short) }
+        ensures same { self.new.generation ≡ self.old.generation }
         ensures written { OnOk result ((slot : ℕ) → unwritten self.new.slots slot ≡ None) }
         ensures empty { OnOk result (length (content self.new.log.buffer) ≡ 0) }
+        ensures reaches { OnOk result (self.old.generation.filled ≤ self.new.slots.end) }
     {
         self.settle()?;
-        self.write_changes()
+        self.write_changes()?;
+        self.extend()
     }
 
     /// Syncs area 0, and the area of the log that is not in use.
@@ -101,12 +128,13 @@ impl<D: Disk + Drop> LoggedSlots<D> {
         requires zero { (image : Image) → D.left self.old.disk (D.time self.old.disk) image → image 0 ≡ D.seen self.old.disk 0 }
         requires other { (image : Image) → D.left self.old.disk (D.time self.old.disk) image → image (3 - self.old.log.area) ≡ D.seen self.old.disk (3 - self.old.log.area) }
         requires below { (client slot : ℕ) → client < 16 → wrote (list_in self.old.transactions.clients.items client) slot ≡ true → slot < self.old.slots.end }
-        requires few { (client : ℕ) → client < 16 → length (list_in self.old.transactions.clients.items client) ≤ 131072 }
+        requires few { (client : ℕ) → client < 16 → length (list_in self.old.transactions.clients.items client) ≤ 7999 }
         requires number { self.old.generation.number + 1 < 2 ^ 63 }
         ensures calm { Calm (D.observable self.old.disk) (D.observable self.new.disk) (D.time self.old.disk) (D.time self.new.disk) (D.left self.old.disk) (D.left self.new.disk)
             (view self.old.slots (D.seen self.old.disk 0)) (view self.new.slots (D.seen self.new.disk 0)) (undone (lists self.old.transactions.clients.items) (view self.old.slots (D.seen self.old.disk 0)))
             (faults_of self.old.exhausted (D.failures self.old.disk)) (faults_of self.new.exhausted (D.failures self.new.disk)) self.new.failed (is_ok result) }
         ensures book { (self.new.transactions ≡ self.old.transactions) × (self.new.doubtful ≡ self.old.doubtful) × (self.new.serial ≡ self.old.serial) × (self.new.since ≡ self.old.since) × (self.new.short ≡ self.old.short) }
+        ensures filled { OnOk result (self.new.generation.filled ≡ self.old.slots.end) }
     {
         let end = self.slots.end();
         let area = 3 - self.log.area;
@@ -139,7 +167,7 @@ impl<D: Disk + Drop> LoggedSlots<D> {
     /// Whether the next generation can carry the writes of unfinished transactions.
     fn can_turn(&self) -> bool
         ensures below { result ≡ true → (client slot : ℕ) → client < 16 → wrote (list_in self.now.transactions.clients.items client) slot ≡ true → slot < self.now.slots.end }
-        ensures few { result ≡ true → (client : ℕ) → client < 16 → length (list_in self.now.transactions.clients.items client) ≤ 131072 }
+        ensures few { result ≡ true → (client : ℕ) → client < 16 → length (list_in self.now.transactions.clients.items client) ≤ 7999 }
         ensures number { result ≡ true → self.now.generation.number + 1 < 2 ^ 63 }
     {
         if self.generation.number >= LAST_GENERATION {
@@ -148,15 +176,16 @@ impl<D: Disk + Drop> LoggedSlots<D> {
         may_carry(&self.transactions, self.slots.end())
     }
 
-    /// Settles the notes, writes the changed slots to area 0 and syncs it, and opens the next
-    /// generation, which carries the writes of unfinished transactions. Where it cannot carry them
-    /// the log goes on as it is, and the next checkpoint comes after as many bytes again.
+    /// Settles the notes, writes the slots that have any to area 0 and syncs it, and opens the next
+    /// generation, which carries the writes of unfinished transactions. Where it cannot carry them, or
+    /// there is no next one, the log goes on as it is, up to the most bytes of its area.
     fn checkpoint(&mut self) -> Result<(), DiskFailed>
         requires usable { self.old.failed ≡ false }
         ensures calm { Calm (D.observable self.old.disk) (D.observable self.new.disk) (D.time self.old.disk) (D.time self.new.disk) (D.left self.old.disk) (D.left self.new.disk)
             (view self.old.slots (D.seen self.old.disk 0)) (view self.new.slots (D.seen self.new.disk 0)) (undone (lists self.old.transactions.clients.items) (view self.old.slots (D.seen self.old.disk 0)))
             (faults_of self.old.exhausted (D.failures self.old.disk)) (faults_of self.new.exhausted (D.failures self.new.disk)) self.new.failed (is_ok result) }
         ensures book { (self.new.transactions ≡ self.old.transactions) × (self.new.doubtful ≡ self.old.doubtful) × (self.new.serial ≡ self.old.serial) × (self.new.since ≡ self.old.since) × (self.new.short ≡ self.old.short) }
+        ensures filled { OnOk result (self.old.generation.filled ≤ self.new.generation.filled) }
     {
         self.generation.opened_at = self.log.gate;
         self.write_out()?;
@@ -180,6 +209,7 @@ impl<D: Disk + Drop> LoggedSlots<D> {
             (view self.old.slots (D.seen self.old.disk 0)) (view self.new.slots (D.seen self.new.disk 0)) (undone (lists self.old.transactions.clients.items) (view self.old.slots (D.seen self.old.disk 0)))
             (faults_of self.old.exhausted (D.failures self.old.disk)) (faults_of self.new.exhausted (D.failures self.new.disk)) self.new.failed (is_ok result) }
         ensures book { (self.new.transactions ≡ self.old.transactions) × (self.new.doubtful ≡ self.old.doubtful) × (self.new.serial ≡ self.old.serial) × (self.new.since ≡ self.old.since) × (self.new.short ≡ self.old.short) }
+        ensures filled { OnOk result (self.old.generation.filled ≤ self.new.generation.filled) }
     {
         if self.has_grown() {
             return self.checkpoint();

@@ -9,6 +9,7 @@ ghost use Rattle.logged_slots.specs.State.{state_of, faults_of};
 ghost use Rattle.logged_slots.specs.Stops.{Stops};
 
 use crate::logged_slots::LoggedSlots;
+use crate::settling::has_room;
 use abl_storage::{Disk, SlotFault};
 
 impl<D: Disk + Drop> LoggedSlots<D> {
@@ -37,7 +38,7 @@ impl<D: Disk + Drop> LoggedSlots<D> {
             (state_of (D.observable self.new.disk) (view self.new.slots (D.seen self.new.disk 0)) (D.time self.new.disk) (faults_of self.new.exhausted (D.failures self.new.disk)) self.new.transactions.clients.items self.new.failed self.new.doubtful self.new.since self.new.short) result }
         ensures only { OnlyDisk result }
     {
-        if !self.log.has_room() {
+        if !has_room(self.log.gate) {
             self.exhausted = true;
             self.failed = true;
             return Err(SlotFault::Disk);

@@ -52,7 +52,8 @@ impl<D: Disk + Drop> LoggedSlots<D> {
         Ok(())
     }
 
-    /// Notes each slot before this one that area 0 did not have as the generation was opened.
+    /// Notes each slot before this one that area 0 did not have as the generation was opened. Where
+    /// the log has grown, a checkpoint is made between two notes.
     pub fn fill_to(&mut self, slot: u32) -> Result<(), DiskFailed>
         requires usable { self.old.failed ≡ false }
         requires slot { slot < 2 ^ 20 }
@@ -64,6 +65,7 @@ impl<D: Disk + Drop> LoggedSlots<D> {
     {
         'slots: while self.generation.filled < slot {
             self.fill_one()?;
+            self.make_way()?;
         }
         Ok(())
     }

@@ -3,6 +3,7 @@
 ghost use Rattle.std.specs.Prelude.{◌≡◌, ◌≤◌, ◌+◌, ◌^◌, ℕ, List, length, Some, None, true, false, IsTrue};
 ghost use Rattle.abl_storage.specs.Slots.{undone};
 ghost use Rattle.bi_log.specs.Buffer.{content};
+ghost use Rattle.bi_log.specs.Lengths.{StayShort};
 ghost use Rattle.kept_log.specs.KeptLog.{KeptLog};
 ghost use Rattle.open_transactions.specs.Clients.{lists, list_in, number_in};
 ghost use Rattle.slot_area.specs.Area.{view, unwritten, IsKept, IsWhole};
@@ -36,6 +37,7 @@ pub struct LoggedSlots<D: Disk + Drop> {
     pub short: bool,
     ghost past: { since ≤ D.Disk.time disk },
     ghost recoverable: { StayRecoverable (D.Disk.left disk) since },
+    ghost stays_short: { StayShort (D.Disk.left disk) since },
     ghost place: { (1 ≤ log.area) × (log.area ≤ 2) },
     ghost counts: { failed ≡ false → log.settled ≤ log.appended },
     ghost emptied: { failed ≡ false → length (content log.buffer) ≡ 0 → log.settled ≡ log.appended },

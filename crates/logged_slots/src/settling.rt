@@ -11,6 +11,19 @@ ghost use Rattle.logged_slots.specs.Calls.{Calm};
 use crate::logged_slots::LoggedSlots;
 use abl_storage::{Disk, DiskFailed};
 
+/// The most bytes of an area of the log.
+const MOST_LOG_BYTES: u64 = 167_772_160;
+
+/// The most bytes from a gate to the end of the next one: a batch, its length and the gates.
+const MOST_BATCH: u64 = 1_048_582;
+
+/// Whether an area of the log has room for a whole batch after the gate at this place.
+pub(crate) fn has_room(gate: u64) -> bool
+    ensures { result ≡ true → gate + 1048582 ≤ 167772160 }
+{
+    gate <= MOST_LOG_BYTES - MOST_BATCH
+}
+
 impl<D: Disk + Drop> LoggedSlots<D> {
     /// Puts the notes of the buffer into an open batch.
     pub fn settle(&mut self) -> Result<(), DiskFailed>
@@ -25,7 +38,7 @@ impl<D: Disk + Drop> LoggedSlots<D> {
         if self.log.is_empty() {
             return Ok(());
         }
-        if !self.log.has_room() {
+        if !has_room(self.log.gate) {
             self.exhausted = true;
             self.failed = true;
             return Err(DiskFailed);

@@ -9,6 +9,7 @@ use Rattle.logged_slots.proofs.Calming.{exhausted_later, exhausted_rose}
 use Rattle.logged_slots.proofs.Recoverable.{recoverable_run}
 use Rattle.logged_slots.proofs.Commits.{commit_stops, commit_recovers, commit_keeps, kept_recovers, goes_on}
 use Rattle.logged_slots.proofs.States.{reads_stay, committed_is, joined_are, in_doubt_is}
+use Rattle.logged_slots.proofs.Bounded.{short_flush}
 use Rattle.logged_slots.proofs.logged_slots.LoggedSlots.commit.Goals as goal
 
 pub returns-then-not-has_room-clause-cause : goal.returns-then-not-has_room-clause-cause
@@ -175,3 +176,9 @@ invariant_of-self-in-Err-clause-recoverable g c =
     (λ known. commit_recovers _ v _ _ _ _ c.args.self.now.log c.append_commit.new.self c.flush.new.self (unwritten c.args.self.now.slots) (number_in cs) (list_in cs) _ _ _ _ c.args.client c.args.number (c.args.self.now.sound known c.requires.usable) c.requires.number
     (c.append_commit.ensures.place.0) (c.append_commit.ensures.place.1) c.append_commit.ensures.notes c.flush.ensures.time)
     c.args.self.now.recoverable
+
+pub invariant_of-self-in-Ok-clause-stays_short : goal.invariant_of-self-in-Ok-clause-stays_short
+invariant_of-self-in-Ok-clause-stays_short g c = short_flush c.args.self.now.since _ _ (g.D.Disk.left c.args.self.now.disk) (g.D.Disk.left c.flush.new.disk) c.args.self.now.past c.args.self.now.stays_short c.args.self.now.log.gate c.append_commit.new.self.gate c.append_commit.new.self.buffer (c.append_commit.ensures.place.1) (c.has_room.ensures c.if-not-has_room.false) c.flush.ensures.within
+
+pub invariant_of-self-in-Err-clause-stays_short : goal.invariant_of-self-in-Err-clause-stays_short
+invariant_of-self-in-Err-clause-stays_short g c = short_flush c.args.self.now.since _ _ (g.D.Disk.left c.args.self.now.disk) (g.D.Disk.left c.flush.new.disk) c.args.self.now.past c.args.self.now.stays_short c.args.self.now.log.gate c.append_commit.new.self.gate c.append_commit.new.self.buffer (c.append_commit.ensures.place.1) (c.has_room.ensures c.if-not-has_room.false) c.flush.ensures.within

@@ -10,6 +10,7 @@ use Rattle.kept_log.specs.KeptLog.{KeptLog}
 use Rattle.logged_slots.proofs.Recoverable.{recoverable_on}
 use Rattle.logged_slots.proofs.Calming.{calm_call}
 use Rattle.logged_slots.proofs.Turning.{none_long, turn_leaves, turn_keeps}
+use Rattle.logged_slots.proofs.Bounded.{short_turn}
 use Rattle.logged_slots.proofs.logged_slots.LoggedSlots.open_next.Goals as goal
 
 any_run : (was now : ℕ) (left left' : ℕ → Image → Type 0) (a : ℕ) → Run was now left left' (Others a) → Run was now left left' Any
@@ -102,3 +103,9 @@ returns-in-Err-clause-calm g c =
     calm_call _ _ _ _ _ _ _ _ _ s.exhausted (g.D.Disk.failures s.disk) (g.D.Disk.failures c.turn.new.disk) true false ((s.sure usable).1) c.turn.ensures.same_observable (any_run _ _ _ _ (3 - s.log.area) c.turn.ensures.past)
     (λ known. turn_leaves (g.D.Disk.seen s.disk 0) _ _ (g.D.Disk.left s.disk) (g.D.Disk.left c.turn.new.disk) s.log s.log s.slots cs s.generation.number s.generation.extent s.generation.filled s.serial 0 (s.sound known usable) (s.kept known) (s.whole known usable) c.requires.written c.requires.zero s.transactions.sixteen c.requires.below (c.turn.ensures.time known))
     (λ known k. ap (λ (z : List ℕ). view s.slots z k) (c.turn.ensures.seen known 0 other)) c.in-Err.ensures.cause (λ e. refl) (λ e. absurd (true≢false (sym e)))
+
+pub invariant_of-self-clause-stays_short : goal.invariant_of-self-clause-stays_short
+invariant_of-self-clause-stays_short g c = short_turn c.args.self.now.since _ _ (g.D.Disk.left c.args.self.now.disk) (g.D.Disk.left c.turn.new.disk) c.args.self.now.past c.args.self.now.stays_short c.turn.ensures.within
+
+pub invariant_of-self-in-Err-clause-stays_short : goal.invariant_of-self-in-Err-clause-stays_short
+invariant_of-self-in-Err-clause-stays_short g c = short_turn c.args.self.now.since _ _ (g.D.Disk.left c.args.self.now.disk) (g.D.Disk.left c.turn.new.disk) c.args.self.now.past c.args.self.now.stays_short c.turn.ensures.within

@@ -14,6 +14,7 @@ use Rattle.logged_slots.proofs.Commits.{goes_on}
 use Rattle.logged_slots.proofs.States.{as_one}
 use Rattle.logged_slots.proofs.Framing.{to_any}
 use Rattle.logged_slots.proofs.Changing.{change_leaves, put_back_keeps}
+use Rattle.logged_slots.proofs.Bounded.{short_others}
 use Rattle.logged_slots.proofs.logged_slots.LoggedSlots.put_back.Goals as goal
 
 -- a list that is not empty has a last write
@@ -181,3 +182,9 @@ invariant_of-self-in-Err-clause-recoverable g c =
     (λ m image left. subst (λ (b : Bool). IsTrue b) c.put_slot.ensures.same_observable (g.met.D.Disk.image_known c.put_slot.new.disk m image left).same_observable)
     (λ known. change_leaves (undone (lists cs) v) v _ _ (g.D.Disk.left c.args.self.now.disk) (g.D.Disk.left c.put_slot.new.disk) c.args.self.now.log c.append.new.self c.args.self.now.slots c.put_slot.new.self (number_in cs) (list_in cs) _ _ _ c.filled_after-self.result _ (c.args.self.now.sound known c.requires.usable) (c.args.self.now.extents.0) c.put_slot.ensures.time (c.append.ensures.counts.1))
     c.args.self.now.recoverable
+
+pub invariant_of-self-clause-stays_short : goal.invariant_of-self-clause-stays_short
+invariant_of-self-clause-stays_short g c = short_others c.args.self.now.since _ _ (g.D.Disk.left c.args.self.now.disk) (g.D.Disk.left c.put_slot.new.disk) c.args.self.now.past c.args.self.now.stays_short c.put_slot.ensures.past
+
+pub invariant_of-self-in-Err-clause-stays_short : goal.invariant_of-self-in-Err-clause-stays_short
+invariant_of-self-in-Err-clause-stays_short g c = short_others c.args.self.now.since _ _ (g.D.Disk.left c.args.self.now.disk) (g.D.Disk.left c.put_slot.new.disk) c.args.self.now.past c.args.self.now.stays_short c.put_slot.ensures.past

@@ -9,6 +9,7 @@ use Rattle.logged_slots.proofs.Recoverable.{recoverable_on}
 use Rattle.logged_slots.proofs.Calming.{calm_call, calm_twice}
 use Rattle.logged_slots.proofs.States.{as_one}
 use Rattle.logged_slots.proofs.Framing.{area_leaves, area_keeps, to_any}
+use Rattle.logged_slots.proofs.Bounded.{short_others}
 use Rattle.logged_slots.proofs.logged_slots.LoggedSlots.read_slot.Goals as goal
 
 no_number : (n : ℕ) → None ≡ Some n → ⊥
@@ -84,3 +85,9 @@ invariant_of-self-in-Err-clause-recoverable g c =
     (λ m image left. subst (λ (b : Bool). IsTrue b) c.read_slot.ensures.same_observable (g.met.D.Disk.image_known c.read_slot.new.disk m image left).same_observable)
     (λ known. area_leaves _ _ _ _ (g.D.Disk.left s.disk) (g.D.Disk.left c.read_slot.new.disk) s.log s.slots (number_in s.transactions.clients.items) (list_in s.transactions.clients.items) _ _ _ _ (s.sound known usable) (s.extents.0) c.read_slot.ensures.time)
     s.recoverable
+
+pub invariant_of-self-clause-stays_short : goal.invariant_of-self-clause-stays_short
+invariant_of-self-clause-stays_short g c = short_others c.make_frame.new.self.since _ _ (g.D.Disk.left c.make_frame.new.self.disk) (g.D.Disk.left c.read_slot.new.disk) c.make_frame.new.self.past c.make_frame.new.self.stays_short c.read_slot.ensures.past
+
+pub invariant_of-self-in-Err-clause-stays_short : goal.invariant_of-self-in-Err-clause-stays_short
+invariant_of-self-in-Err-clause-stays_short g c = short_others c.make_frame.new.self.since _ _ (g.D.Disk.left c.make_frame.new.self.disk) (g.D.Disk.left c.read_slot.new.disk) c.make_frame.new.self.past c.make_frame.new.self.stays_short c.read_slot.ensures.past

@@ -6,6 +6,7 @@ use Rattle.slot_area.specs.Area.{view, unwritten, IsKept, IsWhole}
 use Rattle.kept_log.specs.KeptLog.{KeptLog}
 use Rattle.logged_slots.proofs.Recoverable.{recoverable_on}
 use Rattle.logged_slots.proofs.Calming.{calm_none, calm_exhausted, calm_call, flush_leaves, flush_keeps}
+use Rattle.logged_slots.proofs.Bounded.{short_flush}
 use Rattle.logged_slots.proofs.logged_slots.LoggedSlots.settle.Goals as goal
 
 pub returns-then-is_empty-clause-calm : goal.returns-then-is_empty-clause-calm
@@ -87,3 +88,9 @@ invariant_of-self-in-Err-clause-recoverable g c = recoverable_on (g.D.Disk.obser
     (λ m image left. subst (λ (b : Bool). IsTrue b) c.flush.ensures.same_observable (g.met.D.Disk.image_known c.flush.new.disk m image left).same_observable)
     (λ known. flush_leaves _ (view c.args.self.now.slots (g.D.Disk.seen c.args.self.now.disk 0)) _ _ _ _ c.args.self.now.log c.flush.new.self (unwritten c.args.self.now.slots) _ _ _ _ _ _ (c.args.self.now.sound known c.requires.usable) (iff_false c.is_empty.ensures c.if-is_empty.false) c.flush.ensures.time)
     c.args.self.now.recoverable
+
+pub invariant_of-self-in-Ok-clause-stays_short : goal.invariant_of-self-in-Ok-clause-stays_short
+invariant_of-self-in-Ok-clause-stays_short g c = short_flush c.args.self.now.since _ _ (g.D.Disk.left c.args.self.now.disk) (g.D.Disk.left c.flush.new.disk) c.args.self.now.past c.args.self.now.stays_short c.args.self.now.log.gate c.args.self.now.log.gate c.args.self.now.log.buffer refl (c.has_room.ensures c.if-not-has_room.false) c.flush.ensures.within
+
+pub invariant_of-self-in-Err-clause-stays_short : goal.invariant_of-self-in-Err-clause-stays_short
+invariant_of-self-in-Err-clause-stays_short g c = short_flush c.args.self.now.since _ _ (g.D.Disk.left c.args.self.now.disk) (g.D.Disk.left c.flush.new.disk) c.args.self.now.past c.args.self.now.stays_short c.args.self.now.log.gate c.args.self.now.log.gate c.args.self.now.log.buffer refl (c.has_room.ensures c.if-not-has_room.false) c.flush.ensures.within

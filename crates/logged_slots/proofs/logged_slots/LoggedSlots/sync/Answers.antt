@@ -9,6 +9,7 @@ use Rattle.kept_log.specs.KeptLog.{KeptLog}
 use Rattle.logged_slots.proofs.Recoverable.{recoverable_on}
 use Rattle.logged_slots.proofs.Calming.{calm_call}
 use Rattle.logged_slots.proofs.Framing.{area_leaves, area_keeps, unchanged_run, unchanged_any}
+use Rattle.logged_slots.proofs.Bounded.{short_same}
 use Rattle.logged_slots.proofs.logged_slots.LoggedSlots.sync.Goals as goal
 
 pub invariant_of-self-clause-past : goal.invariant_of-self-clause-past
@@ -63,3 +64,6 @@ returns-in-Err-clause-calm g c =
     (λ known. area_leaves _ _ _ _ (g.D.Disk.left s.disk) (g.D.Disk.left c.sync.new.self) s.log s.slots (number_in s.transactions.clients.items) (list_in s.transactions.clients.items) _ _ _ _ (s.sound known usable) (s.extents.0)
     (λ extent batches within images noted. unchanged_run _ _ (g.D.Disk.left s.disk) (g.D.Disk.left c.sync.new.self) run batches))
     (λ known slot. ap (λ (i : Image). view s.slots (i 0) slot) (c.sync.ensures.seen known)) c.in-Err.ensures.cause (λ e. refl) (λ e. absurd (true≢false (sym e)))
+
+pub invariant_of-self-clause-stays_short : goal.invariant_of-self-clause-stays_short
+invariant_of-self-clause-stays_short g c = short_same c.args.self.now.since _ _ (g.D.Disk.left c.args.self.now.disk) (g.D.Disk.left c.sync.new.self) c.args.self.now.past c.args.self.now.stays_short (call _ _ _ _ _ (λ old new. new ≡ old) c.sync.ensures.time (λ m image left. (g.met.D.Disk.image_known c.sync.new.self m image left).past))

@@ -8,6 +8,7 @@ use Rattle.logged_slots.proofs.Recoverable.{recoverable_on}
 use Rattle.logged_slots.proofs.Calming.{calm_call}
 use Rattle.logged_slots.proofs.States.{as_one}
 use Rattle.logged_slots.proofs.Framing.{area_leaves, area_keeps, to_any, all_settled}
+use Rattle.logged_slots.proofs.Bounded.{short_others}
 use Rattle.logged_slots.proofs.logged_slots.LoggedSlots.write_changes.Goals as goal
 
 no_number : (n : ℕ) → None ≡ Some n → ⊥
@@ -78,3 +79,9 @@ returns-in-Err-clause-calm g c =
     (λ known. area_leaves _ _ _ _ (g.D.Disk.left s.disk) (g.D.Disk.left c.write_dirty.new.disk) s.log s.slots (number_in s.transactions.clients.items) (list_in s.transactions.clients.items) _ _ _ _ (s.sound known usable) (s.extents.0)
     (all_settled _ _ (g.D.Disk.left s.disk) (g.D.Disk.left c.write_dirty.new.disk) s.slots s.log.settled s.log.appended c.requires.settled (s.changes usable) c.write_dirty.ensures.time))
     c.write_dirty.ensures.view c.in-Err.ensures.cause (λ e. refl) (λ e. absurd (true≢false (sym e)))
+
+pub invariant_of-self-clause-stays_short : goal.invariant_of-self-clause-stays_short
+invariant_of-self-clause-stays_short g c = short_others c.args.self.now.since _ _ (g.D.Disk.left c.args.self.now.disk) (g.D.Disk.left c.write_dirty.new.disk) c.args.self.now.past c.args.self.now.stays_short c.write_dirty.ensures.past
+
+pub invariant_of-self-in-Err-clause-stays_short : goal.invariant_of-self-in-Err-clause-stays_short
+invariant_of-self-in-Err-clause-stays_short g c = short_others c.args.self.now.since _ _ (g.D.Disk.left c.args.self.now.disk) (g.D.Disk.left c.write_dirty.new.disk) c.args.self.now.past c.args.self.now.stays_short c.write_dirty.ensures.past
