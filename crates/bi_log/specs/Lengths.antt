@@ -1,5 +1,5 @@
 -- How long the areas of the log get.
-use Rattle.std.specs.Prelude.{◌≢◌, ℕ, ◌≤◌, max, List, length}
+use Rattle.std.specs.Prelude.{◌≢◌, ℕ, ◌≤◌, max, length}
 use Rattle.disk_steps.specs.Steps.{Image}
 
 -- no area of the log gets longer than this number of bytes, but for one that was longer

@@ -1,6 +1,5 @@
-use Rattle.std.proofs.Common.{◌≡◌, ⊎_elim, ℕ, ◌*◌, ◌<◌, ◌≤◌, IsTrue, List, length, refl, sym, ◌∙◌, arith}
+use Rattle.std.proofs.Common.{◌≡◌, ⊎_elim, ◌<◌, ◌≤◌, sym, ◌∙◌, arith}
 use Rattle.log_meaning.proofs.LogStates.{may_write}
-use Rattle.slot_area.specs.Area.{below}
 use Rattle.slot_area.proofs.Extended.{below_extended, view_extended, up, laid, whole_extended}
 use Rattle.slot_area.proofs.slot_area.SlotArea.extend_to.Goals as goal
 
