@@ -5,6 +5,7 @@ ghost use Rattle.fault_count.specs.Faults.{Rose};
 ghost use Rattle.disk_steps.specs.Steps.{Image, Run};
 ghost use Rattle.log_meaning.specs.Images.{Recovers};
 ghost use Rattle.bi_log.specs.Logs.{HasNotes};
+ghost use Rattle.bi_log.specs.Lengths.{WithinLog, StayShort};
 ghost use Rattle.bi_recovery.specs.Reopening.{SameRecovery};
 ghost use Rattle.bi_recovery.specs.Causes.{HasOpenCause};
 ghost use Rattle.open_transactions.specs.Clients.{idle, transaction_in, list_in, number_in};
@@ -91,6 +92,7 @@ fn recovered_parts<D: Disk>(disk: &mut D, alloc: Global) -> Result<Parts, OpenFa
     ensures same_observable { D.observable disk.new ≡ D.observable disk.old }
     ensures time { Run (D.time disk.old) (D.time disk.new) (D.left disk.old) (D.left disk.new) SameRecovery }
     ensures ok { IfOk result (λ p. IsTrue (D.observable disk.old) → IsFresh (D.seen disk.old) (D.seen disk.new) (D.left disk.new (D.time disk.new)) p.log.area p.generation.number p.generation.extent p.slots.end) }
+    ensures within { Run (D.time disk.old) (D.time disk.new) (D.left disk.old) (D.left disk.new) (WithinLog 167772160) }
     ensures none { IsErrOf result OpenFault.NotCreated → IsTrue (D.observable disk.old) → (slots : ℕ → List ℕ) → Recovers (D.seen disk.old) slots → ⊥ }
     ensures cause { HasOpenCause (D.failures disk.old) (D.failures disk.new) result }
 {
@@ -105,11 +107,14 @@ impl<D: Disk + Drop> SlotTxn<D> {
     /// recovers to nothing, `Disk` where the disk failed, and `NoMemory` also where area 0 has no
     /// whole number of slots or more than 1,048,576 (this project's choice: no image of a run of
     /// this program has). At each moment, also where it fails, each image recovers to what an image
-    /// at the start recovers to.
+    /// at the start recovers to, and if no image at the start has an area of the log longer than
+    /// 167,772,160 bytes, no image has one.
     pub fn open(alloc: Global, disk: D) -> Result<SlotTxn<D>, (OpenFault, D)>
         ensures ok { IfOk result (λ s. IsOpenedOver (⟦<SlotTxn<D> as Slots>⟧.state s) (⟦<SlotTxn<D> as Slots>⟧.stop s) (D.observable disk) (D.seen disk) (D.time disk) (D.left disk)) }
         ensures run { IfOk result (λ s. Run (D.time disk) (D.time s.slots.disk) (D.left disk) (D.left s.slots.disk) SameRecovery) }
         ensures err_run { IfErr result (λ e. Run (D.time disk) (D.time e.1) (D.left disk) (D.left e.1) SameRecovery) }
+        ensures short { IfOk result (λ s. StayShort (D.left s.slots.disk) (D.time disk)) }
+        ensures err_short { IfErr result (λ e. StayShort (D.left e.1) (D.time disk)) }
         ensures err_observable { IfErr result (λ e. D.observable e.1 ≡ D.observable disk) }
         ensures none { IfErr result (λ e. e.0 ≡ OpenFault.NotCreated → IsTrue (D.observable disk) → (slots : ℕ → List ℕ) → Recovers (D.seen disk) slots → ⊥) }
         ensures cause { IfErr result (λ e. (D.failures disk ≤ D.failures e.1) × (e.0 ≡ OpenFault.Disk → Rose (D.failures disk) (D.failures e.1))) }
@@ -137,11 +142,13 @@ impl<D: Disk + Drop> SlotTxn<D> {
     }
 
     /// The disk. Transactions that are begun are abandoned: reopening gives what is committed, or
-    /// that with the writes of a commit that answered Disk.
+    /// that with the writes of a commit that answered Disk. No image has an area of the log longer
+    /// than 167,772,160 bytes, if none of the moment of `open` has one.
     pub fn close(self) -> D
         ensures disk { result ≡ self.slots.disk }
         ensures stops { (m : ℕ) (image : Image) (slots : ℕ → List ℕ) → self.slots.since ≤ m → D.left result m image → Recovers image slots → ⟦<SlotTxn<D> as Slots>⟧.stop self m slots }
         ensures recoverable { StayRecoverable (D.left result) self.slots.since }
+        ensures short { StayShort (D.left result) self.slots.since }
     {
         self.slots.disk
     }

@@ -4,6 +4,7 @@ ghost use Rattle.std.specs.Prelude.{◌≡◌, ◌*◌, ◌≤◌, ◌^◌, ℕ,
 ghost use Rattle.abl_storage.specs.Disk.{Stays};
 ghost use Rattle.disk_steps.specs.Steps.{Run};
 ghost use Rattle.log_meaning.specs.Images.{Recovers};
+ghost use Rattle.bi_log.specs.Lengths.{WithinLog};
 ghost use Rattle.bi_recovery.specs.Reopening.{SameRecovery, Reopens};
 ghost use Rattle.bi_recovery.specs.Causes.{HasOpenCause};
 
@@ -37,6 +38,7 @@ pub fn recover_all<D: Disk>(disk: &mut D, alloc: Global) -> Result<Reopened, Ope
     ensures time { Run (D.time disk.old) (D.time disk.new) (D.left disk.old) (D.left disk.new) SameRecovery }
     ensures ok { IfOk result (λ r. IsTrue (D.observable disk.old) → Reopens (D.seen disk.old) (D.left disk.new (D.time disk.new)) r.area r.generation r.extent r.gate) }
     ensures gate { IfOk result (λ r. r.gate ≡ 32) }
+    ensures within { Run (D.time disk.old) (D.time disk.new) (D.left disk.old) (D.left disk.new) (WithinLog 167772160) }
     ensures none { IsErrOf result OpenFault.NotCreated → IsTrue (D.observable disk.old) → (slots : ℕ → List ℕ) → Recovers (D.seen disk.old) slots → ⊥ }
     ensures cause { HasOpenCause (D.failures disk.old) (D.failures disk.new) result }
 {

@@ -3,6 +3,7 @@ use Rattle.std.proofs.lemmas.Result.{err_from_is_err_and}
 use Rattle.disk_steps.specs.Steps.{Image}
 use Rattle.bi_recovery.proofs.Recovery.{then_stay}
 use Rattle.slot_txn.proofs.Opened.{same_error, fresh_from}
+use Rattle.bi_recovery.proofs.Lengths.{then_none}
 use Rattle.slot_txn.proofs.opening.recovered_parts.Goals as goal
 
 pub returns-in_err-end-clause-time : goal.returns-in_err-end-clause-time
@@ -28,3 +29,12 @@ returns-in_err-opened-clause-none g c = λ h.
     let fault = c.in_err-opened.field-0.0 in
     let is : c.from_residual.result ≡ Err fault = cc (p.1, p.2) in
     c.in_err-opened.ensures.none (same_error fault _ (sym is ∙ h))
+
+pub returns-in_err-end-clause-within : goal.returns-in_err-end-clause-within
+returns-in_err-end-clause-within g c = then_none _ _ _ _ _ _ _ _ _ _ 167772160 c.recover_all.ensures.within c.whole_slots.ensures.rest (λ m image left. (g.met.D.Disk.image_known c.recover_all.new.disk m image left).past)
+
+pub returns-in_err-new-clause-within : goal.returns-in_err-new-clause-within
+returns-in_err-new-clause-within g c = then_none _ _ _ _ _ _ _ _ _ _ 167772160 c.recover_all.ensures.within c.whole_slots.ensures.rest (λ m image left. (g.met.D.Disk.image_known c.recover_all.new.disk m image left).past)
+
+pub returns-clause-within : goal.returns-clause-within
+returns-clause-within g c = then_none _ _ _ _ _ _ _ _ _ _ 167772160 c.recover_all.ensures.within c.whole_slots.ensures.rest (λ m image left. (g.met.D.Disk.image_known c.recover_all.new.disk m image left).past)

@@ -4,6 +4,7 @@ use Rattle.bi_recovery.specs.declared.recovery_run.Reopened.{Reopened}
 use Rattle.bi_recovery.specs.Reopening.{SameRecovery, Reopens}
 use Rattle.bi_recovery.proofs.Reopening.{stage}
 use Rattle.slot_txn.proofs.Opened.{ok_map, again_slots, given_slots}
+use Rattle.bi_log.proofs.Lengths.{run_twice}
 use Rattle.slot_txn.proofs.recovering.recover_all.Goals as goal
 
 pub returns-in-Err-clause-time : goal.returns-in-Err-clause-time
@@ -30,3 +31,9 @@ returns-in_err-opened-clause-none g c = λ h.
     let fault = c.in_err-opened.field-0.0 in
     let is : c.from_residual.result ≡ Err fault = cc (p.1, p.2) in
     c.in_err-opened.ensures.none (sym is ∙ h)
+
+pub returns-in-Err-clause-within : goal.returns-in-Err-clause-within
+returns-in-Err-clause-within g c = run_twice _ _ _ _ _ _ 167772160 c.recover.ensures.within c.recover-2.ensures.within
+
+pub returns-in-Ok-clause-within : goal.returns-in-Ok-clause-within
+returns-in-Ok-clause-within g c = run_twice _ _ _ _ _ _ 167772160 c.recover.ensures.within c.recover-2.ensures.within

@@ -9,6 +9,8 @@ use Rattle.slot_area.specs.Area.{view, unwritten}
 use Rattle.kept_log.specs.KeptLog.{KeptLog}
 use Rattle.logged_slots.specs.Stops.{StayRecoverable}
 use Rattle.slot_txn.proofs.Opened.{none_listed, none_is_due, is_whole, is_kept, fresh_log, recovered_slots, stop_now, stop_then, recoverable_opened}
+use Rattle.bi_log.specs.Lengths.{StayShort}
+use Rattle.bi_log.proofs.Lengths.{short_now, short_run}
 use Rattle.slot_txn.proofs.slot_txn.SlotTxn.open.Goals as goal
 
 pub invariant_of-result-clause-past : goal.invariant_of-result-clause-past
@@ -81,3 +83,13 @@ returns-in-Ok-clause-ok g c =
 
 pub returns-in-Err-clause-none : goal.returns-in-Err-clause-none
 returns-in-Err-clause-none g c = λ is known slots r. c.in-Err.ensures.none (ap (λ (f : OpenFault). Err f) is) known slots r
+
+pub invariant_of-result-clause-stays_short : goal.invariant_of-result-clause-stays_short
+invariant_of-result-clause-stays_short g c = subst (λ (m : ℕ). StayShort (g.D.Disk.left c.recovered_parts.new.disk) m) (sym c.moment-since.ensures)
+    (short_run (g.D.Disk.time c.args.disk) _ _ (g.D.Disk.left c.args.disk) (g.D.Disk.left c.recovered_parts.new.disk) c.recovered_parts.ensures.within (omega arith) (short_now _ _ (λ m image left. (g.met.D.Disk.image_known c.args.disk m image left).past)))
+
+pub returns-in-Ok-clause-short : goal.returns-in-Ok-clause-short
+returns-in-Ok-clause-short g c = short_run (g.D.Disk.time c.args.disk) _ _ (g.D.Disk.left c.args.disk) (g.D.Disk.left c.recovered_parts.new.disk) c.recovered_parts.ensures.within (omega arith) (short_now _ _ (λ m image left. (g.met.D.Disk.image_known c.args.disk m image left).past))
+
+pub returns-in-Err-clause-err_short : goal.returns-in-Err-clause-err_short
+returns-in-Err-clause-err_short g c = short_run (g.D.Disk.time c.args.disk) _ _ (g.D.Disk.left c.args.disk) (g.D.Disk.left c.recovered_parts.new.disk) c.recovered_parts.ensures.within (omega arith) (short_now _ _ (λ m image left. (g.met.D.Disk.image_known c.args.disk m image left).past))
