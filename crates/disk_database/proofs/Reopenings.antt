@@ -1,5 +1,5 @@
 -- A database that was made is opened, and one that was closed is opened again.
-use Rattle.std.proofs.Common.{◌≡◌, ⊎_elim, ℕ, ◌≤◌, Bool, true, false, cond, List, [], ◌∷◌, length, map, Option, Some, None, ℤ, refl, sym, ap, ◌∙◌, subst}
+use Rattle.std.proofs.Common.{◌≡◌, ◌⊎◌, inl, inr, ⊎_elim, ℕ, ◌≤◌, ◌==◌, ◌||◌, Bool, true, false, cond, List, [], ◌∷◌, length, map, Option, Some, None, ℤ, refl, sym, ap, ◌∙◌, subst}
 use Rattle.std.proofs.Math.Logic.{∥∥₁_elim}
 use Rattle.std.proofs.Props.{props}
 use Rattle.std.proofs.lemmas.List.{length-map}
@@ -20,15 +20,17 @@ use Rattle.db_core.specs.Crashes.{Holds}
 use Rattle.disk_steps.specs.Steps.{Image}
 use Rattle.logged_slots.specs.Stops.{HasSlots}
 use Rattle.record_store.specs.Opened.{AreSoundRows, HoldStore}
-use Rattle.row_chain.specs.Fragments.{StoredBytes, row_at}
+use Rattle.row_chain.specs.Fragments.{StoredBytes, kind_in, row_at}
+use Rattle.row_chain.proofs.Chained.{row_there}
 use Rattle.sequence_reads.proofs.Contents.{length_values_in}
 use Rattle.sequence_slots.specs.Values.{HoldValues, values_in}
 use Rattle.slot_contents.specs.Born.{IsBorn}
 use Rattle.slot_contents.specs.Chains.{IsChain, counted}
-use Rattle.slot_contents.specs.Contents.{contents_in, initial_values, new_contents}
+use Rattle.slot_contents.specs.Contents.{IsOfOneRow, contents_in, initial_values, new_contents}
 use Rattle.slot_contents.specs.Contents as slot
 use Rattle.stored_rows.specs.Decoded.{decoded, row_of}
 use Rattle.stored_rows.specs.Durable.{durable_in}
+use Rattle.stored_rows.specs.Forms.{has_form, is_fragment}
 use Rattle.stored_text.specs.Held.{HoldText}
 use Rattle.disk_database.proofs.Texts.{one_text}
 use Rattle.disk_database.specs.Answers.{IsRefused}
@@ -59,6 +61,11 @@ module _ (schema : SchemaData) (image : Image) (born : IsBorn image (new_content
       let none : decoded born.schema born.slots k ≡ None = sym (ap (λ (c : slot.Contents). c.rows k) born.are) in
       none_there born.schema (row_at born.slots k) none
 
+  -- no row begins, so each slot for rows is free
+  free_formed : (k : ℕ) → (kind_in (born.slots k) ≡ 0) ⊎ IsOfOneRow born.slots k → has_form (born.slots k) ≡ true
+  free_formed k (inl free) = ap (λ (kind : ℕ). (kind == 0) || is_fragment (born.slots k)) free
+  free_formed k (inr of) = let clash : None ≡ Some _ = sym (no_row of.row) ∙ row_there born.slots of.row of.begun in absurd (cc clash)
+
   new_slots_are : AreSlotsOf schema (created schema) born.slots
   new_slots_are = record {
     holds = record {
@@ -67,6 +74,7 @@ module _ (schema : SchemaData) (image : Image) (born : IsBorn image (new_content
     };
     text = record { short = short; chain = subst (λ (text : List ℕ). IsChain born.slots 3 3 0 (counted 1 (fragments_of (length text))) text) (sym text_is) born.held.text.text };
     values = subst (HoldValues born.slots) (sym values_are) born.held.sequences;
+    formed = λ k e. free_formed k (born.held.rows.each k e);
   }
 
   pub new_is : IsImageOf schema (created schema) image
@@ -105,7 +113,7 @@ rows_sound f contents slots sound holds = record {
     at k key has = subst (λ (o : Option StoredRow). IsTrue (has_key (unique_keys f.schema o) key)) (sym (holds.rows k)) has
 
 hold_store : (f : Setting) (contents : Contents) (slots : ℕ → List ℕ) → IsSoundContents f contents → AreSlotsOf f.schema contents slots → HoldStore f.schema slots
-hold_store f contents slots sound are = record { values = subst (HoldValues slots) are.holds.sequences are.values; rows = rows_sound f contents slots sound are.holds }
+hold_store f contents slots sound are = record { values = subst (HoldValues slots) are.holds.sequences are.values; rows = rows_sound f contents slots sound are.holds; formed = are.formed }
 
 nothing : IsProp ⊥
 nothing = hlevel props

@@ -37,7 +37,7 @@ image_of schema contents image h are = record {
 
 -- slots with these rows and values, which hold the text and the values in their form
 pub slots_of : (schema : SchemaData) (contents : Contents) (slots : ℕ → List ℕ) → Holds (durable_in schema slots) contents → HoldParts schema slots → AreSlotsOf schema contents slots
-slots_of schema contents slots holds parts = record { holds = holds; text = parts.text; values = subst (HoldValues slots) (sym holds.sequences) parts.values }
+slots_of schema contents slots holds parts = record { holds = holds; text = parts.text; values = subst (HoldValues slots) (sym holds.sequences) parts.values; formed = parts.formed }
 
 module _ (schema : SchemaData) (stop : ℕ → (ℕ → List ℕ) → Type 0) (times : Times) (left : ℕ → Image → Type 0) (f : Setting) (contents : Contents) (trace : List Event)
     (law : (m : ℕ) (image : Image) (slots : ℕ → List ℕ) → times.since ≤ m → left m image → Recovers image slots → stop m slots) (recoverable : StayRecoverable left times.since)

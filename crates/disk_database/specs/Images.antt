@@ -9,17 +9,20 @@ use Rattle.database_meaning.specs.Traces.{acknowledged, after_commits, commits, 
 use Rattle.db_core.specs.Crashes.{AreMoments, Holds}
 use Rattle.sequence_slots.specs.Values.{HoldValues}
 use Rattle.stored_rows.specs.Durable.{durable_in}
+use Rattle.stored_rows.specs.Forms.{HaveForm}
 use Rattle.stored_text.specs.Held.{HoldText}
 use Rattle.slot_contents.specs.Contents.{initial_values}
 use Rattle.disk_steps.specs.Steps.{Image}
 use Rattle.log_meaning.specs.Images.{Recovers}
 use Rattle.logged_slots.specs.Stops.{IsRecoverable, StayRecoverable}
 
--- the slots hold these rows and sequence values, the text of the schema byte for byte, and the values so too
+-- the slots hold these rows and sequence values, the text of the schema byte for byte, and the values so too; and each slot for rows is free or
+-- has the head of a fragment
 pub record AreSlotsOf (schema : SchemaData) (contents : Contents) (slots : ℕ → List ℕ) : Type 0 where
   pub holds : Holds (durable_in schema slots) contents
   pub text : HoldText slots (canonical_text schema)
   pub values : HoldValues slots contents.sequences
+  pub formed : HaveForm slots
 
 -- the image recovers to slots, and what it recovers to are these contents
 pub record IsImageOf (schema : SchemaData) (contents : Contents) (image : Image) : Type 0 where

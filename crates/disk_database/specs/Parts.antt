@@ -1,11 +1,13 @@
--- What the slots hold that no row uses: the text of the schema, and the sequence values.
-use Rattle.std.specs.Prelude.{◌≡◌, ℕ, ◌+◌, ◌-◌, ◌*◌, ◌<◌, min, List, length, get_or, ℤ}
+-- What the slots hold besides the rows: the text of the schema, the sequence values, and the form of the slots for rows.
+use Rattle.std.specs.Prelude.{◌≡◌, ℕ, ◌+◌, ◌-◌, ◌*◌, ◌<◌, min, true, false, List, length, get_or, ℤ}
 use Rattle.abl_values.specs.Rows.{fragments_of}
 use Rattle.abl_values.specs.Schema.{SchemaData, canonical_text}
 use Rattle.disk_steps.specs.Steps.{Image}
 use Rattle.log_meaning.specs.Images.{Recovers}
 use Rattle.sequence_slots.specs.Values.{Have64Bits, HoldValues, slot_bytes, values_in}
 use Rattle.slot_contents.specs.Chains.{chain_slot, counted}
+use Rattle.row_chain.specs.Fragments.{ends}
+use Rattle.stored_rows.specs.Forms.{HaveForm, has_form}
 use Rattle.stored_text.specs.Held.{HoldText}
 
 -- the slots of the schema's text, in order
@@ -23,15 +25,18 @@ pub record AreValues (count : ℕ) (bytes : List ℕ) : Type 0 where
   pub whole : Have64Bits values
   pub are : bytes ≡ slot_bytes values
 
--- the slot k of a database of this schema may hold these bytes: they are its part of the text, or as many sequence values as belong in it
+-- the slot k of a database of this schema may hold these bytes: they are its part of the text, or as many sequence values as belong in it; and in
+-- a slot for rows they are those of a free slot, or have the head of a fragment
 pub record HoldsPart (schema : SchemaData) (k : ℕ) (bytes : List ℕ) : Type 0 where
   pub text : (i : ℕ) → i < length (text_chain schema) → k ≡ get_or (text_chain schema) i 0 → bytes ≡ chain_slot 3 3 0 (text_chain schema) (canonical_text schema) i
   pub values : (i : ℕ) → i < 9 → k ≡ 5000 + i → AreValues (values_at (length schema.sequences) i) bytes
+  pub form : ends k ≡ false → has_form bytes ≡ true
 
--- the slots hold the text of the schema, and values for its sequences
+-- the slots hold the text of the schema, and values for its sequences, and those for rows have their form
 pub record HoldParts (schema : SchemaData) (slots : ℕ → List ℕ) : Type 0 where
   pub text : HoldText slots (canonical_text schema)
   pub values : HoldValues slots (values_in (length schema.sequences) slots)
+  pub formed : HaveForm slots
 
 -- whatever these images recover to holds them
 abbrev pub AllHoldParts : SchemaData → (Image → Type 0) → Type 0

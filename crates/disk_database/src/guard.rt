@@ -1,4 +1,4 @@
-//! What may be written into the slots of a database that no row uses.
+//! What may be written into the slots of a database.
 
 ghost use Rattle.std.specs.Prelude.{◌≡◌, ◌≤◌, ◌<◌, ℕ, length, IfSome, IsTrue};
 ghost use Rattle.abl_values.specs.Schema.{canonical_text};
@@ -10,11 +10,15 @@ use byteorder::{BigEndian, ByteOrder};
 use guarded_slots::Guard;
 use sequence_slots::{have_64_bits, slot_of};
 use std::marker::{Brand, PhantomData};
+use stored_rows::has_form;
 
 /// The first slot of sequence values, and the first one after them.
 const FIRST_VALUES: u32 = 5000;
 
 const AFTER_VALUES: u32 = 5009;
+
+/// The first slot for rows.
+const FIRST_ROW: u32 = 8192;
 
 /// The most values in a slot.
 const MOST_VALUES: usize = 30;
@@ -40,8 +44,9 @@ impl Opening for Brand {
     ghost images = { λ image. Unit {0} };
 }
 
-/// The guard of a database's slots. It lets no write of the schema's text through, and into a slot of
-/// sequence values only as many values as belong in it.
+/// The guard of a database's slots. It lets no write of the schema's text through, into a slot of
+/// sequence values only as many values as belong in it, and into a slot for rows only a free slot or
+/// the head of a fragment.
 #[derive(Drop)]
 pub struct SlotGuard<K: Opening> {
     pub(crate) sequences: usize,
@@ -104,6 +109,9 @@ impl<K: Opening> Guard for SlotGuard<K> {
     fn allows(&self, slot: u32, bytes: &[u8; 256]) -> bool {
         if slot < FIRST_VALUES {
             return false;
+        }
+        if FIRST_ROW <= slot {
+            return has_form(bytes);
         }
         if AFTER_VALUES <= slot {
             return true;

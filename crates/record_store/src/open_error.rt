@@ -16,8 +16,9 @@ pub enum OpenError {
     /// Out of memory. It comes too where a slot is in the chain of no row, or of two, and each row is
     /// one of its table.
     NoMemory,
-    /// The slots hold no values for the sequences of the schema, a row is no row of a table of the
-    /// schema, a key of a row is longer than 200 bytes, or two rows have a unique key in common.
+    /// The slots hold no values for the sequences of the schema, a slot for rows is neither free nor
+    /// has the head of a fragment, a row is no row of a table of the schema, a key of a row is longer
+    /// than 200 bytes, or two rows have a unique key in common.
     Unsound,
 }
 

@@ -4,6 +4,7 @@ ghost use Rattle.std.specs.Prelude.{◌≡◌, ◌<◌, ◌≤◌, ℕ, [], leng
 ghost use Rattle.abl_storage.specs.Slots.{IsReadable};
 ghost use Rattle.chain_store.specs.Still.{Still};
 ghost use Rattle.sequence_slots.specs.Values.{HoldValues, values_in};
+ghost use Rattle.stored_rows.specs.Forms.{HaveForm};
 ghost use Rattle.stored_rows.specs.Opens.{no_open, open_in};
 ghost use Rattle.record_store.specs.Opened.{HoldStore, IsOpenedStore, IsRefused};
 ghost use Rattle.record_store.specs.State.{store_state};
@@ -37,6 +38,7 @@ fn rows_and_values<S: Slots + Drop>(
     ensures few { IfOk result (λ o. length o.1.items ≤ 256) }
     ensures values { IfOk result (λ o. IsTrue (S.Slots.state slots).observable → o.1.items ≡ values_in (length schema.sequences) (S.Slots.state slots).reads) }
     ensures held { IfOk result (λ o. IsTrue (S.Slots.state slots).observable → HoldValues (S.Slots.state slots).reads o.1.items) }
+    ensures formed { IfOk result (λ o. IsTrue (S.Slots.state slots).observable → HaveForm (S.Slots.state slots).reads) }
     ensures refused { IfErr result (λ e. IsRefused (S.Slots.state slots) (S.Slots.state e.1) (S.Slots.stop slots) (S.Slots.stop e.1) e.0) }
     ensures unsound { IfErr result (λ e. e.0 ≡ OpenError.Unsound → IsTrue (S.Slots.state slots).observable → ¬ HoldStore schema (S.Slots.state slots).reads) }
 {

@@ -10,7 +10,8 @@ use chain_store::ChainFault;
 /// Why slots were not opened as rows of a schema.
 #[derive(Clone, Copy, Debug, PartialEq, Eq)]
 pub enum OpenFault {
-    /// A row that begins is no row of a table of the schema.
+    /// A slot for rows is neither free nor has the head of a fragment, or a row that begins is no row
+    /// of a table of the schema.
     Broken,
     /// The slots refused a read, or there was not enough memory.
     Slot(SlotFault),

@@ -7,12 +7,14 @@ ghost use Rattle.chain_store.specs.Places.{HoldNothing};
 ghost use Rattle.chain_store.specs.Still.{Still};
 ghost use Rattle.row_chain.specs.Fragments.{row_at};
 ghost use Rattle.stored_rows.specs.Counted.{AreCounted, IsWeight};
-ghost use Rattle.stored_rows.specs.Decoded.{AreRead, decoded};
+ghost use Rattle.stored_rows.specs.Decoded.{decoded};
+ghost use Rattle.stored_rows.specs.Forms.{HoldRows, has_form};
 ghost use Rattle.stored_rows.specs.Opens.{no_open, open_in};
 ghost use Rattle.stored_rows.specs.State.{slot_fault};
 
 use crate::decode::decode;
 use crate::fault::OpenFault;
+use crate::form::has_form;
 use crate::open::Open;
 use crate::rows::StoredRows;
 use abl_storage::{SlotFault, Slots};
@@ -87,20 +89,36 @@ fn weigh_row<S: Slots>(
     }
 }
 
-/// The number of fragments of all rows; none where one that begins is no row of its table.
+/// Whether the slot is free or has the head of a fragment.
+fn slot_has_form<S: Slots>(slots: &mut S, at: u32) -> Result<bool, SlotFault>
+    requires { at < 2 ^ 20 }
+    ensures form { IfOk result (λ found. IsReadable (S.Slots.state slots.old) → found ≡ has_form ((S.Slots.state slots.old).reads at)) }
+    ensures looked { Looked (S.Slots.state slots.old) (S.Slots.state slots.new) (S.Slots.stop slots.old) (S.Slots.stop slots.new) result }
+{
+    let mut slot = [0u8; 256];
+    slots.read(at, &mut slot)?;
+    Ok(has_form(&slot))
+}
+
+/// The number of fragments of all rows; none where a slot for rows is neither free nor has the head of
+/// a fragment, or where a row that begins is no row of its table.
 fn count_rows<S: Slots>(
     alloc: Global,
     slots: &mut S,
     schema: &Schema,
 ) -> Result<Option<u64>, SlotFault>
-    ensures broken { IfOk result (λ found. MatchOption found (IsReadable (S.Slots.state slots.old) → ¬ AreRead schema.now (S.Slots.state slots.old).reads) (λ used. ⊤)) }
-    ensures read { IfOk result (λ found. MatchOption found ⊤ (λ used. IsReadable (S.Slots.state slots.old) → AreRead schema.now (S.Slots.state slots.old).reads)) }
+    ensures broken { IfOk result (λ found. MatchOption found (IsReadable (S.Slots.state slots.old) → ¬ HoldRows schema.now (S.Slots.state slots.old).reads) (λ used. ⊤)) }
+    ensures held { IfOk result (λ found. MatchOption found ⊤ (λ used. IsReadable (S.Slots.state slots.old) → HoldRows schema.now (S.Slots.state slots.old).reads)) }
     ensures counted { IfOk result (λ found. MatchOption found ⊤ (λ used. IsReadable (S.Slots.state slots.old) → AreCounted (decoded schema.now (S.Slots.state slots.old).reads) used)) }
     ensures looked { Looked (S.Slots.state slots.old) (S.Slots.state slots.new) (S.Slots.stop slots.old) (S.Slots.stop slots.new) result }
 {
     let end = rows_end(slots);
     let mut used = 0u64;
     for at in FIRST_ROW..end {
+        let formed = slot_has_form(slots, at)?;
+        if !formed {
+            return Ok(None);
+        }
         let found = weigh_row(alloc, slots, schema, at)?;
         let Some(many) = found else {
             return Ok(None);
@@ -111,9 +129,10 @@ fn count_rows<S: Slots>(
 }
 
 impl<S: Slots + Drop> StoredRows<S> {
-    /// The rows of these slots, with no transaction. Broken comes only where a row that begins is no
-    /// row of a table of the schema; the refusals of the slots are Disk and NoMemory. NoMemory comes
-    /// too where a slot is in the chain of no row, or of two, and each row is one of its table.
+    /// The rows of these slots, with no transaction. Broken comes only where the slots do not hold
+    /// rows of the schema: one is neither free nor has the head of a fragment, or a row that begins is
+    /// no row of a table. The refusals of the slots are Disk and NoMemory. NoMemory comes too where a
+    /// slot is in the chain of no row, or of two, and each row is one of its table.
     pub fn open(
         mut slots: S,
         schema: Schema,
@@ -126,9 +145,9 @@ impl<S: Slots + Drop> StoredRows<S> {
         requires certain { IsReadable (S.Slots.state slots) → (k : ℕ) → (S.Slots.state slots).doubt k ≡ (S.Slots.state slots).committed k }
         ensures same { IfOk result (λ rows. Still (S.Slots.state slots) (S.Slots.state rows.chains.slots) (S.Slots.stop slots) (S.Slots.stop rows.chains.slots)) }
         ensures schema { IfOk result (λ rows. rows.schema ≡ schema) }
-        ensures read { IfOk result (λ rows. IsReadable (S.Slots.state slots) → AreRead schema (S.Slots.state slots).reads) }
+        ensures held { IfOk result (λ rows. IsReadable (S.Slots.state slots) → HoldRows schema (S.Slots.state slots).reads) }
         ensures err { IfErr result (λ e. Looked {T = ℕ} (S.Slots.state slots) (S.Slots.state e.1) (S.Slots.stop slots) (S.Slots.stop e.1) (Err (slot_fault e.0))) }
-        ensures broken { IfErr result (λ e. e.0 ≡ OpenFault.Broken → IsReadable (S.Slots.state slots) → ¬ AreRead schema (S.Slots.state slots).reads) }
+        ensures broken { IfErr result (λ e. e.0 ≡ OpenFault.Broken → IsReadable (S.Slots.state slots) → ¬ HoldRows schema (S.Slots.state slots).reads) }
         ensures none { IfOk result (λ rows. (c : ℕ) → open_in rows.opens.items c ≡ no_open) }
     {
         let opens = match idle_opens(alloc) {

@@ -4,10 +4,10 @@ use Rattle.abl_values.specs.declared.schema.SequenceDef.{SequenceDef}
 use Rattle.chain_store.proofs.Reading.{looked_still, still_both, still_looked}
 use Rattle.row_chain.proofs.Composes.{readable_on}
 use Rattle.sequence_slots.specs.Values.{HoldValues, values_in}
-use Rattle.stored_rows.specs.Decoded.{AreRead}
+use Rattle.stored_rows.specs.Forms.{HaveForm, HoldRows}
 use Rattle.stored_rows.specs.State.{slot_fault}
 use Rattle.record_store.proofs.Refused.{refused_looked}
-use Rattle.record_store.proofs.Sound.{rows_read}
+use Rattle.record_store.proofs.Sound.{store_holds_rows}
 use Rattle.record_store.proofs.reopened.rows_and_values.Goals as goal
 
 pub returns-in-Ok-clause-still : goal.returns-in-Ok-clause-still
@@ -41,6 +41,15 @@ returns-in-Ok-None-clause-unsound g c = λ is seen held.
     none_is c.in-Ok-None.field-0 _ _ (cc c.in-Ok-None.is) (c.in-Ok-None.ensures.exact (seen, c.requires.fine))
     (subst (λ (qs : List SequenceDef). HoldValues reads (values_in (length qs) reads)) (sym c.sequences-count.ensures) held.values)
 
+pub returns-in-Ok-clause-formed : goal.returns-in-Ok-clause-formed
+returns-in-Ok-clause-formed g c = λ seen.
+    let a = g.S.Slots.state c.args.slots in
+    let s = g.S.Slots.state c.stored_values.new.slots in
+    let l = c.in-Ok-Some.ensures.looked in
+    let readable : IsReadable a = (seen, c.requires.fine) in
+    let there : IsReadable s = readable_on a s l.rests.keeps.observable (l.cause.stays (λ q. cc q)) readable in
+    subst HaveForm (l.rests.reads readable) (c.in-Ok.ensures.held there).formed
+
 pub returns-in-Err-open-clause-unsound : goal.returns-in-Err-open-clause-unsound
 returns-in-Err-open-clause-unsound g c = λ is seen held.
     let a = g.S.Slots.state c.args.slots in
@@ -48,4 +57,4 @@ returns-in-Err-open-clause-unsound g c = λ is seen held.
     let l = c.in-Ok-Some.ensures.looked in
     let readable : IsReadable a = (seen, c.requires.fine) in
     let there : IsReadable s = readable_on a s l.rests.keeps.observable (l.cause.stays (λ q. cc q)) readable in
-    c.in-Err-open.ensures.broken (c.of_opening.ensures.broken is) there (subst (AreRead c.args.schema) (sym (l.rests.reads readable)) (rows_read c.args.schema a.reads held.rows))
+    c.in-Err-open.ensures.broken (c.of_opening.ensures.broken is) there (subst (HoldRows c.args.schema) (sym (l.rests.reads readable)) (store_holds_rows c.args.schema a.reads held))

@@ -7,6 +7,7 @@ use Rattle.chain_store.specs.Still.{Still}
 use Rattle.chain_store.proofs.Reading.{looked_still, still_both, still_looked}
 use Rattle.stored_rows.specs.Counted.{AreCounted}
 use Rattle.stored_rows.specs.Decoded.{AreRead, decoded}
+use Rattle.stored_rows.specs.Forms.{HoldRows}
 use Rattle.stored_rows.proofs.Opening.{opened_stored, stored_nowhere}
 use Rattle.stored_rows.proofs.Quiet.{quiet_opened, quiet_rests}
 use Rattle.stored_rows.proofs.rows.StoredRows.open.Goals as goal
@@ -36,8 +37,8 @@ returns-in-Ok-open-clause-same g c =
     let at_t = g.S.Slots.stop c.in-Ok-open.chains.slots in
     still_both r s t at_r at_s at_t (g.met.S.Slots.stop_known c.in-Ok-open.chains.slots) (looked_still r s at_r at_s _ (λ e. cc e) c.in-Ok-Some.ensures.looked) c.in-Ok-open.ensures.same
 
-pub returns-in-Ok-open-clause-read : goal.returns-in-Ok-open-clause-read
-returns-in-Ok-open-clause-read g c = some_is c.in-Ok-Some.field-0 c.in-Ok-Some.used ⊤ _ (cc c.in-Ok-Some.is) c.in-Ok-Some.ensures.read
+pub returns-in-Ok-open-clause-held : goal.returns-in-Ok-open-clause-held
+returns-in-Ok-open-clause-held g c = some_is c.in-Ok-Some.field-0 c.in-Ok-Some.used ⊤ _ (cc c.in-Ok-Some.is) c.in-Ok-Some.ensures.held
 
 pub invariant_of-result-clause-stored : goal.invariant_of-result-clause-stored
 invariant_of-result-clause-stored g c =
@@ -50,14 +51,14 @@ invariant_of-result-clause-stored g c =
     let f : Still r t at_r at_t =
     still_both r s t at_r at_s at_t (g.met.S.Slots.stop_known c.in-Ok-open.chains.slots) (looked_still r s at_r at_s _ (λ e. cc e) c.in-Ok-Some.ensures.looked) c.in-Ok-open.ensures.same in
     let start : IsReadable t → IsReadable r = λ h. readable_on t r (sym f.rests.keeps.observable) (sym f.failed) h in
-    let read : IsReadable r → AreRead c.args.schema r.reads = some_is c.in-Ok-Some.field-0 c.in-Ok-Some.used ⊤ _ (cc c.in-Ok-Some.is) c.in-Ok-Some.ensures.read in
+    let held : IsReadable r → HoldRows c.args.schema r.reads = some_is c.in-Ok-Some.field-0 c.in-Ok-Some.used ⊤ _ (cc c.in-Ok-Some.is) c.in-Ok-Some.ensures.held in
     stored_nowhere c.args.schema t c.in-Ok.opens.items c.in-Ok.ensures.idle
     (opened_stored c.args.schema t
     (λ d. ap (λ (x : ℕ → Transaction). (x d).undo) f.rests.transaction ∙ c.requires.clean d)
     (λ h k.
     ap (λ (x : ℕ → List ℕ). x k) (f.rests.keeps.committed (start h).0)
     ∙ (c.requires.settled (start h) k ∙ sym (ap (λ (x : ℕ → List ℕ). x k) (f.rests.reads (start h)))))
-    (λ h. subst (AreRead c.args.schema) (sym (f.rests.reads (start h))) (read (start h))))
+    (λ h. subst (AreRead c.args.schema) (sym (f.rests.reads (start h))) (held (start h)).read))
 
 pub invariant_of-result-clause-counted : goal.invariant_of-result-clause-counted
 invariant_of-result-clause-counted g c = λ h.
