@@ -1,16 +1,18 @@
 -- The schema of a file; why a database was not made, and what that leaves.
-use Rattle.std.proofs.Common.{◌≡◌, ◌∙◌, ℕ, List, None, Ok, Err, Result, ap, refl, subst}
+use Rattle.std.proofs.Common.{◌≡◌, ◌∙◌, ℕ, List, None, Ok, Err, Result, ap, refl, subst, arith}
 use Rattle.std.specs.Prelude.{IfOk, IsTrue, OnOk}
 use Rattle.abl_outside.specs.Files.{FileState}
 use Rattle.abl_schema.specs.Rules.{violation_of}
 use Rattle.abl_values.specs.Schema.{SchemaData}
 use Rattle.fault_count.specs.Faults.{Rose}
 use Rattle.abl_storage.specs.Disk.{Stays}
+use Rattle.bi_log.specs.Lengths.{StayShort}
+use Rattle.disk_steps.specs.Steps.{Image, Run}
 use Rattle.disk_database.specs.declared.refusals.CreateRefusal.{CreateRefusal}
 use Rattle.disk_database.specs.declared.refusals.CreateRefusal.TheVariants as create
 use Rattle.disk_database.specs.Answers.{HasOpenLog}
 use Rattle.run_report.specs.declared.refusal.Refusal.{Refusal}
-use Rattle.run_works.specs.Disks.{DiskState}
+use Rattle.run_works.specs.Disks.{DiskState, KeepsLogShort}
 use Rattle.source_files.specs.Files.{HasText}
 use Rattle.source_files.specs.Compiled.{schema_in}
 use Rattle.abl_cli.specs.Stored.{HasSchema, IsNotMade, creation_refusal}
@@ -39,3 +41,7 @@ unless_disk was now create.Disk there memory fine = absurd (fine refl)
 pub not_made : (was now : DiskState) (why : CreateRefusal) (refusal : Refusal) → refusal ≡ creation_refusal why → (why ≡ create.AlreadyCreated → IsTrue was.observable → HasOpenLog was.seen) → (why ≡ create.AlreadyCreated → Same was now) → (why ≡ create.NoMemory → Same was now) →
     (why ≡ create.Disk → Rose was.failures now.failures) → IsNotMade was now refusal
 not_made was now why refusal is already there memory rose = record { why = why; is = is; already = already; rose = rose; stays = unless_disk was now why there memory }
+
+-- a creation keeps the log short
+pub short_made : (was now : DiskState) (Step : Image → Image → Type 0) → Run was.time now.time was.left now.left Step → StayShort now.left was.time → KeepsLogShort was now
+short_made was now Step run stays all m image from there = stays (λ i left. all i (run.nothing_else was.time i (omega arith) left)) m image from there

@@ -3,7 +3,7 @@
 ghost use Rattle.std.specs.Prelude.{ℕ};
 ghost use Rattle.abl_outside.specs.Files.{FileState};
 ghost use Rattle.abl_arguments.specs.CommandLine.{Names, NamesBank, NamesCheck};
-ghost use Rattle.run_works.specs.Disks.{state_of};
+ghost use Rattle.run_works.specs.Disks.{KeepsLogShort, state_of};
 ghost use Rattle.abl_cli.specs.Command.{CommandResult};
 
 use crate::check::check_sources;
@@ -28,7 +28,8 @@ use std::thread::Threads;
 /// it. `check` reads the schema file and the sources, and lists the blocks of each source. `dump`
 /// writes the committed rows of a table. `bank` reads no file, and runs clients that transfer amounts
 /// between accounts. The report is written to standard output, and the lines of the status to standard
-/// error. A client comes to the gate before each of its steps.
+/// error. A client comes to the gate before each of its steps. Where no image that a crash at the call
+/// may leave has an area of the log longer than 167,772,160 bytes, none of a moment of the call has one.
 pub fn run_abl<R: Threads + Wait + Sync, F: Files, D: Disk + Send + Drop, O: Out, G: Gate + Sync>(
     rt: &R,
     alloc: Global,
@@ -38,8 +39,10 @@ pub fn run_abl<R: Threads + Wait + Sync, F: Files, D: Disk + Send + Drop, O: Out
     out: &mut O,
     gate: &G,
 ) -> Outcome<D>
-    ensures { CommandResult (state_of D.Disk) disk arguments.now (F.state files.old) (F.state files.new).faults (O.state out.old) (O.state out.new) result }
+    ensures did { CommandResult (state_of D.Disk) disk arguments.now (F.state files.old) (F.state files.new).faults (O.state out.old) (O.state out.new) result }
+    ensures log { KeepsLogShort (state_of D.Disk disk) (state_of D.Disk result.disk) }
 {
+    untouched(&disk);
     match read_command(arguments) {
         Err(argument) => {
             let report = refused(alloc, out, &[], Refusal::Usage { argument });
@@ -55,6 +58,11 @@ pub fn run_abl<R: Threads + Wait + Sync, F: Files, D: Disk + Send + Drop, O: Out
     }
 }
 
+/// A disk that is not touched keeps its log short.
+fn untouched<D: Disk>(disk: &D)
+    ensures { KeepsLogShort (state_of D.Disk disk.now) (state_of D.Disk disk.now) }
+{}
+
 /// Lists the sources that the arguments name. It does not come to the disk.
 fn list_sources<F: Files, D: Disk + Drop, O: Out>(
     alloc: Global,
@@ -65,7 +73,8 @@ fn list_sources<F: Files, D: Disk + Drop, O: Out>(
     check: &CheckArguments<'_>,
 ) -> Outcome<D>
     requires { NamesCheck arguments.now check.now }
-    ensures { CommandResult (state_of D.Disk) disk arguments.now (F.state files.old) (F.state files.new).faults (O.state out.old) (O.state out.new) result }
+    ensures did { CommandResult (state_of D.Disk) disk arguments.now (F.state files.old) (F.state files.new).faults (O.state out.old) (O.state out.new) result }
+    ensures log { KeepsLogShort (state_of D.Disk disk) (state_of D.Disk result.disk) }
 {
     let report = check_sources(alloc, files, out, check);
     Outcome { report, disk }
@@ -82,7 +91,8 @@ fn run_bank_of<R: Threads + Wait + Sync, D: Disk + Send + Drop, O: Out, G: Gate 
     read: BankArguments,
 ) -> Outcome<D>
     requires { NamesBank arguments.now read }
-    ensures { (files : FileState) (faults : ℕ) → CommandResult (state_of D.Disk) disk arguments.now files faults (O.state out.old) (O.state out.new) result }
+    ensures did { (files : FileState) (faults : ℕ) → CommandResult (state_of D.Disk) disk arguments.now files faults (O.state out.old) (O.state out.new) result }
+    ensures log { KeepsLogShort (state_of D.Disk disk) (state_of D.Disk result.disk) }
 {
     let bank = Bank {
         start: read.start,
@@ -105,8 +115,10 @@ fn run_sources<R: Threads + Wait + Sync, F: Files, D: Disk + Send + Drop, O: Out
     run: &RunArguments<'_>,
 ) -> Outcome<D>
     requires { Names arguments.now run.now }
-    ensures { CommandResult (state_of D.Disk) disk arguments.now (F.state files.old) (F.state files.new).faults (O.state out.old) (O.state out.new) result }
+    ensures did { CommandResult (state_of D.Disk) disk arguments.now (F.state files.old) (F.state files.new).faults (O.state out.old) (O.state out.new) result }
+    ensures log { KeepsLogShort (state_of D.Disk disk) (state_of D.Disk result.disk) }
 {
+    untouched(&disk);
     let Ok(clients) = clients_of(alloc, run.clients) else {
         let report = refused(alloc, out, &[], Refusal::NoMemory);
         return Outcome { report, disk };

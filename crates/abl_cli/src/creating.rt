@@ -2,7 +2,7 @@
 
 ghost use Rattle.std.specs.Prelude.{◌≡◌, IfErr, IfOk};
 ghost use Rattle.abl_arguments.specs.CommandLine.{NamesCreate};
-ghost use Rattle.run_works.specs.Disks.{state_of};
+ghost use Rattle.run_works.specs.Disks.{KeepsLogShort, state_of};
 ghost use Rattle.abl_cli.specs.Command.{CommandResult};
 ghost use Rattle.abl_cli.specs.Stored.{CreateResult, HasSchema, PreventsSchema, creation_refusal};
 
@@ -27,7 +27,8 @@ pub fn create_schema<F: Files, D: Disk + Drop, O: Out>(
     named: &CreateArguments<'_>,
 ) -> Outcome<D>
     requires { NamesCreate arguments.now named.now }
-    ensures { CommandResult (state_of D.Disk) disk arguments.now (F.state files.old) (F.state files.new).faults (O.state out.old) (O.state out.new) result }
+    ensures did { CommandResult (state_of D.Disk) disk arguments.now (F.state files.old) (F.state files.new).faults (O.state out.old) (O.state out.new) result }
+    ensures log { KeepsLogShort (state_of D.Disk disk) (state_of D.Disk result.disk) }
 {
     match schema_in_file(alloc, files, named.schema) {
         Err(refusal) => {
@@ -53,7 +54,8 @@ pub(crate) fn schema_in_file<F: Files>(
 
 /// Makes an empty database with this schema, and says how that went.
 fn make<D: Disk + Drop, O: Out>(alloc: Global, disk: D, out: &mut O, schema: &Schema) -> Outcome<D>
-    ensures { CreateResult schema.now (state_of D.Disk disk) (state_of D.Disk result.disk) (O.state out.old) (O.state out.new) result.report }
+    ensures did { CreateResult schema.now (state_of D.Disk disk) (state_of D.Disk result.disk) (O.state out.old) (O.state out.new) result.report }
+    ensures log { KeepsLogShort (state_of D.Disk disk) (state_of D.Disk result.disk) }
 {
     let mut disk = disk;
     match create(alloc, &mut disk, schema) {

@@ -2,7 +2,7 @@
 
 ghost use Rattle.std.specs.Prelude.{◌≡◌, ◌<◌, IfErr, IfOk, length};
 ghost use Rattle.abl_arguments.specs.CommandLine.{NamesDump, dump_of};
-ghost use Rattle.run_works.specs.Disks.{state_of};
+ghost use Rattle.run_works.specs.Disks.{KeepsLogShort, state_of};
 ghost use Rattle.abl_cli.specs.Command.{CommandResult};
 ghost use Rattle.abl_cli.specs.Stored.{DumpResult, HasTable, PreventsDump, dump_refusal};
 
@@ -38,7 +38,8 @@ pub fn dump_table<F: Files, D: Disk + Drop, O: Out>(
     named: &DumpArguments<'_>,
 ) -> Outcome<D>
     requires { NamesDump arguments.now named.now }
-    ensures { CommandResult (state_of D.Disk) disk arguments.now (F.state files.old) (F.state files.new).faults (O.state out.old) (O.state out.new) result }
+    ensures did { CommandResult (state_of D.Disk) disk arguments.now (F.state files.old) (F.state files.new).faults (O.state out.old) (O.state out.new) result }
+    ensures log { KeepsLogShort (state_of D.Disk disk) (state_of D.Disk result.disk) }
 {
     match table_in_file(alloc, files, named) {
         Err(refusal) => {
@@ -85,7 +86,8 @@ fn write_rows<D: Disk + Drop, O: Out>(
 ) -> Outcome<D>
     requires within { table.number < length table.schema.tables }
     requires same { table.schema_of_rows ≡ table.schema }
-    ensures { DumpResult table.schema table.number (state_of D.Disk disk) (state_of D.Disk result.disk) (O.state out.old) (O.state out.new) result.report }
+    ensures did { DumpResult table.schema table.number (state_of D.Disk disk) (state_of D.Disk result.disk) (O.state out.old) (O.state out.new) result.report }
+    ensures log { KeepsLogShort (state_of D.Disk disk) (state_of D.Disk result.disk) }
 {
     let Table {
         schema,

@@ -1,7 +1,7 @@
 //! One bank, from its numbers to the report.
 
 ghost use Rattle.std.specs.Prelude.{◌≡◌, ◌++◌, ◌+◌, ◌≤◌, ◌⊎◌, [], ℕ, List, IfErr, IfOk, OnOk, length, vec_capacity};
-ghost use Rattle.run_works.specs.Disks.{state_of};
+ghost use Rattle.run_works.specs.Disks.{KeepsLogShort, state_of};
 ghost use Rattle.served_works.specs.Served.{AreToDo, IsClientOf};
 ghost use Rattle.served_works.specs.Works.{Work};
 ghost use Rattle.run_works.specs.Works.{HasNotRun};
@@ -51,8 +51,10 @@ pub fn run_bank<R: Threads + Wait + Sync, D: Disk + Send + Drop, O: Out, G: Gate
     bank: Bank,
 ) -> Outcome<D>
     requires { IsBank bank }
-    ensures { BankResult bank (state_of D.Disk) disk (O.state out.old) (O.state out.new) result }
+    ensures did { BankResult bank (state_of D.Disk) disk (O.state out.old) (O.state out.new) result }
+    ensures log { KeepsLogShort (state_of D.Disk disk) (state_of D.Disk result.disk) }
 {
+    untouched(&disk);
     let Ok(names) = names_of(alloc, bank.clients) else {
         let report = refused(alloc, out, &[], Refusal::NoMemory);
         return Outcome { report, disk };
@@ -77,6 +79,11 @@ pub fn run_bank<R: Threads + Wait + Sync, D: Disk + Send + Drop, O: Out, G: Gate
         }
     }
 }
+
+/// A disk that is not touched keeps its log short.
+fn untouched<D: Disk>(disk: &D)
+    ensures { KeepsLogShort (state_of D.Disk disk.now) (state_of D.Disk disk.now) }
+{}
 
 /// Compiles the sources and begins the clients. All memory that is needed before the first phase is
 /// taken, but for that of the database and of the threads.
@@ -172,9 +179,10 @@ fn execute<R: Threads + Wait + Sync, D: Disk + Send + Drop, O: Out, G: Gate + Sy
     requires schema { form.now.schema.now ≡ bank_schema }
     requires none { ends.items ≡ [] }
     requires room { length clients.items ≤ vec_capacity ends }
-    ensures { (units between : ℕ) (works : List Work) → length clients.items ≡ between + 2 → AreToDo units works clients.items →
+    ensures ran { (units between : ℕ) (works : List Work) → length clients.items ≡ between + 2 → AreToDo units works clients.items →
         HasRunPhases form.now.mode form.now.schema.now form.now.names.now units between works (state_of D.Disk disk) (state_of D.Disk result.disk) (O.state out.old) (O.state out.new) result.report
         ⊎ HasNotRun form.now.schema.now form.now.names.now (state_of D.Disk disk) (state_of D.Disk result.disk) (O.state out.old) (O.state out.new) result.report }
+    ensures log { KeepsLogShort (state_of D.Disk disk) (state_of D.Disk result.disk) }
 {
     match run_in_phases(rt, alloc, disk, BANK_SCHEMA, clients, gate) {
         Ok(ran) => {

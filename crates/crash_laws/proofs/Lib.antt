@@ -3,3 +3,4 @@ pub mod Acknowledged
 pub mod Opened
 pub mod Histories
 pub mod Calls
+pub mod Logs

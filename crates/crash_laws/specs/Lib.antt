@@ -1,3 +1,4 @@
 pub mod Disks
 pub mod History
 pub mod Calls
+pub mod Logs

@@ -10,8 +10,9 @@ ghost use Rattle.disk_steps.specs.Steps.{Image};
 ghost use Rattle.log_meaning.specs.Images.{Recovers};
 ghost use Rattle.db_core.specs.Crashes.{AreMoments};
 ghost use Rattle.disk_database.specs.Images.{AreImagesOf, IsImageOf, created};
-ghost use Rattle.crash_laws.specs.Calls.{CallHistory, IsCallHistory, NothingIsLostIn};
+ghost use Rattle.crash_laws.specs.Calls.{CallHistory, IsCallHistory, KeptCall, NothingIsLostIn};
 ghost use Rattle.crash_laws.specs.Disks.{ComesNext, IsBeingMade, IsMade, MayBeOpened, view_of};
+ghost use Rattle.crash_laws.specs.Logs.{AreCommands, HasShortLog, LogStaysShort};
 ghost use Rattle.crash_laws.specs.History.{PastRun, History, IsDurable, IsHistory, IsLeftBy, IsOpenedAfter, NothingIsLost};
 
 use abl_storage::Disk;
@@ -51,6 +52,13 @@ pub fn nothing_acknowledged_is_lost<D: Disk>()
 /// acknowledged by then, or after one more; after every other call it is over the same contents.
 pub fn no_call_loses_what_was_acknowledged<D: Disk>()
     ensures { (history : CallHistory D) → IsCallHistory (view_of D.Disk) history → ∥ NothingIsLostIn (view_of D.Disk) history.schema (created history.schema) history.calls history.last ∥₁ }
+{}
+
+/// The log stays short, in any history of commands, `create` too, each over what the one before left, at
+/// a crash or at its end: where no image of the first disk has an area of the log longer than
+/// 167,772,160 bytes, no image of any moment of these commands has one, nor of the disk that is left.
+pub fn the_log_stays_short<D: Disk>()
+    ensures { (calls : List (KeptCall D)) (last : D) → AreCommands (view_of D.Disk) (λ disk. HasShortLog (view_of D.Disk disk)) calls last → LogStaysShort (view_of D.Disk) calls last }
 {}
 
 /// An acknowledged commit is among the first ones of its trace: through an event that was answered

@@ -3,6 +3,7 @@
 ghost use Rattle.std.specs.Prelude.{◌≡◌, ◌≤◌, length, IsTrue, IsErrOf, OnOk};
 ghost use Rattle.fault_count.specs.Faults.{Rose};
 ghost use Rattle.abl_values.specs.Schema.{canonical_text};
+ghost use Rattle.bi_log.specs.Lengths.{StayShort};
 ghost use Rattle.disk_steps.specs.Steps.{Image, Run};
 ghost use Rattle.slot_contents.specs.Contents.{new_contents};
 ghost use Rattle.slot_contents.specs.Born.{IsBorn};
@@ -18,7 +19,8 @@ use std::alloc::Global;
 /// Makes a database with this schema on the disk, whatever the disk holds: a caller asks first
 /// whether it holds one. At each moment, and where it fails or is stopped, each image recovers to
 /// nothing, to what an image at the start recovered to, or to the slots of the new database. After
-/// Ok each image is born with this schema, the initial values of its sequences, and no rows.
+/// Ok each image is born with this schema, the initial values of its sequences, and no rows. No image
+/// has an area of the log longer than 167,772,160 bytes, if none at the start has one.
 pub fn create_database<D: Disk>(
     disk: &mut D,
     schema: &Schema,
@@ -28,6 +30,7 @@ pub fn create_database<D: Disk>(
     requires few { length schema.now.sequences ≤ 256 }
     ensures same_observable { D.observable disk.new ≡ D.observable disk.old }
     ensures time { Run (D.time disk.old) (D.time disk.new) (D.left disk.old) (D.left disk.new) (CreatesNew schema.now) }
+    ensures log { StayShort (D.left disk.new) (D.time disk.old) }
     ensures ok { OnOk result ((image : Image) → D.left disk.new (D.time disk.new) image → IsBorn image (new_contents schema.now)) }
     ensures later { D.failures disk.old ≤ D.failures disk.new }
     ensures cause { IsErrOf result CreateFault.Disk → Rose (D.failures disk.old) (D.failures disk.new) }

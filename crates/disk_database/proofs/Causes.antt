@@ -10,6 +10,7 @@ use Rattle.log_meaning.specs.Images.{Recovers}
 use Rattle.bi_recovery.specs.Reopening.{SameRecovery}
 use Rattle.bi_recovery.specs.declared.open_fault.OpenFault.{OpenFault}
 use Rattle.bi_recovery.specs.declared.open_fault.OpenFault.TheVariants as fault
+use Rattle.bi_log.specs.Lengths.{StayShort}
 use Rattle.logged_slots.specs.Stops.{HasSlots, IsRecoverable, StayRecoverable}
 use Rattle.record_store.specs.Opened.{CanOpen, HoldStore}
 use Rattle.record_store.specs.declared.open_error.OpenError.{OpenError}
@@ -52,8 +53,8 @@ module _ (schema : SchemaData) (observable : Bool) (seen : Image) where
 -- ---- the disk
 
 -- after the recovery alone
-pub back_by_run : (observable observable' : Bool) (was now : ℕ) (left left' : ℕ → Image → Type 0) → observable' ≡ observable → Run was now left left' SameRecovery → IsGivenBack observable observable' was now left left'
-back_by_run observable observable' was now left left' same run = record { same_observable = same; later = run.later; images = images; recoverable = recoverable }
+pub back_by_run : (observable observable' : Bool) (was now : ℕ) (left left' : ℕ → Image → Type 0) → observable' ≡ observable → Run was now left left' SameRecovery → StayShort left' was → IsGivenBack observable observable' was now left left'
+back_by_run observable observable' was now left left' same run short = record { same_observable = same; later = run.later; images = images; recoverable = recoverable; short = short }
   where
     images : RecoversAsBefore was left left'
     images m image slots from there recovers = by_time (cases_lt was m)
@@ -74,14 +75,19 @@ back_by_run observable observable' was now left left' same run = record { same_o
 
 -- after reads of its slots
 pub back_by_slots : (s : SlotState) (stop : ℕ → (ℕ → List ℕ) → Type 0) (observable observable' : Bool) (seen : Image) (was now : ℕ) (left left' : ℕ → Image → Type 0) → AreOpened s stop observable seen was left
-    → observable' ≡ s.observable → s.since ≤ now → ((m : ℕ) (image : Image) (slots : ℕ → List ℕ) → s.since ≤ m → left' m image → Recovers image slots → stop m slots) → StayRecoverable left' s.since
+    → observable' ≡ s.observable → s.since ≤ now → ((m : ℕ) (image : Image) (slots : ℕ → List ℕ) → s.since ≤ m → left' m image → Recovers image slots → stop m slots) → StayRecoverable left' s.since → StayShort left' s.since
     → IsGivenBack observable observable' was now left left'
-back_by_slots s stop observable observable' seen was now left left' opened same later law recoverable = record {
+back_by_slots s stop observable observable' seen was now left left' opened same later law recoverable short = record {
   same_observable = same ∙ opened.same_observable;
   later = let is = opened.since in omega (arith, later, is);
   images = opened_images s stop observable seen was left left' opened law;
   recoverable = subst (StayRecoverable left') opened.since recoverable;
+  short = subst (StayShort left') opened.since short;
 }
+
+-- after calls that make no moment
+pub short_after : (was now : ℕ) (left : ℕ → Image → Type 0) → now ≡ was → StayShort left now → StayShort left was
+short_after was now left same short = subst (StayShort left) same short
 
 -- ---- slots that may be opened further
 

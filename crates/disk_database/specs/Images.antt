@@ -15,6 +15,7 @@ use Rattle.slot_contents.specs.Contents.{initial_values}
 use Rattle.disk_steps.specs.Steps.{Image}
 use Rattle.log_meaning.specs.Images.{Recovers}
 use Rattle.logged_slots.specs.Stops.{IsRecoverable, StayRecoverable}
+use Rattle.bi_log.specs.Lengths.{StayShort}
 
 -- the slots hold these rows and sequence values, the text of the schema byte for byte, and the values so too; and each slot for rows is free or
 -- has the head of a fragment
@@ -59,12 +60,13 @@ HoldsAsBefore schema was before after =
     (m : ℕ) (image : Image) (slots : ℕ → List ℕ) → was ≤ m → after m image → Recovers image slots → ∥ ComesFrom schema (before was) slots ∥₁
 
 -- The disk handed back is observable where it was, its moment is no earlier, each image from the call on recovers only to what an image at the
--- call recovered to, and where the images at the call recover, they all do
+-- call recovered to, and where the images at the call recover, or have a short log, they all do
 pub record IsGivenBack (was_observable observable : Bool) (was now : ℕ) (before after : ℕ → Image → Type 0) : Type 0 where
   pub same_observable : observable ≡ was_observable
   pub later : was ≤ now
   pub images : RecoversAsBefore was before after
   pub recoverable : StayRecoverable after was
+  pub short : StayShort after was
 
 -- each of these images recovers to slots
 abbrev pub AllRecover : (Image → Type 0) → Type 0

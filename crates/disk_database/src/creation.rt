@@ -4,6 +4,7 @@ ghost use Rattle.std.specs.Prelude.{◌≡◌, ◌≤◌, length, false, IfOk, I
 ghost use Rattle.fault_count.specs.Faults.{Rose};
 ghost use Rattle.abl_values.specs.Schema.{canonical_text};
 ghost use Rattle.abl_storage.specs.Disk.{HasCause, Stays};
+ghost use Rattle.bi_log.specs.Lengths.{StayShort};
 ghost use Rattle.disk_steps.specs.Steps.{Image, Run};
 ghost use Rattle.slot_contents.specs.Contents.{new_contents};
 ghost use Rattle.slot_contents.specs.Born.{IsBorn};
@@ -35,9 +36,11 @@ fn has_open_log<D: Disk>(disk: &mut D) -> Result<bool, DiskFailed>
 /// Makes an empty database of this schema on the disk, where no generation of a log is open on it. At
 /// each moment, and where it fails or is stopped, each image recovers to nothing, to what an image at
 /// the start recovered to, or to the new database. After Ok each image is that of the new database.
+/// No image has an area of the log longer than 167,772,160 bytes, if none at the start has one.
 pub fn create<D: Disk>(alloc: Global, disk: &mut D, schema: &Schema) -> Result<(), CreateRefusal>
     ensures same_observable { D.observable disk.new ≡ D.observable disk.old }
     ensures time { Run (D.time disk.old) (D.time disk.new) (D.left disk.old) (D.left disk.new) (CreatesNew schema.now) }
+    ensures log { StayShort (D.left disk.new) (D.time disk.old) }
     ensures ok { OnOk result ((image : Image) → D.left disk.new (D.time disk.new) image → IsBorn image (new_contents schema.now)) }
     ensures short { OnOk result (length (canonical_text schema.now) ≤ 1048576) }
     ensures new { OnOk result (IsTrue (D.observable disk.old) → ¬ HasOpenLog (D.seen disk.old)) }

@@ -9,6 +9,7 @@ ghost use Rattle.database_meaning.specs.Waiting.{IsAscending};
 ghost use Rattle.db_core.specs.Crashes.{StartsFrom};
 ghost use Rattle.disk_steps.specs.Steps.{Image};
 ghost use Rattle.log_meaning.specs.Images.{Recovers};
+ghost use Rattle.bi_log.specs.Lengths.{StayShort};
 ghost use Rattle.logged_slots.specs.Stops.{StayRecoverable};
 ghost use Rattle.db_machine.specs.Database.{HasSetting, IsActive, IsOpened};
 ghost use Rattle.disk_database.specs.Answers.{HasText, IsRefused};
@@ -55,6 +56,7 @@ pub fn open<D: Disk + Drop, K: Opening>(
     ensures time { IfErr result (λ e. D.time disk ≤ D.time e.1) }
     ensures images { IfErr result (λ e. RecoversAsBefore (D.time disk) (D.left disk) (D.left e.1)) }
     ensures recoverable { IfErr result (λ e. StayRecoverable (D.left e.1) (D.time disk)) }
+    ensures short { IfErr result (λ e. StayShort (D.left e.1) (D.time disk)) }
     ensures cause { IfErr result (λ e. e.0 ≡ OpenRefusal.Disk → Rose (D.failures disk) (D.failures e.1)) }
 {
     let rows = match open_rows(alloc, disk, schema_of_rows) {
@@ -106,9 +108,11 @@ fn start<D: Disk + Drop, K: Opening>(
 
 /// The disk of the database, and its trace. From the moment of its opening on, each image that a crash
 /// may leave holds the contents after the commits that were acknowledged by then, or after one more,
-/// where the images of the opening held the contents of that time.
+/// where the images of the opening held the contents of that time; and no image has an area of the log
+/// longer than 167,772,160 bytes, if none of the opening had one.
 pub fn close<D: Disk + Drop, K: Opening>(database: DiskDatabase<D, K>) -> (D, Trace)
     ensures trace { result.1 ≡ database.trace }
+    ensures short { StayShort (D.left result.0) (⟦<DiskStore<D, K> as RowStore>⟧.times database.rows).since }
     ensures observable { (f : Setting) (contents : Contents) → IsOpened (⟦<DiskStore<D, K> as RowStore>⟧.state database.rows) (⟦<DiskStore<D, K> as RowStore>⟧.left database.rows) (⟦<DiskStore<D, K> as RowStore>⟧.times database.rows) database f contents → IsTrue (D.observable result.0) }
     ensures survives { (f : Setting) (contents : Contents) → IsOpened (⟦<DiskStore<D, K> as RowStore>⟧.state database.rows) (⟦<DiskStore<D, K> as RowStore>⟧.left database.rows) (⟦<DiskStore<D, K> as RowStore>⟧.times database.rows) database f contents
         → ∥ ((image : Image) × D.left result.0 (⟦<DiskStore<D, K> as RowStore>⟧.times database.rows).since image) ∥₁

@@ -4,6 +4,7 @@ ghost use Rattle.std.specs.Prelude.{◌≡◌, ◌⊎◌, ◌<◌, ◌≤◌, �
 ghost use Rattle.fault_count.specs.Faults.{Rose};
 ghost use Rattle.abl_values.specs.Schema.{primary_of};
 ghost use Rattle.database_meaning.specs.Setting.{HasIndex};
+ghost use Rattle.bi_log.specs.Lengths.{StayShort};
 ghost use Rattle.logged_slots.specs.Stops.{StayRecoverable};
 ghost use Rattle.disk_database.specs.Answers.{HasText, IsDumped, IsNotDumped, is_disk, is_output, of_table};
 ghost use Rattle.disk_steps.specs.Steps.{Image};
@@ -74,6 +75,7 @@ pub fn dump<D: Disk + Drop, O: Out>(
     ensures kept { (contents : Contents) → AreImagesOf (D.observable disk) (D.time disk) (D.left disk) schema contents → AllRecover (D.left result.1 (D.time disk))
         → (m : ℕ) (image : Image) → D.time disk ≤ m → D.left result.1 m image → ∥ IsImageOf schema contents image ∥₁ }
     ensures recoverable { StayRecoverable (D.left result.1) (D.time disk) }
+    ensures short { StayShort (D.left result.1) (D.time disk) }
     ensures cause { IfErr result.0 (λ e. is_disk e ≡ true → Rose (D.failures disk) (D.failures result.1)) }
 {
     dump_since::<D, Brand, O>(alloc, disk, schema, schema_of_rows, table, out)
@@ -103,6 +105,7 @@ fn dump_since<D: Disk + Drop, K: Opening, O: Out>(
     ensures kept { (contents : Contents) → AreImagesOf (D.observable disk) (D.time disk) (D.left disk) schema contents → AllRecover (D.left result.1 (D.time disk))
         → (m : ℕ) (image : Image) → D.time disk ≤ m → D.left result.1 m image → ∥ IsImageOf schema contents image ∥₁ }
     ensures recoverable { StayRecoverable (D.left result.1) (D.time disk) }
+    ensures short { StayShort (D.left result.1) (D.time disk) }
     ensures cause { IfErr result.0 (λ e. is_disk e ≡ true → Rose (D.failures disk) (D.failures result.1)) }
 {
     let before = disk.faults();

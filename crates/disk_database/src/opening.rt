@@ -5,6 +5,7 @@ ghost use Rattle.fault_count.specs.Faults.{Rose};
 ghost use Rattle.abl_values.specs.Schema.{canonical_text};
 ghost use Rattle.disk_steps.specs.Steps.{Image};
 ghost use Rattle.log_meaning.specs.Images.{Recovers};
+ghost use Rattle.bi_log.specs.Lengths.{StayShort};
 ghost use Rattle.logged_slots.specs.Stops.{StayRecoverable};
 ghost use Rattle.record_store.specs.Opened.{CanOpen};
 ghost use Rattle.stored_text.specs.Held.{HoldText};
@@ -49,6 +50,7 @@ fn give_back<D: Disk + Drop>(
     ensures disk { result.1 ≡ slots.slots.disk }
     ensures stops { (m : ℕ) (image : Image) (left : ℕ → List ℕ) → slots.slots.since ≤ m → D.left result.1 m image → Recovers image left → ⟦<SlotTxn<D> as Slots>⟧.stop slots m left }
     ensures recoverable { StayRecoverable (D.left result.1) slots.slots.since }
+    ensures short { StayShort (D.left result.1) slots.slots.since }
     ensures cause { result.0 ≡ OpenRefusal.Disk → Rose before (D.failures result.1) }
 {
     let disk = slots.close();
@@ -150,6 +152,7 @@ pub(crate) fn disk_of<D: Disk + Drop, K: Opening>(rows: DiskStore<D, K>) -> D
     ensures disk { result ≡ rows.rows.chains.slots.slots.slots.disk }
     ensures stops { (m : ℕ) (image : Image) (left : ℕ → List ℕ) → rows.rows.chains.slots.slots.slots.since ≤ m → D.left result m image → Recovers image left → ⟦<DiskSlots<D, K> as Slots>⟧.stop rows.rows.chains.slots m left }
     ensures recoverable { StayRecoverable (D.left result) rows.rows.chains.slots.slots.slots.since }
+    ensures short { StayShort (D.left result) rows.rows.chains.slots.slots.slots.since }
     ensures parts { AllHoldParts K.schema K.images → (m : ℕ) (image : Image) (left : ℕ → List ℕ) → rows.rows.chains.slots.slots.slots.since ≤ m → D.left result m image → Recovers image left → HoldParts K.schema left }
 {
     let slots = rows.close();

@@ -7,6 +7,7 @@ use Rattle.client_database.specs.declared.event.Event.{Event}
 use Rattle.database_meaning.specs.declared.contents.Contents.{Contents}
 use Rattle.database_meaning.specs.Setting.{Setting}
 use Rattle.database_meaning.specs.Traces.{IsLegal}
+use Rattle.bi_log.specs.Lengths.{IsShort}
 use Rattle.disk_steps.specs.Steps.{Image}
 use Rattle.disk_database.specs.declared.refusals.OpenRefusal.{OpenRefusal}
 use Rattle.disk_database.specs.declared.refusals.OpenRefusal.TheVariants as opening
@@ -36,6 +37,15 @@ HoldsContents disk schema contents = AreImagesOf disk.observable disk.time disk.
 abbrev pub KeepsContents : SchemaData → DiskState → DiskState → Type 0
 KeepsContents schema old new =
     (contents : Contents) → HoldsContents old schema contents → (m : ℕ) (image : Image) → old.time ≤ m → new.left m image → ∥ IsImageOf schema contents image ∥₁
+
+-- where none of these images has an area of the log longer than 167,772,160 bytes, no image of a moment from `since` on has one
+abbrev pub LogStaysShort : (Image → Type 0) → ℕ → (ℕ → Image → Type 0) → Type 0
+LogStaysShort images since left = ((image : Image) → images image → IsShort image) → (m : ℕ) (image : Image) → since ≤ m → left m image → IsShort image
+
+-- THE BOUND ON THE LOG. Where no image that a crash at the call may leave has an area 1 or 2 longer than 167,772,160 bytes, no image that a
+-- crash at a moment from the call to its return may leave has one
+abbrev pub KeepsLogShort : DiskState → DiskState → Type 0
+KeepsLogShort old new = LogStaysShort (old.left old.time) old.time new.left
 
 -- WHAT A RUN PROMISES OF THE DISK. Whatever contents it held, the trace is legal from these; and at each moment from the call to its return
 -- a crash leaves them after the commits that were acknowledged by then, or after one more

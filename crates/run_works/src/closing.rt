@@ -7,6 +7,7 @@ ghost use Rattle.database_meaning.specs.Traces.{IsLegal};
 ghost use Rattle.disk_steps.specs.Steps.{Image};
 ghost use Rattle.disk_database.specs.Images.{AllAreOf, AllRecover, IsImageOf, SurvivesCrashes};
 ghost use Rattle.run_report.specs.declared.refusal.Refusal.TheVariants.{NoMemory};
+ghost use Rattle.run_works.specs.Disks.{LogStaysShort};
 
 use crate::opening::NotRun;
 use crate::timed::Timed;
@@ -45,6 +46,7 @@ pub(crate) fn close_after_run<D: Disk + Drop, K: Start + Opening>(
 ) -> Ran<D>
     ensures trace { result.trace ≡ served.database.database.trace }
     ensures clients { result.clients.items ≡ served.clients.items }
+    ensures log { LogStaysShort K.Start.images K.moment (D.left result.disk) }
     ensures legal { (f : Setting) (contents : Contents) → ⟦<DiskDatabase<RunDisk<D, K>, K> as Database>⟧.opened served.database.database f contents → IsLegal f contents result.trace }
     ensures survives { (f : Setting) (contents : Contents) → ⟦<DiskDatabase<RunDisk<D, K>, K> as Database>⟧.opened served.database.database f contents → AllRecover K.Start.images → K.schema ≡ f.schema → AllAreOf f.schema contents K.Opening.images →
         SurvivesCrashes K.moment (D.time result.disk) (D.left result.disk) f contents result.trace }
@@ -64,6 +66,7 @@ pub(crate) fn close_unused<D: Disk + Drop, K: Start + Opening>(
 ) -> NotRun<D>
     requires empty { database.database.trace ≡ [] }
     ensures refusal { result.refusal ≡ NoMemory }
+    ensures log { LogStaysShort K.Start.images K.moment (D.left result.disk) }
     ensures kept { (f : Setting) (contents : Contents) → ⟦<DiskDatabase<RunDisk<D, K>, K> as Database>⟧.opened database.database f contents → AllRecover K.Start.images → K.schema ≡ f.schema → AllAreOf f.schema contents K.Opening.images →
         (m : ℕ) (image : Image) → K.moment ≤ m → D.left result.disk m image → ∥ IsImageOf f.schema contents image ∥₁ }
 {
@@ -78,6 +81,7 @@ pub(crate) fn close_unused<D: Disk + Drop, K: Start + Opening>(
 /// Closes the database of a run: what survives since its beginning.
 fn close_timed<D: Disk + Drop, K: Start + Opening>(timed: RunDatabase<D, K>) -> Closed<D>
     ensures trace { result.trace ≡ timed.database.trace }
+    ensures log { LogStaysShort K.Start.images K.moment (D.left result.disk) }
     ensures legal { (f : Setting) (contents : Contents) → ⟦<DiskDatabase<RunDisk<D, K>, K> as Database>⟧.opened timed.database f contents → IsLegal f contents result.trace }
     ensures survives { (f : Setting) (contents : Contents) → ⟦<DiskDatabase<RunDisk<D, K>, K> as Database>⟧.opened timed.database f contents → AllRecover K.Start.images → K.schema ≡ f.schema → AllAreOf f.schema contents K.Opening.images →
         SurvivesCrashes K.moment (D.time result.disk) (D.left result.disk) f contents result.trace }

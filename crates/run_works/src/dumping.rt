@@ -4,7 +4,7 @@ ghost use Rattle.std.specs.Prelude.{◌≡◌, ◌<◌, ◌≤◌, length, not, 
 ghost use Rattle.fault_count.specs.Faults.{Rose};
 ghost use Rattle.disk_steps.specs.Steps.{Image};
 ghost use Rattle.disk_database.specs.Answers.{HasText, IsDumped, IsNotDumped, is_disk, is_output};
-ghost use Rattle.run_works.specs.Disks.{KeepsContents, state_of};
+ghost use Rattle.run_works.specs.Disks.{KeepsContents, KeepsLogShort, state_of};
 
 use crate::closing::RunDisk;
 use abl_outside::Out;
@@ -38,6 +38,7 @@ pub fn dump_rows<D: Disk + Drop, O: Out>(
     ensures time { D.time disk ≤ D.time result.1 }
     ensures cause { IfErr result.0 (λ e. is_disk e ≡ true → Rose (D.failures disk) (D.failures result.1)) }
     ensures kept { KeepsContents schema (state_of D.Disk disk) (state_of D.Disk result.1) }
+    ensures log { KeepsLogShort (state_of D.Disk disk) (state_of D.Disk result.1) }
 {
     dump_since::<D, Brand, O>(alloc, disk, schema, schema_of_rows, table, out)
 }
@@ -64,6 +65,7 @@ fn dump_since<D: Disk + Drop, K: Start, O: Out>(
     ensures time { D.time disk ≤ D.time result.1 }
     ensures cause { IfErr result.0 (λ e. is_disk e ≡ true → Rose (D.failures disk) (D.failures result.1)) }
     ensures kept { KeepsContents schema (state_of D.Disk disk) (state_of D.Disk result.1) }
+    ensures log { KeepsLogShort (state_of D.Disk disk) (state_of D.Disk result.1) }
 {
     let watched: RunDisk<D, K> = Watched {
         disk,

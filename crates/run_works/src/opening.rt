@@ -5,6 +5,7 @@ ghost use Rattle.database_meaning.specs.declared.contents.Contents.{Contents};
 ghost use Rattle.source_files.specs.Compiled.{schema_in};
 ghost use Rattle.disk_steps.specs.Steps.{Image};
 ghost use Rattle.disk_database.specs.Images.{RecoversAsBefore};
+ghost use Rattle.bi_log.specs.Lengths.{StayShort};
 ghost use Rattle.logged_slots.specs.Stops.{StayRecoverable};
 ghost use Rattle.run_works.specs.Disks.{HoldsContents, IsNotOpened, opening_refusal, state_of};
 
@@ -42,6 +43,7 @@ pub(crate) fn open_database<D: Disk + Drop, K: Opening>(
     ensures refused { IfErr result (λ not_run. IsNotOpened (schema_in df.now) (state_of D.Disk disk) (state_of D.Disk not_run.disk) not_run.refusal) }
     ensures images { IfErr result (λ not_run. RecoversAsBefore (D.time disk) (D.left disk) (D.left not_run.disk)) }
     ensures recoverable { IfErr result (λ not_run. StayRecoverable (D.left not_run.disk) (D.time disk)) }
+    ensures short { IfErr result (λ not_run. StayShort (D.left not_run.disk) (D.time disk)) }
 {
     let Ok(schema) = schema_of(alloc, df) else {
         return Err(NotRun {

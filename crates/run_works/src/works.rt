@@ -3,7 +3,7 @@
 ghost use Rattle.std.specs.Prelude.{◌≡◌, ◌++◌, ◌+◌, ◌<◌, ◌≤◌, ◌⊎◌, ℕ, List, [], length, map, vec_capacity, vec_len};
 ghost use Rattle.client_output.specs.declared.section.Section.{Section};
 ghost use Rattle.source_files.specs.Compiled.{schema_in};
-ghost use Rattle.run_works.specs.Disks.{state_of};
+ghost use Rattle.run_works.specs.Disks.{KeepsLogShort, state_of};
 ghost use Rattle.run_works.specs.Works.{HasNotRun, HasRun};
 ghost use Rattle.served_works.specs.Served.{AreToDo, HaveSections, end_or_none};
 ghost use Rattle.served_works.specs.Works.{Work};
@@ -42,9 +42,10 @@ pub fn execute<R: Threads + Wait + Sync, D: Disk + Send + Drop, O: Out, G: Gate 
     requires some { 0 < length clients.items }
     requires few { length clients.items ≤ 16 }
     requires schema { form.now.schema.now ≡ schema_in df.now }
-    ensures { (units : ℕ) (works : List Work) → AreToDo units works clients.items →
+    ensures ran { (units : ℕ) (works : List Work) → AreToDo units works clients.items →
         HasRun form.now.mode form.now.schema.now form.now.names.now units works (state_of D.Disk disk) (state_of D.Disk result.disk) (O.state out.old) (O.state out.new) result.report
         ⊎ HasNotRun form.now.schema.now form.now.names.now (state_of D.Disk disk) (state_of D.Disk result.disk) (O.state out.old) (O.state out.new) result.report }
+    ensures log { KeepsLogShort (state_of D.Disk disk) (state_of D.Disk result.disk) }
 {
     let Ok(ends) = Vec::with_capacity(alloc, clients.len()) else {
         return out_of_memory(alloc, out, form, disk);
@@ -74,7 +75,8 @@ fn out_of_memory<D: Disk + Drop, O: Out>(
     form: &ReportForm<'_>,
     disk: D,
 ) -> Outcome<D>
-    ensures { HasNotRun form.now.schema.now form.now.names.now (state_of D.Disk disk) (state_of D.Disk result.disk) (O.state out.old) (O.state out.new) result.report }
+    ensures not_run { HasNotRun form.now.schema.now form.now.names.now (state_of D.Disk disk) (state_of D.Disk result.disk) (O.state out.old) (O.state out.new) result.report }
+    ensures log { KeepsLogShort (state_of D.Disk disk) (state_of D.Disk result.disk) }
 {
     let report = refused(alloc, out, form.names, Refusal::NoMemory);
     Outcome { report, disk }

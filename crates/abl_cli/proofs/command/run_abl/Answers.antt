@@ -3,8 +3,8 @@ use Rattle.std.proofs.Common.{refl}
 use Rattle.abl_cli.specs.Command.{Refused, wrong_argument}
 use Rattle.abl_cli.proofs.command.run_abl.Goals as goal
 
-pub returns-in-Err : goal.returns-in-Err
-returns-in-Err g c = Refused _ _ (wrong_argument c.in-Err.ensures.wrong) refl c.refused-report.ensures
+pub returns-in-Err-clause-did : goal.returns-in-Err-clause-did
+returns-in-Err-clause-did g c = Refused _ _ (wrong_argument c.in-Err.ensures.wrong) refl c.refused-report.ensures
 
-pub returns-in-Ok-Bank : goal.returns-in-Ok-Bank
-returns-in-Ok-Bank g c = c.run_bank_of.ensures (g.F.Files.state c.args.files.now) (g.F.Files.state c.args.files.now).faults
+pub returns-in-Ok-Bank-clause-did : goal.returns-in-Ok-Bank-clause-did
+returns-in-Ok-Bank-clause-did g c = c.run_bank_of.ensures.did (g.F.Files.state c.args.files.now) (g.F.Files.state c.args.files.now).faults

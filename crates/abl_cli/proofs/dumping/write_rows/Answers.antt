@@ -7,8 +7,8 @@ use Rattle.abl_cli.specs.Stored.{dump_refusal}
 use Rattle.abl_cli.proofs.Dumps.{dump_cause, dumped_by}
 use Rattle.abl_cli.proofs.dumping.write_rows.Goals as goal
 
-pub returns : goal.returns
-returns g c =
+pub returns-clause-did : goal.returns-clause-did
+returns-clause-did g c =
     let was = state_of g.D.Disk c.args.disk in
     let now = state_of g.D.Disk c.dump_rows-written.result.1 in
     let written = c.dump_rows-written.result.0 in

@@ -26,8 +26,8 @@ report-report-requires-clause-few g c =
     let many : length c.in-Ok.ran.clients.items ≡ length c.args.clients.items = as_many_ended_or_not (record { schema = bank_schema; clients = length c.args.clients.items }) c.in-Ok.ran.trace 0 c.args.clients.items c.in-Ok.ran.clients.items c.in-Ok.ensures.ended in
     omega (arith, many, c.requires.few)
 
-pub returns-in-Ok : goal.returns-in-Ok
-returns-in-Ok g c = λ units between works many to_do.
+pub returns-in-Ok-clause-ran : goal.returns-in-Ok-clause-ran
+returns-in-Ok-clause-ran g c = λ units between works many to_do.
     let ran = c.in-Ok.ran in
     let told = c.report-report.ensures.reported in
     let ends : List ClientEnd = map (λ (ended : EndedClient). end_or_none ended.end) ran.clients.items in
@@ -49,8 +49,8 @@ returns-in-Ok g c = λ units between works many to_do.
       reported = told.2;
     })
 
-pub returns-in-Err : goal.returns-in-Err
-returns-in-Err g c = λ units between works many to_do.
+pub returns-in-Err-clause-ran : goal.returns-in-Err-clause-ran
+returns-in-Err-clause-ran g c = λ units between works many to_do.
     let was = state_of g.D.Disk c.args.disk in
     let now = state_of g.D.Disk c.in-Err.not_run.disk in
     inr (subst (λ (s : SchemaData). HasNotRun s c.args.form.now.names.now was now (g.O.Out.state c.args.out.now) (g.O.Out.state c.refused-report.new.out) c.refused-report.result) (sym c.requires.schema) (record {

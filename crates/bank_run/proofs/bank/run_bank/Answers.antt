@@ -13,16 +13,16 @@ use Rattle.bank_run.specs.Texts.{bank_names}
 use Rattle.bank_run.proofs.Outcomes.{nameless}
 use Rattle.bank_run.proofs.bank.run_bank.Goals as goal
 
-pub returns-in_default : goal.returns-in_default
-returns-in_default g c = BankPrevented NoMemory bank_wants refl (nameless (bank_names c.args.bank.clients) _ _ _ c.refused-report.ensures)
+pub returns-in_default-clause-did : goal.returns-in_default-clause-did
+returns-in_default-clause-did g c = BankPrevented NoMemory bank_wants refl (nameless (bank_names c.args.bank.clients) _ _ _ c.refused-report.ensures)
 
-pub returns-in-Err : goal.returns-in-Err
-returns-in-Err g c =
+pub returns-in-Err-clause-did : goal.returns-in-Err-clause-did
+returns-in-Err-clause-did g c =
     BankPrevented c.in-Err.refusal c.in-Err.ensures.prevented refl
     (subst (λ (names : List (List ℕ)). IsRefused names c.in-Err.refusal (g.O.Out.state c.args.out.now) (g.O.Out.state c.refused-report-in-Err.new.out) c.refused-report-in-Err.result) (c.deref.ensures.value ∙ c.in-Ok.ensures) c.refused-report-in-Err.ensures)
 
-pub returns : goal.returns
-returns g c =
+pub returns-clause-did : goal.returns-clause-did
+returns-clause-did g c =
     let ready = c.in-Ok-load.ensures.ready in
     let names_are : c.deref-in-Ok-load.result.now ≡ bank_names c.args.bank.clients = c.deref-in-Ok-load.ensures.value ∙ c.in-Ok.ensures in
     let was = state_of g.D.Disk c.args.disk in
@@ -43,4 +43,4 @@ returns g c =
     (subst (λ (s : SchemaData). HasNotRun s (bank_names clients) was now old new report) ready.schema_is
     (subst (λ (names : List (List ℕ)). HasNotRun schema names was now old new report) names_are not_run)))
     in
-    by_case (c.execute.ensures BANK_UNITS clients ready.works c.in-Ok-load.ensures.many ready.to_do)
+    by_case (c.execute.ensures.ran BANK_UNITS clients ready.works c.in-Ok-load.ensures.many ready.to_do)

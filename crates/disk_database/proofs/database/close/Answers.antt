@@ -15,3 +15,6 @@ returns-clause-survives g c = λ f contents opened one all same held.
     (crashes_survive _ _ _ _ f contents _ (rw (c.close-rows.ensures.rows) at c.disk_of.ensures.stops) (rw (c.close-rows.ensures.rows) at c.disk_of.ensures.recoverable) one all (sym opened.was.represents.schema)
     (λ m image slots from there recovers. subst (λ (x : SchemaData). HoldParts x slots) same ((rw (c.close-rows.ensures.rows) at c.disk_of.ensures.parts) kept m image slots from there recovers))
     (c.close-rows.ensures.crashes f contents opened))
+
+pub returns-clause-short : goal.returns-clause-short
+returns-clause-short g c = rw (c.close-rows.ensures.rows) at c.disk_of.ensures.short

@@ -1,6 +1,7 @@
 -- The table over the rows, and the disk after it.
 use Rattle.std.proofs.Common.{ap, sym, subst, ◌∙◌, refl, Bool, true, false, ℕ, List, arith}
 use Rattle.std.specs.Prelude.{IsTrue, not}
+use Rattle.bi_log.specs.Lengths.{StayShort}
 use Rattle.logged_slots.specs.Stops.{StayRecoverable}
 use Rattle.abl_values.specs.Schema.{SchemaData, canonical_text}
 use Rattle.stored_text.specs.Held.{HoldText}
@@ -38,6 +39,9 @@ returns-in-Ok-written-clause-images g c =
 
 pub returns-in-Ok-written-clause-recoverable : goal.returns-in-Ok-written-clause-recoverable
 returns-in-Ok-written-clause-recoverable g c = subst (StayRecoverable (g.D.Disk.left c.disk_of-disk.result)) (c.write_table-written.ensures.read.since ∙ c.in-Ok.ensures.opened.since) c.disk_of-disk.ensures.recoverable
+
+pub returns-in-Ok-written-clause-short : goal.returns-in-Ok-written-clause-short
+returns-in-Ok-written-clause-short g c = subst (StayShort (g.D.Disk.left c.disk_of-disk.result)) (c.write_table-written.ensures.read.since ∙ c.in-Ok.ensures.opened.since) c.disk_of-disk.ensures.short
 
 pub returns-in-Ok-written-clause-kept : goal.returns-in-Ok-written-clause-kept
 returns-in-Ok-written-clause-kept g c = λ contents held.
@@ -85,6 +89,9 @@ returns-clause-kept g c = λ contents held.
 
 pub returns-clause-recoverable : goal.returns-clause-recoverable
 returns-clause-recoverable g c = subst (StayRecoverable (g.D.Disk.left c.disk_of-disk.result)) (c.write_table-written.ensures.read.since ∙ c.in-Ok.ensures.opened.since) c.disk_of-disk.ensures.recoverable
+
+pub returns-clause-short : goal.returns-clause-short
+returns-clause-short g c = subst (StayShort (g.D.Disk.left c.disk_of-disk.result)) (c.write_table-written.ensures.read.since ∙ c.in-Ok.ensures.opened.since) c.disk_of-disk.ensures.short
 
 pub returns-clause-cause : goal.returns-clause-cause
 returns-clause-cause g c = λ yes. rw (c.faults-before.ensures, c.faults-now.ensures) at (c.of_table.ensures.cause yes)

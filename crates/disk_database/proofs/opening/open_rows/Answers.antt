@@ -37,4 +37,4 @@ returns-in-Err-open-clause-back g c =
     (opened_as _ _ _ _ _ _ _ _ c.new-slots.ensures.state c.new-slots.ensures.stops c.in-Ok.ensures.opened) in
     let disk = c.give_back.ensures.disk ∙ ap (λ x. x.slots.disk) c.close.ensures.slots in
     back_by_slots _ _ _ _ _ _ _ _ _ opened (ap (λ d. g.D.Disk.observable d) disk) (subst (λ d. c.in-Err-open.slots.slots.slots.since ≤ g.D.Disk.time d) (sym disk) c.in-Err-open.slots.slots.slots.past)
-    (rw (c.close.ensures.slots) at c.give_back.ensures.stops) (rw (c.close.ensures.slots) at c.give_back.ensures.recoverable)
+    (rw (c.close.ensures.slots) at c.give_back.ensures.stops) (rw (c.close.ensures.slots) at c.give_back.ensures.recoverable) (rw (c.close.ensures.slots) at c.give_back.ensures.short)

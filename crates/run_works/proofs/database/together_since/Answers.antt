@@ -4,13 +4,14 @@ use denote.Param.Send.{sendable}
 use Rattle.watched_disk.proofs.watched.Watched.TheSendSync as watched
 use Rattle.guarded_slots.proofs.guarded.Guarded.TheSendSync as guarded
 use Rattle.disk_database.proofs.guard.SlotGuard.TheSendSync as guard
+use Rattle.bi_log.specs.Lengths.{StayShort}
 use Rattle.logged_slots.specs.Stops.{StayRecoverable}
 use Rattle.disk_database.specs.declared.refusals.OpenRefusal.TheVariants as opening
 use Rattle.disk_database.specs.Images.{RecoversAsBefore, SurvivesCrashes}
 use Rattle.source_files.specs.Compiled.{schema_in}
 use Rattle.served_works.specs.Served.{HaveEnded}
 use Rattle.run_works.specs.Disks.{IsDurable, state_of}
-use Rattle.run_works.proofs.Disks.{held_recover, kept}
+use Rattle.run_works.proofs.Disks.{held_recover, kept, short_kept, short_since}
 use Rattle.run_works.proofs.Sends.{store_send, txn_send}
 use Rattle.run_works.proofs.database.together_since.Goals as goal
 
@@ -31,6 +32,14 @@ returns-in-Err-clause-kept g c =
     (λ image there. c.unwatched.ensures.images image (subst (λ (m : ℕ). g.D.Disk.left left m image) (sym c.requires.moment) there))
     (subst (λ d. RecoversAsBefore (g.D.Disk.time disk) (g.D.Disk.left disk) (g.D.Disk.left d)) (sym c.unwatched.ensures.disk) c.in-Err.ensures.images)
     (subst (λ d. StayRecoverable (g.D.Disk.left d) (g.D.Disk.time disk)) (sym c.unwatched.ensures.disk) c.in-Err.ensures.recoverable)
+
+pub returns-in-Err-clause-short : goal.returns-in-Err-clause-short
+returns-in-Err-clause-short g c =
+    let disk = c.args.disk in
+    let left = c.unwatched.result.disk in
+    short_kept (state_of g.D.Disk disk) (state_of g.D.Disk left) g.K.Start.images c.requires.began
+    (λ image there. c.unwatched.ensures.images image (subst (λ (m : ℕ). g.D.Disk.left left m image) (sym c.requires.moment) there))
+    (subst (λ d. StayShort (g.D.Disk.left d) (g.D.Disk.time disk)) (sym c.unwatched.ensures.disk) c.in-Err.ensures.short)
 
 pub serve-requires-send-S : goal.serve-requires-send-S
 serve-requires-send-S g c κs within = let disk = c.type_bounds.send-D in let start = c.type_bounds.send-K in search (store_send, txn_send, guarded.the_send, guard.the_send, watched.the_send, sendable) depth 20
@@ -64,3 +73,11 @@ returns-in-Err-serve-clause-kept g c = λ contents holds m image from there.
     let schema = schema_in c.args.df.now in
     c.close_unused.ensures.kept (record { schema = schema; clients = c.len.result }) contents (rw (c.in-Err-serve.ensures.back) (c.in-Ok.ensures.opened contents holds)) (held_recover (state_of g.D.Disk disk) schema contents g.K.Start.images c.requires.began holds)
     c.requires.schema (λ image was. holds.all image (c.requires.opened image was)) m image (subst (λ (n : ℕ). n ≤ m) (sym c.requires.moment) from) there
+
+pub returns-in-Ok-serve-clause-log : goal.returns-in-Ok-serve-clause-log
+returns-in-Ok-serve-clause-log g c =
+    short_since (state_of g.D.Disk c.args.disk) (state_of g.D.Disk c.close_after_run.result.disk) g.K.Start.images g.K.Start.moment c.requires.moment c.requires.began c.close_after_run.ensures.log
+
+pub returns-in-Err-serve-clause-short : goal.returns-in-Err-serve-clause-short
+returns-in-Err-serve-clause-short g c =
+    short_since (state_of g.D.Disk c.args.disk) (state_of g.D.Disk c.close_unused.result.disk) g.K.Start.images g.K.Start.moment c.requires.moment c.requires.began c.close_unused.ensures.log

@@ -1,7 +1,7 @@
 -- The images of the call recover, so the disk keeps its contents.
 use Rattle.std.proofs.Common.{◌≡◌, sym, subst, arith, ℕ}
 use Rattle.run_works.specs.Disks.{state_of}
-use Rattle.run_works.proofs.Disks.{all_recover, held_recover}
+use Rattle.run_works.proofs.Disks.{all_recover, held_recover, short_kept}
 use Rattle.run_works.proofs.dumping.dump_since.Goals as goal
 
 pub invariant_of-watched : goal.invariant_of-watched
@@ -23,3 +23,11 @@ returns-clause-kept g c = λ contents holds.
     c.dump-written.ensures.kept contents holds
     (all_recover g.K.Start.images (left (g.D.Disk.time disk)) (λ image there. watched.images image (subst (λ (m : ℕ). left m image) (sym c.requires.moment) there))
     (held_recover (state_of g.D.Disk disk) c.args.schema contents g.K.Start.images c.requires.began holds))
+
+pub returns-clause-log : goal.returns-clause-log
+returns-clause-log g c =
+    let disk = c.args.disk in
+    let watched = c.dump-written.result.1 in
+    let left = g.D.Disk.left watched.disk in
+    short_kept (state_of g.D.Disk disk) (state_of g.D.Disk watched.disk) g.K.Start.images c.requires.began
+    (λ image there. watched.images image (subst (λ (m : ℕ). left m image) (sym c.requires.moment) there)) c.dump-written.ensures.short

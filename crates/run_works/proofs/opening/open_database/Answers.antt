@@ -2,7 +2,7 @@
 use Rattle.std.proofs.Common.{sym, subst}
 use Rattle.abl_values.specs.Schema.{SchemaData}
 use Rattle.disk_database.specs.Images.{AreImagesOf}
-use Rattle.run_works.proofs.Disks.{as_before, stays_recoverable}
+use Rattle.run_works.proofs.Disks.{as_before, stays_recoverable, stays_short}
 use Rattle.run_works.proofs.opening.open_database.Goals as goal
 
 pub returns-in_default-clause-images : goal.returns-in_default-clause-images
@@ -16,6 +16,12 @@ returns-in_default-schema_of-clause-images g c = as_before _ _ _ (g.met.D.Disk.i
 
 pub returns-in_default-schema_of-clause-recoverable : goal.returns-in_default-schema_of-clause-recoverable
 returns-in_default-schema_of-clause-recoverable g c = stays_recoverable _ _ _ (g.met.D.Disk.image_known c.args.disk)
+
+pub returns-in_default-clause-short : goal.returns-in_default-clause-short
+returns-in_default-clause-short g c = stays_short _ _ _ (g.met.D.Disk.image_known c.args.disk)
+
+pub returns-in_default-schema_of-clause-short : goal.returns-in_default-schema_of-clause-short
+returns-in_default-schema_of-clause-short g c = stays_short _ _ _ (g.met.D.Disk.image_known c.args.disk)
 
 pub returns-in-Ok-open-clause-opened : goal.returns-in-Ok-open-clause-opened
 returns-in-Ok-open-clause-opened g c = λ contents holds.

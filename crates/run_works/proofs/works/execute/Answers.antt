@@ -13,8 +13,8 @@ use Rattle.run_works.specs.Works.{HasNotRun}
 use Rattle.run_works.proofs.Runs.{as_many_clients, as_many_ended, did_as_meant}
 use Rattle.run_works.proofs.works.execute.Goals as goal
 
-pub returns-in_default : goal.returns-in_default
-returns-in_default g c = λ units works to_do. inr c.out_of_memory.ensures
+pub returns-in_default-clause-ran : goal.returns-in_default-clause-ran
+returns-in_default-clause-ran g c = λ units works to_do. inr c.out_of_memory.ensures.not_run
 
 pub report-report-requires-clause-room : goal.report-report-requires-clause-room
 report-report-requires-clause-room g c =
@@ -26,8 +26,8 @@ report-report-requires-clause-few g c =
     let many : length c.in-Ok-run_together.ran.clients.items ≡ length c.args.clients.items = as_many_ended (record { schema = schema_in c.args.df.now; clients = length c.args.clients.items }) c.in-Ok-run_together.ran.trace 0 c.args.clients.items c.in-Ok-run_together.ran.clients.items c.in-Ok-run_together.ensures.ended in
     omega (arith, many, c.requires.few)
 
-pub returns-in-Ok-run_together : goal.returns-in-Ok-run_together
-returns-in-Ok-run_together g c = λ units works to_do.
+pub returns-in-Ok-run_together-clause-ran : goal.returns-in-Ok-run_together-clause-ran
+returns-in-Ok-run_together-clause-ran g c = λ units works to_do.
     let ran = c.in-Ok-run_together.ran in
     let told = c.report-report.ensures.reported in
     let ends : List ClientEnd = map (λ (ended : EndedClient). end_or_none ended.end) ran.clients.items in
@@ -50,8 +50,8 @@ returns-in-Ok-run_together g c = λ units works to_do.
       reported = told.2;
     })
 
-pub returns-in-Err : goal.returns-in-Err
-returns-in-Err g c = λ units works to_do.
+pub returns-in-Err-clause-ran : goal.returns-in-Err-clause-ran
+returns-in-Err-clause-ran g c = λ units works to_do.
     let not_run = c.in-Err.not_run in
     let was = state_of g.D.Disk c.args.disk in
     let now = state_of g.D.Disk not_run.disk in

@@ -3,11 +3,11 @@ use Rattle.std.proofs.Common.{refl}
 use Rattle.disk_database.specs.declared.refusals.OpenRefusal.TheVariants as opening
 use Rattle.run_report.specs.declared.refusal.Refusal.TheVariants.{NoMemory}
 use Rattle.run_works.specs.Disks.{state_of}
-use Rattle.run_works.proofs.Disks.{untouched}
+use Rattle.run_works.proofs.Disks.{short_untouched, untouched}
 use Rattle.run_works.proofs.works.out_of_memory.Goals as goal
 
-pub returns : goal.returns
-returns g c =
+pub returns-clause-not_run : goal.returns-clause-not_run
+returns-clause-not_run g c =
     let disk = state_of g.D.Disk c.args.disk in
     record {
       refusal = NoMemory;
@@ -16,3 +16,6 @@ returns g c =
       others = λ memory other. untouched disk (g.met.D.Disk.image_known c.args.disk) other;
       reported = c.refused-report.ensures;
     }
+
+pub returns-clause-log : goal.returns-clause-log
+returns-clause-log g c = short_untouched (state_of g.D.Disk c.args.disk) (g.met.D.Disk.image_known c.args.disk)
