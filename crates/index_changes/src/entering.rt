@@ -1,14 +1,14 @@
 //! Moves that enter, made with a way back.
 
-ghost use Rattle.std.specs.Prelude.{◌≡◌, ◌<◌, ◌++◌, ◌∷◌, ◌↔◌, [], length, IsTrue, IfOk, OnOk, OnErr, IfSome, None};
+ghost use Rattle.std.specs.Prelude.{◌≡◌, ◌⊎◌, ◌<◌, ◌++◌, ◌∷◌, ◌↔◌, [], ℕ, length, IsTrue, IfOk, OnOk, OnErr, IfSome, None, Some};
 ghost use Rattle.key_index.specs.Index.{IsSame, Puts, keeper_of, place_at};
 ghost use Rattle.row_indexes.specs.Places.{AreWithin, keepers_of, owner_after, places_of, with_place};
 ghost use Rattle.row_indexes.specs.Making.{CanMake, CanMakeOne, kept_after, made, with_keeper};
 ghost use Rattle.index_changes.specs.Entering.{AreBefore, IsBefore, Notes};
 
 use crate::forgetting::forget_one;
-use abl_base::{Bytes, RowId};
-use key_index::Index;
+use abl_base::RowId;
+use key_index::{Index, PlaceState};
 use row_indexes::Move;
 use std::alloc::{AllocError, Global};
 
@@ -120,26 +120,48 @@ fn enter_in(
     Ok(was)
 }
 
-/// What is before a move that enters; None where it may not be made.
+/// What is before a move that enters; None where it may not be made. It searches the index once.
 fn before_enter(index: &Index, client: u16, row: u32, at: &Move) -> Option<Before>
     ensures can { IfSome result (λ _. CanMakeOne client row at.now (λ _ key k. place_at index.now key k) (λ _ key. keeper_of index.now key)) }
     ensures before { IfSome result (λ was. IsBefore client row at.now was (λ _ key k. place_at index.now key k) (λ _ key. keeper_of index.now key)) }
 {
-    let may_keep = !at.unique || index.may_keep(client, &at.key);
-    if !at.entered || !may_keep || !index.may_enter(client, &at.key, RowId(row)) {
+    let PlaceState { place, keeper } = index.state(&at.key, RowId(row));
+    let may_keep = !at.unique || may_keep(client, keeper);
+    if !at.entered || !may_keep || !may_enter(client, place) {
         return None;
     }
-    let left = !is_empty(index, &at.key, RowId(row));
-    let keeper = index.keeper(&at.key);
+    let left = !is_empty(place);
     if left && at.unique && keeper != Some(client) {
         return None;
     }
     Some(Before { left, keeper })
 }
 
-/// Whether the place is empty: only there two clients may enter.
-fn is_empty(index: &Index, key: &Bytes, row: RowId) -> bool
-    ensures { IsTrue result ↔ (place_at index.now key.now row.0 ≡ None) }
+/// Whether the client may keep a key that has this keeper: no other client keeps it.
+fn may_keep(client: u16, keeper: Option<u16>) -> bool
+    ensures { IsTrue result ↔ ((other : ℕ) → keeper ≡ Some other → other ≡ client) }
 {
-    index.may_enter(0, key, row) && index.may_enter(1, key, row)
+    match keeper {
+        None => true,
+        Some(other) => other == client,
+    }
+}
+
+/// Whether the client may enter at a place with this content: it is empty, or has a placeholder of
+/// the client.
+fn may_enter(client: u16, place: Option<Option<u16>>) -> bool
+    ensures { IsTrue result ↔ ((place ≡ None) ⊎ (place ≡ Some (Some client))) }
+{
+    match place {
+        None => true,
+        Some(None) => false,
+        Some(Some(owner)) => owner == client,
+    }
+}
+
+/// Whether a place with this content is empty.
+fn is_empty(place: Option<Option<u16>>) -> bool
+    ensures { IsTrue result ↔ (place ≡ None) }
+{
+    place.is_none()
 }

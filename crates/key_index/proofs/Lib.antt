@@ -13,3 +13,4 @@ pub mod TouchedKeys
 pub mod NodesOf
 pub mod TouchedPuts
 pub mod Forgotten
+pub mod Leasts

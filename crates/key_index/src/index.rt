@@ -1,9 +1,10 @@
 //! The index.
 
-ghost use Rattle.std.specs.Prelude.{◌≡◌, ◌↔◌, true, false, IsTrue, IsSome, IsOk, OnOk, OnErr, IfOk, MatchOption, Some, None};
+ghost use Rattle.std.specs.Prelude.{◌≡◌, ◌≤◌, ◌↔◌, ℕ, true, false, IsTrue, IsSome, IsOk, OnOk, OnErr, IfNone, IfOk, IfSome, MatchOption, Some, None};
 ghost use Rattle.std.specs.FinMap as map;
 ghost use Rattle.std.specs.Option.{option_copied};
 ghost use Rattle.key_index.specs.Index.{Forgets, IsEnded, IsEntry, IsSame, KeepsSome, MayEnter, NoOtherKeeps, Puts, keeper_of, place_at};
+ghost use Rattle.key_index.specs.Places.{IsAbove};
 ghost use Rattle.key_index.specs.Search.{FindsNone, FindsNoneAmong, IsKeyBeyond, IsNext, IsNextAmong};
 
 use crate::chain::Chain;
@@ -96,6 +97,13 @@ impl Node {
     {
         self.keeper.is_some() || self.rows.has_left()
     }
+}
+
+/// What an index has at a place, and the client that keeps the key of the place.
+#[derive(Clone, Copy, Debug)]
+pub struct PlaceState {
+    pub place: Option<Option<u16>>,
+    pub keeper: Option<u16>,
 }
 
 /// The entries, placeholders and kept keys of an index.
@@ -267,6 +275,36 @@ impl Index {
         ensures { result ≡ place_at self.now key.now row.0 }
     {
         self.nodes.get(key.as_slice())?.node.rows.get(row.0)
+    }
+
+    /// The content of the place and the keeper of its key, by one search. The place is None if it is
+    /// empty, Some None for an entry, or the client whose placeholder it has. It takes no memory.
+    pub fn state(&self, key: &Bytes, row: RowId) -> PlaceState
+        ensures place { result.place ≡ place_at self.now key.now row.0 }
+        ensures keeper { result.keeper ≡ keeper_of self.now key.now }
+    {
+        match self.nodes.get(key.as_slice()) {
+            None => PlaceState {
+                place: None,
+                keeper: None,
+            },
+            Some(keyed) => PlaceState {
+                place: keyed.node.rows.get(row.0),
+                keeper: keyed.node.keeper,
+            },
+        }
+    }
+
+    /// The least row that has an entry under this very key, above the given row where one is given.
+    /// It takes no memory.
+    pub fn least(&self, key: &Bytes, above: Option<u32>) -> Option<u32>
+        ensures found { IfSome result (λ row. IsEntry self.now key.now row) }
+        ensures beyond { IfSome result (λ row. IsAbove above row) }
+        ensures first { IfSome result (λ row. (q : ℕ) → IsAbove above q → IsEntry self.now key.now q → row ≤ q) }
+        ensures none { IfNone result ((q : ℕ) → IsAbove above q → ¬ IsEntry self.now key.now q) }
+    {
+        let keyed = self.nodes.get(key.as_slice())?;
+        keyed.node.rows.least(above)
     }
 
     /// Whether the client keeps a key. It takes no memory, and goes over the same keys as `end`.

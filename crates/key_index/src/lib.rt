@@ -17,5 +17,5 @@ mod seek;
 mod span;
 mod touched;
 
-pub use index::{Index, Node};
+pub use index::{Index, Node, PlaceState};
 pub use rows::Rows;

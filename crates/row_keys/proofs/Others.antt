@@ -1,14 +1,12 @@
 -- Other rows with a unique key.
-use Rattle.std.proofs.Common.{◌≡◌, ◌≢◌, ℕ, zero, suc, ◌+◌, ◌<◌, true, List, [], ◌∷◌, length, get_or, Option, Some, None, inl, inr, refl, sym, ap, ◌∙◌, subst, arith}
+use Rattle.std.proofs.Common.{◌≡◌, ◌≢◌, ℕ, zero, suc, ◌+◌, ◌<◌, ◌≤◌, true, List, [], ◌∷◌, length, get_or, Option, Some, None, inl, inr, refl, sym, ap, ◌∙◌, subst, arith}
 use Rattle.std.specs.Prelude.{MatchOption}
-use Rattle.std.proofs.lemmas.List.{append-nil}
 use Rattle.std.proofs.lemmas.Bool.{cases_lt}
 use Rattle.abl_base.specs.declared.value.Value.{Value}
 use Rattle.abl_base.specs.declared.row.RowId.{RowId}
 use Rattle.abl_values.specs.declared.schema.IndexDef.{IndexDef}
 use Rattle.abl_values.specs.Keys.{key_bytes, unique_key}
 use Rattle.abl_values.specs.Schema.{SchemaData, indexes_of}
-use Rattle.client_database.specs.declared.row_order.Cursor.{Cursor}
 use Rattle.database_meaning.specs.declared.state.StoredRow.{StoredRow}
 use Rattle.database_meaning.specs.declared.state.Key.{Key}
 use Rattle.database_meaning.specs.Setting.{FitsTable, HasIndex, HasTable, kinds_of, no_index, unique_keys}
@@ -18,12 +16,11 @@ use Rattle.database_meaning.specs.Waiting.{row_in}
 use Rattle.database_meaning.proofs.Keys.{Has}
 use Rattle.abl_rows.specs.Changes.{RowsById}
 use Rattle.key_index.specs.Index.{IsEntry, Keys}
-use Rattle.key_index.specs.Search.{BeginsWith, FindsNone, IsBefore, IsFindable, IsNext}
-use Rattle.key_index.proofs.Orders.{not_itself, prefix_upto, upto_before}
+use Rattle.key_index.specs.Places.{IsAbove}
 use Rattle.row_indexes.specs.Places.{index_at, places_of}
 use Rattle.row_keys.specs.Numbers.{number_of}
 use Rattle.row_keys.specs.Entries.{AreEntries, AreFitting, entry_key}
-use Rattle.row_keys.specs.Questions.{HasNoneWith, HasOther, IsLeastDuplicateIn, IsOther}
+use Rattle.row_keys.specs.Questions.{HasOther, IsLeastDuplicateIn, IsOther}
 use Rattle.row_keys.proofs.Placed.{none_is_none}
 use Rattle.row_keys.proofs.Found.{entry_parts, row_has_key}
 use Rattle.row_keys.proofs.Listing.{order_in}
@@ -32,71 +29,33 @@ use Rattle.row_keys.proofs.UniqueMoves.{key_listed, key_there, none_listed, uniq
 -- ---- one index
 
 module _ (index : Keys) (key : List ℕ) where
-  itself : BeginsWith key key
-  itself = ([], sym (append-nil key))
-
-  -- a key that begins with this one does not precede it
-  not_before : (other : List ℕ) (row at : ℕ) → BeginsWith other key → IsBefore other row key at → (other ≡ key) × (row < at)
-  not_before other row at begins (inl e) = absurd (not_itself key (upto_before key other key (prefix_upto other key begins) e))
-  not_before other row at begins (inr p) = p
-
-  entry_is_first : (other : ℕ) → IsEntry index key other → IsFindable index None key true key other
-  entry_is_first other there = record { entry = there; begins = itself; beyond = tt }
-
-  pub none_with : (cursor : Option Cursor) → FindsNone index cursor key true → HasNoneWith index cursor key
-  none_with cursor none other h = none key other h
-
-  -- the first one that begins with the key has another
-  pub longer : (cursor : Option Cursor) (found : Cursor) → IsNext index cursor key true found → found.key ≢ key → HasNoneWith index cursor key
-  longer cursor found next ne other h =
-      elim (next.first key other h) [
-        | inl p ↦ ne (sym p.0)
-        | inr l ↦ ne (not_before found.key found.row.0 other next.findable.begins l).0
-      ]
-
-  pub none_at_all : (row : Option RowId) → HasNoneWith index None key → (other : RowId) → ¬ IsOther index key row other
-  none_at_all row none other h = none other.0 (entry_is_first other.0 h.0)
-
-  pub first_is_other : (row : Option RowId) (found : Cursor) → IsNext index None key true found → found.key ≡ key → row ≢ Some found.row → IsOther index key row found.row
-  first_is_other row found next is ne = (subst (λ (k : List ℕ). IsEntry index k found.row.0) is next.findable.entry, ne)
+  pub none_at_all : (row : Option RowId) → ((q : ℕ) → IsAbove None q → ¬ IsEntry index key q) → (other : RowId) → ¬ IsOther index key row other
+  none_at_all row none other h = none other.0 tt h.0
 
   same_id : (q row : RowId) → q.0 ≡ row.0 → q ≡ row
   same_id q row e = λ z. record { 0 = e z }
 
-  -- another row lies beyond the replaced one, where that is the first
-  findable_second : (row : Option RowId) (found : Cursor) → IsNext index None key true found → row ≡ Some found.row → (other : RowId) → IsOther index key row other → IsFindable index (Some found) key true key other.0
-  findable_second row found next own other h =
-      record {
-        entry = h.0;
-        begins = itself;
-        beyond = elim (next.first key other.0 (entry_is_first other.0 h.0)) [
-          | inl p ↦ absurd (h.1 (own ∙ ap (λ (q : RowId). Some q) (sym (same_id other found.row p.1))))
-          | inr l ↦ l
-        ];
-      }
+  -- another row lies above the replaced one, where that is the least
+  above_first : (row : Option RowId) (first : RowId) → row ≡ Some first → ((q : ℕ) → IsAbove None q → IsEntry index key q → first.0 ≤ q) → (other : RowId) → IsOther index key row other → first.0 < other.0
+  above_first row first own least other h =
+      let upto = least other.0 tt h.0 in
+      elim (cases_lt first.0 other.0) [
+        | inl lt ↦ lt
+        | inr ge ↦ let is : other.0 ≡ first.0 = omega (arith, upto, ge) in absurd (h.1 (own ∙ ap (λ (q : RowId). Some q) (sym (same_id other first is))))
+      ]
 
-  pub none_after_first : (row : Option RowId) (found : Cursor) → IsNext index None key true found → row ≡ Some found.row → HasNoneWith index (Some found) key → (other : RowId) → ¬ IsOther index key row other
-  none_after_first row found next own none other h = none other.0 (findable_second row found next own other h)
+  pub none_above : (row : Option RowId) (first : RowId) → row ≡ Some first → ((q : ℕ) → IsAbove None q → IsEntry index key q → first.0 ≤ q) → ((q : ℕ) → IsAbove (Some first.0) q → ¬ IsEntry index key q)
+      → (other : RowId) → ¬ IsOther index key row other
+  none_above row first own least none other h = none other.0 (above_first row first own least other h) h.0
 
-  pub second_is_other : (row : Option RowId) (found second : Cursor) → found.key ≡ key → row ≡ Some found.row → IsNext index (Some found) key true second → second.key ≡ key → IsOther index key row second.row
-  second_is_other row found second is own after same = (
-    subst (λ (k : List ℕ). IsEntry index k second.row.0) same after.findable.entry,
-    λ e. (let found_is : Some found.row ≡ Some second.row = sym own ∙ e in
-        let row_is : found.row ≡ second.row = cc in
-        let rows : found.row.0 ≡ second.row.0 = ap (λ (q : RowId). q.0) row_is in
-        let lt = (not_before found.key found.row.0 second.row.0 (subst (λ (k : List ℕ). BeginsWith k key) (sym is) itself) (subst (λ (k : List ℕ). IsBefore found.key found.row.0 k second.row.0) same after.findable.beyond)).1 in
-        absurd (omega (arith, rows, lt))),
+  pub second_is_other : (row : Option RowId) (first second : RowId) → row ≡ Some first → first.0 < second.0 → IsEntry index key second.0 → IsOther index key row second
+  second_is_other row first second own above entry = (
+    entry,
+    λ e. (let found_is : Some first ≡ Some second = sym own ∙ e in
+        let row_is : first ≡ second = cc in
+        let rows : first.0 ≡ second.0 = ap (λ (q : RowId). q.0) row_is in
+        absurd (omega (arith, rows, above))),
   )
-
-  -- the second one with the key, where the first one is the replaced row
-  pub second_row : (row : Option RowId) (found : Cursor) → IsNext index None key true found → found.key ≡ key → row ≡ Some found.row → (second : Option Cursor)
-      → MatchOption second (HasNoneWith index (Some found) key) (λ f. (f.key ≡ key) × IsNext index (Some found) key true f)
-      → (result : Option RowId) → MatchOption second (result ≡ None) (λ place. result ≡ Some place.row)
-      → MatchOption result ((other : RowId) → ¬ IsOther index key row other) (λ other. IsOther index key row other)
-  second_row row found next is own None none result e =
-      subst (λ (r : Option RowId). MatchOption r ((other : RowId) → ¬ IsOther index key row other) (λ other. IsOther index key row other)) (sym e) (none_after_first row found next own none)
-  second_row row found next is own (Some s) h result e =
-      subst (λ (r : Option RowId). MatchOption r ((other : RowId) → ¬ IsOther index key row other) (λ other. IsOther index key row other)) (sym e) (second_is_other row found s is own h.1 h.0)
 
 -- under the unique key of the values
 pub under_key : (index : Keys) (def : IndexDef) (row : Option RowId) (values : List Value) (key : List ℕ) → unique_key def.unique def.parts values ≡ Some key → (found : Option RowId)

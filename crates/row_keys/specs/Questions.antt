@@ -1,5 +1,5 @@
 -- What the indexes are asked.
-use Rattle.std.specs.Prelude.{◌≡◌, ◌≢◌, ℕ, suc, ◌<◌, nat_lt, if◌then◌else◌, Bool, true, List, [], ◌∷◌, Option, Some, None}
+use Rattle.std.specs.Prelude.{◌≡◌, ◌≢◌, ℕ, suc, ◌<◌, nat_lt, if◌then◌else◌, Bool, List, [], ◌∷◌, Option, Some, None}
 use Rattle.abl_base.specs.declared.value.Value.{Value}
 use Rattle.abl_base.specs.declared.row.RowId.{RowId}
 use Rattle.client_database.specs.declared.row_order.Cursor.{Cursor}
@@ -13,7 +13,6 @@ use Rattle.database_meaning.specs.Search.{IsNextIn}
 use Rattle.abl_rows.specs.Changes.{RowsById}
 use Rattle.abl_rows.specs.Questions.{table_at, table_in}
 use Rattle.key_index.specs.Index.{IsEntry, Keys, keeper_of}
-use Rattle.key_index.specs.Search.{IsFindable}
 use Rattle.row_indexes.specs.Places.{Keepers}
 use Rattle.row_keys.specs.Reserved.{reserved_at}
 
@@ -36,10 +35,6 @@ abbrev pub IsFoundAt : SchemaData → RowsById → ℕ → Option ℕ → List V
 IsFoundAt schema rows table index prefix cursor forward found =
     (table_at rows found.row.0 ≡ Some table)
     × ((values : List Value) → rows found.row.0 ≡ row_in table values → IsNextIn schema rows table index prefix cursor forward found.row found.key values)
-
--- no entry of the index beyond the cursor has this very key
-abbrev pub HasNoneWith : Keys → Option Cursor → List ℕ → Type 0
-HasNoneWith index cursor key = (other : ℕ) → ¬ IsFindable index cursor key true key other
 
 -- another row than the replaced one is an entry of the index under this key
 abbrev pub IsOther : Keys → List ℕ → Option RowId → RowId → Type 0

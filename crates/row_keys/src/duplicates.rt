@@ -8,18 +8,14 @@ ghost use Rattle.abl_rows.specs.Changes.{RowsById};
 ghost use Rattle.row_indexes.specs.Places.{places_of};
 ghost use Rattle.row_keys.specs.Numbers.{index_count};
 ghost use Rattle.row_keys.specs.Entries.{AreEntries, AreFitting};
-ghost use Rattle.row_keys.specs.Questions.{HasNoneWith, HasOther, IsLeastDuplicateIn, IsOther};
-ghost use Rattle.std.specs.Option.{option_copied};
-ghost use Rattle.abl_values.specs.Masks.{same_bytes};
-ghost use Rattle.key_index.specs.Search.{IsNext};
+ghost use Rattle.row_keys.specs.Questions.{HasOther, IsLeastDuplicateIn, IsOther};
 
 use crate::indexes::index_at;
 use crate::keys::unique_key_of;
 use crate::numbers::{def_at, first_of_table, numbered};
 use abl_base::{Bytes, Row, RowId};
 use abl_rows::Duplicate;
-use abl_values::{IndexDef, Schema, same_bytes};
-use client_database::Cursor;
+use abl_values::{IndexDef, Schema};
 use key_index::Index;
 use std::alloc::AllocError;
 
@@ -68,67 +64,22 @@ fn other_row(
 {
     match unique_key_of(def, values)? {
         None => Ok(None),
-        Some(key) => other_with_key(index, &key, row),
+        Some(key) => Ok(other_with_key(index, &key, row)),
     }
 }
 
-/// Another row than the replaced one with this key in the index.
-fn other_with_key(
-    index: &Index,
-    key: &Bytes,
-    row: Option<RowId>,
-) -> Result<Option<RowId>, AllocError>
-    ensures { IfOk result (λ found. MatchOption found ((other : Identity) → ¬ IsOther index.now key.now row other)
-        (λ other. IsOther index.now key.now row other)) }
+/// Another row than the replaced one with this key in the index: the first row with the key, or the
+/// second one where the first is the replaced row.
+fn other_with_key(index: &Index, key: &Bytes, row: Option<RowId>) -> Option<RowId>
+    ensures { MatchOption result ((other : Identity) → ¬ IsOther index.now key.now row other)
+        (λ other. IsOther index.now key.now row other) }
 {
-    match row_with_key(index, None, key)? {
-        None => Ok(None),
-        Some(first) => {
-            if !is_row(row, first.row) {
-                return Ok(Some(first.row));
-            }
-            let second = row_with_key(index, Some(&first), key)?;
-            Ok(row_of(second))
-        }
+    let first = index.least(key, None)?;
+    if !is_row(row, RowId(first)) {
+        return Some(RowId(first));
     }
-}
-
-/// The row of the place, if there is one.
-fn row_of(place: Option<Cursor>) -> Option<RowId>
-    ensures { MatchOption place (result ≡ None) (λ place. result ≡ Some place.row) }
-{
-    match place {
-        None => None,
-        Some(place) => Some(place.row),
-    }
-}
-
-/// The first row after the cursor with this very key.
-fn row_with_key(
-    index: &Index,
-    cursor: Option<&Cursor>,
-    key: &Bytes,
-) -> Result<Option<Cursor>, AllocError>
-    ensures { IfOk result (λ found. MatchOption found (HasNoneWith index.now (option_copied cursor.entry) key.now)
-        (λ f. (f.key ≡ key.now) × IsNext index.now (option_copied cursor.entry) key.now true f)) }
-{
-    match index.next(cursor, key, true)? {
-        None => Ok(None),
-        Some(found) => {
-            if has_key(&found, key) {
-                Ok(Some(found))
-            } else {
-                Ok(None)
-            }
-        }
-    }
-}
-
-/// Whether the place is under this key.
-fn has_key(place: &Cursor, key: &Bytes) -> bool
-    ensures { result ≡ same_bytes place.now.key key.now }
-{
-    same_bytes(place.key.as_slice(), key.as_slice())
+    let second = index.least(key, Some(first))?;
+    Some(RowId(second))
 }
 
 /// Whether it is this row.

@@ -1,5 +1,4 @@
 use Rattle.std.proofs.Common.{sym, ◌∙◌}
-use Rattle.std.proofs.lemmas.Result.{IfOk-weaker}
 use Rattle.row_keys.proofs.Others.{no_key, under_key}
 use Rattle.row_keys.proofs.duplicates.other_row.Goals as goal
 
@@ -8,5 +7,4 @@ returns-in-None c = no_key c.args.index.now c.args.def.now c.args.row c.args.val
 
 pub returns-in-Some : goal.returns-in-Some
 returns-in-Some c =
-    IfOk-weaker c.other_with_key.result _ _
-    (λ found h. under_key c.args.index.now c.args.def.now c.args.row c.args.values.now c.in-Some.key (sym c.in_ok-unique_key_of.ensures ∙ c.in-Some.is) found h) c.other_with_key.ensures
+    under_key c.args.index.now c.args.def.now c.args.row c.args.values.now c.in-Some.key (sym c.in_ok-unique_key_of.ensures ∙ c.in-Some.is) c.other_with_key.result c.other_with_key.ensures
