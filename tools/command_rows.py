@@ -4,7 +4,8 @@
 Each row that runs sources without records is answered by tools/abl_reference.py, each row that runs one
 source over a schema by tools/abl_records.py, each row of `bank` by the balances that its transfers leave, and each row of `check` that lists sources by the reference of
 scopes in tools/scope_rows.py, where it reads the source; none knows anything of the program. The answers to other rows (wrong arguments, files that cannot be read, rules that are
-broken, faults of the outside) were worked by hand; they are in `stdout` and stay. Run it at the
+broken, faults of the outside) were worked by hand; they are in `stdout` and stay. So do those in which a
+client stops with TxFull or TraceFull, since no reference counts slot writes or the trace. Run it at the
 top of the repository; with `--check` it only says which committed answers the reference denies."""
 
 import re
@@ -24,6 +25,7 @@ CHECK = re.compile(r"check s\.df( [^ ]+){1,16}$")
 SCHEMA_LINE = re.compile(r'ADD (?:TABLE|FIELD "(\w+)" OF) "(\w+)"')
 BANK = re.compile(r"bank (0|[1-9]\d*) ([1-9]\d*) ([1-9]\d*) ([1-9]\d*)$")
 KEPT = re.compile(r"(1|2|3|4|6|7|10) ")
+UNCOUNTED = re.compile(r" stop (TxFull|TraceFull)\|")
 BETWEEN = " ; "
 BANK_FILE = Path(__file__).parent.parent / "examples" / "bank" / "bank.df"
 
@@ -268,7 +270,7 @@ def answers(table):
             lines.append(row)
             continue
         old = known.get(row)
-        if old is not None and KEPT.match(old) and "N1 at" not in old and BETWEEN not in row:
+        if old is not None and (UNCOUNTED.search(old) or (KEPT.match(old) and "N1 at" not in old and BETWEEN not in row)):
             new = old
         else:
             new = answered(row, schema) or old
