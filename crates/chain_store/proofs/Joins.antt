@@ -5,6 +5,7 @@ use Rattle.abl_storage.specs.Slots.{SlotState, Transaction, IsReadable, IsStop, 
 use Rattle.abl_storage.specs.declared.slots.SlotFault.{SlotFault}
 use Rattle.abl_storage.specs.declared.slots.SlotFault.TheVariants.{Disk}
 use Rattle.row_chain.specs.Calls.{Looked, Touched, Wrote}
+use Rattle.row_chain.specs.Chains.{KeepsChains}
 use Rattle.row_chain.specs.Fragments.{StoredBytes, first_or_zero, row_at}
 use Rattle.row_chain.proofs.Composes.{goes_both, keeps_both, readable_on, rose_later}
 use Rattle.row_chain.proofs.Within.{head_in}
@@ -75,6 +76,7 @@ module _ (a b c : SlotState) (r : Rests a b) (same : b.failed ≡ a.failed) (cli
     held = λ h. ch.held (then h);
     apart = λ h. ch.apart (then h);
     others = λ h other ne. ch.others (then h) other ne ∙ ap (λ (f : ℕ → List ℕ). row_at f other) (r.reads h);
+    chains = λ h. subst (λ (f : ℕ → List ℕ). KeepsChains f c.reads slots) (r.reads h) (ch.chains (then h));
   }
 
 -- the least number of fragments

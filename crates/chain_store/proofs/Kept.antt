@@ -165,7 +165,7 @@ module _ (old new : SlotState) (places : List Place) (client : ℕ) (slots : Lis
 laid_row : (places : List Place) (at row previous owner : ℕ) → place_in places at ≡ record { row = row; previous = previous; owner = owner } → row_in places at ≡ row
 laid_row places at row previous owner is = ap (λ (p : Place). p.row) is
 
-next_fits : (places : List Place) (rest : List ℕ) (row at owner : ℕ) → AreLaid places rest row at owner → ends (first_or_zero rest) ≡ false → (row_in places (first_or_zero rest) ≡ row) × (previous_in places (first_or_zero rest) ≡ at)
+pub next_fits : (places : List Place) (rest : List ℕ) (row at owner : ℕ) → AreLaid places rest row at owner → ends (first_or_zero rest) ≡ false → (row_in places (first_or_zero rest) ≡ row) × (previous_in places (first_or_zero rest) ≡ at)
 next_fits places [] row at owner laid more = absurd (not_both (ends 0) refl more)
 next_fits places (b ∷ rest) row at owner laid more = (ap (λ (p : Place). p.row) laid.0, ap (λ (p : Place). p.previous) laid.0)
 

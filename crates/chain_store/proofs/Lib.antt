@@ -14,3 +14,5 @@ pub mod Vacancies
 pub mod LowWrites
 pub mod Opening
 pub mod Joins
+pub mod Chaining
+pub mod Scanning

@@ -4,12 +4,13 @@ use Rattle.std.specs.List.{Contains}
 use Rattle.std.proofs.lemmas.Bool.Decides.{nat_tests}
 use Rattle.abl_storage.specs.Slots.{SlotState, IsReadable}
 use Rattle.row_chain.specs.Fragments.{AreClear, AreDistinct, AreRowSlots, BeginsAs, Holds, ends, first_or_zero, kind_in, row_at, table_in}
+use Rattle.row_chain.specs.Chains.{HaveFragments}
 use Rattle.row_chain.specs.Kinds.{HaveKinds}
 use Rattle.row_chain.specs.Calls.{CanTouch, Wrote}
 use Rattle.row_chain.specs.Tied.{IsValue}
 use Rattle.row_chain.proofs.Composes.{readable_on}
 use Rattle.row_chain.proofs.Within.{none_in, head_in, left_in, tail_in, right_in}
-use Rattle.row_chain.proofs.Chained.{holds_same, none_of_zeros, row_written}
+use Rattle.row_chain.proofs.Chained.{fragments_same, holds_same, none_of_zeros, row_written}
 use Rattle.row_chain.proofs.FurtherKinds.{kinds_same}
 use Rattle.row_chain.proofs.Parts.{all_wrote, chain_can}
 use Rattle.row_chain.proofs.Ties.{other_stays, same_row}
@@ -119,6 +120,10 @@ module _ (s t u : SlotState) (places : List Place) (client row table : ℕ) (cha
 
   same_kept : IsReadable s → (k : ℕ) → Contains kept k → u.reads k ≡ t.reads k
   same_kept readable k there = v.rest (readable_on s t seen_t w.failed readable) k (apart_parts kept freed can_parts.distinct k there)
+
+  -- the fragments are there after the zeros too
+  pub fragments_kept : (total : ℕ) → IsReadable s → (IsReadable s → HaveFragments t.reads kept 1 total table bytes) → HaveFragments u.reads kept 1 total table bytes
+  fragments_kept total readable have = fragments_same t.reads u.reads kept 1 total table bytes (same_kept readable) (have readable)
 
   others : (c : ℕ) → c ≢ client → u.transaction c ≡ s.transaction c
   others c ne = others_u c ne ∙ others_t c ne

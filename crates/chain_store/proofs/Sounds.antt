@@ -87,6 +87,20 @@ sound_wrote s t places new free left cs ds client flag lt others begun same many
   noted = λ fine. noted;
 }
 
+-- one client's change of a row was refused
+pub sound_refused : (s t : SlotState) (places new : List Place) (free left : ℕ → ℕ) (cs ds : List Client) (client : ℕ) (was now : Bool) → client < 16 → ((c : ℕ) → c ≢ client → t.transaction c ≡ s.transaction c) → (t.transaction client).begun ≡ (s.transaction client).begun
+    → FlagAfter s t now → length ds ≡ length cs → ((c : ℕ) → (client_in ds c).begun ≡ (client_in cs c).begun) → (t.failed ≡ false → IsNoted t new left ds) → IsSound s places free cs was → IsSound t new left ds now
+sound_refused s t places new free left cs ds client was now lt others begun flag many flags noted sound = record {
+  sixteen = many ∙ sound.sixteen;
+  begun = λ c low. elim (cases_eq c client) [
+    | inl e ↦ ap (λ (n : ℕ). (t.transaction n).begun) e ∙ (begun ∙ (ap (λ (n : ℕ). (s.transaction n).begun) (sym e) ∙ (sound.begun c low ∙ sym (flags c))))
+    | inr ne ↦ ap (λ (y : Transaction). y.begun) (others c ne) ∙ (sound.begun c low ∙ sym (flags c))
+  ];
+  past = λ c le. ap (λ (y : Transaction). y.begun) (others c (λ e. omega (arith, e, lt, le))) ∙ sound.past c le;
+  same_failed = flag.same;
+  noted = noted;
+}
+
 -- a refusal other than Disk and TxFull is NoMemory
 pub memory_left : {T : Type 0} (fault : SlotFault) → (IsErrOf {T = T} (Err fault) TxFull → ⊥) → (IsErrOf {T = T} (Err fault) Disk → ⊥) → IsErrOf {T = T} (Err fault) NoMemory
 memory_left Disk full disk = absurd (disk refl)

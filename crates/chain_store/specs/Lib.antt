@@ -5,3 +5,4 @@ pub mod Exact
 pub mod Clients
 pub mod Noted
 pub mod Rows
+pub mod Scanned

@@ -1,14 +1,17 @@
 -- What the calls on rows do.
-use Rattle.std.specs.Prelude.{◌≡◌, ◌≢◌, ℕ, ◌*◌, ◌-◌, ◌<◌, ◌≤◌, false, List, Option, Result, Ok, Err}
+use Rattle.std.specs.Prelude.{◌≡◌, ◌≢◌, ℕ, ◌*◌, ◌-◌, ◌<◌, ◌≤◌, false, List, length, take, drop, Option, Result, Ok, Err}
 use Rattle.std.specs.List.{Contains}
 use Rattle.abl_storage.specs.Slots.{SlotState, IsReadable}
 use Rattle.abl_storage.specs.declared.slots.SlotFault.{SlotFault}
 use Rattle.abl_storage.specs.declared.slots.SlotFault.TheVariants.{NoMemory}
 use Rattle.row_chain.specs.Calls.{Wrote}
-use Rattle.row_chain.specs.Fragments.{StoredBytes, ends, row_at}
+use Rattle.row_chain.specs.Chains.{HaveFragments, KeepsChains}
+use Rattle.row_chain.specs.Fragments.{AreClear, StoredBytes, ends, row_at}
 use Rattle.row_chain.specs.Tied.{IsMix, IsValue}
 use Rattle.chain_store.specs.declared.fault.ChainFault.{ChainFault}
 use Rattle.chain_store.specs.declared.fault.ChainFault.TheVariants.{Full, Slot}
+use Rattle.chain_store.specs.declared.fault.ChainsFault.{ChainsFault}
+use Rattle.chain_store.specs.declared.fault.ChainsFault.TheVariants.{Broken, Slot as SlotRefusal}
 
 -- the answer as one of the slots: Full, which they never answer, counts as out of memory
 abbrev pub of_slots : {T : Type 0} → Result T ChainFault → Result T SlotFault
@@ -16,11 +19,21 @@ of_slots (Ok v) = Ok v
 of_slots (Err (Slot fault)) = Err fault
 of_slots (Err Full) = Err NoMemory
 
+-- why slots were not opened, as a refusal of theirs: Broken, which they never answer, counts as out of memory
+abbrev pub opening_fault : ChainsFault → SlotFault
+opening_fault (SlotRefusal fault) = fault
+opening_fault Broken = NoMemory
+
 -- the least number of fragments of 240 bytes that holds this many bytes, and at least one
 pub record IsLeastFor (bytes count : ℕ) : Type 0 where
   pub some : 0 < count
   pub holds : bytes ≤ 240 * count
   pub least : 1 < count → 240 * (count - 1) < bytes
+
+-- the first of these slots have the bytes as the fragments of a row of this table, and the others zeros
+pub record AreRewritten (after : ℕ → List ℕ) (slots : List ℕ) (keep table : ℕ) (bytes : List ℕ) : Type 0 where
+  pub kept : HaveFragments after (take keep slots) 1 (length bytes) table bytes
+  pub freed : AreClear after (drop keep slots)
 
 -- whatever the other slots hold, the row that is read from these is this
 abbrev pub HoldsRow : (ℕ → List ℕ) → List ℕ → ℕ → Option StoredBytes → Type 0
@@ -39,3 +52,5 @@ pub record ChangesRow (old new : SlotState) (client row : ℕ) (slots : List ℕ
   pub held : IsReadable old → HoldsRow new.reads slots row to
   pub apart : IsReadable old → AreApart new slots row
   pub others : IsReadable old → (other : ℕ) → other ≢ row → row_at new.reads other ≡ row_at old.reads other
+  -- and slots that are chains stay chains
+  pub chains : IsReadable old → KeepsChains old.reads new.reads slots

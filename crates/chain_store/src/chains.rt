@@ -6,18 +6,19 @@ ghost use Rattle.abl_storage.specs.Slots.{Begins, Commits, Ends, Fails, Goes, Go
 ghost use Rattle.abl_values.specs.Keys.{AreBytes};
 ghost use Rattle.free_slots.specs.Free.{free_in};
 ghost use Rattle.row_chain.specs.Calls.{Looked};
+ghost use Rattle.row_chain.specs.Chains.{AreChains};
 ghost use Rattle.row_chain.specs.Fragments.{begins, ends, row_at};
 ghost use Rattle.row_chain.specs.Measures.{length_of, table_of};
 ghost use Rattle.chain_store.specs.Clients.{client_in, no_client};
 ghost use Rattle.chain_store.specs.Noted.{AreSameClients, IsSound};
 ghost use Rattle.chain_store.specs.Places.{HoldNothing, owner_in};
-ghost use Rattle.chain_store.specs.Rows.{of_slots};
+ghost use Rattle.chain_store.specs.Rows.{of_slots, opening_fault};
 ghost use Rattle.chain_store.specs.Still.{Still};
 ghost use Rattle.std.proofs.Props.{props};
 
 use crate::client::Client;
 use crate::clients::{idle_clients, settle_idle};
-use crate::fault::{ChainFault, failed_after};
+use crate::fault::{ChainFault, ChainsFault, failed_after};
 use crate::opened::{end_of, free_of};
 use crate::places::Place;
 use crate::scan::scan;
@@ -43,24 +44,28 @@ pub struct Chains<S: Slots + Drop> {
 }
 
 impl<S: Slots + Drop> Chains<S> {
-    /// Opens the rows of these slots. The errors are Disk and NoMemory. NoMemory is also returned
-    /// if a slot from 8,192 on is not empty and is in the chain of no row, or of two.
-    pub fn open(mut slots: S, alloc: Global) -> Result<Chains<S>, (SlotFault, S)>
+    /// Opens the rows of these slots. Broken comes exactly where they are no chains: a slot from 8,192
+    /// on is not empty and is in the chain of no row, or of two, or a row is no chain of its bytes.
+    /// The refusals of the slots are Disk and NoMemory.
+    pub fn open(mut slots: S, alloc: Global) -> Result<Chains<S>, (ChainsFault, S)>
         requires idle { (c : ℕ) → ((S.Slots.state slots).transaction c).begun ≡ false }
         requires clean { (c : ℕ) → ((S.Slots.state slots).transaction c).undo ≡ [] }
         requires fine { (S.Slots.state slots).failed ≡ false }
         ensures same { IfOk result (λ chains. Still (S.Slots.state slots) (S.Slots.state chains.slots) (S.Slots.stop slots) (S.Slots.stop chains.slots)) }
         ensures counts { IfOk result (λ chains. (c : ℕ) → client_in chains.clients.items c ≡ no_client) }
-        ensures err { IfErr result (λ e. Looked {T = ℕ} (S.Slots.state slots) (S.Slots.state e.1) (S.Slots.stop slots) (S.Slots.stop e.1) (Err e.0)) }
-        ensures only { IfErr result (λ e. e.0 ≢ SlotFault.TxFull) }
+        ensures chains { IfOk result (λ chains. IsReadable (S.Slots.state slots) → AreChains (S.Slots.state slots).reads) }
+        ensures broken { IfErr result (λ e. e.0 ≡ ChainsFault.Broken → IsReadable (S.Slots.state slots) → ¬ AreChains (S.Slots.state slots).reads) }
+        ensures err { IfErr result (λ e. Looked {T = ℕ} (S.Slots.state slots) (S.Slots.state e.1) (S.Slots.stop slots) (S.Slots.stop e.1) (Err (opening_fault e.0))) }
+        ensures only { IfErr result (λ e. e.0 ≢ ChainsFault.Slot SlotFault.TxFull) }
     {
         let clients = match idle_clients(alloc) {
             Ok(clients) => clients,
-            Err(_) => return Err((SlotFault::NoMemory, slots)),
+            Err(_) => return Err((ChainsFault::Slot(SlotFault::NoMemory), slots)),
         };
         let places = match scan(alloc, &mut slots) {
-            Ok(places) => places,
-            Err(fault) => return Err((fault, slots)),
+            Ok(Some(places)) => places,
+            Ok(None) => return Err((ChainsFault::Broken, slots)),
+            Err(fault) => return Err((ChainsFault::Slot(fault), slots)),
         };
         match free_of(alloc, &places) {
             Ok(free) => Ok(Chains {
@@ -71,7 +76,7 @@ impl<S: Slots + Drop> Chains<S> {
                 clients,
                 failed: false,
             }),
-            Err(_) => Err((SlotFault::NoMemory, slots)),
+            Err(_) => Err((ChainsFault::Slot(SlotFault::NoMemory), slots)),
         }
     }
 

@@ -4,9 +4,10 @@ ghost use Rattle.std.specs.Prelude.{◌≡◌, ◌≢◌, ◌≤◌, ◌<◌, �
 ghost use Rattle.std.specs.List.{Contains};
 ghost use Rattle.abl_storage.specs.Slots.{Goes, Grows, HasCause, IsReadable, NeverFull, OnlyDisk, Rests};
 ghost use Rattle.row_chain.specs.Calls.{Touched, Wrote};
-ghost use Rattle.row_chain.specs.Fragments.{AreDistinct, HasRoomFor, ends, first_or_zero, row_at};
+ghost use Rattle.row_chain.specs.Chains.{HaveFragments};
+ghost use Rattle.row_chain.specs.Fragments.{AreClear, AreDistinct, HasRoomFor, ends, first_or_zero, row_at};
 ghost use Rattle.chain_store.specs.Places.{AreLaid, AreReady, IsKept, place_in};
-ghost use Rattle.chain_store.specs.Rows.{HoldsRow};
+ghost use Rattle.chain_store.specs.Rows.{AreRewritten, HoldsRow};
 
 use crate::places::{Place, are_distinct, are_ready, highest, lay, reach};
 use abl_storage::{SlotFault, Slots};
@@ -87,6 +88,8 @@ pub fn rewrite<S: Slots>(
         HoldsRow (S.Slots.state slots.new).reads chain.now row None) }
     ensures others { OnOk result (IsReadable (S.Slots.state slots.old) → (other : ℕ) → other ≢ row →
         row_at (S.Slots.state slots.new).reads other ≡ row_at (S.Slots.state slots.old).reads other) }
+    ensures bytes { OnOk result (IsReadable (S.Slots.state slots.old) → HaveFragments (S.Slots.state slots.new).reads kept.now 1 (length bytes.now) table bytes.now) }
+    ensures zeros { OnOk result (IsReadable (S.Slots.state slots.old) → AreClear (S.Slots.state slots.new).reads freed.now) }
     ensures rest { (k : ℕ) → ¬ Contains chain.now k → place_in places.new k ≡ place_in places.old k }
     ensures laid { AreLaid places.new chain.now row 0 (client + 1) }
     ensures long { length places.new ≡ length places.old }
@@ -131,6 +134,7 @@ pub fn change<S: Slots>(
         HoldsRow (S.Slots.state slots.new).reads chain.now row None) }
     ensures others { OnOk result (IsReadable (S.Slots.state slots.old) → (other : ℕ) → other ≢ row →
         row_at (S.Slots.state slots.new).reads other ≡ row_at (S.Slots.state slots.old).reads other) }
+    ensures rewritten { OnOk result (IsReadable (S.Slots.state slots.old) → AreRewritten (S.Slots.state slots.new).reads chain.now keep table bytes.now) }
     ensures rest { (k : ℕ) → ¬ Contains chain.now k → place_in places.new.items k ≡ place_in places.old.items k }
     ensures laid { OnOk result (AreLaid places.new.items chain.now row 0 (client + 1)) }
     ensures inside { OnOk result ((k : ℕ) → Contains chain.now k → ends k ≡ false) }

@@ -22,4 +22,4 @@ pub mod scan;
 pub mod settle;
 
 pub use chains::Chains;
-pub use fault::ChainFault;
+pub use fault::{ChainFault, ChainsFault};

@@ -11,7 +11,7 @@ ghost use Rattle.chain_store.specs.Clients.{client_in};
 ghost use Rattle.chain_store.specs.Exact.{AreVacant};
 ghost use Rattle.chain_store.specs.Freed.{IsLowest};
 ghost use Rattle.chain_store.specs.Noted.{AreSameClients, IsNoted};
-ghost use Rattle.chain_store.specs.Rows.{AreApart, HoldsRow};
+ghost use Rattle.chain_store.specs.Rows.{AreApart, AreRewritten, HoldsRow};
 
 use crate::client::Client;
 use crate::places::Place;
@@ -61,6 +61,7 @@ pub fn write_noted<S: Slots>(
     ensures own { OnOk result (IsReadable (S.Slots.state slots.old) → AreApart (S.Slots.state slots.new) chain.new.items (first_or_zero chain.new.items)) }
     ensures others { OnOk result (IsReadable (S.Slots.state slots.old) → (other : ℕ) → other ≢ first_or_zero chain.new.items →
         row_at (S.Slots.state slots.new).reads other ≡ row_at (S.Slots.state slots.old).reads other) }
+    ensures rewritten { OnOk result (IsReadable (S.Slots.state slots.old) → AreRewritten (S.Slots.state slots.new).reads chain.new.items keep table bytes.now) }
     ensures counts { OnOk result ((client_in clients.new client).drawn ≡ (client_in clients.old client).drawn + more) }
     ensures begun { (c : ℕ) → (client_in clients.new c).begun ≡ (client_in clients.old c).begun }
     ensures apart { (c : ℕ) → c ≢ client → client_in clients.new c ≡ client_in clients.old c }

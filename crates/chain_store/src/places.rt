@@ -1,6 +1,6 @@
 //! Which row each slot belongs to, and which client changes it: kept in memory, by slot.
 
-ghost use Rattle.std.specs.Prelude.{◌≡◌, ◌+◌, ◌<◌, ◌≤◌, ℕ, length, true, if◌then◌else◌, ◌==◌, OnOk, get_or};
+ghost use Rattle.std.specs.Prelude.{◌≡◌, ◌+◌, ◌<◌, ◌≤◌, ℕ, length, true, false, if◌then◌else◌, ◌==◌, OnOk, get_or};
 ghost use Rattle.std.specs.List.{Contains};
 ghost use Rattle.row_chain.specs.Fragments.{AreDistinct};
 ghost use Rattle.chain_store.specs.Places.{AreLaid, AreReady, IsReady, place_in};
@@ -62,7 +62,8 @@ pub fn reach(places: &mut Vec<Place>, slot: u32) -> Result<(), AllocError>
 
 /// Whether no slot is among these twice.
 pub fn are_distinct(slots: &[u32]) -> bool
-    ensures { result ≡ true → AreDistinct slots.now }
+    ensures yes { result ≡ true → AreDistinct slots.now }
+    ensures no { result ≡ false → ¬ AreDistinct slots.now }
 {
     match slots.split_first() {
         None => true,

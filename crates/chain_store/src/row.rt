@@ -4,12 +4,13 @@ ghost use Rattle.std.specs.Prelude.{◌≡◌, ◌≢◌, ◌≤◌, ◌<◌, �
 ghost use Rattle.std.specs.List.{Contains};
 ghost use Rattle.std.specs.BinaryHeap.{heap_capacity, heap_items, heap_len};
 ghost use Rattle.abl_storage.specs.Slots.{IsReadable, NeverFull, Rests};
+ghost use Rattle.abl_values.specs.Rows.{fragments_of};
 ghost use Rattle.free_slots.specs.Free.{AreSlots, Takes, free_in};
 ghost use Rattle.row_chain.specs.Calls.{Touched, Wrote};
 ghost use Rattle.row_chain.specs.Fragments.{ends, first_or_zero, row_at};
 ghost use Rattle.chain_store.specs.Freed.{IsFreed, IsLowest};
 ghost use Rattle.chain_store.specs.Places.{AreLaid, IsKept, place_in, row_in};
-ghost use Rattle.chain_store.specs.Rows.{HoldsRow};
+ghost use Rattle.chain_store.specs.Rows.{AreRewritten, HoldsRow};
 
 use crate::change::change;
 use crate::places::{Place, place_of};
@@ -25,6 +26,7 @@ pub fn fragments(length: usize) -> u32
     ensures few { result ≤ 125 }
     ensures holds { length ≤ 240 * result }
     ensures least { 1 < result → 240 * (result - 1) < length }
+    ensures is { result ≡ fragments_of length }
 {
     if length == 0 {
         1
@@ -144,6 +146,7 @@ pub fn write_row<S: Slots>(
         HoldsRow (S.Slots.state slots.new).reads chain.new.items (first_or_zero chain.new.items) None) }
     ensures others { OnOk result (IsReadable (S.Slots.state slots.old) → (other : ℕ) → other ≢ first_or_zero chain.new.items →
         row_at (S.Slots.state slots.new).reads other ≡ row_at (S.Slots.state slots.old).reads other) }
+    ensures rewritten { OnOk result (IsReadable (S.Slots.state slots.old) → AreRewritten (S.Slots.state slots.new).reads chain.new.items keep table bytes.now) }
     ensures refused { IsErrOf result SlotFault.NoMemory → Rests (S.Slots.state slots.old) (S.Slots.state slots.new) }
     ensures same { IsErrOf result SlotFault.NoMemory → (k : ℕ) → place_in places.new.items k ≡ place_in places.old.items k }
     ensures same_free { IsErrOf result SlotFault.NoMemory → (k : ℕ) → free_in (heap_items free.new.back) free.new.end k ≡ free_in (heap_items free.old.back) free.old.end k }

@@ -4,8 +4,10 @@ ghost use Rattle.std.specs.Prelude.{◌≡◌, ◌≢◌, ◌<◌, ◌≤◌, �
 ghost use Rattle.std.specs.List.{Contains};
 ghost use Rattle.std.specs.BinaryHeap.{heap_items};
 ghost use Rattle.abl_storage.specs.Slots.{IsReadable, NeverFull, Rests};
+ghost use Rattle.abl_values.specs.Rows.{fragments_of};
 ghost use Rattle.free_slots.specs.Free.{free_in};
 ghost use Rattle.row_chain.specs.Calls.{Looked, Touched};
+ghost use Rattle.row_chain.specs.Chains.{AreOwn};
 ghost use Rattle.row_chain.specs.Fragments.{begins, chain_of, ends, first_or_zero, table_in};
 ghost use Rattle.chain_store.specs.Clients.{client_in};
 ghost use Rattle.chain_store.specs.Exact.{AreVacant, IsVacant};
@@ -40,6 +42,8 @@ impl<S: Slots + Drop> Chains<S> {
         requires some { 0 < length chain.old.items + keep }
         requires low { 0 < length chain.old.items → 0 < first_or_zero chain.old.items }
         requires short { keep ≤ 125 }
+        requires own { IsReadable (S.Slots.state self.old.slots) → AreOwn (S.Slots.state self.old.slots).reads chain.old.items }
+        requires least { 0 < keep → keep ≡ fragments_of (length bytes.now) }
         requires room { length bytes.now ≤ 240 * keep }
         requires fits { length bytes.now < 2 ^ 32 }
         ensures touched { Touched (S.Slots.state self.old.slots) (S.Slots.state self.new.slots) (S.Slots.stop self.old.slots) (S.Slots.stop self.new.slots) client (of_slots result) }

@@ -1,16 +1,21 @@
 //! Reading which row each slot belongs to, when a store is opened.
 
-ghost use Rattle.std.specs.Prelude.{◌≡◌, ◌<◌, ◌≤◌, ◌^◌, ℕ, List, [], length, true, false, IfOk, OnOk};
+ghost use Rattle.std.specs.Prelude.{◌≡◌, ◌≢◌, ◌<◌, ◌≤◌, ◌+◌, ◌^◌, ℕ, List, [], length, true, false, IfOk, IfSome, IfNone, OnOk};
+ghost use Rattle.std.specs.List.{Contains};
 ghost use Rattle.abl_storage.specs.Slots.{AreBlankFrom, IsReadable, NeverFull, OnlyDisk};
 ghost use Rattle.row_chain.specs.Calls.{Looked};
-ghost use Rattle.row_chain.specs.Fragments.{ends, kind_in};
-ghost use Rattle.chain_store.specs.Places.{Fits, IsKept, owner_in, row_in};
+ghost use Rattle.row_chain.specs.Chains.{AreChains};
+ghost use Rattle.row_chain.specs.Fragments.{AreDistinct, ends, kind_in};
+ghost use Rattle.chain_store.specs.Places.{AreLaid, IsKept, owner_in, place_in, row_in};
+ghost use Rattle.chain_store.specs.Scanned.{AreScanned, IsStray};
 
-use crate::places::{Place, place_of, reach, set_place};
+use crate::places::{Place, are_distinct, highest, lay, place_of, reach};
 use crate::release::read;
 use abl_storage::{SlotFault, Slots};
-use row_chain::fragment::{kind, next};
-use std::alloc::Global;
+use row_chain::fragment::kind;
+use row_chain::read::begins;
+use row_chain::whole::whole_chain;
+use std::alloc::{AllocError, Global};
 
 /// The first slot for rows.
 const FIRST_ROW: u32 = 8192;
@@ -28,100 +33,117 @@ fn used_end<S: Slots>(slots: &S) -> u32
     end
 }
 
-/// Whether the bytes of the slot fit what is known of it, nothing is known of it where it is free,
-/// and no client changes it.
-fn fits(places: &[Place], at: u32, slot: &[u8; 256]) -> bool
-    ensures fits { result ≡ true → Fits places.now at slot.now }
-    ensures free { result ≡ true → kind_in slot.now ≡ 0 → row_in places.now at ≡ 0 }
-    ensures unowned { result ≡ true → owner_in places.now at ≡ 0 }
+/// Whether each of the slots is noted as nobody's.
+fn are_free(places: &[Place], slots: &[u32]) -> bool
+    ensures yes { result ≡ true → (k : ℕ) → Contains slots.now k → row_in places.now k ≡ 0 }
+    ensures no { result ≡ false → (k : ℕ) × Contains slots.now k × (row_in places.now k ≢ 0) }
 {
-    let place = place_of(places, at);
-    if place.owner != 0 {
-        return false;
+    match slots.split_first() {
+        None => true,
+        Some((first, rest)) => place_of(places, *first).row == 0 && are_free(places, rest),
     }
-    if kind(slot) == 1 && place.row != at {
-        return false;
-    }
-    if (place.row == 0) != (kind(slot) == 0) {
-        return false;
-    }
-    let next = next(slot);
-    if next < 8192 || 1_048_576 <= next {
-        return true;
-    }
-    let after = place_of(places, next);
-    after.row == place.row && after.previous == at
 }
 
-/// Notes at most `most` slots as the row's, from the slot `at` on, which comes after `previous`.
-fn spread<S: Slots>(
+/// Notes these slots as the row's, in this order, if each of them is noted as nobody's. Whether it is.
+fn note_chain(places: &mut Vec<Place>, row: u32, chain: &[u32]) -> Result<bool, AllocError>
+    requires distinct { AreDistinct chain.now }
+    ensures laid { IfOk result (λ noted. noted ≡ true → AreLaid places.new.items chain.now row 0 0) }
+    ensures free { IfOk result (λ noted. noted ≡ true → (k : ℕ) → Contains chain.now k → row_in places.old.items k ≡ 0) }
+    ensures taken { IfOk result (λ noted. noted ≡ false → (k : ℕ) × Contains chain.now k × (row_in places.old.items k ≢ 0)) }
+    ensures rest { (k : ℕ) → ¬ Contains chain.now k → place_in places.new.items k ≡ place_in places.old.items k }
+    ensures unowned { ((k : ℕ) → owner_in places.old.items k ≡ 0) → (k : ℕ) → owner_in places.new.items k ≡ 0 }
+{
+    reach(places, highest(chain))?;
+    if !are_free(places, chain) {
+        return Ok(false);
+    }
+    lay(places, chain, row, 0, 0);
+    Ok(true)
+}
+
+/// Notes the slots of the row that begins in the slot, if one does. Whether its slots are a chain of its
+/// bytes, none of which is noted as another row's.
+fn note_row<S: Slots>(
+    alloc: Global,
     slots: &mut S,
     places: &mut Vec<Place>,
-    row: u32,
     at: u32,
-    previous: u32,
-    most: u8,
-) -> Result<(), SlotFault>
+) -> Result<bool, SlotFault>
+    requires low { 8192 ≤ at }
+    requires scanned { IsReadable (S.Slots.state slots.old) → AreScanned (S.Slots.state slots.old).reads places.old.items at }
+    requires unowned { (k : ℕ) → owner_in places.old.items k ≡ 0 }
+    ensures scanned { IfOk result (λ whole. whole ≡ true → IsReadable (S.Slots.state slots.old) → AreScanned (S.Slots.state slots.old).reads places.new.items (at + 1)) }
+    ensures broken { IfOk result (λ whole. whole ≡ false → IsReadable (S.Slots.state slots.old) → ¬ AreChains (S.Slots.state slots.old).reads) }
+    ensures unowned { (k : ℕ) → owner_in places.new.items k ≡ 0 }
     ensures looked { Looked (S.Slots.state slots.old) (S.Slots.state slots.new) (S.Slots.stop slots.old) (S.Slots.stop slots.new) result }
     ensures only { NeverFull result }
 {
-    if most == 0 {
-        return Ok(());
+    let begun = begins(slots, at)?;
+    if !begun {
+        return Ok(true);
     }
-    if at < 8192 || 1_048_576 <= at {
-        return Ok(());
-    }
-    match reach(places, at) {
-        Ok(()) => {}
-        Err(_) => return Err(SlotFault::NoMemory),
-    }
-    let place = Place {
-        row,
-        previous,
-        owner: 0,
+    let found = whole_chain(alloc, slots, at)?;
+    let Some(chain) = found else {
+        return Ok(false);
     };
-    set_place(places, at, place);
-    let mut slot = [0u8; 256];
-    read(slots, at, &mut slot)?;
-    spread(slots, places, row, next(&slot), at, most - 1)?;
-    Ok(())
+    if !are_distinct(&chain) {
+        return Ok(false);
+    }
+    match note_chain(places, at, &chain) {
+        Ok(noted) => Ok(noted),
+        Err(_) => Err(SlotFault::NoMemory),
+    }
 }
 
-/// Notes the slots of each row that begins below `end`.
-fn note_rows<S: Slots>(slots: &mut S, places: &mut Vec<Place>, end: u32) -> Result<(), SlotFault>
+/// Notes the slots of each row that begins below `end`. Whether each row is a chain of its bytes, and no
+/// slot is in the chains of two.
+fn note_rows<S: Slots>(
+    alloc: Global,
+    slots: &mut S,
+    places: &mut Vec<Place>,
+    end: u32,
+) -> Result<bool, SlotFault>
+    requires low { 8192 ≤ end }
     requires high { end ≤ 1048576 }
+    requires none { places.old.items ≡ [] }
+    ensures scanned { IfOk result (λ whole. whole ≡ true → IsReadable (S.Slots.state slots.old) → AreScanned (S.Slots.state slots.old).reads places.new.items end) }
+    ensures broken { IfOk result (λ whole. whole ≡ false → IsReadable (S.Slots.state slots.old) → ¬ AreChains (S.Slots.state slots.old).reads) }
+    ensures unowned { (k : ℕ) → owner_in places.new.items k ≡ 0 }
     ensures looked { Looked (S.Slots.state slots.old) (S.Slots.state slots.new) (S.Slots.stop slots.old) (S.Slots.stop slots.new) result }
     ensures only { NeverFull result }
 {
     for at in FIRST_ROW..end {
-        let mut slot = [0u8; 256];
-        read(slots, at, &mut slot)?;
-        if kind(&slot) == 1 {
-            spread(slots, places, at, at, 0, 125)?;
+        let whole = note_row(alloc, slots, places, at)?;
+        if !whole {
+            return Ok(false);
         }
     }
-    Ok(())
+    Ok(true)
 }
 
-/// Whether each slot for rows fits what is known of it. The slots from `end` on read zeros, and fit
-/// where nothing is known of them.
-fn all_fit<S: Slots>(slots: &mut S, places: &[Place], end: u32) -> Result<bool, SlotFault>
+/// Whether the slot with these bytes is not free, and is noted as nobody's.
+fn is_stray(places: &[Place], at: u32, slot: &[u8; 256]) -> bool
+    ensures yes { result ≡ true → (kind_in slot.now ≢ 0) × (row_in places.now at ≡ 0) }
+    ensures no { result ≡ false → row_in places.now at ≡ 0 → kind_in slot.now ≡ 0 }
+{
+    kind(slot) != 0 && place_of(places, at).row == 0
+}
+
+/// Whether each slot below `end` that is not free is noted as a row's. The slots from `end` on read
+/// zeros.
+fn all_noted<S: Slots>(slots: &mut S, places: &[Place], end: u32) -> Result<bool, SlotFault>
     requires low { 8192 ≤ end }
     requires high { end ≤ 1048576 }
     requires blank { IsReadable (S.Slots.state slots.old) → AreBlankFrom end (S.Slots.state slots.old).reads }
-    ensures fit { IfOk result (λ fit. fit ≡ true → IsReadable (S.Slots.state slots.old) → (k : ℕ) → 8192 ≤ k → k < 1048576 → Fits places.now k ((S.Slots.state slots.old).reads k)) }
-    ensures free { IfOk result (λ fit. fit ≡ true → IsReadable (S.Slots.state slots.old) → (k : ℕ) → 8192 ≤ k → k < 1048576 → kind_in ((S.Slots.state slots.old).reads k) ≡ 0 → row_in places.now k ≡ 0) }
-    ensures unowned { IfOk result (λ fit. fit ≡ true → (k : ℕ) → 8192 ≤ k → k < 1048576 → owner_in places.now k ≡ 0) }
+    ensures yes { IfOk result (λ noted. noted ≡ true → IsReadable (S.Slots.state slots.old) → (k : ℕ) → 8192 ≤ k → k < 1048576 → row_in places.now k ≡ 0 → kind_in ((S.Slots.state slots.old).reads k) ≡ 0) }
+    ensures no { IfOk result (λ noted. noted ≡ false → IsReadable (S.Slots.state slots.old) → IsStray (S.Slots.state slots.old).reads places.now) }
     ensures looked { Looked (S.Slots.state slots.old) (S.Slots.state slots.new) (S.Slots.stop slots.old) (S.Slots.stop slots.new) result }
     ensures only { OnlyDisk result }
 {
-    if (end as usize) < places.len() {
-        return Ok(false);
-    }
     for at in FIRST_ROW..end {
         let mut slot = [0u8; 256];
         read(slots, at, &mut slot)?;
-        if !fits(places, at, &slot) {
+        if is_stray(places, at, &slot) {
             return Ok(false);
         }
     }
@@ -130,22 +152,27 @@ fn all_fit<S: Slots>(slots: &mut S, places: &[Place], end: u32) -> Result<bool, 
 
 /// What is known of the slots when no transaction is begun: which row each slot belongs to, by
 /// reading the slots for rows up to the last one that may hold something. A slot that holds nothing is
-/// free. The refusals are Disk, and NoMemory also where slots are no chains of rows.
-pub fn scan<S: Slots>(alloc: Global, slots: &mut S) -> Result<Vec<Place>, SlotFault>
+/// free. None comes exactly where the slots are no chains of rows; the refusals are Disk and NoMemory.
+pub fn scan<S: Slots>(alloc: Global, slots: &mut S) -> Result<Option<Vec<Place>>, SlotFault>
     requires idle { (c : ℕ) → ((S.Slots.state slots.old).transaction c).begun ≡ false }
     requires clean { (c : ℕ) → ((S.Slots.state slots.old).transaction c).undo ≡ [] }
-    ensures known { IfOk result (λ places. IsKept (S.Slots.state slots.new) places.items) }
-    ensures free { IfOk result (λ places. IsReadable (S.Slots.state slots.old) → (k : ℕ) → ends k ≡ false → kind_in ((S.Slots.state slots.old).reads k) ≡ 0 → row_in places.items k ≡ 0) }
-    ensures unowned { IfOk result (λ places. (k : ℕ) → ends k ≡ false → owner_in places.items k ≡ 0) }
+    ensures known { IfOk result (λ found. IfSome found (λ places. IsKept (S.Slots.state slots.new) places.items)) }
+    ensures free { IfOk result (λ found. IfSome found (λ places. IsReadable (S.Slots.state slots.old) → (k : ℕ) → ends k ≡ false → kind_in ((S.Slots.state slots.old).reads k) ≡ 0 → row_in places.items k ≡ 0)) }
+    ensures unowned { IfOk result (λ found. IfSome found (λ places. (k : ℕ) → ends k ≡ false → owner_in places.items k ≡ 0)) }
+    ensures chains { IfOk result (λ found. IfSome found (λ places. IsReadable (S.Slots.state slots.old) → AreChains (S.Slots.state slots.old).reads)) }
+    ensures broken { IfOk result (λ found. IfNone found (IsReadable (S.Slots.state slots.old) → ¬ AreChains (S.Slots.state slots.old).reads)) }
     ensures looked { Looked (S.Slots.state slots.old) (S.Slots.state slots.new) (S.Slots.stop slots.old) (S.Slots.stop slots.new) result }
     ensures only { NeverFull result }
 {
     let end = used_end(slots);
     let mut places = Vec::new(alloc);
-    note_rows(slots, &mut places, end)?;
-    let fit = all_fit(slots, &places, end)?;
-    if !fit {
-        return Err(SlotFault::NoMemory);
+    let whole = note_rows(alloc, slots, &mut places, end)?;
+    if !whole {
+        return Ok(None);
     }
-    Ok(places)
+    let noted = all_noted(slots, &places, end)?;
+    if !noted {
+        return Ok(None);
+    }
+    Ok(Some(places))
 }

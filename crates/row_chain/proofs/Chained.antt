@@ -6,6 +6,7 @@ use Rattle.std.proofs.lemmas.Bool.Decides.{nat_tests}
 use Rattle.std.proofs.lemmas.List.{take-append-drop}
 use Rattle.row_chain.specs.Fragments.{StoredBytes, bytes_from, slots_from, chain_of, row_at, ends, kind_in, table_in, content_in, next_in, first_or_zero, fragment_bytes, Holds, BeginsAs, AreClear, AreDistinct, AreRowSlots, begins}
 use Rattle.row_chain.specs.Calls.{CanTouch, Wrote}
+use Rattle.row_chain.specs.Chains.{HaveFragments}
 use Rattle.row_chain.proofs.Within.{first_or_rest, head_in, none_in, not_only, only, tail_in}
 use Rattle.row_chain.proofs.Composes.{readable_on, wrote_both}
 use Rattle.row_chain.proofs.Encoded.{kind_read, next_read, table_read, content_read}
@@ -27,6 +28,11 @@ holds_same old new (at ∷ rest) bytes same h =
     let here = same at (head_in at rest) in
     (ap content_in here ∙ h.0, ap next_in here ∙ h.1, holds_same old new rest (drop 240 bytes) (λ k there. same k (tail_in at k rest there)) h.2)
 
+-- and have the same fragments
+pub fragments_same : (old new : ℕ → List ℕ) (slots : List ℕ) (kind total table : ℕ) (bytes : List ℕ) → ((k : ℕ) → Contains slots k → new k ≡ old k) → HaveFragments old slots kind total table bytes → HaveFragments new slots kind total table bytes
+fragments_same old new [] kind total table bytes same h = h
+fragments_same old new (at ∷ rest) kind total table bytes same h = (same at (head_in at rest) ∙ h.0, fragments_same old new rest 2 0 0 (drop 240 bytes) (λ k there. same k (tail_in at k rest there)) h.1)
+
 nothing_from : (n : ℕ) (slots : ℕ → List ℕ) → bytes_from n slots 0 ≡ []
 unfolding bytes_from
 nothing_from zero slots = refl
@@ -36,7 +42,7 @@ one_from : (n at : ℕ) (slots : ℕ → List ℕ) → ends at ≡ false → byt
 unfolding bytes_from
 one_from n at slots e = ap (λ (b : Bool). cond b [] (content_in (slots at) ++ bytes_from n slots (next_in (slots at)))) e
 
-row_slot_goes : (at : ℕ) → 8192 ≤ at → at < 1048576 → ends at ≡ false
+pub row_slot_goes : (at : ℕ) → 8192 ≤ at → at < 1048576 → ends at ≡ false
 row_slot_goes at low high = grind (arith, nat_tests)
 
 -- what they hold is what is read from the first of them
@@ -111,6 +117,17 @@ module _ (client at : ℕ) (rest slots : List ℕ) (slots_is : slots ≡ at ∷ 
               (subst (Holds t.reads rest) back_is (held readable)),
         ) in
         subst (λ (xs : List ℕ). Holds u.reads xs bytes) (sym slots_is) whole
+
+    pub both_fragments : IsReadable s → (IsReadable s → HaveFragments t.reads rest 2 0 0 back) → HaveFragments u.reads slots kind total table bytes
+    both_fragments readable held =
+        let here = slot (then readable) in
+        let whole : HaveFragments u.reads (at ∷ rest) kind total table bytes = (
+          here ∙ (ap (λ (n : ℕ). fragment_bytes kind n total table front) next_is ∙ ap (λ (xs : List ℕ). fragment_bytes kind (first_or_zero rest) total table xs) front_is),
+          fragments_same t.reads u.reads rest 2 0 0 (drop 240 bytes)
+              (λ k there. second.rest (then readable) k (not_only at k (λ is. apart (subst (Contains rest) is there))))
+              (subst (HaveFragments t.reads rest 2 0 0) back_is (held readable)),
+        ) in
+        subst (λ (xs : List ℕ). HaveFragments u.reads xs kind total table bytes) (sym slots_is) whole
 
     pub both_begin : IsReadable s → BeginsAs u.reads slots kind table
     both_begin readable =

@@ -4,7 +4,7 @@ use Rattle.std.proofs.lemmas.Bool.Decides.{nat_tests}
 use Rattle.std.proofs.Math.Seq.{drop-append-add, take-append_seam}
 use Rattle.abl_values.specs.Rows.{number_bytes, number_at_head}
 use Rattle.abl_values.proofs.Numbers.{number_at_head-bytes, length-number_bytes}
-use Rattle.row_chain.specs.Fragments.{kind_in, used_in, next_in, table_in, content_in, fragment_bytes}
+use Rattle.row_chain.specs.Fragments.{kind_in, used_in, next_in, table_in, total_in, content_in, fragment_bytes}
 
 not_free : (kind : ℕ) → 0 < kind → eqb kind 0 ≡ false
 not_free kind some = grind (arith, nat_tests, some)
@@ -39,6 +39,18 @@ module _ (kind next total table : ℕ) (content : List ℕ) where
       ap (λ (xs : List ℕ). number_at_head 2 (drop 10 xs)) spread
       ∙ (ap (number_at_head 2) (past 2 (length content) 8 (number_bytes 4 next ++ after_next) ∙ (past 4 next 4 after_next ∙ past 4 total 0 (number_bytes 2 table ++ (0 ∷ 0 ∷ (content ++ pad)))))
       ∙ number_at_head-bytes 2 table (0 ∷ 0 ∷ (content ++ pad)) lt)
+
+  pub total_read : total < 2 ^ 32 → total_in (fragment_bytes kind next total table content) ≡ total
+  total_read lt =
+      ap (λ (xs : List ℕ). number_at_head 4 (drop 6 xs)) spread
+      ∙ (ap (number_at_head 4) (past 2 (length content) 4 (number_bytes 4 next ++ after_next) ∙ past 4 next 0 after_next)
+      ∙ number_at_head-bytes 4 total (number_bytes 2 table ++ (0 ∷ 0 ∷ (content ++ pad))) lt)
+
+  -- what comes after the head
+  pub body_read : drop 16 (fragment_bytes kind next total table content) ≡ content ++ pad
+  body_read =
+      ap (drop 14) spread
+      ∙ (past 2 (length content) 12 (number_bytes 4 next ++ after_next) ∙ (past 4 next 8 after_next ∙ (past 4 total 4 (number_bytes 2 table ++ (0 ∷ 0 ∷ (content ++ pad))) ∙ past 2 table 2 (0 ∷ 0 ∷ (content ++ pad)))))
 
   pub content_read : length content ≤ 240 → content_in (fragment_bytes kind next total table content) ≡ content
   content_read le =

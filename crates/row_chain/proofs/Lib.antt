@@ -10,3 +10,6 @@ pub mod Parts
 pub mod Ties
 pub mod StopRows
 pub mod FurtherKinds
+pub mod Exact
+pub mod Keeping
+pub mod Wholes

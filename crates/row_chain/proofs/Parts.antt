@@ -8,7 +8,7 @@ use Rattle.row_chain.proofs.Within.{none_in, head_in, left_in, parted, right_in}
 use Rattle.row_chain.proofs.Composes.{readable_on, wrote_both}
 use Rattle.row_chain.proofs.Chained.{holds_same, none_of_zeros, row_same, row_written}
 
-rows_left : (xs ys : List ℕ) → AreRowSlots (xs ++ ys) → AreRowSlots xs
+pub rows_left : (xs ys : List ℕ) → AreRowSlots (xs ++ ys) → AreRowSlots xs
 rows_left [] ys h = tt
 rows_left (x ∷ xs) ys h = (h.0, h.1, rows_left xs ys h.2)
 

@@ -18,6 +18,10 @@ next_in slot = if kind_in slot == 0 then 0 else number_at_head 4 (drop 4 slot)
 abbrev pub table_in : List ℕ → ℕ
 table_in slot = number_at_head 2 (drop 12 slot)
 
+-- the row's length, in a first fragment
+abbrev pub total_in : List ℕ → ℕ
+total_in slot = number_at_head 4 (drop 8 slot)
+
 abbrev pub content_in : List ℕ → List ℕ
 content_in slot = take (min (used_in slot) 240) (drop 16 slot)
 

@@ -4,3 +4,4 @@ pub mod Tied
 pub mod Stops
 pub mod Kinds
 pub mod Measures
+pub mod Chains

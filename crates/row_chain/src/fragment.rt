@@ -2,7 +2,7 @@
 
 ghost use Rattle.std.specs.Prelude.{◌≡◌, ◌≤◌, ◌<◌, ◌^◌, ◌+◌, length, drop, min};
 ghost use Rattle.abl_values.specs.Rows.{number_at_head, number_bytes};
-ghost use Rattle.row_chain.specs.Fragments.{content_in, kind_in, next_in, table_in, used_in};
+ghost use Rattle.row_chain.specs.Fragments.{content_in, kind_in, next_in, table_in, total_in, used_in};
 
 use byteorder::{BigEndian, ByteOrder};
 
@@ -32,6 +32,14 @@ pub fn table(slot: &[u8; 256]) -> u16
     ensures { result ≡ table_in slot.now }
 {
     BigEndian::read_u16(&slot[12..])
+}
+
+/// The row's length, in a first fragment.
+#[tactic(auto, unfolding(abl_values::specs::Rows::number_at_head))]
+pub fn total(slot: &[u8; 256]) -> u32
+    ensures { result ≡ total_in slot.now }
+{
+    BigEndian::read_u32(&slot[8..])
 }
 
 /// The kind of the slot: 0 where it is free, 1 a first fragment, 2 a further one.

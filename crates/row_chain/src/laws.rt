@@ -1,9 +1,10 @@
 //! What holds of rows while several clients change them and undo their changes.
 
-ghost use Rattle.std.specs.Prelude.{◌≡◌, ◌≢◌, ℕ, List, false};
+ghost use Rattle.std.specs.Prelude.{◌≡◌, ◌≢◌, ◌++◌, ℕ, List, false};
 ghost use Rattle.std.specs.List.{Contains};
 ghost use Rattle.abl_storage.specs.Slots.{IsReadable, Goes, GoesBack, Ends};
 ghost use Rattle.row_chain.specs.Calls.{Wrote};
+ghost use Rattle.row_chain.specs.Chains.{KeepsChains, Rewrites};
 ghost use Rattle.row_chain.specs.Fragments.{ends, kind_in, next_in, row_at};
 ghost use Rattle.row_chain.specs.Stops.{rows_left, RowsGo};
 ghost use Rattle.row_chain.specs.Tied.{IsFreeAlone, IsInRow, IsMix, IsTied, IsValue, given};
@@ -65,4 +66,10 @@ pub fn stops_leave_rows<S: Slots>(old: &S, new: &S)
     ensures { Goes (S.Slots.state old.now) (S.Slots.state new.now) (S.Slots.stop old.now) (S.Slots.stop new.now) →
         RowsGo (rows_left (S.Slots.stop old.now)) (rows_left (S.Slots.stop new.now)) (S.Slots.state old.now).moment (S.Slots.state new.now).moment
         (row_at (S.Slots.state old.now).committed) (row_at (S.Slots.state new.now).doubt) }
+{}
+
+/// A change of one row leaves slots chains that were chains, whatever the other slots have.
+pub fn a_change_keeps_chains()
+    ensures { (before after : ℕ → List ℕ) (own drawn : List ℕ) (keep table : ℕ) (bytes : List ℕ) →
+        Rewrites before after own drawn keep table bytes → KeepsChains before after (own ++ drawn) }
 {}

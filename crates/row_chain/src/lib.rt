@@ -11,6 +11,7 @@ pub mod laws;
 pub mod measure;
 pub mod read;
 pub mod rows;
+pub mod whole;
 pub mod write;
 
 pub use read::StoredRow;

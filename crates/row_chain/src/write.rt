@@ -5,6 +5,7 @@ ghost use Rattle.abl_storage.specs.Slots.{IsReadable, OnlyDisk};
 ghost use Rattle.abl_values.specs.Rows.{number_bytes};
 ghost use Rattle.row_chain.specs.Calls.{CanTouch, Touched, Wrote};
 ghost use Rattle.row_chain.specs.Fragments.{HasRoomFor, Holds, BeginsAs, first_or_zero, fragment_bytes, head_bytes, row_bytes};
+ghost use Rattle.row_chain.specs.Chains.{HaveFragments};
 ghost use Rattle.row_chain.specs.Kinds.{HaveKinds};
 
 use abl_storage::{SlotFault, Slots};
@@ -41,7 +42,7 @@ fn put_content(out: &mut [u8], content: &[u8])
 }
 
 /// The bytes of a fragment, for a slot. It takes no memory.
-fn fragment(kind: u8, next: u32, total: u32, table: u16, content: &[u8]) -> [u8; 256]
+pub(crate) fn fragment(kind: u8, next: u32, total: u32, table: u16, content: &[u8]) -> [u8; 256]
     requires { length content.now ≤ 240 }
     ensures { result ≡ fragment_bytes kind next total table content.now }
 {
@@ -123,6 +124,7 @@ pub fn write_chain<S: Slots>(
     ensures holds { OnOk result (IsReadable (S.Slots.state slots.old) → Holds (S.Slots.state slots.new).reads drawn.now bytes.now) }
     ensures first { OnOk result (IsReadable (S.Slots.state slots.old) → BeginsAs (S.Slots.state slots.new).reads drawn.now kind table) }
     ensures kinds { OnOk result (IsReadable (S.Slots.state slots.old) → HaveKinds (S.Slots.state slots.new).reads drawn.now kind) }
+    ensures bytes { OnOk result (IsReadable (S.Slots.state slots.old) → HaveFragments (S.Slots.state slots.new).reads drawn.now kind total table bytes.now) }
     ensures only { OnlyDisk result }
 {
     match drawn.split_first() {

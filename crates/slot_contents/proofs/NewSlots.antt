@@ -11,7 +11,7 @@ use Rattle.database_meaning.specs.Setting.{unique_keys, has_key}
 use Rattle.row_chain.specs.Fragments.{StoredBytes, kind_in, row_at}
 use Rattle.chain_store.specs.Places.{HoldNothing}
 use Rattle.stored_rows.specs.Decoded.{decoded, row_of}
-use Rattle.stored_rows.proofs.Opening.{holds_no_row, no_row_read}
+use Rattle.stored_rows.proofs.Opening.{holds_no_row, nothing_is_held}
 use Rattle.sequence_slots.specs.Values.{HoldValues, values_in}
 use Rattle.sequence_slots.proofs.Reading.{values_read}
 use Rattle.slot_contents.specs.Contents.{AreNew, AreContents, initial_values, contents_in, new_contents}
@@ -43,7 +43,7 @@ module _ (schema : SchemaData) (slots : ℕ → List ℕ) (new : AreNew schema s
     sequences = subst (HoldValues slots) (sym values_are) new.values;
     unused = new.unused;
     rows = record {
-      read = no_row_read schema slots empty;
+      read = (nothing_is_held schema slots empty).read;
       chains = λ row stored at. absurd (no_row_begins row stored at);
       each = λ slot e. inl (empty slot e);
     };

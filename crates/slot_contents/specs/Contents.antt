@@ -1,6 +1,5 @@
 -- What the slots of a database hold: a schema, the values of its sequences, and rows.
-use Rattle.std.specs.Prelude.{◌≡◌, ◌⊎◌, ℕ, ◌<◌, ◌≤◌, true, false, List, length, map, replicate, Some, None, ℤ, IsTrue}
-use Rattle.std.specs.List.{Contains}
+use Rattle.std.specs.Prelude.{◌≡◌, ◌⊎◌, ℕ, ◌<◌, ◌≤◌, false, List, length, map, replicate, Some, None, ℤ, IsTrue}
 use Rattle.abl_base.specs.declared.limits.TheConstants.{MAX_KEY_BYTES}
 use Rattle.abl_values.specs.Rows.{fragments_of}
 use Rattle.abl_values.specs.Schema.{SchemaData, canonical_text}
@@ -9,7 +8,8 @@ use Rattle.database_meaning.specs.declared.state.StoredRow.{StoredRow}
 use Rattle.database_meaning.specs.declared.state.Key.{Key}
 use Rattle.database_meaning.specs.Setting.{HasIndex, key_in, unique_keys, has_key}
 use Rattle.abl_rows.specs.Changes.{RowsById}
-use Rattle.row_chain.specs.Fragments.{StoredBytes, ends, kind_in, begins, row_at, chain_of}
+use Rattle.row_chain.specs.Fragments.{StoredBytes, ends, kind_in, row_at, chain_of}
+pub use Rattle.row_chain.specs.Chains.{IsOfOneRow}
 use Rattle.stored_rows.specs.Decoded.{decoded, AreRead}
 use Rattle.sequence_slots.specs.Values.{HoldValues, values_in}
 use Rattle.slot_contents.specs.Chains.{IsChain, counted}
@@ -31,13 +31,6 @@ pub record HoldSchema (slots : ℕ → List ℕ) (schema : SchemaData) : Type 0 
 pub record AreUnused (slots : ℕ → List ℕ) : Type 0 where
   pub zero : slots 0 ≡ zeros
   pub between : (slot : ℕ) → 5008 < slot → slot < 8192 → slots slot ≡ zeros
-
--- the slot is in the chain of one row and of no other
-pub record IsOfOneRow (slots : ℕ → List ℕ) (slot : ℕ) : Type 0 where
-  pub row : ℕ
-  pub begun : begins slots row ≡ true
-  pub there : Contains (chain_of slots row) slot
-  pub only : (other : ℕ) → begins slots other ≡ true → Contains (chain_of slots other) slot → other ≡ row
 
 -- wherever a row begins, its chain holds a row of a table of the schema, and each slot for rows is free or in one chain
 pub record AreRows (schema : SchemaData) (slots : ℕ → List ℕ) : Type 0 where

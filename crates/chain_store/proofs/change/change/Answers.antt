@@ -1,9 +1,10 @@
-use Rattle.std.proofs.Common.{ℕ, ◌<◌, List, [], length, sym, ap, ◌∙◌, subst, arith}
+use Rattle.std.proofs.Common.{ℕ, ◌<◌, ◌-◌, List, [], drop, length, sym, ap, ◌∙◌, subst, arith}
 use Rattle.std.specs.List.{Contains}
-use Rattle.row_chain.specs.Fragments.{row_at}
-use Rattle.row_chain.proofs.Composes.{on_ok, readable_on, wrote_after_grows}
+use Rattle.row_chain.specs.Fragments.{AreClear, row_at}
+use Rattle.row_chain.proofs.Composes.{both_ok, on_ok, readable_on, wrote_after_grows}
 use Rattle.chain_store.specs.declared.places.Place.{Place}
 use Rattle.chain_store.specs.Places.{IsKept}
+use Rattle.chain_store.proofs.Chaining.{take_whole}
 use Rattle.chain_store.proofs.Kept.{laying_keeps}
 use Rattle.chain_store.proofs.Turns.{grows_kept}
 use Rattle.chain_store.proofs.Rewrites.{ready_owner}
@@ -58,3 +59,11 @@ returns-clause-gone g c = on_ok c.rewrite.result c.rewrite.ensures.gone (λ gone
     let t = g.S.Slots.state c.prepare.new.slots in
     let keep = c.requires.keep in
     gone (readable_on s t c.in_ok-prepare.ensures.grows.keeps.observable (c.in_ok-prepare.ensures.cause.stays (λ e. cc e)) readable) (omega (arith, none, keep, length-take {A = ℕ}, length-drop {A = ℕ})))
+
+pub returns-clause-rewritten : goal.returns-clause-rewritten
+returns-clause-rewritten g c = both_ok c.rewrite.result c.rewrite.ensures.bytes c.rewrite.ensures.zeros (λ bytes zeros readable.
+    let then = readable_on (g.S.Slots.state c.args.slots.now) (g.S.Slots.state c.prepare.new.slots) c.in_ok-prepare.ensures.grows.keeps.observable (c.in_ok-prepare.ensures.cause.stays (λ e. cc e)) readable in
+    record {
+      kept = bytes then;
+      freed = subst (AreClear (g.S.Slots.state c.rewrite.new.slots).reads) (take_whole (length c.args.chain.now - c.args.keep) (drop c.args.keep c.args.chain.now) (omega (arith, length-drop {A = ℕ}))) (zeros then);
+    })

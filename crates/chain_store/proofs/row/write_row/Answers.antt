@@ -5,7 +5,7 @@ use Rattle.free_slots.specs.Free.{free_in}
 use Rattle.row_chain.specs.Fragments.{first_or_zero}
 use Rattle.chain_store.specs.declared.places.Place.{Place}
 use Rattle.chain_store.specs.Places.{AreLaid, row_in}
-use Rattle.chain_store.specs.Rows.{HoldsRow}
+use Rattle.chain_store.specs.Rows.{AreRewritten, HoldsRow}
 use Rattle.chain_store.proofs.Drawn.{first_some, freed_after}
 use Rattle.chain_store.proofs.row.write_row.Goals as goal
 
@@ -59,3 +59,7 @@ returns-in-Ok-clause-gone g c = λ readable none.
     let t = g.S.Slots.state c.change.new.slots in
     subst (λ (xs : List ℕ). HoldsRow t.reads xs (first_or_zero chain) None) c.deref-5.ensures.value
     (subst (λ (n : ℕ). HoldsRow t.reads c.deref-5.result.now n None) (c.first-row.ensures ∙ ap first_or_zero c.deref-4.ensures.value) (c.in-Ok.ensures.gone readable none))
+
+pub returns-in-Ok-clause-rewritten : goal.returns-in-Ok-clause-rewritten
+returns-in-Ok-clause-rewritten g c = λ readable.
+    subst (λ (xs : List ℕ). AreRewritten (g.S.Slots.state c.change.new.slots).reads xs c.args.keep c.args.table c.args.bytes.now) c.deref-5.ensures.value (c.in-Ok.ensures.rewritten readable)

@@ -2,7 +2,7 @@ use Rattle.std.proofs.Common.{◌≡◌, ◌+◌, length, ap, ◌∙◌, subst, 
 use Rattle.std.specs.List.{Contains}
 use Rattle.abl_storage.specs.Slots.{IsReadable}
 use Rattle.std.proofs.lemmas.List.{length-drop, length-take}
-use Rattle.row_chain.proofs.Chained.{rest_can, first_can, both_wrote, both_hold, both_begin}
+use Rattle.row_chain.proofs.Chained.{rest_can, first_can, both_wrote, both_hold, both_begin, both_fragments}
 use Rattle.row_chain.proofs.Composes.{readable_on}
 use Rattle.row_chain.proofs.FurtherKinds.{kinds_more}
 use Rattle.row_chain.proofs.Within.{not_only}
@@ -62,3 +62,10 @@ returns-in_ok-write_one-in-Some-clause-kinds g t c = λ readable.
     (λ k there. c.in_ok-write_one-in-Some.ensures.wrote.rest then_readable k (not_only c.in-Some.at.now k (λ is. apart c.args.client c.in-Some.at.now c.in-Some.rest.now c.args.drawn.now c.in-Some.ensures.cases.0 (g.S.Slots.state c.args.slots.now) c.requires.ready (subst (Contains c.in-Some.rest.now) is there))))
     (c.in_ok-write_one-in-Some.ensures.bytes then_readable ∙ c.fragment-slot.ensures)
     (c.in_ok-write_chain-in-Some.ensures.kinds readable)
+
+pub returns-in_ok-write_one-in-Some-clause-bytes : goal.returns-in_ok-write_one-in-Some-clause-bytes
+returns-in_ok-write_one-in-Some-clause-bytes g t c = λ readable.
+    both_fragments c.args.client c.in-Some.at.now c.in-Some.rest.now c.args.drawn.now c.in-Some.ensures.cases.0 (g.S.Slots.state c.args.slots.now) c.requires.ready
+    c.args.bytes.now c.back.result.now c.front.result.now c.args.kind c.first_or_zero-next.result c.args.total c.args.table (g.S.Slots.state c.write_chain.new.slots) (g.S.Slots.state c.write_one.new.slots)
+    c.back.ensures c.front.ensures c.first_or_zero-next.ensures c.write_chain.ensures.touched.keeps.observable c.in_ok-write_chain-in-Some.ensures.wrote c.in_ok-write_one-in-Some.ensures.wrote
+    (λ h. c.in_ok-write_one-in-Some.ensures.bytes h ∙ c.fragment-slot.ensures) c.requires.kind c.first_or_zero-next.type_inv c.ranges.table.fits readable c.in_ok-write_chain-in-Some.ensures.bytes

@@ -3,6 +3,7 @@ use Rattle.abl_storage.specs.Slots.{Transaction}
 use Rattle.row_chain.specs.Fragments.{first_or_zero}
 use Rattle.row_chain.proofs.Composes.{on_ok}
 use Rattle.chain_store.specs.Rows.{ChangesRow}
+use Rattle.chain_store.proofs.Chaining.{own_found}
 use Rattle.chain_store.proofs.Joins.{append_none, changes_after_rests, still_touched, three_ok}
 use Rattle.chain_store.proofs.chains.Chains.delete.Goals as goal
 
@@ -39,3 +40,8 @@ pub returns-clause-counts : goal.returns-clause-counts
 returns-clause-counts g c = on_ok c.change.result c.change.ensures.counts (λ counts.
     let before = c.in-Ok.ensures.counts.drawn c.args.client in
     omega (arith, counts, before))
+
+pub change-requires-clause-own : goal.change-requires-clause-own
+change-requires-clause-own g c =
+    let l = c.in-Ok.ensures.looked in
+    own_found (g.S.Slots.state c.args.self.now.slots) (g.S.Slots.state c.prepare.new.self.slots) c.args.row.0 c.in-Ok.found.slots.items l.rests (l.cause.stays (λ e. cc e)) c.in-Ok.ensures.slots c.in-Ok.ensures.first c.requires.there

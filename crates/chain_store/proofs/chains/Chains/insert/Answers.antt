@@ -1,4 +1,4 @@
-use Rattle.std.proofs.Common.{◌≡◌, ◌≤◌, ℕ, ◌++◌, [], List, Some, length, sym, ap, ◌∙◌, subst, arith}
+use Rattle.std.proofs.Common.{inl, ◌≡◌, ◌≤◌, ℕ, ◌++◌, [], List, Some, length, sym, ap, ◌∙◌, subst, arith}
 use Rattle.abl_storage.specs.Slots.{Transaction}
 use Rattle.row_chain.specs.Fragments.{first_or_zero}
 use Rattle.row_chain.proofs.Composes.{readable_on}
@@ -74,3 +74,6 @@ returns-in-Ok-change-clause-lowest g c = λ readable k vacant.
     let none : c.new-chain.result.items ≡ [] = c.new-chain.ensures.items in
     let first : c.first.result ≡ first_or_zero c.change.new.chain.items = c.first.ensures ∙ ap first_or_zero c.deref.ensures.value in
     subst (λ (n : ℕ). n ≤ k) (sym first) (c.in-Ok-change.ensures.lowest (ap length none) (readable_on s u l.rests.keeps.observable same readable) k (vacant_one s u l.rests readable k vacant))
+
+pub change-requires-clause-own : goal.change-requires-clause-own
+change-requires-clause-own g c = λ readable. inl c.new-chain.ensures.items

@@ -1,4 +1,4 @@
-use Rattle.std.proofs.Common.{◌≡◌, ℕ, ◌++◌, [], List, Some, length, sym, ap, ◌∙◌, subst, arith}
+use Rattle.std.proofs.Common.{inl, ◌≡◌, ℕ, ◌++◌, [], List, Some, length, sym, ap, ◌∙◌, subst, arith}
 use Rattle.std.specs.BinaryHeap.{heap_items}
 use Rattle.free_slots.specs.Free.{free_in}
 use Rattle.abl_storage.specs.Slots.{Transaction}
@@ -58,3 +58,6 @@ returns-clause-touched g c =
     still_touched (g.S.Slots.state c.args.self.now.slots) (g.S.Slots.state c.expect_slot.new.self.slots) (g.S.Slots.state c.change.new.self.slots)
     (g.S.Slots.stop c.args.self.now.slots) (g.S.Slots.stop c.expect_slot.new.self.slots) (g.S.Slots.stop c.change.new.self.slots) (g.met.S.Slots.stop_known c.change.new.self.slots)
     (record { rests = l.rests; time = l.time; later = l.cause.later; failed = l.cause.stays (λ e. cc e) }) c.args.client _ _ (λ q. q) (λ q. q) c.in-Err-change.ensures.touched
+
+pub change-requires-clause-own : goal.change-requires-clause-own
+change-requires-clause-own g c = λ readable. inl c.new-chain.ensures.items

@@ -4,6 +4,7 @@ use Rattle.row_chain.specs.Fragments.{chain_of, first_or_zero}
 use Rattle.row_chain.proofs.Composes.{on_ok, readable_on}
 use Rattle.chain_store.specs.Clients.{client_in}
 use Rattle.chain_store.specs.Rows.{ChangesRow}
+use Rattle.chain_store.proofs.Chaining.{own_found}
 use Rattle.chain_store.proofs.Joins.{changes_after_rests, first_append, still_touched, three_ok}
 use Rattle.chain_store.proofs.Vacancies.{vacant_on}
 use Rattle.chain_store.proofs.chains.Chains.put.Goals as goal
@@ -41,6 +42,7 @@ returns-clause-ok g c = three_ok c.change.result c.change.ensures.put c.change.e
         held = λ readable any here. changed.held readable any here ∙ ap (λ (t : ℕ). Some (record { table = t; bytes = c.args.bytes.now })) (f.table readable);
         apart = changed.apart;
         others = changed.others;
+        chains = changed.chains;
       },
       λ readable.
           let held : length old ≡ length (chain_of s.reads row) = ap length (f.slots readable) in
@@ -86,3 +88,8 @@ returns-clause-counts g c = on_ok c.change.result c.change.ensures.counts (λ co
       record { some = n.some; holds = n.holds; least = n.least },
       counts ∙ (ap (λ (m : ℕ). m + (keep - length old)) (f.counts.drawn client) ∙ ap (λ (m : ℕ). (client_in c.args.self.now.clients.items client).drawn + (keep - m)) held),
     ))
+
+pub change-requires-clause-own : goal.change-requires-clause-own
+change-requires-clause-own g c =
+    let l = c.in-Ok.ensures.looked in
+    own_found (g.S.Slots.state c.args.self.now.slots) (g.S.Slots.state c.prepare.new.self.slots) c.args.row.0 c.in-Ok.found.slots.items l.rests (l.cause.stays (λ e. cc e)) c.in-Ok.ensures.slots c.in-Ok.ensures.first c.requires.there
