@@ -8,6 +8,7 @@ use Rattle.abl_rows.specs.declared.store.RowChange.{RowChange}
 use Rattle.abl_rows.specs.Changes.{RowsById}
 use Rattle.abl_rows.specs.Rows.{RowTransaction, no_transaction}
 use Rattle.chain_store.specs.Still.{Still}
+use Rattle.row_chain.specs.Chains.{AreChains}
 use Rattle.key_index.specs.Index.{Keys}
 use Rattle.row_indexes.specs.declared.moves.Moved.{Moved}
 use Rattle.row_indexes.specs.Places.{keepers_of, places_of}
@@ -20,7 +21,6 @@ use Rattle.indexed_rows.specs.Indexed.{AreFit, AreOfSameRows, FitsSchema, IsInde
 use Rattle.sequence_slots.specs.Values.{HoldValues, values_in}
 use Rattle.stored_rows.specs.declared.open.Open.{Open}
 use Rattle.stored_rows.specs.Decoded.{decoded}
-use Rattle.stored_rows.specs.Forms.{HaveForm}
 use Rattle.stored_rows.specs.Opens.{log_in, no_open, open_in}
 use Rattle.stored_rows.specs.State.{Reserved, rows_if, state_of, transaction_of}
 use Rattle.stored_rows.specs.Stored.{changes_of}
@@ -88,8 +88,8 @@ module _ (schema other : SchemaData) (keys : List Keys) (sequences : List ℤ) (
   reserved_is : reserved_at schema (keepers_of keys) ≡ no_reserved
   reserved_is = fun_ext (λ c. reserved_none schema (keepers_of keys) c (λ j key is. nobody c j key is))
 
-  pub opened_store : (IsTrue a.observable → HaveForm a.reads) → IsOpenedStore (store_state schema keys sequences t opens) other a
-  opened_store formed = record {
+  pub opened_store : (IsTrue a.observable → AreChains a.reads) → IsOpenedStore (store_state schema keys sequences t opens) other a
+  opened_store chains = record {
     schema_is = same;
     fine = fine;
     observable = still.rests.keeps.observable;
@@ -103,7 +103,7 @@ module _ (schema other : SchemaData) (keys : List Keys) (sequences : List ℤ) (
     held = λ is. record {
       values = subst (HoldValues a.reads) (values is) (held is);
       rows = subst (λ (x : SchemaData). AreSoundRows x (decoded x a.reads)) same (entered (is, can.fine)).sound;
-      formed = formed is;
+      chains = chains is;
     };
   }
     where

@@ -18,12 +18,11 @@ use Rattle.indexed_rows.proofs.Parts.{or_first, or_true}
 use Rattle.row_chain.specs.Fragments.{StoredBytes, ends, kind_in, row_at}
 use Rattle.row_chain.proofs.Chained.{no_row_at}
 use Rattle.stored_rows.specs.Decoded.{AreRead, decoded, is_read, or_no_table, row_of, values_of}
-use Rattle.stored_rows.specs.Forms.{HoldRows}
 use Rattle.stored_rows.proofs.Opening.{not_begins}
 use Rattle.row_keys.specs.Entries.{AreFitting}
 use Rattle.row_keys.specs.Questions.{IsLeastDuplicateIn}
 use Rattle.row_keys.proofs.Placed.{none_is_none}
-use Rattle.record_store.specs.Opened.{AreSoundRows, HoldStore, IsSoundRow, rows_before}
+use Rattle.record_store.specs.Opened.{AreSoundRows, IsSoundRow, rows_before}
 
 -- ---- the least number with a property
 
@@ -202,9 +201,5 @@ row_read : (schema : SchemaData) (stored : Option StoredBytes) → ((row : Store
 row_read schema None sound = refl
 row_read schema (Some stored) sound = values_read schema stored.table (values_of schema stored) (sound (or_no_table schema stored.table (values_of schema stored)) refl)
 
-rows_read : (schema : SchemaData) (slots : ℕ → List ℕ) → AreSoundRows schema (decoded schema slots) → AreRead schema slots
+pub rows_read : (schema : SchemaData) (slots : ℕ → List ℕ) → AreSoundRows schema (decoded schema slots) → AreRead schema slots
 rows_read schema slots sound k = row_read schema (row_at slots k) (λ row is. sound.each k row is)
-
--- a store is over slots that hold rows
-pub store_holds_rows : (schema : SchemaData) (slots : ℕ → List ℕ) → HoldStore schema slots → HoldRows schema slots
-store_holds_rows schema slots held = record { formed = held.formed; read = rows_read schema slots held.rows }

@@ -12,10 +12,10 @@ use Rattle.abl_rows.specs.Rows.{RowState, durable_of, no_transaction}
 use Rattle.key_index.specs.Index.{Keys}
 use Rattle.row_indexes.specs.Places.{places_of}
 use Rattle.row_keys.specs.Entries.{AreEntries}
+use Rattle.row_chain.specs.Chains.{AreChains}
 use Rattle.sequence_slots.specs.Values.{HoldValues, values_in}
 use Rattle.stored_rows.specs.Decoded.{decoded}
 use Rattle.stored_rows.specs.Durable.{durable_in}
-use Rattle.stored_rows.specs.Forms.{HaveForm}
 use Rattle.record_store.specs.declared.open_error.OpenError.{OpenError}
 use Rattle.record_store.specs.declared.open_error.OpenError.TheVariants.{Disk}
 
@@ -32,11 +32,11 @@ pub record AreSoundRows (schema : SchemaData) (rows : RowsById) : Type 0 where
   pub each : (k : ℕ) (row : StoredRow) → rows k ≡ Some row → IsSoundRow schema row
   pub apart : (k other : ℕ) (key : Key) → IsTrue (has_key (unique_keys schema (rows k)) key) → IsTrue (has_key (unique_keys schema (rows other)) key) → k ≡ other
 
--- the slots hold values for the sequences of the schema, and sound rows; and each slot for rows is free or has the head of a fragment
+-- the slots hold values for the sequences of the schema, and sound rows in chains: each slot for rows is free or in the chain of just one row
 pub record HoldStore (schema : SchemaData) (slots : ℕ → List ℕ) : Type 0 where
   pub values : HoldValues slots (values_in (length schema.sequences) slots)
   pub rows : AreSoundRows schema (decoded schema slots)
-  pub formed : HaveForm slots
+  pub chains : AreChains slots
 
 -- ---- opening
 

@@ -13,11 +13,10 @@ use stored_rows::OpenFault;
 pub enum OpenError {
     /// The disk failed.
     Disk,
-    /// Out of memory. It comes too where a slot is in the chain of no row, or of two, and each row is
-    /// one of its table.
+    /// Out of memory.
     NoMemory,
-    /// The slots hold no values for the sequences of the schema, a slot for rows is neither free nor
-    /// has the head of a fragment, a row is no row of a table of the schema, a key of a row is longer
+    /// The slots hold no values for the sequences of the schema, a slot for rows is neither free nor in
+    /// the chain of just one row, a row is no row of a table of the schema, a key of a row is longer
     /// than 200 bytes, or two rows have a unique key in common.
     Unsound,
 }

@@ -3,7 +3,9 @@
 ghost use Rattle.std.specs.Prelude.{◌≡◌, ◌≤◌, ℕ, [], length, false, IsTrue, IfOk};
 ghost use Rattle.abl_storage.specs.Slots.{IsReadable};
 ghost use Rattle.chain_store.specs.Places.{HoldNothing};
+ghost use Rattle.row_chain.specs.Chains.{AreChains};
 ghost use Rattle.sequence_slots.specs.Values.{HoldValues};
+ghost use Rattle.stored_rows.specs.Chained.{StayChains};
 ghost use Rattle.stored_rows.specs.State.{state_of};
 ghost use Rattle.record_store.specs.State.{IsNewStore, initial_values, no_reserved, store_state};
 
@@ -34,6 +36,7 @@ fn new_rows<S: Slots + Drop>(
     requires empty { IsReadable (S.Slots.state slots) → HoldNothing (S.Slots.state slots).reads }
     requires settled { IsReadable (S.Slots.state slots) → (k : ℕ) → (S.Slots.state slots).committed k ≡ (S.Slots.state slots).reads k }
     requires certain { IsReadable (S.Slots.state slots) → (k : ℕ) → (S.Slots.state slots).doubt k ≡ (S.Slots.state slots).committed k }
+    requires stops { (IsTrue (S.Slots.state slots).observable → ∥ AreChains (S.Slots.state slots).committed ∥₁) → StayChains (S.Slots.stop slots) (S.Slots.state slots).since }
     requires none { IsReadable (S.Slots.state slots) → HoldValues (S.Slots.state slots).committed [] }
     requires values { values.now ≡ initial_values schema }
     requires few { length values.now ≤ 256 }
@@ -61,6 +64,7 @@ impl<S: Slots + Drop> RecordStore<S> {
         requires empty { IsReadable (S.Slots.state slots) → HoldNothing (S.Slots.state slots).reads }
         requires settled { IsReadable (S.Slots.state slots) → (k : ℕ) → (S.Slots.state slots).committed k ≡ (S.Slots.state slots).reads k }
         requires certain { IsReadable (S.Slots.state slots) → (k : ℕ) → (S.Slots.state slots).doubt k ≡ (S.Slots.state slots).committed k }
+        requires stops { (IsTrue (S.Slots.state slots).observable → ∥ AreChains (S.Slots.state slots).committed ∥₁) → StayChains (S.Slots.stop slots) (S.Slots.state slots).since }
         requires none { IsReadable (S.Slots.state slots) → HoldValues (S.Slots.state slots).committed [] }
         ensures { IfOk result (λ store. IsNewStore (store_state store.rows.schema store.indexes.items store.sequences.items (S.Slots.state store.rows.chains.slots) store.rows.opens.items) schema) }
     {

@@ -3,8 +3,9 @@
 ghost use Rattle.std.specs.Prelude.{◌≡◌, ◌<◌, ◌≤◌, ℕ, [], length, false, IsTrue, IfOk, IfErr};
 ghost use Rattle.abl_storage.specs.Slots.{IsReadable};
 ghost use Rattle.chain_store.specs.Still.{Still};
+ghost use Rattle.row_chain.specs.Chains.{AreChains};
 ghost use Rattle.sequence_slots.specs.Values.{HoldValues, values_in};
-ghost use Rattle.stored_rows.specs.Forms.{HaveForm};
+ghost use Rattle.stored_rows.specs.Chained.{HaveChains, StayChains};
 ghost use Rattle.stored_rows.specs.Opens.{no_open, open_in};
 ghost use Rattle.record_store.specs.Opened.{HoldStore, IsOpenedStore, IsRefused};
 ghost use Rattle.record_store.specs.State.{store_state};
@@ -31,6 +32,7 @@ fn rows_and_values<S: Slots + Drop>(
     requires fine { (S.Slots.state slots).failed ≡ false }
     requires settled { IsReadable (S.Slots.state slots) → (k : ℕ) → (S.Slots.state slots).committed k ≡ (S.Slots.state slots).reads k }
     requires certain { IsReadable (S.Slots.state slots) → (k : ℕ) → (S.Slots.state slots).doubt k ≡ (S.Slots.state slots).committed k }
+    requires stops { (IsTrue (S.Slots.state slots).observable → ∥ AreChains (S.Slots.state slots).committed ∥₁) → StayChains (S.Slots.stop slots) (S.Slots.state slots).since }
     ensures still { IfOk result (λ o. Still (S.Slots.state slots) (S.Slots.state o.0.chains.slots) (S.Slots.stop slots) (S.Slots.stop o.0.chains.slots)) }
     ensures schema { IfOk result (λ o. o.0.schema ≡ schema) }
     ensures none { IfOk result (λ o. (c : ℕ) → open_in o.0.opens.items c ≡ no_open) }
@@ -38,7 +40,7 @@ fn rows_and_values<S: Slots + Drop>(
     ensures few { IfOk result (λ o. length o.1.items ≤ 256) }
     ensures values { IfOk result (λ o. IsTrue (S.Slots.state slots).observable → o.1.items ≡ values_in (length schema.sequences) (S.Slots.state slots).reads) }
     ensures held { IfOk result (λ o. IsTrue (S.Slots.state slots).observable → HoldValues (S.Slots.state slots).reads o.1.items) }
-    ensures formed { IfOk result (λ o. IsTrue (S.Slots.state slots).observable → HaveForm (S.Slots.state slots).reads) }
+    ensures chains { IfOk result (λ o. IsTrue (S.Slots.state slots).observable → AreChains (S.Slots.state slots).reads) }
     ensures refused { IfErr result (λ e. IsRefused (S.Slots.state slots) (S.Slots.state e.1) (S.Slots.stop slots) (S.Slots.stop e.1) e.0) }
     ensures unsound { IfErr result (λ e. e.0 ≡ OpenError.Unsound → IsTrue (S.Slots.state slots).observable → ¬ HoldStore schema (S.Slots.state slots).reads) }
 {
@@ -68,6 +70,7 @@ impl<S: Slots + Drop> RecordStore<S> {
         requires fine { (S.Slots.state slots).failed ≡ false }
         requires settled { IsReadable (S.Slots.state slots) → (k : ℕ) → (S.Slots.state slots).committed k ≡ (S.Slots.state slots).reads k }
         requires certain { IsReadable (S.Slots.state slots) → (k : ℕ) → (S.Slots.state slots).doubt k ≡ (S.Slots.state slots).committed k }
+        requires stops { (IsTrue (S.Slots.state slots).observable → ∥ AreChains (S.Slots.state slots).committed ∥₁) → StayChains (S.Slots.stop slots) (S.Slots.state slots).since }
         ensures opened { IfOk result (λ store. IsOpenedStore (store_state store.rows.schema store.indexes.items store.sequences.items (S.Slots.state store.rows.chains.slots) store.rows.opens.items) schema (S.Slots.state slots)) }
         ensures still { IfOk result (λ store. Still (S.Slots.state slots) (S.Slots.state store.rows.chains.slots) (S.Slots.stop slots) (S.Slots.stop store.rows.chains.slots)) }
         ensures refused { IfErr result (λ e. IsRefused (S.Slots.state slots) (S.Slots.state e.1) (S.Slots.stop slots) (S.Slots.stop e.1) e.0) }
@@ -97,9 +100,12 @@ impl<S: Slots + Drop> RecordStore<S> {
         self.sequences.as_slice()
     }
 
-    /// The slots again. Where no transaction is begun, they can be opened once more.
+    /// The slots again. Where no transaction is begun, they can be opened once more. What is committed
+    /// in them, and what a stop leaves of them, are chains of rows, unless a stop at the first moment
+    /// left the same.
     pub fn close(self) -> S
         ensures same { result ≡ self.rows.chains.slots }
+        ensures chains { HaveChains (S.Slots.state result) (S.Slots.stop result) }
         ensures idle { (S.Slots.state result).failed ≡ false → ((c : ℕ) → c < 16 → ((S.Slots.state result).transaction c).begun ≡ false) → (c : ℕ) → (((S.Slots.state result).transaction c).begun ≡ false) × (((S.Slots.state result).transaction c).undo ≡ []) }
         ensures settled { IsReadable (S.Slots.state result) → ((c : ℕ) → ((S.Slots.state result).transaction c).undo ≡ []) → (k : ℕ) → (S.Slots.state result).committed k ≡ (S.Slots.state result).reads k }
     {

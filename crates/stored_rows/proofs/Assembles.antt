@@ -4,7 +4,8 @@ use Rattle.abl_storage.specs.Slots.{SlotState, Transaction, IsReadable, Rests, w
 use Rattle.abl_values.specs.Schema.{SchemaData}
 use Rattle.row_chain.proofs.Composes.{readable_on}
 use Rattle.stored_rows.specs.declared.log.Undone.{Undone}
-use Rattle.stored_rows.specs.Decoded.{AreRead, decoded}
+use Rattle.stored_rows.specs.Chained.{HoldRows}
+use Rattle.stored_rows.specs.Decoded.{decoded}
 use Rattle.stored_rows.specs.Mixes.{IsMixed, rows_of, slots_of, writes_of}
 use Rattle.stored_rows.specs.Stored.{AreMarks, AreWeighed, IsStored, changes_of, mark_in, mark_or}
 
@@ -20,7 +21,7 @@ stored_rests schema s t log touched r same stored = record {
   idle = λ c e. stored.idle c (sym (ap (λ (f : ℕ → Transaction). (f c).begun) r.transaction) ∙ e);
   mixes = λ readable at mixed m.
       let was = before readable in
-      subst (λ (f : ℕ → List ℕ). IsMixed (rows_of (λ c. changes_of (log c)) (decoded schema f)) at (decoded schema mixed) × AreRead schema mixed) (sym (r.reads was))
+      subst (λ (f : ℕ → List ℕ). IsMixed (rows_of (λ c. changes_of (log c)) (decoded schema f)) at (decoded schema mixed) × HoldRows schema mixed) (sym (r.reads was))
       (stored.mixes was at mixed (subst (λ (f : ℕ → Transaction). IsMixed (writes_of f s.reads) (λ c. mark_or (log c) (at c) (length (f c).undo)) mixed) r.transaction
       (subst (λ (f : ℕ → List ℕ). IsMixed (writes_of t.transaction f) (mark_in t log at) mixed) (r.reads was) m)));
   weighed = λ readable c. let was = before readable in subst (λ (f : ℕ → List ℕ). AreWeighed (log c) (decoded schema f)) (sym (r.reads was)) (stored.weighed was c);

@@ -5,12 +5,14 @@ use Rattle.abl_storage.specs.Slots.{SlotState, Transaction, Commits, IsReadable,
 use Rattle.abl_storage.specs.Slots as storage
 use Rattle.abl_storage.specs.declared.slots.Undo.{Undo}
 use Rattle.abl_values.specs.Schema.{SchemaData}
+use Rattle.row_chain.specs.Chains.{AreChains}
 use Rattle.row_chain.proofs.Composes.{readable_on, undone_at}
 use Rattle.abl_rows.specs.declared.store.RowChange.{RowChange}
 use Rattle.abl_rows.specs.Changes.{has_change, undone}
 use Rattle.abl_rows.specs.Rows.{joined}
 use Rattle.stored_rows.specs.declared.log.Undone.{Undone}
-use Rattle.stored_rows.specs.Decoded.{AreRead, decoded}
+use Rattle.stored_rows.specs.Chained.{HoldRows}
+use Rattle.stored_rows.specs.Decoded.{decoded}
 use Rattle.stored_rows.specs.Mixes.{IsMixed, rows_of, slots_of}
 use Rattle.stored_rows.specs.Stored.{AreMarks, AreWeighed, IsStored, changes_of, has, mark_in, mark_or}
 use Rattle.stored_rows.proofs.Histories.{Closes, IsApart, Place, clash, closed_after, mixed_of, not_true, open_before, others_none, place_of}
@@ -100,7 +102,7 @@ module _ (schema : SchemaData) (s t : SlotState) (log left : ℕ → List Undone
         let held = changes_length (log client) in
         ap (λ (l : List RowChange). undone l (decoded schema s.reads) k) (dropped (raised client (length (log client)) at client) (was client) (omega (arith, i, held)))
 
-    pub mixes_closed : IsApart (slots_of t) → (at : ℕ → ℕ) (mixed : ℕ → List ℕ) → IsMixed (slots_of t) (mark_in t left at) mixed → IsMixed (rows_of now (decoded schema t.reads)) at (decoded schema mixed) × AreRead schema mixed
+    pub mixes_closed : IsApart (slots_of t) → (at : ℕ → ℕ) (mixed : ℕ → List ℕ) → IsMixed (slots_of t) (mark_in t left at) mixed → IsMixed (rows_of now (decoded schema t.reads)) at (decoded schema mixed) × HoldRows schema mixed
     mixes_closed apart_t at mixed m =
         let old : IsMixed (slots_of s) (mark_in s log (raised client (length (log client)) at)) mixed = mixed_of (slots_of s) apart_s (mark_in s log (raised client (length (log client)) at)) mixed
         (λ k. open_before (slots_of s) (slots_of t) client apart_s slots_close (mark_in s log (raised client (length (log client)) at)) (mark_in t left at) (others_mark at) (whole at) k (mixed k) (place_of (slots_of t) apart_t (mark_in t left at) mixed m k)) in
@@ -176,6 +178,9 @@ module _ (schema : SchemaData) (s t : SlotState) (log left : ℕ → List Undone
       of = λ c k w. (stored.base readable).of c k w ∙ ap (λ (i : ℕ). storage.undone (drop i (s.transaction c).undo) s.reads k) (sym (zero_mark c));
       rest = (stored.base readable).rest;
     }
+
+    pub committed_chains : ∥ AreChains t.committed ∥₁
+    committed_chains = (stored.mixes readable ended t.committed ended_mixed).1.chains
 
     pub committed_rows : (k : ℕ) → decoded schema t.committed k ≡ joined (was client) (decoded schema s.reads) (decoded schema s.committed) k
     committed_rows k = by_changed (has_change (was client) k) refl

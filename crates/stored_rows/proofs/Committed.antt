@@ -1,14 +1,16 @@
 -- A commit, said of the state of a store.
 use Rattle.std.proofs.Common.{◌≡◌, ◌≢◌, inl, inr, ⊎_elim, ℕ, ◌+◌, ◌-◌, ◌^◌, ◌<◌, ◌≤◌, ◌==◌, ◌&&◌, not, cond, Bool, true, false, List, [], length, drop, slice_index_or, slice_set, Result, Ok, Err, OnOk, OnErr, IsErrOf, IsTrue, ℤ, refl, sym, ap, ◌∙◌, subst, arith}
+use Rattle.std.proofs.Math.Logic.{∥∥₁_map}
 use Rattle.std.proofs.Math.Path.{fun_ext}
 use Rattle.std.proofs.lemmas.Bool.{cases_eq}
 use Rattle.std.proofs.lemmas.Bool.Decides.{nat_tests}
 use Rattle.abl_storage.specs.Slots as storage
-use Rattle.abl_storage.specs.Slots.{SlotState, Transaction, Becomes, Commits, HasCause, IsReadable, wrote}
+use Rattle.abl_storage.specs.Slots.{SlotState, Transaction, Becomes, Commits, Goes, HasCause, IsReadable, IsStop, wrote}
 use Rattle.abl_storage.specs.declared.slots.Undo.{Undo}
 use Rattle.abl_storage.specs.declared.slots.SlotFault.TheVariants.{Disk as SlotDisk, TxFull, NoMemory as SlotMemory}
 use Rattle.abl_values.specs.Schema.{SchemaData}
 use Rattle.database_meaning.specs.declared.state.Key.{Key}
+use Rattle.row_chain.specs.Chains.{AreChains}
 use Rattle.row_chain.specs.Fragments.{ends}
 use Rattle.chain_store.specs.declared.places.Place.{Place as SlotPlace}
 use Rattle.chain_store.specs.declared.client.Client.{Client}
@@ -23,6 +25,7 @@ use Rattle.abl_rows.specs.Times.{IsInDoubt}
 use Rattle.sequence_slots.specs.Values.{HoldValues, values_in}
 use Rattle.sequence_slots.proofs.Reading.{values_read}
 use Rattle.sequence_writes.specs.Wrote.{committed_by}
+use Rattle.stored_rows.specs.Chained.{HaveChains}
 use Rattle.stored_rows.specs.Commits.{CommitsValues, FailsValues}
 use Rattle.stored_rows.specs.Durable.{durable_in, times_in}
 use Rattle.stored_rows.specs.Quiet.{IsQuiet}
@@ -36,12 +39,13 @@ use Rattle.stored_rows.specs.State.{Reserved, rows_if, state_of, transaction_of}
 use Rattle.stored_rows.specs.Stored.{IsStored, changes_of, mark_in}
 use Rattle.stored_rows.proofs.Assembles.{stored_failed}
 use Rattle.stored_rows.proofs.Changed.{open_set_other, open_set_same, rows_known, same_rows, sound_apart, stored_same}
-use Rattle.stored_rows.proofs.Closed.{committed_rows, stored_closed}
+use Rattle.stored_rows.proofs.Chaining.{stops_go}
+use Rattle.stored_rows.proofs.Closed.{committed_chains, committed_rows, stored_closed}
 use Rattle.stored_rows.proofs.Errors.{and_parts}
 use Rattle.stored_rows.proofs.Histories.{IsApart}
 use Rattle.stored_rows.proofs.Keeps.{slots_apart}
 use Rattle.stored_rows.proofs.Lists.{undone_rest, wrote_drop}
-use Rattle.stored_rows.proofs.LowSlots.{decoded_same, stored_there, with_slots}
+use Rattle.stored_rows.proofs.LowSlots.{chains_same, decoded_same, stored_there, with_slots}
 use Rattle.stored_rows.proofs.Methods.{old_view, same_all}
 use Rattle.stored_rows.proofs.Quiet.{quiet_commits, quiet_failed}
 use Rattle.stored_rows.proofs.Weights.{counted_joined}
@@ -109,6 +113,11 @@ module _ (schema : SchemaData) (s : SlotState) (log : ℕ → List Undone) (touc
       fun_ext (committed_rows schema s u log (after [] log) touched (after [] touched) client stored (commits_there readable.1) refl (after_own [] log) (after_other [] log) (after_own [] touched) (after_other [] touched)
       past (λ c le. ap (λ (x : Transaction). x.begun) (after_other none s.transaction c (omega (arith, le, lt))) ∙ past c le) apart_s readable)
 
+  pub chains_by_commit : IsReadable s → ∥ AreChains (committed_by s client) ∥₁
+  chains_by_commit readable =
+      committed_chains schema s u log (after [] log) touched (after [] touched) client stored (commits_there readable.1) refl (after_own [] log) (after_other [] log) (after_own [] touched) (after_other [] touched)
+      past (λ c le. ap (λ (x : Transaction). x.begun) (after_other none s.transaction c (omega (arith, le, lt))) ∙ past c le) apart_s readable
+
 module _ (schema : SchemaData) (s t : SlotState) (was : List Open) (client : ℕ) (old x : Open) (many : length was ≡ 16) (lt : client < 16) (old_is : old ≡ slice_index_or was client old)
     (places : List SlotPlace) (free : ℕ → ℕ) (clients : List Client) (failed : Bool) (sound : IsSound s places free clients failed)
     (left_places : List SlotPlace) (left_free : ℕ → ℕ) (left_clients : List Client) (left_failed : Bool) (still_sound : IsSound t left_places left_free left_clients left_failed)
@@ -124,6 +133,9 @@ module _ (schema : SchemaData) (s t : SlotState) (was : List Open) (client : ℕ
 
   rows_there : IsReadable s → decoded schema (committed_by s client) ≡ joined (changes_of (log_in was client)) (decoded schema s.reads) (decoded schema s.committed)
   rows_there = rows_by_commit schema s (log_in was) (touched_in was) client stored lt sound.past apart_s
+
+  chains_there : IsReadable s → ∥ AreChains (committed_by s client) ∥₁
+  chains_there = chains_by_commit schema s (log_in was) (touched_in was) client stored lt sound.past apart_s
 
   -- the same rows, said of the state of a store
   rows_said : IsReadable s → joined (changes_of (log_in was client)) (decoded schema s.reads) (decoded schema s.committed)
@@ -241,6 +253,42 @@ module _ (schema : SchemaData) (s t : SlotState) (was : List Open) (client : ℕ
   commit_quiet (Err (Slot TxFull)) commits cause only q = absurd (only.1.1 refl)
   commit_quiet (Err (Slot SlotMemory)) commits cause only q = absurd (only.1.0 refl)
   commit_quiet (Err Full) commits cause only q = absurd (only.0 refl)
+
+  -- what is committed and in doubt are chains
+  module _ (at_s at_t : ℕ → (ℕ → List ℕ) → Type 0) (law : (m : ℕ) (slots : ℕ → List ℕ) → at_t m slots → IsStop t m) (from : s.since ≤ s.moment) (time : Goes s t at_s at_t) (have : HaveChains s at_s) where
+    by_rows : (slots : ℕ → List ℕ) → ((k : ℕ) → ends k ≡ false → slots k ≡ committed_by s client k) → IsTrue s.observable → ∥ AreChains slots ∥₁
+    by_rows slots same seen = ∥∥₁_map (chains_there (seen, fine)) (chains_same (committed_by s client) slots (λ k inside. sym (same k inside)))
+
+    pub chains_committed : CommitsValues s t client values → HaveChains t at_t
+    chains_committed commits = record { committed = committed; doubt = doubt; stops = stops_go s t at_s at_t law from time commits.observable have.stops have.committed doubt }
+      where
+        seen_s : IsTrue t.observable → IsTrue s.observable
+        seen_s seen = subst (λ (b : Bool). IsTrue b) commits.observable seen
+
+        committed : IsTrue t.observable → ∥ AreChains t.committed ∥₁
+        committed seen = by_rows t.committed (commits.committed (seen_s seen, fine)) (seen_s seen)
+
+        doubt : IsTrue t.observable → ∥ AreChains t.doubt ∥₁
+        doubt seen = subst (λ (f : ℕ → List ℕ). ∥ AreChains f ∥₁) (sym (commits.doubt (seen_s seen))) (committed seen)
+
+    pub chains_in_doubt : FailsValues s t client values → HaveChains t at_t
+    chains_in_doubt fails = record { committed = committed; doubt = doubt; stops = stops_go s t at_s at_t law from time fails.observable have.stops have.committed doubt }
+      where
+        seen_s : IsTrue t.observable → IsTrue s.observable
+        seen_s seen = subst (λ (b : Bool). IsTrue b) fails.observable seen
+
+        committed : IsTrue t.observable → ∥ AreChains t.committed ∥₁
+        committed seen = subst (λ (f : ℕ → List ℕ). ∥ AreChains f ∥₁) (sym (fails.committed (seen_s seen))) (have.committed (seen_s seen))
+
+        doubt : IsTrue t.observable → ∥ AreChains t.doubt ∥₁
+        doubt seen = ⊎_elim
+            (λ (e : t.doubt ≡ s.doubt). subst (λ (f : ℕ → List ℕ). ∥ AreChains f ∥₁) (sym e) (have.doubt (seen_s seen)))
+            (λ (h : ((k : ℕ) → ends k ≡ false → t.doubt k ≡ committed_by s client k) × HoldValues t.doubt values). by_rows t.doubt h.0 (seen_s seen))
+            (fails.doubt (seen_s seen, fine))
+
+    pub commit_chains : (r : Result ℕ ChainFault) → OnOk r (CommitsValues s t client values) → OnErr r (FailsValues s t client values) → HaveChains t at_t
+    commit_chains (Ok v) commits fails = chains_committed commits
+    commit_chains (Err fault) commits fails = chains_in_doubt fails
 
   -- what a failed commit leaves in doubt
   pub commit_doubt : FailsValues s t client values → length values ≡ length schema.sequences → (reserved : Reserved) (sequences : List ℤ) → IsInDoubt (state_of schema reserved sequences s was) client values (times_in schema s) (times_in schema t)

@@ -12,14 +12,13 @@ use Rattle.database_meaning.specs.Counts.{sum_below}
 use Rattle.database_meaning.specs.Setting.{fragments}
 use Rattle.row_chain.specs.Fragments.{StoredBytes, ends, kind_in, row_at}
 use Rattle.row_chain.proofs.Chained.{no_row_at}
-use Rattle.chain_store.proofs.Rewrites.{high_bound, low_bound}
+use Rattle.chain_store.proofs.Rewrites.{high_bound}
 use Rattle.abl_rows.specs.Changes.{RowsById}
 use Rattle.abl_rows.specs.Questions.{IsUsed}
 use Rattle.stored_rows.specs.declared.open.Open.{Open}
 use Rattle.stored_rows.specs.Commits.{FailsValues}
 use Rattle.stored_rows.specs.Counted.{AreCounted, IsWeight, fragments_below}
 use Rattle.stored_rows.specs.Decoded.{decoded, is_read, row_of}
-use Rattle.stored_rows.specs.Forms.{HoldRows, has_form}
 use Rattle.stored_rows.specs.Opens.{open_in}
 use Rattle.stored_rows.specs.State.{Reserved, rows_if, state_of}
 use Rattle.stored_rows.proofs.Opening.{not_begins}
@@ -135,26 +134,6 @@ blank_none slots end blank k le = by_end (ends k) refl
     by_end false e =
         let high = high_bound k e in
         no_row_at slots k (not_of_kind (ends k) (kind_in (slots k)) (ap kind_in (blank k le (omega (arith, high)))))
-
--- the slots below the end hold rows, and those from there on zeros
-pub held_all : (schema : SchemaData) (slots : ℕ → List ℕ) (end at : ℕ) → at ≡ end → AreBlankFrom end slots → ((k : ℕ) → 8192 ≤ k → k < at → has_form (slots k) ≡ true)
-    → ((k : ℕ) → 8192 ≤ k → k < at → is_read schema (row_at slots k) ≡ true) → HoldRows schema slots
-held_all schema slots end at all blank formed read = record {
-  formed = λ k e.
-      let low = low_bound k e in
-      let high = high_bound k e in
-      elim (cases_lt k end) [
-        | inl short ↦ formed k low (omega (arith, short, all))
-        | inr le ↦ ap has_form (blank k le (omega (arith, high)))
-      ];
-  read = λ k. elim (cases_lt k 8192) [
-    | inl lt ↦ ap (is_read schema) (no_row_at slots k (not_begins (ends k) (eqb (kind_in (slots k)) 1) (low_ends k lt)))
-    | inr low ↦ elim (cases_lt k end) [
-      | inl short ↦ read k low (omega (arith, short, all))
-      | inr le ↦ ap (is_read schema) (blank_none slots end blank k le)
-    ]
-  ];
-}
 
 -- what a weight says
 pub weight_some : (schema : SchemaData) (stored : Option StoredBytes) (found : Option ℕ) (many : ℕ) → found ≡ Some many → IsWeight schema stored found → (is_read schema stored ≡ true) × (many ≡ fragments (row_of schema stored))

@@ -11,7 +11,8 @@ use Rattle.chain_store.specs.Places.{IsKept}
 use Rattle.abl_rows.specs.declared.store.RowChange.{RowChange}
 use Rattle.abl_rows.specs.Changes.{RowsById, has_change, undone}
 use Rattle.stored_rows.specs.declared.log.Undone.{Undone}
-use Rattle.stored_rows.specs.Decoded.{AreRead, decoded}
+use Rattle.stored_rows.specs.Chained.{HoldRows}
+use Rattle.stored_rows.specs.Decoded.{decoded}
 use Rattle.stored_rows.specs.Mixes.{IsMixed, rows_of, slots_of}
 use Rattle.stored_rows.specs.Stored.{IsStored, changes_of, has, mark_in, mark_or}
 use Rattle.stored_rows.proofs.Histories.{IsApart, IsLowered, Place, Returns, clash, mixed_of, others_none, place_after, place_before, place_of}
@@ -152,7 +153,7 @@ module _ (schema : SchemaData) (s t : SlotState) (log left : ℕ → List Undone
       (λ c k ne w. rows_back k ∙ rows_rest (drop n (was client)) rows k (changed_drop n (was client) k (others_none (rows_of was rows) rows_one c k w client (λ is. ne (sym is)))))
 
   pub mixes_back : IsApart (rows_of now (decoded schema t.reads)) → (at : ℕ → ℕ) (mixed : ℕ → List ℕ) → IsMixed (slots_of t) (mark_in t left at) mixed
-      → IsMixed (rows_of now (decoded schema t.reads)) at (decoded schema mixed) × AreRead schema mixed
+      → IsMixed (rows_of now (decoded schema t.reads)) at (decoded schema mixed) × HoldRows schema mixed
   mixes_back rows_two at mixed m =
       let all = stored.mixes readable (lowered client n at) mixed (before_back at mixed m) in (
         mixed_of (rows_of now (decoded schema t.reads)) rows_two at (decoded schema mixed) (λ k. place_after (rows_of was rows) (rows_of now (decoded schema t.reads)) client n rows_one rows_two rows_return_back (lowered client n at) at (is_lowered client n at) k (decoded schema mixed k)

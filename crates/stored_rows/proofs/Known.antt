@@ -23,7 +23,7 @@ use Rattle.stored_rows.proofs.Marks.{mark_past}
 
 -- wherever a row begins now it is a row of its table
 pub all_read : (schema : SchemaData) (s : SlotState) (log : ℕ → List Undone) (touched : ℕ → List ℕ) → IsStored schema s log touched → IsReadable s → AreRead schema s.reads
-all_read schema s log touched stored readable = (stored.mixes readable (λ c. length (log c)) s.reads present).1
+all_read schema s log touched stored readable = (stored.mixes readable (λ c. length (log c)) s.reads present).1.read
   where
     present : IsMixed (slots_of s) (mark_in s log (λ c. length (log c))) s.reads
     present = record {

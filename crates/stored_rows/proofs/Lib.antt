@@ -23,4 +23,5 @@ pub mod Counting
 pub mod Sends
 pub mod Quiet
 pub mod LowSlots
+pub mod Chaining
 pub mod Committing

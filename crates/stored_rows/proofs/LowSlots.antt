@@ -1,15 +1,19 @@
 -- Rows do not depend on slots outside those for rows.
-use Rattle.std.proofs.Common.{◌≡◌, ℕ, zero, suc, ◌&&◌, not, eqb, Bool, true, false, cond, List, [], ◌++◌, drop, Some, None, refl, sym, ap, ◌∙◌, subst}
+use Rattle.std.proofs.Common.{◌≡◌, ◌⊎◌, inl, inr, ⊎_elim, ℕ, zero, suc, ◌<◌, ◌&&◌, not, eqb, Bool, true, false, cond, List, [], ◌∷◌, ◌++◌, length, drop, get_or, Some, None, refl, sym, ap, ◌∙◌, subst, arith}
+use Rattle.std.specs.List.{Contains}
+use Rattle.std.proofs.Math.Logic.{∥∥₁_map}
 use Rattle.std.proofs.Math.Path.{fun_ext}
 use Rattle.abl_storage.specs.Slots as storage
 use Rattle.abl_storage.specs.Slots.{SlotState, IsReadable, wrote}
 use Rattle.abl_values.specs.Schema.{SchemaData}
-use Rattle.row_chain.specs.Fragments.{bytes_from, content_in, ends, kind_in, next_in, row_at, table_in}
+use Rattle.row_chain.specs.Chains.{AreChains, IsChain, IsOfOneRow}
+use Rattle.row_chain.specs.Fragments.{StoredBytes, begins, bytes_from, chain_of, content_in, ends, kind_in, next_in, row_at, slots_from, table_in}
 use Rattle.row_chain.proofs.Chained.{no_row_at}
 use Rattle.row_chain.proofs.Composes.{undone_at}
 use Rattle.abl_rows.specs.Changes.{RowsById}
 use Rattle.stored_rows.specs.declared.log.Undone.{Undone}
-use Rattle.stored_rows.specs.Decoded.{AreRead, decoded, is_read, row_of}
+use Rattle.stored_rows.specs.Chained.{HoldRows}
+use Rattle.stored_rows.specs.Decoded.{decoded, is_read, row_of}
 use Rattle.stored_rows.specs.Mixes.{IsMixed, rows_of, slots_of}
 use Rattle.stored_rows.specs.Stored.{AreWeighed, IsStored, changes_of, mark_in}
 use Rattle.stored_rows.proofs.Histories.{clash}
@@ -42,8 +46,87 @@ row_same a b row same = by_end (ends row) refl
 pub decoded_same : (schema : SchemaData) (a b : ℕ → List ℕ) → HaveSameRows a b → decoded schema a ≡ decoded schema b
 decoded_same schema a b same = fun_ext (λ k. ap (row_of schema) (row_same a b k same))
 
-read_same : (schema : SchemaData) (a b : ℕ → List ℕ) → HaveSameRows a b → AreRead schema a → AreRead schema b
-read_same schema a b same read k = sym (ap (is_read schema) (row_same a b k same)) ∙ read k
+-- ---- chains
+
+slots_same : (n : ℕ) (a b : ℕ → List ℕ) (at : ℕ) → HaveSameRows a b → slots_from n a at ≡ slots_from n b at
+unfolding slots_from
+slots_same zero a b at same = refl
+slots_same (suc n) a b at same = by_end (slots_same n a b (next_in (b at)) same) (ends at) refl
+  where
+    by_end : slots_from n a (next_in (b at)) ≡ slots_from n b (next_in (b at)) → (e : Bool) → ends at ≡ e → cond (ends at) [] (at ∷ slots_from n a (next_in (a at))) ≡ cond (ends at) [] (at ∷ slots_from n b (next_in (b at)))
+    by_end later true is = ap (λ (v : Bool). cond v [] (at ∷ slots_from n a (next_in (a at)))) is ∙ sym (ap (λ (v : Bool). cond v [] (at ∷ slots_from n b (next_in (b at)))) is)
+    by_end later false is = ap (λ (xs : List ℕ). cond (ends at) [] (at ∷ xs)) (ap (λ (x : List ℕ). slots_from n a (next_in x)) (same at is) ∙ later)
+
+chain_same : (a b : ℕ → List ℕ) (row : ℕ) → ends row ≡ false → HaveSameRows a b → chain_of a row ≡ chain_of b row
+chain_same a b row inside same = ap (λ (xs : List ℕ). row ∷ xs) (ap (λ (x : List ℕ). slots_from 124 a (next_in x)) (same row inside) ∙ slots_same 124 a b (next_in (b row)) same)
+
+-- the slot with this number is one for rows
+abbrev Inside : List ℕ → ℕ → Type 0
+Inside xs i = i < length xs → ends (get_or xs i 0) ≡ false
+
+inside_more : (at : ℕ) (xs : List ℕ) → ends at ≡ false → ((j : ℕ) → Inside xs j) → (i : ℕ) → Inside (at ∷ xs) i
+inside_more at xs is rest zero lt = is
+inside_more at xs is rest (suc i) lt = rest i (omega (arith, lt))
+
+inside_from : (n : ℕ) (a : ℕ → List ℕ) (at i : ℕ) → Inside (slots_from n a at) i
+unfolding slots_from
+inside_from zero a at i lt = absurd (omega (arith, lt))
+inside_from (suc n) a at i lt = by_end (inside_from n a (next_in (a at))) (ends at) refl lt
+  where
+    by_end : ((j : ℕ) → Inside (slots_from n a (next_in (a at))) j) → (e : Bool) → ends at ≡ e → Inside (cond (ends at) [] (at ∷ slots_from n a (next_in (a at)))) i
+    by_end later true is = subst (λ (v : Bool). Inside (cond v [] (at ∷ slots_from n a (next_in (a at)))) i) (sym is) (λ less. absurd (omega (arith, less)))
+    by_end later false is = subst (λ (v : Bool). Inside (cond v [] (at ∷ slots_from n a (next_in (a at)))) i) (sym is) (inside_more at (slots_from n a (next_in (a at))) is later i)
+
+inside_chain : (a : ℕ → List ℕ) (row i : ℕ) → ends row ≡ false → Inside (chain_of a row) i
+inside_chain a row i inside = inside_more row (slots_from 124 a (next_in (a row))) inside (inside_from 124 a (next_in (a row))) i
+
+inside_of : (a b : Bool) → (not a && b) ≡ true → a ≡ false
+inside_of true b e = absurd (cc e)
+inside_of false b e = refl
+
+begun_of : (b : Bool) (row : StoredBytes) (stored : StoredBytes) → cond b (Some row) None ≡ Some stored → b ≡ true
+begun_of true row stored e = refl
+begun_of false row stored e = absurd (cc e)
+
+begins_same : (a b : ℕ → List ℕ) (row : ℕ) → HaveSameRows a b → begins a row ≡ begins b row
+begins_same a b row same = by_end (ends row) refl
+  where
+    by_end : (e : Bool) → ends row ≡ e → begins a row ≡ begins b row
+    by_end true is = not_begins (ends row) (eqb (kind_in (a row)) 1) is ∙ sym (not_begins (ends row) (eqb (kind_in (b row)) 1) is)
+    by_end false is = ap (λ (x : List ℕ). not (ends row) && eqb (kind_in x) 1) (same row is)
+
+begins_inside : (a : ℕ → List ℕ) (row : ℕ) → begins a row ≡ true → ends row ≡ false
+begins_inside a row begun = inside_of (ends row) (eqb (kind_in (a row)) 1) begun
+
+pub chains_same : (a b : ℕ → List ℕ) → HaveSameRows a b → AreChains a → AreChains b
+chains_same a b same are = record { chains = chains; each = each }
+  where
+    chains : (row : ℕ) (stored : StoredBytes) → row_at b row ≡ Some stored → IsChain b 1 2 stored.table (chain_of b row) stored.bytes
+    chains row stored is =
+        let was : row_at a row ≡ Some stored = row_same a b row same ∙ is in
+        let inside : ends row ≡ false = begins_inside a row (begun_of (begins a row) (record { table = table_in (a row); bytes = content_in (a row) ++ bytes_from 124 a (next_in (a row)) }) stored was) in
+        let there : IsChain a 1 2 stored.table (chain_of b row) stored.bytes = subst (λ (chain : List ℕ). IsChain a 1 2 stored.table chain stored.bytes) (chain_same a b row inside same) (are.chains row stored was) in
+        record { count = there.count; each = λ i lt. sym (same (get_or (chain_of b row) i 0) (inside_chain b row i inside lt)) ∙ there.each i lt }
+
+    one_row : (slot : ℕ) → IsOfOneRow a slot → IsOfOneRow b slot
+    one_row slot one = record {
+      row = one.row;
+      begun = sym (begins_same a b one.row same) ∙ one.begun;
+      there = subst (λ (chain : List ℕ). Contains chain slot) (chain_same a b one.row (begins_inside a one.row one.begun) same) one.there;
+      only = λ other begun there.
+          one.only other (begins_same a b other same ∙ begun) (subst (λ (chain : List ℕ). Contains chain slot) (sym (chain_same a b other (begins_inside b other begun) same)) there);
+    }
+
+    each : (slot : ℕ) → ends slot ≡ false → (kind_in (b slot) ≡ 0) ⊎ IsOfOneRow b slot
+    each slot inside = ⊎_elim (λ (e : kind_in (a slot) ≡ 0). inl (ap kind_in (sym (same slot inside)) ∙ e)) (λ (one : IsOfOneRow a slot). inr (one_row slot one)) (are.each slot inside)
+
+hold_same : (schema : SchemaData) (a b : ℕ → List ℕ) → HaveSameRows a b → HoldRows schema a → HoldRows schema b
+hold_same schema a b same held = record {
+  read = λ k. sym (ap (is_read schema) (row_same a b k same)) ∙ held.read k;
+  chains = ∥∥₁_map held.chains (chains_same a b same);
+}
+
+-- ---- other slots
 
 -- the state with other slots
 abbrev pub with_slots : SlotState → (ℕ → List ℕ) → (ℕ → List ℕ) → SlotState
@@ -88,12 +171,12 @@ module _ (schema : SchemaData) (t : SlotState) (reads committed : ℕ → List �
         rest_end k none true e = ap (λ (b : Bool). cond b (reads k) (mixed k)) e
         rest_end k none false e = mix_is mixed k e ∙ (m.rest k none ∙ same_reads readable k e)
 
-    mixes_there : (at : ℕ → ℕ) (mixed : ℕ → List ℕ) → IsMixed (slots_of t) (mark_in t log at) mixed → IsMixed (rows_of (λ c. changes_of (log c)) (decoded schema t.reads)) at (decoded schema mixed) × AreRead schema mixed
+    mixes_there : (at : ℕ → ℕ) (mixed : ℕ → List ℕ) → IsMixed (slots_of t) (mark_in t log at) mixed → IsMixed (rows_of (λ c. changes_of (log c)) (decoded schema t.reads)) at (decoded schema mixed) × HoldRows schema mixed
     mixes_there at mixed m =
         let there = stored.mixes readable at (mix_of mixed) (mix_mixed at mixed m) in (
           subst (λ (f : RowsById). IsMixed (rows_of (λ c. changes_of (log c)) f) at (decoded schema mixed)) (sym rows_are)
               (subst (λ (f : RowsById). IsMixed (rows_of (λ c. changes_of (log c)) (decoded schema reads)) at f) (decoded_same schema (mix_of mixed) mixed (mix_is mixed)) there.0),
-          read_same schema (mix_of mixed) mixed (mix_is mixed) there.1,
+          hold_same schema (mix_of mixed) mixed (mix_is mixed) there.1,
         )
 
     base_there : IsMixed (slots_of t) (λ c. 0) t.committed

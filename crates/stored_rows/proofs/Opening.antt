@@ -1,22 +1,24 @@
 -- A store that is opened.
-use Rattle.std.proofs.Common.{◌≡◌, ℕ, ◌&&◌, not, eqb, Bool, true, false, List, [], length, None, refl, sym, ap, ◌∙◌, subst, arith}
+use Rattle.std.proofs.Common.{◌≡◌, inl, ℕ, ◌&&◌, not, eqb, Bool, true, false, List, [], length, Some, None, refl, sym, ap, ◌∙◌, subst, arith}
 use Rattle.std.proofs.Math.Path.{fun_ext}
 use Rattle.abl_storage.specs.Slots.{SlotState, IsReadable, wrote}
 use Rattle.abl_storage.specs.declared.slots.Undo.{Undo}
 use Rattle.abl_values.specs.Schema.{SchemaData}
+use Rattle.row_chain.specs.Chains.{AreChains}
 use Rattle.row_chain.specs.Fragments.{begins, ends, kind_in}
 use Rattle.row_chain.proofs.Chained.{no_row_at}
 use Rattle.chain_store.specs.Places.{HoldNothing}
 use Rattle.stored_rows.specs.declared.open.Open.{Open}
 use Rattle.stored_rows.specs.Opens.{OpenView, log_in, no_open, open_in, touched_in}
+use Rattle.stored_rows.specs.Chained.{HoldRows}
 use Rattle.stored_rows.specs.Decoded.{AreRead, decoded, is_read, row_of}
 use Rattle.stored_rows.specs.Stored.{IsStored}
 use Rattle.stored_rows.proofs.Histories.{clash}
 
 -- no transaction is begun, and the slots are those that are committed
-pub opened_stored : (schema : SchemaData) (s : SlotState) → ((c : ℕ) → (s.transaction c).undo ≡ []) → (IsReadable s → (k : ℕ) → s.committed k ≡ s.reads k) → (IsReadable s → AreRead schema s.reads)
+pub opened_stored : (schema : SchemaData) (s : SlotState) → ((c : ℕ) → (s.transaction c).undo ≡ []) → (IsReadable s → (k : ℕ) → s.committed k ≡ s.reads k) → (IsReadable s → HoldRows schema s.reads)
     → IsStored schema s (λ c. []) (λ c. [])
-opened_stored schema s clean settled read = record {
+opened_stored schema s clean settled hold = record {
   marks = λ fine c. omega arith;
   first = λ fine c. ap length (clean c);
   low = λ fine c k e. none c k;
@@ -27,7 +29,7 @@ opened_stored schema s clean settled read = record {
   mixes = λ readable at mixed m.
       let same : mixed ≡ s.reads = fun_ext (λ k. m.rest k (λ c. none c k)) in (
         record { of = λ c k e. absurd (cc e); rest = λ k e. ap (λ (f : ℕ → List ℕ). decoded schema f k) same },
-        subst (AreRead schema) (sym same) (read readable),
+        subst (HoldRows schema) (sym same) (hold readable),
       );
   weighed = λ readable c. tt;
   base = λ readable. record { of = λ c k e. clash (wrote (s.transaction c).undo k) e (none c k); rest = λ k e. settled readable k };
@@ -55,5 +57,14 @@ none_begins slots empty k = by_end (ends k) refl
 pub holds_no_row : (schema : SchemaData) (slots : ℕ → List ℕ) → HoldNothing slots → (k : ℕ) → decoded schema slots k ≡ None
 holds_no_row schema slots empty k = ap (row_of schema) (no_row_at slots k (none_begins slots empty k))
 
-pub no_row_read : (schema : SchemaData) (slots : ℕ → List ℕ) → HoldNothing slots → AreRead schema slots
+no_row_read : (schema : SchemaData) (slots : ℕ → List ℕ) → HoldNothing slots → AreRead schema slots
 no_row_read schema slots empty k = ap (is_read schema) (no_row_at slots k (none_begins slots empty k))
+
+pub nothing_is_chains : (slots : ℕ → List ℕ) → HoldNothing slots → AreChains slots
+nothing_is_chains slots empty = record {
+  chains = λ row stored is. let no : None ≡ Some stored = sym (no_row_at slots row (none_begins slots empty row)) ∙ is in absurd (cc no);
+  each = λ slot inside. inl (empty slot inside);
+}
+
+pub nothing_is_held : (schema : SchemaData) (slots : ℕ → List ℕ) → HoldNothing slots → HoldRows schema slots
+nothing_is_held schema slots empty = record { read = no_row_read schema slots empty; chains = ∣ nothing_is_chains slots empty ∣₁ }

@@ -1,6 +1,7 @@
 -- Rows stay stored where a client changes one.
 use Rattle.std.proofs.Common.{◌≡◌, ◌≢◌, inl, inr, ⊎_elim, ℕ, ◌<◌, ◌≤◌, Bool, true, false, cond, eqb, ◌||◌, List, [], ◌∷◌, ◌++◌, length, take, drop, Option, refl, sym, ap, ◌∙◌, subst, arith, length-append}
 use Rattle.std.specs.List.{Contains}
+use Rattle.std.proofs.Math.Logic.{∥∥₁_map}
 use Rattle.std.proofs.lemmas.Bool.{cases_eq, cases_lt}
 use Rattle.abl_storage.specs.Slots as storage
 use Rattle.abl_storage.specs.Slots.{SlotState, Transaction, IsReadable, wrote}
@@ -8,6 +9,7 @@ use Rattle.abl_storage.specs.declared.slots.Undo.{Undo}
 use Rattle.abl_values.specs.Schema.{SchemaData}
 use Rattle.database_meaning.specs.Setting.{fragments}
 use Rattle.row_chain.specs.Calls.{Covers, Wrote}
+use Rattle.row_chain.specs.Chains.{AreChains}
 use Rattle.row_chain.specs.Fragments.{StoredBytes, row_at}
 use Rattle.row_chain.specs.Tied.{IsTied, IsValue}
 use Rattle.row_chain.proofs.Ties.{covers_drop, undone_mix}
@@ -15,6 +17,7 @@ use Rattle.chain_store.specs.Rows.{ChangesRow}
 use Rattle.abl_rows.specs.declared.store.RowChange.{RowChange}
 use Rattle.abl_rows.specs.Changes.{RowsById, has_change, undone}
 use Rattle.stored_rows.specs.declared.log.Undone.{Undone}
+use Rattle.stored_rows.specs.Chained.{HoldRows}
 use Rattle.stored_rows.specs.Decoded.{AreRead, decoded, is_read, row_of}
 use Rattle.stored_rows.specs.Mixes.{IsMixed, rows_of, slots_of}
 use Rattle.stored_rows.specs.Stored.{IsStored, changes_of, mark_in, mark_or}
@@ -124,7 +127,7 @@ module _ (schema : SchemaData) (s t : SlotState) (log left : ℕ → List Undone
 
   module _ (rows_two : IsApart (rows_of now after)) (at : ℕ → ℕ) (mixed : ℕ → List ℕ) (mix : IsMixed (slots_of t) (mark_in t left at) mixed) where
     abbrev Held : Type 0
-    Held = IsMixed (rows_of now after) at (decoded schema mixed) × AreRead schema mixed
+    Held = IsMixed (rows_of now after) at (decoded schema mixed) × HoldRows schema mixed
 
     others_mark : (c : ℕ) → c ≢ client → mark_in t left at c ≡ mark_in s log at c
     others_mark c ne = ap (λ (us : List Undone). mark_or us (at c) (length (t.transaction c).undo)) (a.log_others c ne) ∙ ap (λ (us : List Undo). mark_or (log c) (at c) (length us)) (a.undo_others c ne)
@@ -252,7 +255,7 @@ module _ (schema : SchemaData) (s t : SlotState) (log left : ℕ → List Undone
       others_mixed : (k : ℕ) → k ≢ row → row_at mixed k ≡ row_at before k
       others_mixed k ne = a.change.apart readable before mixed value_before (λ k. value_now k (mixed k) (places k)) same_out k ne
 
-      all_before : IsMixed (rows_of was rows) at (decoded schema before) × AreRead schema before
+      all_before : IsMixed (rows_of was rows) at (decoded schema before) × HoldRows schema before
       all_before = stored.mixes readable at before (mixed_of (slots_of s) apart_s (mark_in s log at) before place_was)
 
       read_mixed : AreRead schema mixed
@@ -262,8 +265,18 @@ module _ (schema : SchemaData) (s t : SlotState) (log left : ℕ → List Undone
             ap (is_read schema) is ∙ a.read readable
         | inr ne ↦
             let is : row_at mixed k ≡ row_at before k = others_mixed k ne in
-            ap (is_read schema) is ∙ all_before.1 k
+            ap (is_read schema) is ∙ all_before.1.read k
       ]
+
+      before_in : (k : ℕ) → Contains slots k → before k ≡ s.reads k
+      before_in k there = by_wrote (wrote (t.transaction client).undo k) refl
+        where
+          by_wrote : (b : Bool) → wrote (t.transaction client).undo k ≡ b → before k ≡ s.reads k
+          by_wrote true e = ap (λ (b : Bool). cond b (s.reads k) (mixed k)) e
+          by_wrote false e = ap (λ (b : Bool). cond b (s.reads k) (mixed k)) e ∙ (same_in k there ∙ stays k e)
+
+      chains_mixed : ∥ AreChains mixed ∥₁
+      chains_mixed = ∥∥₁_map all_before.1.chains (λ (were : AreChains before). a.change.chains readable before mixed were before_in same_in same_out)
 
       back_now : (k : ℕ) → undone (drop (at client) (now client)) after k ≡ after k
       back_now k =
@@ -321,7 +334,7 @@ module _ (schema : SchemaData) (s t : SlotState) (log left : ℕ → List Undone
                   not_own out = eqb_not k u.row out
 
       with_change : Held
-      with_change = (mixed_of (rows_of now after) rows_two at (decoded schema mixed) place_row, read_mixed)
+      with_change = (mixed_of (rows_of now after) rows_two at (decoded schema mixed) place_row, record { read = read_mixed; chains = chains_mixed })
 
     pub mixes_added : Held
     mixes_added = ⊎_elim (λ (lt : length (log client) < at client). with_change lt) (λ (le : at client ≤ length (log client)). with_undone le) (cases_lt (length (log client)) (at client))

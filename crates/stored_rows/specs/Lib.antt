@@ -1,6 +1,6 @@
 pub mod Mixes
 pub mod Decoded
-pub mod Forms
+pub mod Chained
 pub mod Stored
 pub mod Opens
 pub mod Counted

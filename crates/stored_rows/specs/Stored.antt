@@ -8,7 +8,8 @@ use Rattle.database_meaning.specs.Setting.{fragments}
 use Rattle.abl_rows.specs.declared.store.RowChange.{RowChange}
 use Rattle.abl_rows.specs.Changes.{RowsById, has_change, undone}
 use Rattle.stored_rows.specs.declared.log.Undone.{Undone}
-use Rattle.stored_rows.specs.Decoded.{AreRead, decoded}
+use Rattle.stored_rows.specs.Chained.{HoldRows}
+use Rattle.stored_rows.specs.Decoded.{decoded}
 use Rattle.stored_rows.specs.Mixes.{IsMixed, rows_of, slots_of}
 
 -- the changes of rows that a log has
@@ -65,9 +66,9 @@ pub record IsStored (schema : SchemaData) (s : SlotState) (log : ℕ → List Un
   pub kept : (c k : ℕ) → has_change (changes_of (log c)) k ≡ true → has (touched c) k ≡ true
   pub apart : (c d k : ℕ) → c ≢ d → has (touched c) k ≡ true → has (touched d) k ≡ false
   pub idle : (c : ℕ) → (s.transaction c).begun ≡ false → (log c ≡ []) × (touched c ≡ [])
-  -- wherever clients go back to, the rows are those with their later changes undone
+  -- wherever clients go back to, the rows are those with their later changes undone, in chains
   pub mixes : IsReadable s → (at : ℕ → ℕ) (slots : ℕ → List ℕ) → IsMixed (slots_of s) (mark_in s log at) slots
-      → IsMixed (rows_of (λ c. changes_of (log c)) (decoded schema s.reads)) at (decoded schema slots) × AreRead schema slots
+      → IsMixed (rows_of (λ c. changes_of (log c)) (decoded schema s.reads)) at (decoded schema slots) × HoldRows schema slots
   pub weighed : IsReadable s → (c : ℕ) → AreWeighed (log c) (decoded schema s.reads)
   -- with all writes undone the slots are those that are committed
   pub base : IsReadable s → IsMixed (slots_of s) (λ c. 0) s.committed

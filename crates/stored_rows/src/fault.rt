@@ -1,20 +1,32 @@
 //! Why the slots refused a call, said of rows.
 
 ghost use Rattle.std.specs.Prelude.{◌≡◌};
-ghost use Rattle.stored_rows.specs.State.{row_error};
+ghost use Rattle.chain_store.specs.Rows.{opening_fault};
+ghost use Rattle.stored_rows.specs.State.{row_error, slot_fault};
 
 use abl_rows::RowFault;
 use abl_storage::SlotFault;
-use chain_store::ChainFault;
+use chain_store::{ChainFault, ChainsFault};
 
 /// Why slots were not opened as rows of a schema.
 #[derive(Clone, Copy, Debug, PartialEq, Eq)]
 pub enum OpenFault {
-    /// A slot for rows is neither free nor has the head of a fragment, or a row that begins is no row
-    /// of a table of the schema.
+    /// A row that begins is no row of a table of the schema, or a slot for rows is neither free nor in the
+    /// chain of just one row.
     Broken,
     /// The slots refused a read, or there was not enough memory.
     Slot(SlotFault),
+}
+
+/// Why slots were not opened as rows, where they were not opened as chains.
+pub(crate) fn refusal_of(fault: ChainsFault) -> OpenFault
+    ensures slots { slot_fault result ≡ opening_fault fault }
+    ensures broken { result ≡ OpenFault.Broken → fault ≡ ChainsFault.Broken }
+{
+    match fault {
+        ChainsFault::Broken => OpenFault::Broken,
+        ChainsFault::Slot(fault) => OpenFault::Slot(fault),
+    }
 }
 
 /// The error of rows. Full and TxFull count as out of memory: the caller asks for room before.

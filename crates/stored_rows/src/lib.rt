@@ -8,7 +8,6 @@ pub mod begins;
 pub mod commits;
 pub mod decode;
 pub mod fault;
-pub mod form;
 pub mod inserts;
 pub mod laws;
 pub mod log;
@@ -22,5 +21,4 @@ pub mod rows;
 
 pub use decode::OldRow;
 pub use fault::OpenFault;
-pub use form::has_form;
 pub use rows::StoredRows;

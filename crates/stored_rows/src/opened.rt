@@ -1,20 +1,20 @@
 //! Opening and closing a store of rows.
 
-ghost use Rattle.std.specs.Prelude.{◌≡◌, ◌<◌, ◌≤◌, ◌^◌, ℕ, [], length, false, Some, None, Err, IfErr, IfOk, MatchOption, ⊤};
+ghost use Rattle.std.specs.Prelude.{◌≡◌, ◌<◌, ◌≤◌, ◌^◌, ℕ, [], length, false, Some, None, Err, IfErr, IfOk, IsTrue, MatchOption, ⊤};
 ghost use Rattle.abl_storage.specs.Slots.{AreBlankFrom, IsReadable};
 ghost use Rattle.row_chain.specs.Calls.{Looked};
 ghost use Rattle.chain_store.specs.Places.{HoldNothing};
 ghost use Rattle.chain_store.specs.Still.{Still};
+ghost use Rattle.row_chain.specs.Chains.{AreChains};
 ghost use Rattle.row_chain.specs.Fragments.{row_at};
+ghost use Rattle.stored_rows.specs.Chained.{HaveChains, StayChains};
 ghost use Rattle.stored_rows.specs.Counted.{AreCounted, IsWeight};
-ghost use Rattle.stored_rows.specs.Decoded.{decoded};
-ghost use Rattle.stored_rows.specs.Forms.{HoldRows, has_form};
+ghost use Rattle.stored_rows.specs.Decoded.{AreRead, decoded};
 ghost use Rattle.stored_rows.specs.Opens.{no_open, open_in};
 ghost use Rattle.stored_rows.specs.State.{slot_fault};
 
 use crate::decode::decode;
-use crate::fault::OpenFault;
-use crate::form::has_form;
+use crate::fault::{OpenFault, refusal_of};
 use crate::open::Open;
 use crate::rows::StoredRows;
 use abl_storage::{SlotFault, Slots};
@@ -89,36 +89,20 @@ fn weigh_row<S: Slots>(
     }
 }
 
-/// Whether the slot is free or has the head of a fragment.
-fn slot_has_form<S: Slots>(slots: &mut S, at: u32) -> Result<bool, SlotFault>
-    requires { at < 2 ^ 20 }
-    ensures form { IfOk result (λ found. IsReadable (S.Slots.state slots.old) → found ≡ has_form ((S.Slots.state slots.old).reads at)) }
-    ensures looked { Looked (S.Slots.state slots.old) (S.Slots.state slots.new) (S.Slots.stop slots.old) (S.Slots.stop slots.new) result }
-{
-    let mut slot = [0u8; 256];
-    slots.read(at, &mut slot)?;
-    Ok(has_form(&slot))
-}
-
-/// The number of fragments of all rows; none where a slot for rows is neither free nor has the head of
-/// a fragment, or where a row that begins is no row of its table.
+/// The number of fragments of all rows; none where one that begins is no row of its table.
 fn count_rows<S: Slots>(
     alloc: Global,
     slots: &mut S,
     schema: &Schema,
 ) -> Result<Option<u64>, SlotFault>
-    ensures broken { IfOk result (λ found. MatchOption found (IsReadable (S.Slots.state slots.old) → ¬ HoldRows schema.now (S.Slots.state slots.old).reads) (λ used. ⊤)) }
-    ensures held { IfOk result (λ found. MatchOption found ⊤ (λ used. IsReadable (S.Slots.state slots.old) → HoldRows schema.now (S.Slots.state slots.old).reads)) }
+    ensures broken { IfOk result (λ found. MatchOption found (IsReadable (S.Slots.state slots.old) → ¬ AreRead schema.now (S.Slots.state slots.old).reads) (λ used. ⊤)) }
+    ensures read { IfOk result (λ found. MatchOption found ⊤ (λ used. IsReadable (S.Slots.state slots.old) → AreRead schema.now (S.Slots.state slots.old).reads)) }
     ensures counted { IfOk result (λ found. MatchOption found ⊤ (λ used. IsReadable (S.Slots.state slots.old) → AreCounted (decoded schema.now (S.Slots.state slots.old).reads) used)) }
     ensures looked { Looked (S.Slots.state slots.old) (S.Slots.state slots.new) (S.Slots.stop slots.old) (S.Slots.stop slots.new) result }
 {
     let end = rows_end(slots);
     let mut used = 0u64;
     for at in FIRST_ROW..end {
-        let formed = slot_has_form(slots, at)?;
-        if !formed {
-            return Ok(None);
-        }
         let found = weigh_row(alloc, slots, schema, at)?;
         let Some(many) = found else {
             return Ok(None);
@@ -129,10 +113,9 @@ fn count_rows<S: Slots>(
 }
 
 impl<S: Slots + Drop> StoredRows<S> {
-    /// The rows of these slots, with no transaction. Broken comes only where the slots do not hold
-    /// rows of the schema: one is neither free nor has the head of a fragment, or a row that begins is
-    /// no row of a table. The refusals of the slots are Disk and NoMemory. NoMemory comes too where a
-    /// slot is in the chain of no row, or of two, and each row is one of its table.
+    /// The rows of these slots, with no transaction. Each is a row of a table of the schema, and each
+    /// slot for rows is free or in the chain of just one row. Broken comes only where this is not so;
+    /// the refusals of the slots are Disk and NoMemory.
     pub fn open(
         mut slots: S,
         schema: Schema,
@@ -143,11 +126,13 @@ impl<S: Slots + Drop> StoredRows<S> {
         requires fine { (S.Slots.state slots).failed ≡ false }
         requires settled { IsReadable (S.Slots.state slots) → (k : ℕ) → (S.Slots.state slots).committed k ≡ (S.Slots.state slots).reads k }
         requires certain { IsReadable (S.Slots.state slots) → (k : ℕ) → (S.Slots.state slots).doubt k ≡ (S.Slots.state slots).committed k }
+        requires stops { (IsTrue (S.Slots.state slots).observable → ∥ AreChains (S.Slots.state slots).committed ∥₁) → StayChains (S.Slots.stop slots) (S.Slots.state slots).since }
         ensures same { IfOk result (λ rows. Still (S.Slots.state slots) (S.Slots.state rows.chains.slots) (S.Slots.stop slots) (S.Slots.stop rows.chains.slots)) }
         ensures schema { IfOk result (λ rows. rows.schema ≡ schema) }
-        ensures held { IfOk result (λ rows. IsReadable (S.Slots.state slots) → HoldRows schema (S.Slots.state slots).reads) }
+        ensures read { IfOk result (λ rows. IsReadable (S.Slots.state slots) → AreRead schema (S.Slots.state slots).reads) }
+        ensures chains { IfOk result (λ rows. IsReadable (S.Slots.state slots) → AreChains (S.Slots.state slots).reads) }
         ensures err { IfErr result (λ e. Looked {T = ℕ} (S.Slots.state slots) (S.Slots.state e.1) (S.Slots.stop slots) (S.Slots.stop e.1) (Err (slot_fault e.0))) }
-        ensures broken { IfErr result (λ e. e.0 ≡ OpenFault.Broken → IsReadable (S.Slots.state slots) → ¬ HoldRows schema (S.Slots.state slots).reads) }
+        ensures broken { IfErr result (λ e. e.0 ≡ OpenFault.Broken → IsReadable (S.Slots.state slots) → ¬ (AreRead schema (S.Slots.state slots).reads × AreChains (S.Slots.state slots).reads)) }
         ensures none { IfOk result (λ rows. (c : ℕ) → open_in rows.opens.items c ≡ no_open) }
     {
         let opens = match idle_opens(alloc) {
@@ -167,7 +152,7 @@ impl<S: Slots + Drop> StoredRows<S> {
                 opens,
                 used,
             }),
-            Err((fault, slots)) => Err((OpenFault::Slot(fault), slots)),
+            Err((fault, slots)) => Err((refusal_of(fault), slots)),
         }
     }
 
@@ -180,11 +165,13 @@ impl<S: Slots + Drop> StoredRows<S> {
         requires empty { IsReadable (S.Slots.state slots) → HoldNothing (S.Slots.state slots).reads }
         requires settled { IsReadable (S.Slots.state slots) → (k : ℕ) → (S.Slots.state slots).committed k ≡ (S.Slots.state slots).reads k }
         requires certain { IsReadable (S.Slots.state slots) → (k : ℕ) → (S.Slots.state slots).doubt k ≡ (S.Slots.state slots).committed k }
+        requires stops { (IsTrue (S.Slots.state slots).observable → ∥ AreChains (S.Slots.state slots).committed ∥₁) → StayChains (S.Slots.stop slots) (S.Slots.state slots).since }
         ensures same { IfOk result (λ rows. rows.chains.slots ≡ slots) }
         ensures schema { IfOk result (λ rows. rows.schema ≡ schema) }
         ensures none { IfOk result (λ rows. (c : ℕ) → open_in rows.opens.items c ≡ no_open) }
         ensures rows { IfOk result (λ rows. (k : ℕ) → IsReadable (S.Slots.state slots) → decoded schema (S.Slots.state slots).reads k ≡ None) }
         ensures committed { IfOk result (λ rows. (k : ℕ) → IsReadable (S.Slots.state slots) → decoded schema (S.Slots.state slots).committed k ≡ None) }
+        ensures chains { IfOk result (λ rows. IsReadable (S.Slots.state slots) → AreChains (S.Slots.state slots).reads) }
     {
         let opens = idle_opens(alloc)?;
         let chains = Chains::new(alloc, slots)?;
@@ -197,10 +184,13 @@ impl<S: Slots + Drop> StoredRows<S> {
         })
     }
 
-    /// The slots again. Where no transaction is begun, they can be opened once more.
+    /// The slots again. Where no transaction is begun, they can be opened once more. What is committed
+    /// in them, and what a stop leaves of them, are chains of rows, unless a stop at the first moment
+    /// left the same.
     pub fn close(self) -> S
         ensures same { result ≡ self.chains.slots }
         ensures idle { (S.Slots.state result).failed ≡ false → ((c : ℕ) → c < 16 → ((S.Slots.state result).transaction c).begun ≡ false) → (c : ℕ) → (((S.Slots.state result).transaction c).begun ≡ false) × (((S.Slots.state result).transaction c).undo ≡ []) }
+        ensures chains { HaveChains (S.Slots.state result) (S.Slots.stop result) }
         ensures settled { IsReadable (S.Slots.state result) → ((c : ℕ) → ((S.Slots.state result).transaction c).undo ≡ []) → (k : ℕ) → (S.Slots.state result).committed k ≡ (S.Slots.state result).reads k }
     {
         let StoredRows {

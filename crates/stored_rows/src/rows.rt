@@ -3,6 +3,7 @@
 ghost use Rattle.std.specs.Prelude.{◌≡◌, length};
 ghost use Rattle.abl_storage.specs.Slots.{IsReadable};
 ghost use Rattle.stored_rows.specs.Opens.{log_in, touched_in};
+ghost use Rattle.stored_rows.specs.Chained.{HaveChains};
 ghost use Rattle.stored_rows.specs.Counted.{AreCounted};
 ghost use Rattle.stored_rows.specs.Decoded.{decoded};
 ghost use Rattle.stored_rows.specs.Quiet.{IsQuiet};
@@ -29,5 +30,6 @@ pub struct StoredRows<S: Slots + Drop> {
     ghost sixteen: { length opens.items ≡ 16 },
     ghost stored: { IsStored schema (S.Slots.state chains.slots) (log_in opens.items) (touched_in opens.items) } by { Prim.hlevel (props, AreMarks-prop, AreWeighed-prop) },
     ghost quiet: { IsQuiet (S.Slots.state chains.slots) } by { Prim.hlevel props },
+    ghost laid: { HaveChains (S.Slots.state chains.slots) (S.Slots.stop chains.slots) } by { Prim.hlevel props },
     ghost counted: { IsReadable (S.Slots.state chains.slots) → AreCounted (decoded schema (S.Slots.state chains.slots).committed) used } by { Prim.hlevel props },
 }

@@ -24,6 +24,9 @@ new-requires-2-clause-none c = λ readable. subst (λ (s : SlotState). HoldValue
 pub new-requires-2-clause-settled : goal.new-requires-2-clause-settled
 new-requires-2-clause-settled c = λ readable k. subst (λ (s : SlotState). s.committed k ≡ s.reads k) (sym c.in_ok-slots.ensures) refl
 
+pub new-requires-2-clause-stops : goal.new-requires-2-clause-stops
+new-requires-2-clause-stops c = λ committed m left none. absurd none
+
 pub new-requires-in-Ok-clause-opened : goal.new-requires-in-Ok-clause-opened
 new-requires-in-Ok-clause-opened c =
     let schema = c.args.schema in

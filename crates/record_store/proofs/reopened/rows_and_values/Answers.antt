@@ -2,13 +2,23 @@ use Rattle.std.proofs.Common.{◌≡◌, ℕ, List, length, Option, None, MatchO
 use Rattle.abl_storage.specs.Slots.{IsReadable}
 use Rattle.abl_values.specs.declared.schema.SequenceDef.{SequenceDef}
 use Rattle.chain_store.proofs.Reading.{looked_still, still_both, still_looked}
+use Rattle.row_chain.specs.Chains.{AreChains}
 use Rattle.row_chain.proofs.Composes.{readable_on}
 use Rattle.sequence_slots.specs.Values.{HoldValues, values_in}
-use Rattle.stored_rows.specs.Forms.{HaveForm, HoldRows}
+use Rattle.stored_rows.specs.Decoded.{AreRead}
 use Rattle.stored_rows.specs.State.{slot_fault}
+use Rattle.stored_rows.proofs.Chaining.{stay_chains}
 use Rattle.record_store.proofs.Refused.{refused_looked}
-use Rattle.record_store.proofs.Sound.{store_holds_rows}
+use Rattle.record_store.proofs.Sound.{rows_read}
 use Rattle.record_store.proofs.reopened.rows_and_values.Goals as goal
+
+pub open-requires-clause-stops : goal.open-requires-clause-stops
+open-requires-clause-stops g c =
+    let a = g.S.Slots.state c.args.slots in
+    let s = g.S.Slots.state c.stored_values.new.slots in
+    let l = c.in-Ok-Some.ensures.looked in
+    stay_chains a s (g.S.Slots.stop c.args.slots) (g.S.Slots.stop c.stored_values.new.slots) (g.met.S.Slots.stop_known c.stored_values.new.slots) (g.met.S.Slots.since_past c.args.slots) l.rests.keeps l.time
+    (λ seen. c.requires.certain (seen, c.requires.fine)) c.requires.stops
 
 pub returns-in-Ok-clause-still : goal.returns-in-Ok-clause-still
 returns-in-Ok-clause-still g c =
@@ -41,14 +51,14 @@ returns-in-Ok-None-clause-unsound g c = λ is seen held.
     none_is c.in-Ok-None.field-0 _ _ (cc c.in-Ok-None.is) (c.in-Ok-None.ensures.exact (seen, c.requires.fine))
     (subst (λ (qs : List SequenceDef). HoldValues reads (values_in (length qs) reads)) (sym c.sequences-count.ensures) held.values)
 
-pub returns-in-Ok-clause-formed : goal.returns-in-Ok-clause-formed
-returns-in-Ok-clause-formed g c = λ seen.
+pub returns-in-Ok-clause-chains : goal.returns-in-Ok-clause-chains
+returns-in-Ok-clause-chains g c = λ seen.
     let a = g.S.Slots.state c.args.slots in
     let s = g.S.Slots.state c.stored_values.new.slots in
     let l = c.in-Ok-Some.ensures.looked in
     let readable : IsReadable a = (seen, c.requires.fine) in
     let there : IsReadable s = readable_on a s l.rests.keeps.observable (l.cause.stays (λ q. cc q)) readable in
-    subst HaveForm (l.rests.reads readable) (c.in-Ok.ensures.held there).formed
+    subst AreChains (l.rests.reads readable) (c.in-Ok.ensures.chains there)
 
 pub returns-in-Err-open-clause-unsound : goal.returns-in-Err-open-clause-unsound
 returns-in-Err-open-clause-unsound g c = λ is seen held.
@@ -57,4 +67,5 @@ returns-in-Err-open-clause-unsound g c = λ is seen held.
     let l = c.in-Ok-Some.ensures.looked in
     let readable : IsReadable a = (seen, c.requires.fine) in
     let there : IsReadable s = readable_on a s l.rests.keeps.observable (l.cause.stays (λ q. cc q)) readable in
-    c.in-Err-open.ensures.broken (c.of_opening.ensures.broken is) there (subst (HoldRows c.args.schema) (sym (l.rests.reads readable)) (store_holds_rows c.args.schema a.reads held))
+    c.in-Err-open.ensures.broken (c.of_opening.ensures.broken is) there
+    (subst (AreRead c.args.schema) (sym (l.rests.reads readable)) (rows_read c.args.schema a.reads held.rows), subst AreChains (sym (l.rests.reads readable)) held.chains)

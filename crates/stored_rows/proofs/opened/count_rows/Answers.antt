@@ -1,15 +1,13 @@
-use Rattle.std.proofs.Common.{◌≡◌, ℕ, ◌≤◌, true, List, Option, Some, MatchOption, sym, ap, ◌∙◌, subst, arith}
+use Rattle.std.proofs.Common.{◌≡◌, ℕ, ◌≤◌, true, List, Option, Some, MatchOption, ap, subst, arith}
 use Rattle.std.specs.Prelude.{⊤}
 use Rattle.abl_storage.specs.Slots.{IsReadable}
 use Rattle.database_meaning.specs.Setting.{fragments}
 use Rattle.row_chain.specs.Fragments.{row_at}
 use Rattle.row_chain.proofs.Composes.{readable_on}
-use Rattle.chain_store.specs.Still.{Still}
 use Rattle.chain_store.proofs.Reading.{looked_still, still_both}
 use Rattle.stored_rows.specs.Counted.{IsWeight}
 use Rattle.stored_rows.specs.Decoded.{decoded, is_read, row_of}
-use Rattle.stored_rows.specs.Forms.{has_form}
-use Rattle.stored_rows.proofs.Counting.{blank_none, counted_all, held_all, one_more, weight_some}
+use Rattle.stored_rows.proofs.Counting.{blank_none, counted_all, one_more, weight_some}
 use Rattle.stored_rows.proofs.Weights.{below_more}
 use Rattle.stored_rows.proofs.opened.count_rows.Goals as goal
 
@@ -21,26 +19,19 @@ loop-at-preserved g c =
     let schema = c.args.schema.now in
     let first = g.S.Slots.state c.args.slots.now in
     let s = g.S.Slots.state c.loop-at.slots in
-    let u = g.S.Slots.state c.slot_has_form.new.slots in
     let t = g.S.Slots.state c.weigh_row.new.slots in
     let at_first = g.S.Slots.stop c.args.slots.now in
     let at_s = g.S.Slots.stop c.loop-at.slots in
-    let at_u = g.S.Slots.stop c.slot_has_form.new.slots in
     let at_t = g.S.Slots.stop c.weigh_row.new.slots in
     let at = c.loop-at.at in
     let i = c.loop-at.invariant in
-    let h = c.in_ok-formed.ensures in
     let w = c.in_ok-found.ensures in
-    let before : Still first u at_first at_u = still_both first s u at_first at_s at_u (g.met.S.Slots.stop_known c.slot_has_form.new.slots) i.still (looked_still s u at_s at_u _ (λ q. cc q) h.looked) in
     let there : IsReadable first → IsReadable s = λ r. readable_on first s i.still.rests.keeps.observable i.still.failed r in
-    let then : IsReadable first → IsReadable u = λ r. readable_on first u before.rests.keeps.observable before.failed r in
-    let form : IsReadable first → has_form (first.reads at) ≡ true = λ r. sym (ap (λ (f : ℕ → List ℕ). has_form (f at)) (i.still.rests.reads r)) ∙ (sym (h.form (there r)) ∙ c.if-not-formed.false) in
     let weight : IsReadable first → IsWeight schema (row_at first.reads at) (Some c.in-Some.many) = λ r.
-    subst (λ (f : ℕ → List ℕ). IsWeight schema (row_at f at) (Some c.in-Some.many)) (before.rests.reads r) (weight_some schema (row_at u.reads at) c.in_ok-found.found c.in-Some.many (cc c.in-Some.is) (w.found (then r))) in
+    subst (λ (f : ℕ → List ℕ). IsWeight schema (row_at f at) (Some c.in-Some.many)) (i.still.rests.reads r) (weight_some schema (row_at s.reads at) c.in_ok-found.found c.in-Some.many (cc c.in-Some.is) (w.found (there r))) in
     let few : c.in-Some.many ≤ 125 = few_of c.in_ok-found.found c.in-Some.many (cc c.in-Some.is) w.few in
     record {
-      still = still_both first u t at_first at_u at_t (g.met.S.Slots.stop_known c.weigh_row.new.slots) before (looked_still u t at_u at_t _ (λ q. cc q) w.looked);
-      formed = λ r. one_more (λ (k : ℕ). has_form (first.reads k) ≡ true) at (i.formed r) (form r);
+      still = still_both first s t at_first at_s at_t (g.met.S.Slots.stop_known c.weigh_row.new.slots) i.still (looked_still s t at_s at_t _ (λ q. cc q) w.looked);
       read = λ r. one_more (λ (k : ℕ). is_read schema (row_at first.reads k) ≡ true) at (i.read r) (weight r).0;
       sum = λ r.
           let sum = i.sum r in
@@ -57,8 +48,3 @@ returns-clause-counted g c = λ readable.
     let schema = c.args.schema.now in
     let reads = (g.S.Slots.state c.args.slots.now).reads in
     counted_all schema reads c.loop-at.used c.rows_end-end.result c.loop-at.at (omega arith) c.rows_end-end.ensures.high (λ k le. ap (row_of schema) (blank_none reads c.rows_end-end.result (c.rows_end-end.ensures.blank readable) k le)) (i.sum readable) (i.weighs readable)
-
-pub returns-clause-held : goal.returns-clause-held
-returns-clause-held g c = λ readable.
-    let i = c.loop-at.invariant in
-    held_all c.args.schema.now (g.S.Slots.state c.args.slots.now).reads c.rows_end-end.result c.loop-at.at (omega arith) (c.rows_end-end.ensures.blank readable) (i.formed readable) (i.read readable)

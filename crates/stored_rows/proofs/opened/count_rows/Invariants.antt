@@ -5,13 +5,11 @@ use Rattle.row_chain.specs.Fragments.{row_at}
 use Rattle.chain_store.specs.Still.{Still}
 use Rattle.stored_rows.specs.Counted.{fragments_below}
 use Rattle.stored_rows.specs.Decoded.{decoded, is_read}
-use Rattle.stored_rows.specs.Forms.{has_form}
 use Rattle.stored_rows.proofs.opened.count_rows.Given as goal
 
 abbrev pub invariant-loop-at : goal.invariant-loop-at
 invariant-loop-at g l = record {
   still : Still (g.S.Slots.state l.fn.slots) (g.S.Slots.state l.slots) (g.S.Slots.stop l.fn.slots) (g.S.Slots.stop l.slots);
-  formed : IsReadable (g.S.Slots.state l.fn.slots) → (k : ℕ) → 8192 ≤ k → k < l.at → has_form ((g.S.Slots.state l.fn.slots).reads k) ≡ true;
   read : IsReadable (g.S.Slots.state l.fn.slots) → (k : ℕ) → 8192 ≤ k → k < l.at → is_read l.schema (row_at (g.S.Slots.state l.fn.slots).reads k) ≡ true;
   sum : IsReadable (g.S.Slots.state l.fn.slots) → l.used + fragments_below 8192 (decoded l.schema (g.S.Slots.state l.fn.slots).reads) ≡ fragments_below l.at (decoded l.schema (g.S.Slots.state l.fn.slots).reads);
   weighs : IsReadable (g.S.Slots.state l.fn.slots) → (k : ℕ) → 8192 ≤ k → k < l.at → fragments (decoded l.schema (g.S.Slots.state l.fn.slots).reads k) ≤ 125;

@@ -72,7 +72,8 @@ returns-in-Ok-indexes_of-clause-opened g c =
     let count : length c.in-Ok-indexes_of.indexes.items ≡ index_count now.schema = e.count ∙ ap index_count (sym e.schema) in
     let entered : IsReadable a → AreEntered now.schema (decoded now.schema a.reads) c.in-Ok-indexes_of.indexes.items = λ readable.
     entered_on rows.schema now.schema m.reads a.reads c.in-Ok-indexes_of.indexes.items e.schema (sym (i.still.rests.reads readable)) (e.entered (readable_on a m i.still.rests.keeps.observable i.still.failed readable)) in
-    opened_store now.schema c.args.schema c.in-Ok-indexes_of.indexes.items c.in_ok-rows.sequences.items a t at_a at_t now.opens.items (moved_in c.in-Ok.clients.items) same can still idle count e.keepers entered c.in-Ok.ensures.idle i.count i.values i.held i.formed
+    opened_store now.schema c.args.schema c.in-Ok-indexes_of.indexes.items c.in_ok-rows.sequences.items a t at_a at_t now.opens.items (moved_in c.in-Ok.clients.items) same can still idle count e.keepers entered c.in-Ok.ensures.idle i.count i.values i.held
+    i.chains
 
 pub returns-in-Ok-indexes_of-clause-still : goal.returns-in-Ok-indexes_of-clause-still
 returns-in-Ok-indexes_of-clause-still g c =

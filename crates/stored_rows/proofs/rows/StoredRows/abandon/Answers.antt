@@ -1,6 +1,7 @@
 use Rattle.std.proofs.Common.{sym, ◌∙◌}
 use Rattle.std.specs.BinaryHeap.{heap_items}
 use Rattle.free_slots.specs.Free.{free_in}
+use Rattle.stored_rows.proofs.Chaining.{chains_go}
 use Rattle.stored_rows.proofs.Methods.{abandon_keeps, abandon_says}
 use Rattle.stored_rows.proofs.Counting.{counted_keeps}
 use Rattle.stored_rows.proofs.Quiet.{quiet_ends}
@@ -34,3 +35,12 @@ pub invariant_of-self-clause-quiet : goal.invariant_of-self-clause-quiet
 invariant_of-self-clause-quiet g c =
     let rows = c.args.self.now in
     quiet_ends (g.S.Slots.state rows.chains.slots) (g.S.Slots.state c.abandon.new.chains.slots) c.args.client c.abandon.ensures.ended rows.quiet
+
+pub invariant_of-self-clause-laid : goal.invariant_of-self-clause-laid
+invariant_of-self-clause-laid g c =
+    let old = c.args.self.now.chains in
+    let new = c.abandon.new.chains in
+    let s = g.S.Slots.state old.slots in
+    let t = g.S.Slots.state new.slots in
+    let e = c.abandon.ensures in
+    chains_go s t (g.S.Slots.stop old.slots) (g.S.Slots.stop new.slots) (g.met.S.Slots.stop_known new.slots) (g.met.S.Slots.since_past old.slots) e.ended.keeps e.time c.args.self.now.laid

@@ -4,6 +4,7 @@ use Rattle.free_slots.specs.Free.{free_in}
 use Rattle.abl_rows.specs.Rows.{AfterError}
 use Rattle.abl_rows.specs.declared.store.RowFault.{RowFault}
 use Rattle.stored_rows.specs.State.{state_of}
+use Rattle.stored_rows.proofs.Chaining.{chains_go}
 use Rattle.stored_rows.proofs.Errors.{after_refusal}
 use Rattle.stored_rows.proofs.Methods.{back_keeps, back_says, begun_rests, mark_within, same_all}
 use Rattle.stored_rows.proofs.Counting.{back_keeps as back_committed, counted_keeps}
@@ -67,3 +68,12 @@ invariant_of-self-clause-quiet g c =
     let rows = c.args.self.now in
     let e = c.back.ensures in
     quiet_back (g.S.Slots.state rows.chains.slots) (g.S.Slots.state c.back.new.chains.slots) c.args.client _ c.back.result c.requires.begun e.ok e.err e.cause rows.quiet
+
+pub invariant_of-self-clause-laid : goal.invariant_of-self-clause-laid
+invariant_of-self-clause-laid g c =
+    let old = c.args.self.now.chains in
+    let new = c.back.new.chains in
+    let s = g.S.Slots.state old.slots in
+    let t = g.S.Slots.state new.slots in
+    let e = c.back.ensures in
+    chains_go s t (g.S.Slots.stop old.slots) (g.S.Slots.stop new.slots) (g.met.S.Slots.stop_known new.slots) (g.met.S.Slots.since_past old.slots) (back_committed s t c.args.client _ c.back.result e.ok e.err) e.time c.args.self.now.laid

@@ -6,7 +6,7 @@ use Rattle.abl_rows.specs.Rows.{AfterError}
 use Rattle.abl_rows.specs.declared.store.RowFault.{RowFault}
 use Rattle.stored_rows.specs.State.{state_of}
 use Rattle.stored_rows.proofs.Errors.{after_failure}
-use Rattle.stored_rows.proofs.Committed.{commit_counts, commit_doubt, commit_keeps, commit_quiet, commit_says}
+use Rattle.stored_rows.proofs.Committed.{commit_chains, commit_counts, commit_doubt, commit_keeps, commit_quiet, commit_says}
 use Rattle.stored_rows.proofs.Methods.{same_all}
 use Rattle.stored_rows.proofs.Counting.{counted_fails}
 use Rattle.stored_rows.proofs.rows.StoredRows.commit.Goals as goal
@@ -81,6 +81,11 @@ invariant_of-self-in-Err-1 g c =
           old.places.items (free_in (heap_items old.free.back) old.free.end) old.clients.items old.failed old.sound
           new.places.items (free_in (heap_items new.free.back) new.free.end) new.clients.items new.failed new.sound rows.stored c.requires.fine c.args.sequences.now
           c.commit.result e.ok e.cause e.only rows.quiet;
+      laid =
+          commit_chains rows.schema (g.S.Slots.state old.slots) (g.S.Slots.state new.slots) rows.opens.items c.args.client c.index_mut-transaction.result.now c.commit.new.transaction rows.sixteen c.requires.client c.index_mut-transaction.ensures.value
+          old.places.items (free_in (heap_items old.free.back) old.free.end) old.clients.items old.failed old.sound
+          new.places.items (free_in (heap_items new.free.back) new.free.end) new.clients.items new.failed new.sound rows.stored c.requires.fine c.args.sequences.now
+          (g.S.Slots.stop old.slots) (g.S.Slots.stop new.slots) (g.met.S.Slots.stop_known new.slots) (g.met.S.Slots.since_past old.slots) e.time rows.laid c.commit.result e.ok e.err;
       counted = counted_fails rows.schema (g.S.Slots.state old.slots) (g.S.Slots.state new.slots) rows.used c.args.client c.args.sequences.now c.in-Err.ensures.err c.requires.fine rows.counted;
     }
 
@@ -106,3 +111,14 @@ returns-in-Err-clause-doubt g c =
     commit_doubt rows.schema (g.S.Slots.state old.slots) (g.S.Slots.state new.slots) rows.opens.items c.args.client c.index_mut-transaction.result.now c.commit.new.transaction rows.sixteen c.requires.client c.index_mut-transaction.ensures.value
     old.places.items (free_in (heap_items old.free.back) old.free.end) old.clients.items old.failed old.sound
     new.places.items (free_in (heap_items new.free.back) new.free.end) new.clients.items new.failed new.sound rows.stored c.requires.fine c.args.sequences.now c.in-Err.ensures.err c.requires.many
+
+pub invariant_of-self-clause-laid : goal.invariant_of-self-clause-laid
+invariant_of-self-clause-laid g c =
+    let rows = c.args.self.now in
+    let old = rows.chains in
+    let new = c.commit.new.chains in
+    let e = c.commit.ensures in
+    commit_chains rows.schema (g.S.Slots.state old.slots) (g.S.Slots.state new.slots) rows.opens.items c.args.client c.index_mut-transaction.result.now c.commit.new.transaction rows.sixteen c.requires.client c.index_mut-transaction.ensures.value
+    old.places.items (free_in (heap_items old.free.back) old.free.end) old.clients.items old.failed old.sound
+    new.places.items (free_in (heap_items new.free.back) new.free.end) new.clients.items new.failed new.sound rows.stored c.requires.fine c.args.sequences.now
+    (g.S.Slots.stop old.slots) (g.S.Slots.stop new.slots) (g.met.S.Slots.stop_known new.slots) (g.met.S.Slots.since_past old.slots) e.time rows.laid c.commit.result e.ok e.err

@@ -4,6 +4,7 @@ use Rattle.free_slots.specs.Free.{free_in}
 use Rattle.abl_rows.specs.Rows.{AfterError}
 use Rattle.abl_rows.specs.declared.store.RowFault.{RowFault}
 use Rattle.stored_rows.specs.State.{state_of}
+use Rattle.stored_rows.proofs.Chaining.{chains_go}
 use Rattle.stored_rows.proofs.Errors.{after_refusal}
 use Rattle.stored_rows.proofs.Methods.{begun_touched, same_all}
 use Rattle.stored_rows.proofs.Replaced.{replace_keeps, replace_says, row_there}
@@ -64,3 +65,12 @@ invariant_of-self-clause-quiet g c =
     let rows = c.args.self.now in
     let e = c.delete.ensures in
     quiet_changes _ (g.S.Slots.state rows.chains.slots) (g.S.Slots.state c.delete.new.chains.slots) (g.S.Slots.stop rows.chains.slots) (g.S.Slots.stop c.delete.new.chains.slots) c.args.client c.args.row.0 None c.delete.result c.requires.begun e.ok e.touched e.refused rows.quiet
+
+pub invariant_of-self-clause-laid : goal.invariant_of-self-clause-laid
+invariant_of-self-clause-laid g c =
+    let old = c.args.self.now.chains in
+    let new = c.delete.new.chains in
+    let s = g.S.Slots.state old.slots in
+    let t = g.S.Slots.state new.slots in
+    let e = c.delete.ensures in
+    chains_go s t (g.S.Slots.stop old.slots) (g.S.Slots.stop new.slots) (g.met.S.Slots.stop_known new.slots) (g.met.S.Slots.since_past old.slots) e.touched.keeps e.touched.time c.args.self.now.laid

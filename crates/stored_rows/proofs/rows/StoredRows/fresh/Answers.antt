@@ -7,6 +7,7 @@ use Rattle.chain_store.proofs.Rewrites.{high_bound, low_bound}
 use Rattle.stored_rows.specs.Decoded.{decoded}
 use Rattle.stored_rows.specs.State.{state_of}
 use Rattle.stored_rows.specs.Opens.{log_in, touched_in}
+use Rattle.stored_rows.proofs.Chaining.{chains_go}
 use Rattle.stored_rows.proofs.Changed.{rows_known}
 use Rattle.stored_rows.proofs.Errors.{after_refusal, state_rests}
 use Rattle.stored_rows.proofs.Known.{untouched_free}
@@ -64,3 +65,10 @@ pub invariant_of-self-clause-quiet : goal.invariant_of-self-clause-quiet
 invariant_of-self-clause-quiet g c =
     let rows = c.args.self.now in
     quiet_looked (g.S.Slots.state rows.chains.slots) (g.S.Slots.state c.fresh.new.self.slots) (g.S.Slots.stop rows.chains.slots) (g.S.Slots.stop c.fresh.new.self.slots) c.fresh.result c.fresh.ensures.looked rows.quiet
+
+pub invariant_of-self-clause-laid : goal.invariant_of-self-clause-laid
+invariant_of-self-clause-laid g c =
+    let old = c.args.self.now.chains in
+    let new = c.fresh.new.self in
+    let l = c.fresh.ensures.looked in
+    chains_go (g.S.Slots.state old.slots) (g.S.Slots.state new.slots) (g.S.Slots.stop old.slots) (g.S.Slots.stop new.slots) (g.met.S.Slots.stop_known new.slots) (g.met.S.Slots.since_past old.slots) l.rests.keeps l.time c.args.self.now.laid

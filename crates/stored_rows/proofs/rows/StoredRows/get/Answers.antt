@@ -6,6 +6,7 @@ use Rattle.abl_rows.specs.declared.store.RowFault.{RowFault}
 use Rattle.stored_rows.specs.Decoded.{decoded}
 use Rattle.stored_rows.specs.Opens.{log_in, touched_in}
 use Rattle.stored_rows.specs.State.{state_of}
+use Rattle.stored_rows.proofs.Chaining.{chains_go}
 use Rattle.stored_rows.proofs.Changed.{rows_known}
 use Rattle.stored_rows.proofs.Known.{all_read}
 use Rattle.stored_rows.proofs.Errors.{after_refusal, state_rests}
@@ -74,3 +75,10 @@ pub find-requires : goal.find-requires
 find-requires g c =
     let rows = c.args.self.now in
     record { read = λ readable. all_read rows.schema (g.S.Slots.state rows.chains.slots) (log_in rows.opens.items) (touched_in rows.opens.items) rows.stored readable }
+
+pub invariant_of-self-clause-laid : goal.invariant_of-self-clause-laid
+invariant_of-self-clause-laid g c =
+    let old = c.args.self.now.chains in
+    let new = c.find.new.chains in
+    let l = c.find.ensures.looked in
+    chains_go (g.S.Slots.state old.slots) (g.S.Slots.state new.slots) (g.S.Slots.stop old.slots) (g.S.Slots.stop new.slots) (g.met.S.Slots.stop_known new.slots) (g.met.S.Slots.since_past old.slots) l.rests.keeps l.time c.args.self.now.laid

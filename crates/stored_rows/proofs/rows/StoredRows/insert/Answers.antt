@@ -7,6 +7,7 @@ use Rattle.abl_rows.specs.Rows.{AfterError}
 use Rattle.abl_rows.specs.declared.store.RowFault.{RowFault}
 use Rattle.stored_rows.specs.Decoded.{row_of}
 use Rattle.stored_rows.specs.State.{state_of}
+use Rattle.stored_rows.proofs.Chaining.{chains_go}
 use Rattle.stored_rows.proofs.Errors.{after_refusal}
 use Rattle.stored_rows.proofs.Methods.{begun_touched, encoded_is, same_all}
 use Rattle.stored_rows.proofs.Replaced.{few_fragments, put_reads, replace_keeps, replace_says}
@@ -80,3 +81,12 @@ invariant_of-self-2-clause-quiet g c =
     let rows = c.args.self.now in
     let e = c.insert.ensures in
     quiet_changes _ (g.S.Slots.state rows.chains.slots) (g.S.Slots.state c.insert.new.chains.slots) (g.S.Slots.stop rows.chains.slots) (g.S.Slots.stop c.insert.new.chains.slots) c.args.client c.args.row.0 (Some (record { table = c.args.table; bytes = c.as_slice.result.now })) c.insert.result c.requires.begun e.ok e.touched e.refused rows.quiet
+
+pub invariant_of-self-2-clause-laid : goal.invariant_of-self-2-clause-laid
+invariant_of-self-2-clause-laid g c =
+    let old = c.args.self.now.chains in
+    let new = c.insert.new.chains in
+    let s = g.S.Slots.state old.slots in
+    let t = g.S.Slots.state new.slots in
+    let e = c.insert.ensures in
+    chains_go s t (g.S.Slots.stop old.slots) (g.S.Slots.stop new.slots) (g.met.S.Slots.stop_known new.slots) (g.met.S.Slots.since_past old.slots) e.touched.keeps e.touched.time c.args.self.now.laid

@@ -2,8 +2,9 @@ use Rattle.std.proofs.Common.{ℕ, List, sym, ap, ◌∙◌, subst}
 use Rattle.std.proofs.Math.Path.{fun_ext}
 use Rattle.stored_rows.specs.Counted.{AreCounted}
 use Rattle.stored_rows.specs.Decoded.{decoded}
+use Rattle.stored_rows.proofs.Chaining.{opened_chains}
 use Rattle.stored_rows.proofs.Counting.{counted_none}
-use Rattle.stored_rows.proofs.Opening.{holds_no_row, no_row_read, opened_stored, stored_nowhere}
+use Rattle.stored_rows.proofs.Opening.{holds_no_row, nothing_is_chains, nothing_is_held, opened_stored, stored_nowhere}
 use Rattle.stored_rows.proofs.Quiet.{quiet_opened}
 use Rattle.stored_rows.proofs.rows.StoredRows.new.Goals as goal
 
@@ -13,7 +14,7 @@ invariant_of-result-clause-stored g c =
     let same = c.in_ok-chains.ensures.same in
     rw same
     (stored_nowhere c.args.schema s c.in_ok-opens.opens.items c.in_ok-opens.ensures.idle
-    (opened_stored c.args.schema s c.requires.clean c.requires.settled (λ readable. no_row_read c.args.schema s.reads (c.requires.empty readable))))
+    (opened_stored c.args.schema s c.requires.clean c.requires.settled (λ readable. nothing_is_held c.args.schema s.reads (c.requires.empty readable))))
 
 pub invariant_of-result-clause-counted : goal.invariant_of-result-clause-counted
 invariant_of-result-clause-counted g c =
@@ -33,3 +34,12 @@ returns-clause-committed g c = λ k readable.
 pub invariant_of-result-clause-quiet : goal.invariant_of-result-clause-quiet
 invariant_of-result-clause-quiet g c =
     rw c.in_ok-chains.ensures.same (quiet_opened (g.S.Slots.state c.args.slots) c.requires.idle c.requires.certain)
+
+pub invariant_of-result-clause-laid : goal.invariant_of-result-clause-laid
+invariant_of-result-clause-laid g c =
+    let s = g.S.Slots.state c.args.slots in
+    rw c.in_ok-chains.ensures.same
+    (opened_chains s (g.S.Slots.stop c.args.slots) c.requires.fine c.requires.settled c.requires.certain c.requires.stops (λ readable. ∣ nothing_is_chains s.reads (c.requires.empty readable) ∣₁))
+
+pub returns-clause-chains : goal.returns-clause-chains
+returns-clause-chains g c = λ readable. nothing_is_chains (g.S.Slots.state c.args.slots).reads (c.requires.empty readable)
