@@ -1,1 +1,3 @@
+pub mod Recovered
+pub mod Torn
 pub mod Opened

@@ -1,15 +1,11 @@
 -- Slots that are opened over a fresh log.
-use Rattle.std.proofs.Common.{◌≡◌, ◌⊎◌, ⊎_elim, ℕ, zero, suc, ◌*◌, ◌<◌, ◌≤◌, Bool, List, [], ◌∷◌, ◌++◌, length, drop, None, Result, Ok, Err, refl, sym, ◌∙◌, ap, subst, arith}
-use Rattle.std.specs.Prelude.{IfOk, IsErrOf}
+use Rattle.std.proofs.Common.{◌≡◌, ◌⊎◌, ⊎_elim, ℕ, zero, suc, ◌*◌, ◌<◌, ◌≤◌, Bool, List, [], ◌∷◌, ◌++◌, length, drop, None, refl, sym, ◌∙◌, ap, subst, arith}
 use Rattle.std.proofs.Math.Logic.{∥∥₁_map}
 use Rattle.std.proofs.lemmas.Bool.{cases_lt}
 use Rattle.abl_storage.specs.declared.slots.Undo.{Undo}
 use Rattle.abl_storage.specs.Slots.{undone}
 use Rattle.disk_steps.specs.Steps.{Image, Run}
-use Rattle.log_meaning.specs.Recovered.{is_committed}
 use Rattle.log_meaning.specs.Images.{Recovers}
-use Rattle.log_meaning.specs.LogState.{notes_in}
-use Rattle.log_meaning.proofs.LogStates.{one_recovery, stands_for}
 use Rattle.bi_log.specs.declared.log.Log.{Log}
 use Rattle.bi_log.specs.Appending.{RestsAt}
 use Rattle.bi_log.specs.Logs.{HasNotes}
@@ -21,57 +17,11 @@ use Rattle.slot_area.specs.declared.slot_area.SlotArea.{SlotArea}
 use Rattle.slot_area.specs.Area.{below, view, unwritten, IsKept, IsWhole}
 use Rattle.slot_area.proofs.AreaRuns.{below_in, below_out}
 use Rattle.kept_log.specs.KeptLog.{KeptLog}
-use Rattle.kept_log.proofs.Flushed.{slots_of}
 use Rattle.next_log.proofs.Opened.{opened_log, reads_slots, rests_fresh, narrowed}
 use Rattle.logged_slots.specs.Stops.{Stops, HasSlots, StayRecoverable}
 use Rattle.logged_slots.proofs.Recoverable.{has_slots}
 use Rattle.slot_txn.specs.Opening.{AllRecoverTo, IsFresh}
-
-pub ok_map : {T E : Type 0} (r : Result T E) (P Q : T → Type 0) → IfOk r P → ((x : T) → P x → Q x) → IfOk r Q
-ok_map (Ok x) P Q p f = f x p
-ok_map (Err e) P Q p f = tt
-
--- the same refusal of a call with another answer
-abbrev error_or : {T E : Type 0} → E → Result T E → E
-error_or d (Ok x) = d
-error_or d (Err e) = e
-
-pub same_error : {T U E : Type 0} (e f : E) → IsErrOf {T = T} (Err e) f → IsErrOf {T = U} (Err e) f
-same_error e f is = ap (λ x. Err x) (ap (error_or e) is)
-
--- ---- recovery
-
--- a new log gives each image these slots
-pub given_slots : (left : Image → Type 0) (a g e t : ℕ) (slots : ℕ → List ℕ) (new : NewLog left a g e t slots) (image : Image) → left image → Recovers image slots
-given_slots left a g e t slots new image known =
-    let r = stands_for a g e new.batches new.base image (new.agrees image known) in
-    record { area = r.area; generation = r.generation; batches = r.batches; newest = r.newest; log = r.log; gives = λ s. sym (new.recovers (is_committed (notes_in new.batches)) s) ∙ r.gives s }
-
--- and no others
-pub only_slots : (left : Image → Type 0) (a g e t : ℕ) (slots : ℕ → List ℕ) (new : NewLog left a g e t slots) (image : Image) (other : ℕ → List ℕ) → left image → Recovers image other → other ≡ slots
-only_slots left a g e t slots new image other known r = slots_of a g e new.batches new.base slots image other (new.agrees image known) (λ s. new.recovers (is_committed (notes_in new.batches)) s) r
-
--- the same log, where fewer images are known
-pub fewer_left : (left left' : Image → Type 0) (a g e t : ℕ) (slots : ℕ → List ℕ) → ((image : Image) → left' image → left image) → NewLog left a g e t slots → NewLog left' a g e t slots
-fewer_left left left' a g e t slots back new = record {
-  batches = new.batches;
-  base = new.base;
-  agrees = λ image known. new.agrees image (back image known);
-  rests = λ image known. new.rests image (back image known);
-  recovers = new.recovers;
-  filled = new.filled;
-}
-
--- a second recovery gives the same slots
-pub again_slots : (seen mid : Image) (left left' : Image → Type 0) (a g e t a' g' e' t' : ℕ) → Reopens seen left a g e t → left mid → Reopens mid left' a' g' e' t' → Reopens seen left' a' g' e' t'
-again_slots seen mid left left' a g e t a' g' e' t' one known two =
-    let new = two.log in
-    let same : (s : ℕ) → two.slots s ≡ one.slots s = one_recovery mid two.slots one.slots two.was (given_slots left a g e t one.slots one.log mid known) in
-    record {
-      slots = one.slots;
-      was = one.was;
-      log = record { batches = new.batches; base = new.base; agrees = new.agrees; rests = new.rests; recovers = λ committed s. new.recovers committed s ∙ same s; filled = new.filled };
-    }
+use Rattle.slot_txn.proofs.Recovered.{only_slots, fewer_left}
 
 -- what is recovered without notes is fresh
 pub fresh_from : (seen mid read : Image) (left left' : Image → Type 0) (log : Log) (a g e t g' e' end : ℕ) → Reopens seen left a g e t → t ≡ 32 → left mid → ((image : Image) → left' image → left image) → ((a ≡ 1) ⊎ (a ≡ 2) → log.area ≡ a) → g' ≡ g → e' ≤ e → length (read 0) ≡ 256 * end

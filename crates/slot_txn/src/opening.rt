@@ -13,7 +13,8 @@ ghost use Rattle.slot_area.specs.Area.{below, view, unwritten};
 ghost use Rattle.logged_slots.specs.Stops.{StayRecoverable};
 ghost use Rattle.slot_txn.specs.Opening.{IsOpenedOver, IsFresh};
 
-use crate::recovering::{recover_all, whole_slots};
+use crate::log_area::log_area;
+use crate::recovering::recover_whole;
 use crate::slot_txn::SlotTxn;
 use abl_storage::{Disk, Slots};
 use bi_log::Log;
@@ -41,14 +42,6 @@ struct Parts {
     ghost none: { (k : ℕ) → list_in transactions.clients.items k ≡ [] },
     ghost numbers: { (k : ℕ) → number_in transactions.clients.items k ≡ None },
     ghost extents: { (generation.extent ≤ slots.end) × (generation.filled ≡ generation.extent) },
-}
-
-/// The area of the log, 1 or 2.
-fn log_area(area: u8) -> u8
-    ensures place { (1 ≤ result) × (result ≤ 2) }
-    ensures same { (area ≡ 1) ⊎ (area ≡ 2) → result ≡ area }
-{
-    if area == 2 { 2 } else { 1 }
 }
 
 /// The extent, where area 0 has `end` slots.
@@ -96,19 +89,19 @@ fn recovered_parts<D: Disk>(disk: &mut D, alloc: Global) -> Result<Parts, OpenFa
     ensures none { IsErrOf result OpenFault.NotCreated → IsTrue (D.observable disk.old) → (slots : ℕ → List ℕ) → Recovers (D.seen disk.old) slots → ⊥ }
     ensures cause { HasOpenCause (D.failures disk.old) (D.failures disk.new) result }
 {
-    let opened = recover_all(disk, alloc)?;
-    let end = whole_slots(disk)?;
-    Ok(Parts::new(&opened, end, alloc)?)
+    let whole = recover_whole(disk, alloc)?;
+    Ok(Parts::new(&whole.opened, whole.end, alloc)?)
 }
 
 impl<D: Disk + Drop> SlotTxn<D> {
     /// Recovers the disk, and opens its slots with no transaction begun. It takes about 3.5 MB of
     /// memory, and for a while memory for the notes of the log. `NotCreated` comes where the disk
-    /// recovers to nothing, `Disk` where the disk failed, and `NoMemory` also where area 0 has no
-    /// whole number of slots or more than 1,048,576 (this project's choice: no image of a run of
-    /// this program has). At each moment, also where it fails, each image recovers to what an image
-    /// at the start recovers to, and if no image at the start has an area of the log longer than
-    /// 167,772,160 bytes, no image has one.
+    /// recovers to nothing, `Disk` where the disk failed, and `NoMemory` also where area 0 has more
+    /// than 268,435,456 bytes, 1,048,576 slots (this project's choice: no image of a run of this
+    /// program has). A slot within which area 0 ends has zeros past the end, and is written whole. At
+    /// each moment, also where it fails, each image recovers to what an image at the start recovers
+    /// to, and if no image at the start has an area of the log longer than 167,772,160 bytes, no
+    /// image has one.
     pub fn open(alloc: Global, disk: D) -> Result<SlotTxn<D>, (OpenFault, D)>
         ensures ok { IfOk result (λ s. IsOpenedOver (⟦<SlotTxn<D> as Slots>⟧.state s) (⟦<SlotTxn<D> as Slots>⟧.stop s) (D.observable disk) (D.seen disk) (D.time disk) (D.left disk)) }
         ensures run { IfOk result (λ s. Run (D.time disk) (D.time s.slots.disk) (D.left disk) (D.left s.slots.disk) SameRecovery) }

@@ -1,13 +1,13 @@
 //! The disk recovered.
 
-ghost use Rattle.std.specs.Prelude.{◌≡◌, ◌*◌, ◌≤◌, ◌^◌, ℕ, List, length, IsTrue, IfOk, IsErrOf};
-ghost use Rattle.abl_storage.specs.Disk.{Stays};
+ghost use Rattle.std.specs.Prelude.{◌≡◌, ◌*◌, ◌<◌, ◌≤◌, ◌^◌, ℕ, List, length, IsTrue, IfOk, IsErrOf};
 ghost use Rattle.disk_steps.specs.Steps.{Run};
 ghost use Rattle.log_meaning.specs.Images.{Recovers};
 ghost use Rattle.bi_log.specs.Lengths.{WithinLog};
 ghost use Rattle.bi_recovery.specs.Reopening.{SameRecovery, Reopens};
 ghost use Rattle.bi_recovery.specs.Causes.{HasOpenCause};
 
+use crate::torn_slot::{MOST_BYTES, note_slot, torn_slot};
 use abl_storage::Disk;
 use bi_recovery::OpenFault;
 use bi_recovery::recovery_run::{Reopened, recover};
@@ -15,9 +15,6 @@ use std::alloc::Global;
 
 /// The place of the first gate of a log: after its header.
 const FIRST_GATE: u64 = 32;
-
-/// The most bytes that area 0 has: 1,048,576 slots.
-const MOST_BYTES: u64 = 268_435_456;
 
 /// This log, if its next gate is the first one.
 fn without_notes(opened: Reopened) -> Result<Reopened, OpenFault>
@@ -33,7 +30,7 @@ fn without_notes(opened: Reopened) -> Result<Reopened, OpenFault>
 
 /// Recovers the disk, so that its log has no notes. The first recovery of an image that a stranger
 /// made may carry slots as notes: then it is recovered once more.
-pub fn recover_all<D: Disk>(disk: &mut D, alloc: Global) -> Result<Reopened, OpenFault>
+fn recover_all<D: Disk>(disk: &mut D, alloc: Global) -> Result<Reopened, OpenFault>
     ensures same_observable { D.observable disk.new ≡ D.observable disk.old }
     ensures time { Run (D.time disk.old) (D.time disk.new) (D.left disk.old) (D.left disk.new) SameRecovery }
     ensures ok { IfOk result (λ r. IsTrue (D.observable disk.old) → Reopens (D.seen disk.old) (D.left disk.new (D.time disk.new)) r.area r.generation r.extent r.gate) }
@@ -52,16 +49,21 @@ pub fn recover_all<D: Disk>(disk: &mut D, alloc: Global) -> Result<Reopened, Ope
     }
 }
 
-/// How many slots area 0 has. It is refused where it ends in a part of a slot, or has more than
-/// 1,048,576 slots: such an image was not made by this program.
-pub fn whole_slots<D: Disk>(disk: &mut D) -> Result<u32, OpenFault>
+/// The disk once it is recovered: its log, which has no notes, and how many slots area 0 has.
+#[derive(Clone, Copy)]
+pub struct Whole {
+    pub opened: Reopened,
+    pub end: u32,
+}
+
+/// How many slots an area 0 of so many bytes has. It is refused where it has more than 1,048,576,
+/// as no image of a run of this program has, and where it ends within a slot.
+fn whole_slots(length: u64) -> Result<u32, OpenFault>
     ensures small { IfOk result (λ n. n ≤ 2 ^ 20) }
-    ensures whole { IfOk result (λ n. IsTrue (D.observable disk.old) → length (D.seen disk.old 0) ≡ 256 * n) }
-    ensures rest { Stays (D.observable disk.old) (D.observable disk.new) (D.seen disk.old) (D.seen disk.new) (D.time disk.old) (D.time disk.new) (D.left disk.old) (D.left disk.new) }
+    ensures whole { IfOk result (λ n. length ≡ 256 * n) }
     ensures never { IsErrOf result OpenFault.NotCreated → ⊥ }
-    ensures cause { HasOpenCause (D.failures disk.old) (D.failures disk.new) result }
+    ensures never_disk { IsErrOf result OpenFault.Disk → ⊥ }
 {
-    let length = disk.length(0)?;
     if length > MOST_BYTES {
         return Err(OpenFault::NoMemory);
     }
@@ -69,4 +71,55 @@ pub fn whole_slots<D: Disk>(disk: &mut D) -> Result<u32, OpenFault>
         return Err(OpenFault::NoMemory);
     }
     Ok((length / 256) as u32)
+}
+
+/// Recovers a disk of which area 0 ends within this slot, where its log has no notes: the slot is
+/// noted with its bytes, and zeros past the end of area 0, so that recovery writes it whole.
+fn recover_torn<D: Disk>(
+    disk: &mut D,
+    opened: &Reopened,
+    slot: u32,
+    alloc: Global,
+) -> Result<Whole, OpenFault>
+    requires slot { slot < 2 ^ 20 }
+    requires gate { opened.now.gate ≡ 32 }
+    requires log { IsTrue (D.observable disk.old) → Reopens (D.seen disk.old) (D.left disk.old (D.time disk.old)) opened.now.area opened.now.generation opened.now.extent opened.now.gate }
+    ensures same_observable { D.observable disk.new ≡ D.observable disk.old }
+    ensures time { Run (D.time disk.old) (D.time disk.new) (D.left disk.old) (D.left disk.new) SameRecovery }
+    ensures ok { IfOk result (λ w. IsTrue (D.observable disk.old) → Reopens (D.seen disk.old) (D.left disk.new (D.time disk.new)) w.opened.area w.opened.generation w.opened.extent w.opened.gate) }
+    ensures gate { IfOk result (λ w. w.opened.gate ≡ 32) }
+    ensures small { IfOk result (λ w. w.end ≤ 2 ^ 20) }
+    ensures whole { IfOk result (λ w. IsTrue (D.observable disk.old) → length (D.seen disk.new 0) ≡ 256 * w.end) }
+    ensures within { Run (D.time disk.old) (D.time disk.new) (D.left disk.old) (D.left disk.new) (WithinLog 167772160) }
+    ensures none { IsErrOf result OpenFault.NotCreated → IsTrue (D.observable disk.old) → (slots : ℕ → List ℕ) → Recovers (D.seen disk.old) slots → ⊥ }
+    ensures cause { HasOpenCause (D.failures disk.old) (D.failures disk.new) result }
+{
+    note_slot(disk, opened, slot, alloc)?;
+    let again = recover_all(disk, alloc)?;
+    let length = disk.length(0)?;
+    let end = whole_slots(length)?;
+    Ok(Whole { opened: again, end })
+}
+
+/// Recovers the disk, so that its log has no notes and area 0 does not end within a slot.
+pub fn recover_whole<D: Disk>(disk: &mut D, alloc: Global) -> Result<Whole, OpenFault>
+    ensures same_observable { D.observable disk.new ≡ D.observable disk.old }
+    ensures time { Run (D.time disk.old) (D.time disk.new) (D.left disk.old) (D.left disk.new) SameRecovery }
+    ensures ok { IfOk result (λ w. IsTrue (D.observable disk.old) → Reopens (D.seen disk.old) (D.left disk.new (D.time disk.new)) w.opened.area w.opened.generation w.opened.extent w.opened.gate) }
+    ensures gate { IfOk result (λ w. w.opened.gate ≡ 32) }
+    ensures small { IfOk result (λ w. w.end ≤ 2 ^ 20) }
+    ensures whole { IfOk result (λ w. IsTrue (D.observable disk.old) → length (D.seen disk.new 0) ≡ 256 * w.end) }
+    ensures within { Run (D.time disk.old) (D.time disk.new) (D.left disk.old) (D.left disk.new) (WithinLog 167772160) }
+    ensures none { IsErrOf result OpenFault.NotCreated → IsTrue (D.observable disk.old) → (slots : ℕ → List ℕ) → Recovers (D.seen disk.old) slots → ⊥ }
+    ensures cause { HasOpenCause (D.failures disk.old) (D.failures disk.new) result }
+{
+    let opened = recover_all(disk, alloc)?;
+    let length = disk.length(0)?;
+    match torn_slot(length) {
+        Some(slot) => recover_torn(disk, &opened, slot, alloc),
+        None => {
+            let end = whole_slots(length)?;
+            Ok(Whole { opened, end })
+        }
+    }
 }

@@ -3,7 +3,7 @@ use Rattle.std.proofs.lemmas.Result.{err_from_is_err_and}
 use Rattle.bi_recovery.specs.declared.recovery_run.Reopened.{Reopened}
 use Rattle.bi_recovery.specs.Reopening.{SameRecovery, Reopens}
 use Rattle.bi_recovery.proofs.Reopening.{stage}
-use Rattle.slot_txn.proofs.Opened.{ok_map, again_slots, given_slots}
+use Rattle.slot_txn.proofs.Recovered.{ok_map, again_slots, given_slots}
 use Rattle.bi_log.proofs.Lengths.{run_twice}
 use Rattle.slot_txn.proofs.recovering.recover_all.Goals as goal
 
