@@ -1,10 +1,10 @@
 -- Why a disk was not opened, and the disk that is given back.
-use Rattle.std.proofs.Common.{◌≡◌, ◌⊎◌, ◌≤◌, ◌<◌, ℕ, Bool, false, List, [], refl, sym, ap, ◌∙◌, subst, arith, inl, inr}
+use Rattle.std.proofs.Common.{◌≡◌, ◌⊎◌, ⊎_elim, ◌≤◌, ◌<◌, ℕ, Bool, false, List, [], refl, sym, ap, ◌∙◌, subst, arith, inl, inr}
 use Rattle.std.proofs.Math.Logic.{∥∥₁_map}
 use Rattle.std.proofs.lemmas.Bool.{cases_lt}
 use Rattle.std.specs.Prelude.{IsTrue}
 use Rattle.abl_storage.specs.Slots.{IsReadable, SlotState, Transaction}
-use Rattle.abl_values.specs.Schema.{SchemaData}
+use Rattle.abl_values.specs.Schema.{SchemaData, canonical_text}
 use Rattle.disk_steps.specs.Steps.{Image, Run}
 use Rattle.log_meaning.specs.Images.{Recovers}
 use Rattle.bi_recovery.specs.Reopening.{SameRecovery}
@@ -19,7 +19,8 @@ use Rattle.slot_txn.specs.Opening.{IsOpenedOver}
 use Rattle.stored_text.specs.Held.{HoldText}
 use Rattle.disk_database.specs.Answers.{IsRefused}
 use Rattle.disk_database.specs.Images.{IsGivenBack, RecoversAsBefore}
-use Rattle.disk_database.specs.Inside.{AreOpened, HasLooked, IsTextRefusal, of_error, of_fault}
+use Rattle.disk_database.specs.Parts.{LeaveUnused}
+use Rattle.disk_database.specs.Inside.{AreOpened, HasLooked, IsSlotRefusal, of_error, of_fault}
 use Rattle.disk_database.specs.declared.refusals.OpenRefusal.{OpenRefusal}
 use Rattle.disk_database.specs.declared.refusals.OpenRefusal.TheVariants.{NotCreated, SchemaDiffers, Disk, NoMemory}
 use Rattle.disk_database.proofs.Openings.{opened_images}
@@ -38,17 +39,23 @@ module _ (schema : SchemaData) (observable : Bool) (seen : Image) where
   refused_still refusal given (inl is) why = subst (IsRefused schema observable seen) (sym is) why
   refused_still refusal given (inr is) why = subst (IsRefused schema observable seen) (sym is) tt
 
-  pub refused_by_text : (s : SlotState) → (IsTrue observable → IsReadable s) → (IsTrue observable → Recovers seen s.reads) → (refusal : OpenRefusal) → IsTextRefusal schema s refusal → IsRefused schema observable seen refusal
-  refused_by_text s readable recovered NotCreated none = λ known slots recovers. inl (λ text held. none (readable known) text (subst (λ (x : ℕ → List ℕ). HoldText x text) (one_array seen slots s.reads recovers (recovered known)) held))
+  pub refused_by_text : (s : SlotState) → (IsTrue observable → IsReadable s) → (IsTrue observable → Recovers seen s.reads) → (refusal : OpenRefusal) → IsSlotRefusal schema s refusal → IsRefused schema observable seen refusal
+  refused_by_text s readable recovered NotCreated none = λ known slots recovers.
+      let same = one_array seen slots s.reads recovers (recovered known) in
+      ⊎_elim (λ (no : (text : List ℕ) → HoldText s.reads text → ⊥). inl (λ text held. no text (subst (λ (x : ℕ → List ℕ). HoldText x text) same held)))
+      (λ (no : HoldText s.reads (canonical_text schema) × ¬ LeaveUnused schema s.reads).
+      inr (subst (λ (x : ℕ → List ℕ). HoldText x (canonical_text schema)) (sym same) no.0, λ all. no.1 (subst (LeaveUnused schema) same all.unused))) (none (readable known))
   refused_by_text s readable recovered (SchemaDiffers stored given) differs = (differs.0, differs.1, λ known. (s.reads, recovered known, differs.2 (readable known)))
   refused_by_text s readable recovered Disk why = tt
   refused_by_text s readable recovered NoMemory why = tt
 
-  pub refused_by_error : (s : SlotState) → (IsTrue observable → IsTrue s.observable) → (IsTrue observable → Recovers seen s.reads) → (e : OpenError) → (e ≡ error.Unsound → IsTrue s.observable → ¬ HoldStore schema s.reads)
+  pub refused_by_error : (s : SlotState) → (IsTrue observable → IsTrue s.observable) → (IsTrue observable → Recovers seen s.reads) → (IsTrue observable → HoldText s.reads (canonical_text schema)) → (e : OpenError) → (e ≡ error.Unsound → IsTrue s.observable → ¬ HoldStore schema s.reads)
       → IsRefused schema observable seen (of_error e)
-  refused_by_error s readable recovered error.Disk unsound = tt
-  refused_by_error s readable recovered error.NoMemory unsound = tt
-  refused_by_error s readable recovered error.Unsound unsound = λ known slots recovers. inr (λ held. unsound refl (readable known) (subst (HoldStore schema) (one_array seen slots s.reads recovers (recovered known)) held))
+  refused_by_error s readable recovered text error.Disk unsound = tt
+  refused_by_error s readable recovered text error.NoMemory unsound = tt
+  refused_by_error s readable recovered text error.Unsound unsound = λ known slots recovers.
+      let same = one_array seen slots s.reads recovers (recovered known) in
+      inr (subst (λ (x : ℕ → List ℕ). HoldText x (canonical_text schema)) (sym same) (text known), λ all. unsound refl (readable known) (subst (HoldStore schema) same all.store))
 
 -- ---- the disk
 
@@ -91,6 +98,13 @@ short_after was now left same short = subst (StayShort left) same short
 
 -- ---- slots that may be opened further
 
+-- what the slots read at first, they have committed
+pub held_after : (P : (ℕ → List ℕ) → Type 0) (s t : SlotState) (at_s at_t : ℕ → (ℕ → List ℕ) → Type 0) (observable : Bool) (seen : Image) (was : ℕ) (left : ℕ → Image → Type 0) → IsOpenedOver s at_s observable seen was left → HasLooked s t at_s at_t false
+    → (IsReadable s → P s.reads) → IsTrue observable → P t.committed
+held_after P s t at_s at_t observable seen was left over looked held known =
+    let there : IsTrue s.observable = subst (λ (b : Bool). IsTrue b) (sym over.same_observable) known in
+    subst P (sym (looked.rests.keeps.committed there ∙ over.settled)) (held (there, over.fine))
+
 pub can_open : (s t : SlotState) (at_s at_t : ℕ → (ℕ → List ℕ) → Type 0) (observable : Bool) (seen : Image) (was : ℕ) (left : ℕ → Image → Type 0) → IsOpenedOver s at_s observable seen was left → HasLooked s t at_s at_t false → CanOpen t
 can_open s t at_s at_t observable seen was left over looked = record {
   idle = λ c. subst (λ (f : ℕ → Transaction). (f c).begun ≡ false) (sym looked.rests.transaction) (over.idle c);
@@ -106,11 +120,12 @@ can_open s t at_s at_t observable seen was left over looked = record {
 -- ---- with what opening says of the slots
 
 pub refused_when_opened : (schema : SchemaData) (s : SlotState) (stop : ℕ → (ℕ → List ℕ) → Type 0) (observable : Bool) (seen : Image) (was : ℕ) (left : ℕ → Image → Type 0) → IsOpenedOver s stop observable seen was left
-    → (refusal : OpenRefusal) → IsTextRefusal schema s refusal → IsRefused schema observable seen refusal
+    → (refusal : OpenRefusal) → IsSlotRefusal schema s refusal → IsRefused schema observable seen refusal
 refused_when_opened schema s stop observable seen was left over refusal why =
     refused_by_text schema observable seen s (λ known. (subst (λ (b : Bool). IsTrue b) (sym over.same_observable) known, over.fine)) over.recovered refusal why
 
 pub refused_when_rows : (schema : SchemaData) (s : SlotState) (stop : ℕ → (ℕ → List ℕ) → Type 0) (observable : Bool) (seen : Image) (was : ℕ) (left : ℕ → Image → Type 0) → AreOpened s stop observable seen was left
-    → (IsTrue observable → s.reads ≡ s.committed) → (e : OpenError) → (e ≡ error.Unsound → IsTrue s.observable → ¬ HoldStore schema s.reads) → IsRefused schema observable seen (of_error e)
-refused_when_rows schema s stop observable seen was left opened settled e unsound =
-    refused_by_error schema observable seen s (λ known. subst (λ (b : Bool). IsTrue b) (sym opened.same_observable) known) (λ known. subst (λ (x : ℕ → List ℕ). Recovers seen x) (sym (settled known)) (opened.recovered known)) e unsound
+    → (IsTrue observable → s.reads ≡ s.committed) → (IsTrue observable → HoldText s.committed (canonical_text schema)) → (e : OpenError) → (e ≡ error.Unsound → IsTrue s.observable → ¬ HoldStore schema s.reads) → IsRefused schema observable seen (of_error e)
+refused_when_rows schema s stop observable seen was left opened settled text e unsound =
+    refused_by_error schema observable seen s (λ known. subst (λ (b : Bool). IsTrue b) (sym opened.same_observable) known) (λ known. subst (λ (x : ℕ → List ℕ). Recovers seen x) (sym (settled known)) (opened.recovered known))
+    (λ known. subst (λ (x : ℕ → List ℕ). HoldText x (canonical_text schema)) (sym (settled known)) (text known)) e unsound

@@ -30,11 +30,11 @@ use Rattle.disk_database.specs.Answers.{IsDumped, IsNotDumped, is_output, of_tab
 use Rattle.disk_database.specs.declared.refusals.OpenRefusal.TheVariants.{NoMemory}
 use Rattle.disk_database.specs.declared.refusals.DumpRefusal.{DumpRefusal}
 use Rattle.disk_database.specs.declared.refusals.DumpRefusal.TheVariants.{Database}
-use Rattle.disk_database.specs.Images.{AllRecover, AreImagesOf, ComesFrom, HoldsAsBefore, IsImageOf, RecoversAsBefore}
+use Rattle.disk_database.specs.Images.{AllAreOf, AreImagesOf, ComesFrom, HoldsAsBefore, IsImageOf, RecoversAsBefore, RecoversToChains}
 use Rattle.disk_database.specs.Parts.{HoldParts}
 use Rattle.disk_database.specs.Inside.{AreOpened, IsStoreOver}
 use Rattle.disk_database.proofs.Starts.{durable_is}
-use Rattle.disk_database.proofs.Survivals.{image_of, one_array, slots_of}
+use Rattle.disk_database.proofs.Survivals.{all_chains, image_of, one_array, slots_of}
 
 -- the primary index of a table is one of its own
 by_primary : (t : TableDef) (primary : Option ℕ) → IfSome primary (λ n. n < length t.indexes) → MatchOption primary ⊤ (λ i. i < length t.indexes)
@@ -56,17 +56,18 @@ holds_as_recovers schema was before after recovers m image slots from there is =
     ∣ record { old = old.0; there = old.1; other = slots; recovers = old.2; same = refl } ∣₁
 
 -- what recovers as before has the contents that it had
-pub kept_by_recovery : (schema : SchemaData) (contents : Contents) (observable : Bool) (was : ℕ) (before after : ℕ → Image → Type 0) → AreImagesOf observable was before schema contents → RecoversAsBefore was before after → StayRecoverable after was → AllRecover (after was)
+pub kept_by_recovery : (schema : SchemaData) (contents : Contents) (observable : Bool) (was : ℕ) (before after : ℕ → Image → Type 0) → AreImagesOf observable was before schema contents → RecoversAsBefore was before after → StayRecoverable after was → AllAreOf schema contents (after was)
     → (m : ℕ) (image : Image) → was ≤ m → after m image → ∥ IsImageOf schema contents image ∥₁
 kept_by_recovery schema contents observable was before after images recovers stays all m image from there =
-    ∣ record { some = stays all m image from there; each = λ slots is. let old = recovers m image slots from there is in (images.all old.0 old.1).each slots old.2 } ∣₁
+    ∣ record { some = stays (λ image there. (all image there).some) m image from there; each = λ slots is. let old = recovers m image slots from there is in (images.all old.0 old.1).each slots old.2 } ∣₁
 
--- so has what holds the rows and values as before, and the parts
+-- so has what holds the rows and values as before, the parts, and chains
 pub kept_by_reads : (schema : SchemaData) (contents : Contents) (observable : Bool) (was : ℕ) (before after : ℕ → Image → Type 0) → AreImagesOf observable was before schema contents → HoldsAsBefore schema was before after → StayRecoverable after was
-    → ((m : ℕ) (image : Image) (slots : ℕ → List ℕ) → was ≤ m → after m image → Recovers image slots → HoldParts schema slots) → AllRecover (after was) → (m : ℕ) (image : Image) → was ≤ m → after m image → ∥ IsImageOf schema contents image ∥₁
-kept_by_reads schema contents observable was before after images holds stays parts all m image from there =
-    ∥∥₁_elim (stays all m image from there) ∥∥₁_prop (λ (h : HasSlots image). ∥∥₁_map (holds m image h.slots from there h.recovers) (λ (comes : ComesFrom schema (before was) h.slots). image_of schema contents image h
-    (slots_of schema contents h.slots (subst (λ (d : Durable). Holds d contents) (sym comes.same) ((images.all comes.old comes.there).each comes.other comes.recovers).holds) (parts m image h.slots from there h.recovers))))
+    → ((m : ℕ) (image : Image) (slots : ℕ → List ℕ) → was ≤ m → after m image → Recovers image slots → HoldParts schema slots) → RecoversToChains was after → AllAreOf schema contents (after was) → (m : ℕ) (image : Image) → was ≤ m → after m image → ∥ IsImageOf schema contents image ∥₁
+kept_by_reads schema contents observable was before after images holds stays parts chains all m image from there =
+    ∥∥₁_elim (stays (λ image there. (all image there).some) m image from there) ∥∥₁_prop (λ (h : HasSlots image). ∥∥₁_map (holds m image h.slots from there h.recovers) (λ (comes : ComesFrom schema (before was) h.slots). image_of schema contents image h
+    (slots_of schema contents h.slots (subst (λ (d : Durable). Holds d contents) (sym comes.same) ((images.all comes.old comes.there).each comes.other comes.recovers).holds) (parts m image h.slots from there h.recovers)
+    (all_chains schema contents was after chains all m image h.slots from there h.recovers))))
 
 -- reads keep the schema, and whether the store is observable
 pub read_schema : (old new : RowState) (la lb : ℕ → Durable → Type 0) (ta tb : Times) (fa fb : ℕ) (failed : Bool) → HasRead old new la lb ta tb fa fb failed → new.schema ≡ old.schema

@@ -1,7 +1,7 @@
 -- Slots that were just opened may be guarded, and the same slots guarded.
 use Rattle.std.proofs.Common.{◌≡◌, ℕ, Bool, List, sym, subst}
 use Rattle.std.specs.Prelude.{IsTrue}
-use Rattle.abl_storage.specs.Slots.{IsReadable, SlotState}
+use Rattle.abl_storage.specs.Slots.{IsReadable, KeepsCommitted, SlotState}
 use Rattle.abl_values.specs.Schema.{SchemaData}
 use Rattle.disk_steps.specs.Steps.{Image}
 use Rattle.guarded_slots.specs.Guarded.{AllAllowed}
@@ -36,6 +36,13 @@ opened_as s t at_s at_t observable seen was left same stops opened = subst (λ (
   recovered = opened.recovered;
   come = λ m slots st. opened.come m slots (stops m slots st);
 })
+
+pub committed_as : (P : (ℕ → List ℕ) → Type 0) (s t : SlotState) (observable : Bool) → t ≡ s → (IsTrue observable → P s.committed) → IsTrue observable → P t.committed
+committed_as P s t observable same held known = subst (λ (x : SlotState). P x.committed) (sym same) (held known)
+
+-- what is committed stays over calls that commit nothing
+pub committed_on : (P : (ℕ → List ℕ) → Type 0) (s t : SlotState) (observable : Bool) → s.observable ≡ observable → KeepsCommitted s t → (IsTrue observable → P s.committed) → IsTrue observable → P t.committed
+committed_on P s t observable seen keeps held known = subst P (sym (keeps.committed (subst (λ (b : Bool). IsTrue b) (sym seen) known))) (held known)
 
 pub settled_as : (s t : SlotState) (observable : Bool) → t ≡ s → (IsTrue observable → s.reads ≡ s.committed) → IsTrue observable → t.reads ≡ t.committed
 settled_as s t observable same settled known = subst (λ (x : SlotState). x.reads ≡ x.committed) (sym same) (settled known)

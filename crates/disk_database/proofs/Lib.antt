@@ -1,9 +1,12 @@
 pub mod Causes
 pub mod Dumps
 pub mod Guards
+pub mod Images
 pub mod Openings
 pub mod Parts
 pub mod Reopenings
 pub mod Starts
 pub mod Survivals
+pub mod Tests
 pub mod Texts
+pub mod Leftover

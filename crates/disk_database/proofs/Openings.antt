@@ -16,6 +16,15 @@ use Rattle.disk_database.specs.Images.{RecoversAsBefore}
 same_slots : (x y : ℕ → List ℕ) → IsProp (x ≡ y)
 same_slots x y = hlevel props
 
+-- just opened, a stop leaves what a stop at the first moment leaves
+pub stops_first : (now_observable : Bool) (since now : ℕ) (left' : ℕ → Image → Type 0) (was : ℕ) (left : ℕ → Image → Type 0) → since ≡ was → Run was now left left' SameRecovery → (m : ℕ) (slots : ℕ → List ℕ)
+    → Stops now_observable since now left' m slots → Stops now_observable since now left' since slots
+stops_first now_observable since now left' was left same run m slots st = (st.0, omega arith, (let from = st.1 in let past = st.2 in omega (arith, from, past)), by_time (cases_lt was m))
+  where
+    by_time : (was < m) ⊎ (m ≤ was) → (image : Image) × left' since image × Recovers image slots
+    by_time (inl later) = let h = run.here m st.3.0 later st.3.1 in (h.0, subst (λ (k : ℕ). left' k h.0) (sym same) (run.stays was h.0 (omega arith) h.1), h.2.from slots st.3.2)
+    by_time (inr le) = let from = st.1 in let first : m ≡ since = omega (arith, le, from, same) in (st.3.0, subst (λ (k : ℕ). left' k st.3.0) first st.3.1, st.3.2)
+
 -- after opening
 pub opened_over : (s : SlotState) (now_observable : Bool) (since now : ℕ) (left' : ℕ → Image → Type 0) (observable : Bool) (seen : Image) (was : ℕ) (left : ℕ → Image → Type 0) → since ≡ was
     → IsOpenedOver s (Stops now_observable since now left') observable seen was left → Run was now left left' SameRecovery → AreOpened s (Stops now_observable since now left') observable seen was left

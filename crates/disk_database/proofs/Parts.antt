@@ -1,24 +1,22 @@
 -- The parts that slots hold, slot by slot.
-use Rattle.std.proofs.Common.{◌≡◌, ℕ, zero, suc, ◌+◌, ◌-◌, ◌*◌, ◌<◌, ◌≤◌, min, true, false, List, [], ◌∷◌, ◌++◌, length, get_or, take, drop, ℤ, refl, sym, ap, ◌∙◌, subst, arith, length-append, length-take, length-drop, drop-drop}
+use Rattle.std.proofs.Common.{◌≡◌, inl, inr, ℕ, zero, suc, ◌+◌, ◌-◌, ◌*◌, ◌<◌, ◌≤◌, min, List, [], ◌∷◌, ◌++◌, length, get_or, take, drop, ℤ, refl, sym, ap, ◌∙◌, subst, arith, length-append, length-take, length-drop, drop-drop}
 use Rattle.std.proofs.Math.Logic.{∥∥₁_elim, ∥∥₁_map, ∥∥₁_prop}
 use Rattle.std.proofs.Props.{props}
 use Rattle.abl_values.specs.Rows.{fragments_of}
 use Rattle.abl_values.specs.Schema.{SchemaData, canonical_text}
 use Rattle.new_slots.proofs.Counted.{get_counted, length_counted}
-use Rattle.chain_store.proofs.Rewrites.{low_bound}
 use Rattle.record_store.specs.State.{Have64Bits-prop}
-use Rattle.row_chain.specs.Fragments.{ends}
-use Rattle.stored_rows.specs.Forms.{has_form}
 use Rattle.sequence_reads.proofs.Contents.{length_values_in}
 use Rattle.sequence_slots.specs.Values.{Have64Bits, HoldValues, part, slot_bytes, values_in}
 use Rattle.sequence_slots.proofs.Reading.{values_read}
 use Rattle.slot_contents.specs.Chains.{chain_slot}
+use Rattle.slot_contents.specs.Contents.{text_slots}
 use Rattle.database_meaning.specs.declared.contents.Contents.{Contents}
 use Rattle.disk_steps.specs.Steps.{Image}
 use Rattle.log_meaning.specs.Images.{Recovers}
 use Rattle.guarded_slots.specs.Guarded.{AllAllowed}
 use Rattle.disk_database.specs.Images.{AllAreOf, AreSlotsOf}
-use Rattle.disk_database.specs.Parts.{AllHoldParts, AreValues, HoldParts, HoldsPart, KeptSince, text_chain, values_at}
+use Rattle.disk_database.specs.Parts.{AllHoldParts, AreValues, HoldParts, HoldsPart, IsUnused, KeptSince, text_chain, values_at}
 
 -- ---- lists
 
@@ -120,7 +118,7 @@ parts_of schema slots held k = record {
     whole = whole_take 30 (drop (30 * i) values) (whole_drop (30 * i) values held.values.whole);
     are = ap slots is ∙ held.values.each i lt;
   };
-  form = λ e. held.formed k e;
+  unused = held.unused k;
 }
   where
     values : List ℤ
@@ -136,7 +134,7 @@ hold_parts schema slots short few all = record {
     chain = record { count = length_counted 1 (fragments_of (length (canonical_text schema))); each = chain };
   };
   values = ∥∥₁_elim (laid 9 (length schema.sequences) slots 5000 (omega (arith, few)) values) (HoldValues-prop slots (values_in (length schema.sequences) slots)) (values_of_laid (length schema.sequences) slots (omega (arith, few)));
-  formed = λ k e. ∥∥₁_elim (all k) (hlevel props) (λ (p : HoldsPart schema k (slots k)). p.form e);
+  unused = λ k is. ∥∥₁_elim (all k) (hlevel props) (λ (p : HoldsPart schema k (slots k)). p.unused is);
 }
   where
     chain : (i : ℕ) → i < length (text_chain schema) → slots (get_or (text_chain schema) i 0) ≡ chain_slot 3 3 0 (text_chain schema) (canonical_text schema) i
@@ -165,19 +163,25 @@ text_below schema slot i short lt is =
     let at : slot ≡ 1 + i = is ∙ get_counted 1 (fragments_of (length (canonical_text schema))) i within in
     omega (arith, short, within, at)
 
-pub past_values : (schema : SchemaData) (images : Image → Type 0) (slot : ℕ) (bytes : List ℕ) → length (canonical_text schema) ≤ 1048576 → 5009 ≤ slot → (ends slot ≡ false → has_form bytes ≡ true) → KeptSince schema images slot bytes
-past_values schema images slot bytes short past form all = record {
+-- a slot from 5,000 on is unused only between those for values and those for rows
+unused_between : {W : Type 0} (text slot : ℕ) → 5000 ≤ slot → (5008 < slot → slot < 8192 → W) → IsUnused text slot → W
+unused_between text slot low between (inl first) = absurd (omega (arith, first, low))
+unused_between text slot low between (inr (inl after)) = let below = after.1 in absurd (omega (arith, below, low))
+unused_between text slot low between (inr (inr is)) = between is.0 is.1
+
+pub for_rows : (schema : SchemaData) (images : Image → Type 0) (slot : ℕ) (bytes : List ℕ) → length (canonical_text schema) ≤ 1048576 → 8192 ≤ slot → KeptSince schema images slot bytes
+for_rows schema images slot bytes short past all = record {
   text = λ i lt is. let below = text_below schema slot i short lt is in absurd (omega (arith, below, past));
   values = λ i lt is. absurd (omega (arith, lt, is, past));
-  form = form;
+  unused = unused_between (text_slots schema) slot (omega (arith, past)) (λ low high. absurd (omega (arith, high, past)));
 }
 
 pub in_values : (schema : SchemaData) (images : Image → Type 0) (slot number : ℕ) (bytes : List ℕ) → length (canonical_text schema) ≤ 1048576 → 5000 ≤ slot → slot < 5009 → number ≡ slot - 5000 → AreValues (values_at (length schema.sequences) number) bytes
     → KeptSince schema images slot bytes
-in_values schema images slot number bytes short past below same are all = record {
+in_values schema images slot number bytes short past within same are all = record {
   text = λ i lt is. let below = text_below schema slot i short lt is in absurd (omega (arith, below, past));
   values = λ i lt is. subst (λ (n : ℕ). AreValues (values_at (length schema.sequences) n) bytes) (omega (arith, same, is)) are;
-  form = λ e. let low = low_bound slot e in absurd (omega (arith, low, below));
+  unused = unused_between (text_slots schema) slot past (λ low high. absurd (omega (arith, low, within)));
 }
 
 -- ---- contents
@@ -185,4 +189,4 @@ in_values schema images slot number bytes short past below same are all = record
 pub parts_of_contents : (schema : SchemaData) (images : Image → Type 0) (contents : Contents) → AllAreOf schema contents images → AllHoldParts schema images
 parts_of_contents schema images contents all image slots there recovers =
     let are : AreSlotsOf schema contents slots = (all image there).each slots recovers in
-    record { text = are.text; values = subst (HoldValues slots) are.holds.sequences are.values; formed = are.formed }
+    record { text = are.text; values = subst (HoldValues slots) are.holds.sequences are.values; unused = are.unused }

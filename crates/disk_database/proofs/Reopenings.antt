@@ -1,6 +1,7 @@
 -- A database that was made is opened, and one that was closed is opened again.
-use Rattle.std.proofs.Common.{◌≡◌, ◌⊎◌, inl, inr, ⊎_elim, ℕ, ◌≤◌, ◌==◌, ◌||◌, Bool, true, false, cond, List, [], ◌∷◌, length, map, Option, Some, None, is_some, ℤ, refl, sym, ap, ◌∙◌, subst}
-use Rattle.std.proofs.Math.Logic.{∥∥₁_elim}
+use Rattle.std.proofs.Common.{◌≡◌, inl, inr, ⊎_elim, ℕ, ◌≤◌, ◌<◌, Bool, true, false, cond, List, [], ◌∷◌, length, map, Option, Some, None, ℤ, refl, sym, ap, ◌∙◌, subst, arith}
+use Rattle.std.proofs.Math.Logic.{∥∥₁_elim, ∥∥₁_map, ∥∥₁_prop}
+use Rattle.std.proofs.Math.Path.{fun_ext}
 use Rattle.std.proofs.Props.{props}
 use Rattle.std.proofs.lemmas.List.{length-map}
 use Rattle.std.specs.Cmp.{nat_cmp_total}
@@ -10,6 +11,7 @@ use Rattle.std.specs.Prelude.{IsTrue}
 use Rattle.abl_values.specs.declared.schema.SequenceDef.{SequenceDef}
 use Rattle.abl_values.specs.Rows.{fragments_of}
 use Rattle.abl_values.specs.Schema.{SchemaData, canonical_text}
+use Rattle.abl_values.specs.Sound.{IsSound}
 use Rattle.database_meaning.specs.declared.contents.ContentRow.{ContentRow}
 use Rattle.database_meaning.specs.declared.contents.Contents.{Contents}
 use Rattle.database_meaning.specs.declared.state.Key.{Key}
@@ -20,21 +22,22 @@ use Rattle.db_core.specs.Crashes.{Holds}
 use Rattle.disk_steps.specs.Steps.{Image}
 use Rattle.logged_slots.specs.Stops.{HasSlots}
 use Rattle.record_store.specs.Opened.{AreSoundRows, HoldStore}
-use Rattle.row_chain.specs.Fragments.{StoredBytes, kind_in, row_at}
-use Rattle.row_chain.proofs.Chained.{row_there}
+use Rattle.record_store.proofs.Sound.{rows_read}
+use Rattle.row_chain.specs.Chains.{AreChains}
+use Rattle.row_chain.specs.Fragments.{StoredBytes, row_at}
 use Rattle.sequence_reads.proofs.Contents.{length_values_in}
 use Rattle.sequence_slots.specs.Values.{HoldValues, values_in}
 use Rattle.slot_contents.specs.Born.{IsBorn}
 use Rattle.slot_contents.specs.Chains.{IsChain, counted}
-use Rattle.slot_contents.specs.Contents.{IsOfOneRow, contents_in, initial_values, new_contents}
+use Rattle.slot_contents.specs.Contents.{contents_in, initial_values, new_contents}
 use Rattle.slot_contents.specs.Contents as slot
 use Rattle.stored_rows.specs.Decoded.{decoded, row_of}
 use Rattle.stored_rows.specs.Durable.{durable_in}
-use Rattle.stored_rows.specs.Forms.{has_form, is_fragment}
 use Rattle.stored_text.specs.Held.{HoldText}
 use Rattle.disk_database.proofs.Texts.{one_text}
-use Rattle.disk_database.specs.Answers.{IsRefused}
-use Rattle.disk_database.specs.Images.{AreSlotsOf, IsImageOf, created}
+use Rattle.disk_database.specs.Answers.{AreDatabase, IsRefused}
+use Rattle.disk_database.specs.Images.{AreSlotsOf, IsImageOf, created, stored_contents}
+use Rattle.disk_database.specs.Parts.{IsUnused}
 use Rattle.disk_database.specs.declared.refusals.OpenRefusal.TheVariants.{NotCreated, SchemaDiffers}
 use Rattle.disk_database.proofs.Survivals.{image_of}
 
@@ -61,11 +64,6 @@ module _ (schema : SchemaData) (image : Image) (born : IsBorn image (new_content
       let none : decoded born.schema born.slots k ≡ None = sym (ap (λ (c : slot.Contents). c.rows k) born.are) in
       none_there born.schema (row_at born.slots k) none
 
-  -- no row begins, so each slot for rows is free
-  free_formed : (k : ℕ) → (kind_in (born.slots k) ≡ 0) ⊎ IsOfOneRow born.slots k → has_form (born.slots k) ≡ true
-  free_formed k (inl free) = ap (λ (kind : ℕ). (kind == 0) || is_fragment (born.slots k)) free
-  free_formed k (inr of) = let clash : None ≡ Some _ = sym (no_row of.row) ∙ row_there born.slots of.row of.begun in absurd (cc clash)
-
   new_slots_are : AreSlotsOf schema (created schema) born.slots
   new_slots_are = record {
     holds = record {
@@ -74,8 +72,17 @@ module _ (schema : SchemaData) (image : Image) (born : IsBorn image (new_content
     };
     text = record { short = short; chain = subst (λ (text : List ℕ). IsChain born.slots 3 3 0 (counted 1 (fragments_of (length text))) text) (sym text_is) born.held.text.text };
     values = subst (HoldValues born.slots) (sym values_are) born.held.sequences;
-    formed = λ k e. free_formed k (born.held.rows.each k e);
+    chains = ∣ record { chains = born.held.rows.chains; each = born.held.rows.each } ∣₁;
+    unused = unused;
   }
+    where
+      as_long : (k : ℕ) → slot.text_slots schema < k → slot.text_slots born.schema < k
+      as_long k after = subst (λ (text : List ℕ). fragments_of (length text) < k) text_is after
+
+      unused : (k : ℕ) → IsUnused (slot.text_slots schema) k → born.slots k ≡ slot.zeros
+      unused k (inl first) = ap born.slots first ∙ born.held.unused.zero
+      unused k (inr (inl text)) = born.held.text.rest k (as_long k text.0) text.1
+      unused k (inr (inr between)) = born.held.unused.between k between.0 between.1
 
   pub new_is : IsImageOf schema (created schema) image
   new_is = image_of schema (created schema) image (record { slots = born.slots; recovers = born.recovered }) new_slots_are
@@ -112,8 +119,8 @@ rows_sound f contents slots sound holds = record {
     at : (k : ℕ) (key : Key) → IsTrue (has_key (unique_keys f.schema (decoded f.schema slots k)) key) → IsTrue (has_key (unique_keys f.schema (get (rows_of contents.rows) k)) key)
     at k key has = subst (λ (o : Option StoredRow). IsTrue (has_key (unique_keys f.schema o) key)) (sym (holds.rows k)) has
 
-hold_store : (f : Setting) (contents : Contents) (slots : ℕ → List ℕ) → IsSoundContents f contents → AreSlotsOf f.schema contents slots → HoldStore f.schema slots
-hold_store f contents slots sound are = record { values = subst (HoldValues slots) are.holds.sequences are.values; rows = rows_sound f contents slots sound are.holds; formed = are.formed }
+hold_store : (f : Setting) (contents : Contents) (slots : ℕ → List ℕ) → IsSoundContents f contents → AreSlotsOf f.schema contents slots → AreChains slots → HoldStore f.schema slots
+hold_store f contents slots sound are chains = record { values = subst (HoldValues slots) are.holds.sequences are.values; rows = rows_sound f contents slots sound are.holds; chains = chains }
 
 nothing : IsProp ⊥
 nothing = hlevel props
@@ -121,4 +128,32 @@ nothing = hlevel props
 pub not_missing : (f : Setting) (contents : Contents) (seen : Image) → IsSoundContents f contents → IsImageOf f.schema contents seen → IsRefused f.schema true seen NotCreated → ⊥
 not_missing f contents seen sound image refused = ∥∥₁_elim image.some nothing (λ (h : HasSlots seen).
     let are : AreSlotsOf f.schema contents h.slots = image.each h.slots h.recovers in
-    ⊎_elim (λ (no : (text : List ℕ) → HoldText h.slots text → ⊥). no (canonical_text f.schema) are.text) (λ (no : ¬ HoldStore f.schema h.slots). no (hold_store f contents h.slots sound are)) (refused refl h.slots h.recovers))
+    ∥∥₁_elim are.chains nothing (λ (chains : AreChains h.slots).
+    ⊎_elim (λ (no : (text : List ℕ) → HoldText h.slots text → ⊥). no (canonical_text f.schema) are.text) (λ (no : HoldText h.slots (canonical_text f.schema) × ¬ AreDatabase f.schema h.slots). no.1 (record { text = are.text; unused = are.unused; store = hold_store f contents h.slots sound are chains })) (refused refl h.slots h.recovers)))
+
+-- ---- what an image is born with
+
+-- a database in slots is contents of its schema
+pub database_contents : (schema : SchemaData) (slots : ℕ → List ℕ) → IsSound schema → AreDatabase schema slots → slot.AreContents schema slots
+database_contents schema slots sound held = record {
+  sound = sound;
+  text = record { few = (let short = held.text.short in omega (arith, short)); text = held.text.chain; rest = λ k after below. held.unused k (inr (inl (after, below))) };
+  sequences = held.store.values;
+  unused = record { zero = held.unused 0 (inl refl); between = λ k low high. held.unused k (inr (inr (low, high))) };
+  rows = record { read = rows_read schema slots held.store.rows; chains = held.store.chains.chains; each = held.store.chains.each };
+  keys = record { short = λ row stored index there has. (held.store.rows.each row stored there).short index has; apart = held.store.rows.apart };
+}
+
+same_contents : (schema : SchemaData) (contents : Contents) (slots : ℕ → List ℕ) → Holds (durable_in schema slots) contents → stored_contents schema contents ≡ contents_in schema slots
+same_contents schema contents slots holds = λ i. record { text = canonical_text schema; rows = fun_ext holds.rows i; values = holds.sequences i }
+
+pub born_of : (f : Setting) (contents : Contents) (image : Image) → IsSound f.schema → IsSoundContents f contents → IsImageOf f.schema contents image → ∥ IsBorn image (stored_contents f.schema contents) ∥₁
+born_of f contents image schema_sound sound is = ∥∥₁_elim is.some ∥∥₁_prop (λ (h : HasSlots image).
+    let are : AreSlotsOf f.schema contents h.slots = is.each h.slots h.recovers in
+    ∥∥₁_map are.chains (λ (chains : AreChains h.slots). record {
+      slots = h.slots;
+      recovered = h.recovers;
+      schema = f.schema;
+      held = database_contents f.schema h.slots schema_sound (record { text = are.text; unused = are.unused; store = hold_store f contents h.slots sound are chains });
+      are = same_contents f.schema contents h.slots are.holds;
+    }))

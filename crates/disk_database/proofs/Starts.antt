@@ -2,7 +2,8 @@
 use Rattle.std.proofs.Common.{◌≡◌, ◌≤◌, ℕ, Bool, List, None, refl, sym, ap, ◌∙◌, subst}
 use Rattle.std.specs.Prelude.{IsTrue, map}
 use Rattle.abl_storage.specs.Slots.{SlotState}
-use Rattle.abl_values.specs.Schema.{SchemaData}
+use Rattle.abl_values.specs.Schema.{SchemaData, canonical_text}
+use Rattle.abl_values.specs.Sound.{IsSound}
 use Rattle.database_meaning.specs.declared.contents.Contents.{Contents}
 use Rattle.database_meaning.specs.Traces.{IsSoundContents, identity_of}
 use Rattle.database_meaning.specs.Waiting.{IsAscending}
@@ -14,7 +15,12 @@ use Rattle.record_store.specs.Contents.{contents_of}
 use Rattle.record_store.proofs.Contents.{only_contents, sound_contents, store_contents}
 use Rattle.record_store.proofs.Sound.{decoded_past}
 use Rattle.disk_steps.specs.Steps.{Image}
+use Rattle.record_store.specs.Opened.{HoldStore}
+use Rattle.stored_text.specs.Held.{HoldText}
+use Rattle.disk_database.specs.Answers.{IsBornOf}
 use Rattle.disk_database.specs.Images.{AreImagesOf}
+use Rattle.disk_database.specs.Parts.{LeaveUnused}
+use Rattle.disk_database.proofs.Reopenings.{database_contents}
 use Rattle.disk_database.specs.Inside.{AreOpened, IsStoreOver}
 
 module _ (rows : RowState) (schema : SchemaData) (s : SlotState) (over : IsStoreOver rows schema s) where
@@ -41,6 +47,18 @@ module _ (rows : RowState) (schema : SchemaData) (s : SlotState) (over : IsStore
   -- the durable state is that of the committed slots
   pub durable_is : IsTrue s.observable → durable_of rows ≡ durable_in schema s.committed
   durable_is seen = over.store.durable (subst (λ (b : Bool). IsTrue b) (sym over.same_observable) seen) ∙ ap (durable_in schema) (over.reads seen)
+
+  -- a disk whose slots the store has is born of the schema
+  pub born_over : (stop : ℕ → (ℕ → List ℕ) → Type 0) (observable : Bool) (seen : Image) (was : ℕ) (left : ℕ → Image → Type 0) → AreOpened s stop observable seen was left → IsSound schema → (IsTrue observable → HoldText s.committed (canonical_text schema))
+      → (IsTrue observable → LeaveUnused schema s.committed) → IsTrue observable → IsBornOf seen schema
+  born_over stop observable seen was left opened sound text unused is = (
+    s.committed,
+    opened.recovered is,
+    database_contents schema s.committed sound (record { text = text is; unused = unused is; store = subst (HoldStore schema) (over.reads there) (over.store.held (subst (λ (b : Bool). IsTrue b) (sym over.same_observable) there)) }),
+  )
+    where
+      there : IsTrue s.observable
+      there = subst (λ (b : Bool). IsTrue b) (sym opened.same_observable) is
 
   module _ (own : SchemaData) (same : own ≡ schema) (stop : ℕ → (ℕ → List ℕ) → Type 0) (observable : Bool) (seen : Image) (was : ℕ) (left : ℕ → Image → Type 0) (opened : AreOpened s stop observable seen was left)
       (there : IsTrue observable → left was seen) where

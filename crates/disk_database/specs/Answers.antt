@@ -5,6 +5,7 @@ use Rattle.disk_steps.specs.Steps.{Image}
 use Rattle.log_meaning.specs.Images.{IsOpened, Recovers}
 use Rattle.stored_text.specs.Held.{HoldText}
 use Rattle.record_store.specs.Opened.{HoldStore}
+use Rattle.slot_contents.specs.Contents.{AreContents}
 use Rattle.abl_outside.specs.Out.{OutState, Writes}
 use Rattle.abl_outside.specs.declared.out.Stream.TheVariants.{Output as Standard}
 use Rattle.abl_rows.specs.declared.store.FoundRow.{FoundRow}
@@ -12,6 +13,7 @@ use Rattle.stored_rows.specs.Decoded.{decoded}
 use Rattle.table_dump.specs.Order.{AreAll, AreFirst, export_lines}
 use Rattle.table_dump.specs.declared.writing.TableError.{TableError}
 use Rattle.table_dump.specs.declared.writing.TableError.TheVariants as error
+use Rattle.disk_database.specs.Parts.{LeaveUnused}
 use Rattle.disk_database.specs.declared.refusals.OpenRefusal.{OpenRefusal}
 use Rattle.disk_database.specs.declared.refusals.OpenRefusal.TheVariants.{NotCreated, SchemaDiffers, Disk, NoMemory}
 use Rattle.disk_database.specs.declared.refusals.DumpRefusal.{DumpRefusal}
@@ -21,11 +23,21 @@ use Rattle.disk_database.specs.declared.refusals.DumpRefusal.TheVariants.{Databa
 abbrev pub HasText : Image → SchemaData → Type 0
 HasText seen schema = (slots : ℕ → List ℕ) → Recovers seen slots → HoldText slots (canonical_text schema)
 
--- Why the disk was not opened with this schema. NotCreated: what it recovers to, if to anything, holds no text, or is no database of the
--- schema whose text it holds. SchemaDiffers: the slots that it recovers to hold another text, which is stored
+-- the slots hold a database of this schema: its text, values for its sequences and sound rows in chains, and zeros where nothing belongs
+pub record AreDatabase (schema : SchemaData) (slots : ℕ → List ℕ) : Type 0 where
+  pub text : HoldText slots (canonical_text schema)
+  pub unused : LeaveUnused schema slots
+  pub store : HoldStore schema slots
+
+-- the image is born of this schema, with the contents that its slots hold (`IsBorn` of slot_contents)
+abbrev pub IsBornOf : Image → SchemaData → Type 0
+IsBornOf seen schema = (slots : ℕ → List ℕ) × Recovers seen slots × AreContents schema slots
+
+-- Why the disk was not opened with this schema. NotCreated: what it recovers to, if to anything, holds no text, or the text of this schema and no
+-- database of it. SchemaDiffers: the slots that it recovers to hold another text, which is stored
 abbrev pub IsRefused : SchemaData → Bool → Image → OpenRefusal → Type 0
 IsRefused schema observable seen NotCreated =
-    IsTrue observable → (slots : ℕ → List ℕ) → Recovers seen slots → ((text : List ℕ) → HoldText slots text → ⊥) ⊎ ¬ HoldStore schema slots
+    IsTrue observable → (slots : ℕ → List ℕ) → Recovers seen slots → ((text : List ℕ) → HoldText slots text → ⊥) ⊎ (HoldText slots (canonical_text schema) × ¬ AreDatabase schema slots)
 IsRefused schema observable seen (SchemaDiffers stored given) =
     (given ≡ canonical_text schema) × (stored ≢ given) × (IsTrue observable → (slots : ℕ → List ℕ) × Recovers seen slots × HoldText slots stored)
 IsRefused schema observable seen refusal = Unit {0}

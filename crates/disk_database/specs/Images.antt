@@ -1,29 +1,33 @@
 -- What the images that a crash may leave hold, and what of it survives.
 use Rattle.std.specs.Prelude.{◌≡◌, ◌⊎◌, ℕ, ◌+◌, ◌<◌, ◌≤◌, Bool, List, [], map, IsTrue}
+use Rattle.std.specs.FinMap.{get}
 use Rattle.abl_values.specs.Schema.{SchemaData, canonical_text}
 use Rattle.client_database.specs.declared.event.Event.{Event}
 use Rattle.database_meaning.specs.declared.contents.Contents.{Contents}
 use Rattle.database_meaning.specs.Setting.{Setting}
 use Rattle.database_meaning.specs.Waiting.{IsAscending}
-use Rattle.database_meaning.specs.Traces.{acknowledged, after_commits, commits, identity_of}
+use Rattle.database_meaning.specs.Traces.{acknowledged, after_commits, commits, identity_of, rows_of}
 use Rattle.db_core.specs.Crashes.{AreMoments, Holds}
+use Rattle.row_chain.specs.Chains.{AreChains}
 use Rattle.sequence_slots.specs.Values.{HoldValues}
 use Rattle.stored_rows.specs.Durable.{durable_in}
-use Rattle.stored_rows.specs.Forms.{HaveForm}
 use Rattle.stored_text.specs.Held.{HoldText}
 use Rattle.slot_contents.specs.Contents.{initial_values}
+use Rattle.slot_contents.specs.Contents as stored
 use Rattle.disk_steps.specs.Steps.{Image}
 use Rattle.log_meaning.specs.Images.{Recovers}
 use Rattle.logged_slots.specs.Stops.{IsRecoverable, StayRecoverable}
 use Rattle.bi_log.specs.Lengths.{StayShort}
+use Rattle.disk_database.specs.Parts.{LeaveUnused}
 
--- the slots hold these rows and sequence values, the text of the schema byte for byte, and the values so too; and each slot for rows is free or
--- has the head of a fragment
+-- the slots hold these rows and sequence values, the text of the schema byte for byte, and the values so too; each slot for rows is free or
+-- in the chain of just one row, and what belongs to nothing is zeros
 pub record AreSlotsOf (schema : SchemaData) (contents : Contents) (slots : ℕ → List ℕ) : Type 0 where
   pub holds : Holds (durable_in schema slots) contents
   pub text : HoldText slots (canonical_text schema)
   pub values : HoldValues slots contents.sequences
-  pub formed : HaveForm slots
+  pub chains : ∥ AreChains slots ∥₁
+  pub unused : LeaveUnused schema slots
 
 -- the image recovers to slots, and what it recovers to are these contents
 pub record IsImageOf (schema : SchemaData) (contents : Contents) (image : Image) : Type 0 where
@@ -44,6 +48,11 @@ pub record AreImagesOf (observable : Bool) (now : ℕ) (left : ℕ → Image →
 abbrev pub RecoversAsBefore : ℕ → (ℕ → Image → Type 0) → (ℕ → Image → Type 0) → Type 0
 RecoversAsBefore was before after =
     (m : ℕ) (image : Image) (slots : ℕ → List ℕ) → was ≤ m → after m image → Recovers image slots → (old : Image) × before was old × Recovers old slots
+
+-- each image that a crash at a moment from `since` on may leave recovers only to what an image of that moment recovers to, or to chains of rows
+abbrev pub RecoversToChains : ℕ → (ℕ → Image → Type 0) → Type 0
+RecoversToChains since left =
+    (m : ℕ) (image : Image) (slots : ℕ → List ℕ) → since ≤ m → left m image → Recovers image slots → ∥ ((old : Image) × left since old × Recovers old slots) ⊎ AreChains slots ∥₁
 
 -- an image recovered to slots with the rows and sequence values of these
 pub record ComesFrom (schema : SchemaData) (before : Image → Type 0) (slots : ℕ → List ℕ) : Type 0 where
@@ -82,6 +91,10 @@ IsImageFrom f contents trace n image =
 pub record SurvivesCrashes (from now : ℕ) (left : ℕ → Image → Type 0) (f : Setting) (contents : Contents) (trace : List Event) : Type 0 where
   pub each : (m : ℕ) (image : Image) → from ≤ m → left m image → ∥ IsImageFrom f contents trace (acknowledged m trace) image ∥₁
   pub moments : AreMoments from trace now
+
+-- these contents as an image is born with them (`slot_contents`)
+abbrev pub stored_contents : SchemaData → Contents → stored.Contents
+stored_contents schema contents = record { text = canonical_text schema; rows = λ row. get (rows_of contents.rows) row; values = contents.sequences }
 
 -- the contents of a new database: no rows, and each sequence at its initial value
 abbrev pub created : SchemaData → Contents

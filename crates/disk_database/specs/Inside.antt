@@ -1,5 +1,5 @@
 -- What is kept between the parts of an opening.
-use Rattle.std.specs.Prelude.{◌≡◌, ◌≢◌, ℕ, Bool, true, false, List, Option, Some, None, IsTrue, Result, Ok, Err}
+use Rattle.std.specs.Prelude.{◌≡◌, ◌≢◌, ◌⊎◌, ℕ, Bool, true, false, List, Option, Some, None, IsTrue, Result, Ok, Err}
 use Rattle.abl_storage.specs.Slots.{Goes, IsReadable, Rests, SlotState}
 use Rattle.abl_values.specs.Schema.{SchemaData, canonical_text}
 use Rattle.abl_rows.specs.Rows.{RowState}
@@ -11,6 +11,7 @@ use Rattle.record_store.specs.Opened.{IsOpenedStore}
 use Rattle.record_store.specs.declared.open_error.OpenError.{OpenError}
 use Rattle.record_store.specs.declared.open_error.OpenError.TheVariants as error
 use Rattle.stored_text.specs.Held.{HoldText}
+use Rattle.disk_database.specs.Parts.{AreUnusedLeft, LeaveUnused}
 use Rattle.disk_database.specs.declared.refusals.OpenRefusal.{OpenRefusal}
 use Rattle.disk_database.specs.declared.refusals.OpenRefusal.TheVariants.{NotCreated, SchemaDiffers, Disk, NoMemory}
 
@@ -47,6 +48,19 @@ abbrev pub IsTextRefusal : SchemaData → SlotState → OpenRefusal → Type 0
 IsTextRefusal schema s NotCreated = IsReadable s → (text : List ℕ) → HoldText s.reads text → ⊥
 IsTextRefusal schema s (SchemaDiffers stored given) = (given ≡ canonical_text schema) × (stored ≢ given) × (IsReadable s → HoldText s.reads stored)
 IsTextRefusal schema s refusal = Unit {0}
+
+-- what they say against the slots that belong to nothing, where the text of the schema takes this many: one of them is not zeros
+abbrev pub IsUnusedRefusal : ℕ → SlotState → OpenRefusal → Type 0
+IsUnusedRefusal text s NotCreated = IsReadable s → ¬ AreUnusedLeft text s.reads
+IsUnusedRefusal text s (SchemaDiffers stored given) = ⊥
+IsUnusedRefusal text s refusal = Unit {0}
+
+-- what they say against a database of this schema: that they hold no text, or another one, or its text and a slot that belongs to nothing is not
+-- zeros
+abbrev pub IsSlotRefusal : SchemaData → SlotState → OpenRefusal → Type 0
+IsSlotRefusal schema s NotCreated = IsReadable s → ((text : List ℕ) → HoldText s.reads text → ⊥) ⊎ (HoldText s.reads (canonical_text schema) × ¬ LeaveUnused schema s.reads)
+IsSlotRefusal schema s (SchemaDiffers stored given) = IsTextRefusal schema s (SchemaDiffers stored given)
+IsSlotRefusal schema s refusal = Unit {0}
 
 -- slots were read: nothing but the moment has changed, and unless the disk failed no call has answered Disk
 pub record HasLooked (old new : SlotState) (before after : ℕ → (ℕ → List ℕ) → Type 0) (failed : Bool) : Type 0 where

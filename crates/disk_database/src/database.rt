@@ -12,9 +12,9 @@ ghost use Rattle.log_meaning.specs.Images.{Recovers};
 ghost use Rattle.bi_log.specs.Lengths.{StayShort};
 ghost use Rattle.logged_slots.specs.Stops.{StayRecoverable};
 ghost use Rattle.db_machine.specs.Database.{HasSetting, IsActive, IsOpened};
-ghost use Rattle.disk_database.specs.Answers.{HasText, IsRefused};
+ghost use Rattle.disk_database.specs.Answers.{HasText, IsBornOf, IsRefused};
 ghost use Rattle.disk_database.specs.Inside.{IsStoreOver};
-ghost use Rattle.disk_database.specs.Images.{AllAreOf, AllRecover, AreImagesOf, RecoversAsBefore, SurvivesCrashes};
+ghost use Rattle.disk_database.specs.Images.{AllAreOf, AreImagesOf, RecoversAsBefore, SurvivesCrashes};
 
 use crate::guard::Opening;
 use crate::opening::{DiskSlots, DiskStore, disk_of, open_rows};
@@ -32,7 +32,8 @@ pub type DiskDatabase<D, K> = Db<DiskStore<D, K>>;
 /// Opens the database of this schema that the disk holds, for 1 to 16 clients: no client has requested
 /// anything. The store and the machine each have a schema of their own, which is one schema. Where each
 /// image that a crash may leave at the call holds the same contents, the database is opened with them,
-/// and they survive each crash from then on. A refusal hands the disk back: each image from the call on
+/// and they survive each crash from then on. What the disk's reads give is then an image that is born of
+/// the schema. A refusal hands the disk back: each image from the call on
 /// recovers only to what an image at the call recovered to.
 pub fn open<D: Disk + Drop, K: Opening>(
     alloc: Global,
@@ -51,6 +52,7 @@ pub fn open<D: Disk + Drop, K: Opening>(
     ensures since { IfOk result (λ db. (⟦<DiskStore<D, K> as RowStore>⟧.times db.rows).since ≡ D.time disk) }
     ensures opened { IfOk result (λ db. (contents : Contents) → AreImagesOf (D.observable disk) (D.time disk) (D.left disk) schema contents → IsOpened (⟦<DiskStore<D, K> as RowStore>⟧.state db.rows) (⟦<DiskStore<D, K> as RowStore>⟧.left db.rows) (⟦<DiskStore<D, K> as RowStore>⟧.times db.rows) db (record { schema = schema; clients = clients }) contents) }
     ensures text { IfOk result (λ db. IsTrue (D.observable disk) → HasText (D.seen disk) schema) }
+    ensures born { IfOk result (λ db. IsTrue (D.observable disk) → IsBornOf (D.seen disk) schema) }
     ensures refused { IfErr result (λ e. IsRefused schema (D.observable disk) (D.seen disk) e.0) }
     ensures observable { IfErr result (λ e. D.observable e.1 ≡ D.observable disk) }
     ensures time { IfErr result (λ e. D.time disk ≤ D.time e.1) }
@@ -59,6 +61,7 @@ pub fn open<D: Disk + Drop, K: Opening>(
     ensures short { IfErr result (λ e. StayShort (D.left e.1) (D.time disk)) }
     ensures cause { IfErr result (λ e. e.0 ≡ OpenRefusal.Disk → Rose (D.failures disk) (D.failures e.1)) }
 {
+    schema.soundness();
     let rows = match open_rows(alloc, disk, schema_of_rows) {
         Ok(rows) => rows,
         Err(refusal) => return Err(refusal),
@@ -116,7 +119,7 @@ pub fn close<D: Disk + Drop, K: Opening>(database: DiskDatabase<D, K>) -> (D, Tr
     ensures observable { (f : Setting) (contents : Contents) → IsOpened (⟦<DiskStore<D, K> as RowStore>⟧.state database.rows) (⟦<DiskStore<D, K> as RowStore>⟧.left database.rows) (⟦<DiskStore<D, K> as RowStore>⟧.times database.rows) database f contents → IsTrue (D.observable result.0) }
     ensures survives { (f : Setting) (contents : Contents) → IsOpened (⟦<DiskStore<D, K> as RowStore>⟧.state database.rows) (⟦<DiskStore<D, K> as RowStore>⟧.left database.rows) (⟦<DiskStore<D, K> as RowStore>⟧.times database.rows) database f contents
         → ∥ ((image : Image) × D.left result.0 (⟦<DiskStore<D, K> as RowStore>⟧.times database.rows).since image) ∥₁
-        → AllRecover (D.left result.0 (⟦<DiskStore<D, K> as RowStore>⟧.times database.rows).since)
+        → AllAreOf f.schema contents (D.left result.0 (⟦<DiskStore<D, K> as RowStore>⟧.times database.rows).since)
         → K.schema ≡ f.schema
         → AllAreOf f.schema contents K.images
         → SurvivesCrashes (⟦<DiskStore<D, K> as RowStore>⟧.times database.rows).since (D.time result.0) (D.left result.0) f contents result.1 }

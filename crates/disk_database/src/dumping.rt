@@ -9,7 +9,7 @@ ghost use Rattle.logged_slots.specs.Stops.{StayRecoverable};
 ghost use Rattle.disk_database.specs.Answers.{HasText, IsDumped, IsNotDumped, is_disk, is_output, of_table};
 ghost use Rattle.disk_steps.specs.Steps.{Image};
 ghost use Rattle.database_meaning.specs.declared.contents.Contents.{Contents};
-ghost use Rattle.disk_database.specs.Images.{AllRecover, AreImagesOf, HoldsAsBefore, IsImageOf};
+ghost use Rattle.disk_database.specs.Images.{AllAreOf, AreImagesOf, HoldsAsBefore, IsImageOf};
 
 use crate::guard::Opening;
 use crate::opening::{disk_of, open_rows, rose};
@@ -72,7 +72,7 @@ pub fn dump<D: Disk + Drop, O: Out>(
     ensures observable { D.observable result.1 ≡ D.observable disk }
     ensures time { D.time disk ≤ D.time result.1 }
     ensures images { HoldsAsBefore schema (D.time disk) (D.left disk) (D.left result.1) }
-    ensures kept { (contents : Contents) → AreImagesOf (D.observable disk) (D.time disk) (D.left disk) schema contents → AllRecover (D.left result.1 (D.time disk))
+    ensures kept { (contents : Contents) → AreImagesOf (D.observable disk) (D.time disk) (D.left disk) schema contents → AllAreOf schema contents (D.left result.1 (D.time disk))
         → (m : ℕ) (image : Image) → D.time disk ≤ m → D.left result.1 m image → ∥ IsImageOf schema contents image ∥₁ }
     ensures recoverable { StayRecoverable (D.left result.1) (D.time disk) }
     ensures short { StayShort (D.left result.1) (D.time disk) }
@@ -102,7 +102,7 @@ fn dump_since<D: Disk + Drop, K: Opening, O: Out>(
     ensures observable { D.observable result.1 ≡ D.observable disk }
     ensures time { D.time disk ≤ D.time result.1 }
     ensures images { HoldsAsBefore schema (D.time disk) (D.left disk) (D.left result.1) }
-    ensures kept { (contents : Contents) → AreImagesOf (D.observable disk) (D.time disk) (D.left disk) schema contents → AllRecover (D.left result.1 (D.time disk))
+    ensures kept { (contents : Contents) → AreImagesOf (D.observable disk) (D.time disk) (D.left disk) schema contents → AllAreOf schema contents (D.left result.1 (D.time disk))
         → (m : ℕ) (image : Image) → D.time disk ≤ m → D.left result.1 m image → ∥ IsImageOf schema contents image ∥₁ }
     ensures recoverable { StayRecoverable (D.left result.1) (D.time disk) }
     ensures short { StayShort (D.left result.1) (D.time disk) }

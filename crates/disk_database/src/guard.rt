@@ -1,4 +1,4 @@
-//! What may be written into the slots of a database.
+//! What may be written into the slots of a database that no row uses.
 
 ghost use Rattle.std.specs.Prelude.{◌≡◌, ◌≤◌, ◌<◌, ℕ, length, IfSome, IsTrue};
 ghost use Rattle.abl_values.specs.Schema.{canonical_text};
@@ -10,14 +10,12 @@ use byteorder::{BigEndian, ByteOrder};
 use guarded_slots::Guard;
 use sequence_slots::{have_64_bits, slot_of};
 use std::marker::{Brand, PhantomData};
-use stored_rows::has_form;
 
-/// The first slot of sequence values, and the first one after them.
+/// The first slot of sequence values, the first one after them, and the first one for rows.
 const FIRST_VALUES: u32 = 5000;
 
 const AFTER_VALUES: u32 = 5009;
 
-/// The first slot for rows.
 const FIRST_ROW: u32 = 8192;
 
 /// The most values in a slot.
@@ -44,9 +42,8 @@ impl Opening for Brand {
     ghost images = { λ image. Unit {0} };
 }
 
-/// The guard of a database's slots. It lets no write of the schema's text through, into a slot of
-/// sequence values only as many values as belong in it, and into a slot for rows only a free slot or
-/// the head of a fragment.
+/// The guard of a database's slots. It lets no write of the schema's text through, nor of a slot that
+/// belongs to nothing, and into a slot of sequence values only as many values as belong in it.
 #[derive(Drop)]
 pub struct SlotGuard<K: Opening> {
     pub(crate) sequences: usize,
@@ -110,11 +107,8 @@ impl<K: Opening> Guard for SlotGuard<K> {
         if slot < FIRST_VALUES {
             return false;
         }
-        if FIRST_ROW <= slot {
-            return has_form(bytes);
-        }
         if AFTER_VALUES <= slot {
-            return true;
+            return FIRST_ROW <= slot;
         }
         let number = slot - FIRST_VALUES;
         are_values(count_at(self.sequences, number), bytes)

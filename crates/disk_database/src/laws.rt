@@ -2,6 +2,7 @@
 
 ghost use Rattle.std.specs.Prelude.{◌≡◌, ◌≤◌, ℕ, List, length, true};
 ghost use Rattle.abl_values.specs.Schema.{SchemaData, canonical_text};
+ghost use Rattle.abl_values.specs.Sound.{IsSound};
 ghost use Rattle.database_meaning.specs.declared.contents.Contents.{Contents};
 ghost use Rattle.database_meaning.specs.Setting.{Setting};
 ghost use Rattle.database_meaning.specs.Traces.{IsSoundContents};
@@ -9,7 +10,7 @@ ghost use Rattle.disk_steps.specs.Steps.{Image};
 ghost use Rattle.slot_contents.specs.Born.{IsBorn};
 ghost use Rattle.slot_contents.specs.Contents.{new_contents};
 ghost use Rattle.disk_database.specs.Answers.{IsRefused};
-ghost use Rattle.disk_database.specs.Images.{IsImageOf, created};
+ghost use Rattle.disk_database.specs.Images.{IsImageOf, created, stored_contents};
 ghost use Rattle.disk_database.specs.declared.refusals.OpenRefusal.TheVariants.{NotCreated, SchemaDiffers};
 
 /// An image that is born of a schema is one of the contents of a new database: no rows, and each
@@ -23,4 +24,9 @@ pub fn a_new_database_is_one()
 pub fn a_database_is_not_refused()
     ensures differs { (schema : SchemaData) (contents : Contents) (seen : Image) (stored given : List ℕ) → IsImageOf schema contents seen → IsRefused schema true seen (SchemaDiffers stored given) → ⊥ }
     ensures not_created { (f : Setting) (contents : Contents) (seen : Image) → IsSoundContents f contents → IsImageOf f.schema contents seen → IsRefused f.schema true seen NotCreated → ⊥ }
+{}
+
+/// An image of sound contents is that of a database: it is born, with these contents.
+pub fn an_image_of_contents_is_born()
+    ensures { (f : Setting) (contents : Contents) (image : Image) → IsSound f.schema → IsSoundContents f contents → IsImageOf f.schema contents image → ∥ IsBorn image (stored_contents f.schema contents) ∥₁ }
 {}

@@ -13,6 +13,7 @@ pub mod laws;
 mod opening;
 mod refusals;
 mod text;
+mod unused;
 
 pub use creation::create;
 pub use database::{DiskDatabase, close, open};

@@ -8,15 +8,17 @@ ghost use Rattle.log_meaning.specs.Images.{Recovers};
 ghost use Rattle.bi_log.specs.Lengths.{StayShort};
 ghost use Rattle.logged_slots.specs.Stops.{StayRecoverable};
 ghost use Rattle.record_store.specs.Opened.{CanOpen};
+ghost use Rattle.row_chain.specs.Chains.{AreChains};
+ghost use Rattle.stored_rows.specs.Chained.{StayChains};
 ghost use Rattle.stored_text.specs.Held.{HoldText};
 ghost use Rattle.disk_database.specs.Answers.{IsRefused};
-ghost use Rattle.disk_database.specs.Images.{IsGivenBack};
+ghost use Rattle.disk_database.specs.Images.{IsGivenBack, RecoversToChains};
 ghost use Rattle.disk_database.specs.Inside.{AreOpened, IsStoreOver, of_error, of_fault};
-ghost use Rattle.disk_database.specs.Parts.{AllHoldParts, HoldParts};
+ghost use Rattle.disk_database.specs.Parts.{AllHoldParts, HoldParts, LeaveUnused};
 
 use crate::guard::{Opening, SlotGuard};
 use crate::refusals::OpenRefusal;
-use crate::text::compare_text;
+use crate::text::test_slots;
 use abl_rows::RowStore;
 use abl_storage::{Disk, Slots};
 use abl_values::Schema;
@@ -98,9 +100,11 @@ fn open_slots<D: Disk + Drop>(
 ) -> Result<SlotTxn<D>, (OpenRefusal, D)>
     requires before { before ≡ D.failures disk }
     ensures opened { IfOk result (λ s. AreOpened (⟦<SlotTxn<D> as Slots>⟧.state s) (⟦<SlotTxn<D> as Slots>⟧.stop s) (D.observable disk) (D.seen disk) (D.time disk) (D.left disk)) }
+    ensures stops { IfOk result (λ s. (IsTrue (⟦<SlotTxn<D> as Slots>⟧.state s).observable → ∥ AreChains (⟦<SlotTxn<D> as Slots>⟧.state s).committed ∥₁) → StayChains (⟦<SlotTxn<D> as Slots>⟧.stop s) (⟦<SlotTxn<D> as Slots>⟧.state s).since) }
     ensures can { IfOk result (λ s. CanOpen (⟦<SlotTxn<D> as Slots>⟧.state s)) }
     ensures settled { IfOk result (λ s. IsTrue (D.observable disk) → (⟦<SlotTxn<D> as Slots>⟧.state s).reads ≡ (⟦<SlotTxn<D> as Slots>⟧.state s).committed) }
     ensures text { IfOk result (λ s. IsTrue (D.observable disk) → HoldText (⟦<SlotTxn<D> as Slots>⟧.state s).committed (canonical_text schema.now)) }
+    ensures unused { IfOk result (λ s. IsTrue (D.observable disk) → LeaveUnused schema.now (⟦<SlotTxn<D> as Slots>⟧.state s).committed) }
     ensures refused { IfErr result (λ e. IsRefused schema.now (D.observable disk) (D.seen disk) e.0) }
     ensures back { IfErr result (λ e. IsGivenBack (D.observable disk) (D.observable e.1) (D.time disk) (D.time e.1) (D.left disk) (D.left e.1)) }
     ensures cause { IfErr result (λ e. e.0 ≡ OpenRefusal.Disk → Rose (D.failures disk) (D.failures e.1)) }
@@ -109,7 +113,7 @@ fn open_slots<D: Disk + Drop>(
         Ok(slots) => slots,
         Err((fault, disk)) => return Err((of_fault(fault), disk)),
     };
-    match compare_text(alloc, &mut slots, schema) {
+    match test_slots(alloc, &mut slots, schema) {
         Ok(()) => Ok(slots),
         Err(refusal) => Err(give_back(before, refusal, slots)),
     }
@@ -127,6 +131,7 @@ pub(crate) fn open_rows<D: Disk + Drop, K: Opening>(
     ensures opened { IfOk result (λ r. AreOpened (⟦<DiskSlots<D, K> as Slots>⟧.state r.rows.chains.slots) (⟦<DiskSlots<D, K> as Slots>⟧.stop r.rows.chains.slots) (D.observable disk) (D.seen disk) (D.time disk) (D.left disk)) }
     ensures store { IfOk result (λ r. IsStoreOver (⟦<DiskStore<D, K> as RowStore>⟧.state r) schema (⟦<DiskSlots<D, K> as Slots>⟧.state r.rows.chains.slots)) }
     ensures text { IfOk result (λ r. IsTrue (D.observable disk) → HoldText (⟦<DiskSlots<D, K> as Slots>⟧.state r.rows.chains.slots).committed (canonical_text schema)) }
+    ensures unused { IfOk result (λ r. IsTrue (D.observable disk) → LeaveUnused schema (⟦<DiskSlots<D, K> as Slots>⟧.state r.rows.chains.slots).committed) }
     ensures refused { IfErr result (λ e. IsRefused schema (D.observable disk) (D.seen disk) e.0) }
     ensures back { IfErr result (λ e. IsGivenBack (D.observable disk) (D.observable e.1) (D.time disk) (D.time e.1) (D.left disk) (D.left e.1)) }
     ensures cause { IfErr result (λ e. e.0 ≡ OpenRefusal.Disk → Rose (D.failures disk) (D.failures e.1)) }
@@ -147,12 +152,14 @@ pub(crate) fn open_rows<D: Disk + Drop, K: Opening>(
 }
 
 /// The disk of these rows. What the images of the opening hold of the text and of sequence values in
-/// their form, if all of them do, each image since then holds.
+/// their form, if all of them do, each image since then holds. Each recovers to chains of rows, or to
+/// what an image of the opening recovers to.
 pub(crate) fn disk_of<D: Disk + Drop, K: Opening>(rows: DiskStore<D, K>) -> D
     ensures disk { result ≡ rows.rows.chains.slots.slots.slots.disk }
     ensures stops { (m : ℕ) (image : Image) (left : ℕ → List ℕ) → rows.rows.chains.slots.slots.slots.since ≤ m → D.left result m image → Recovers image left → ⟦<DiskSlots<D, K> as Slots>⟧.stop rows.rows.chains.slots m left }
     ensures recoverable { StayRecoverable (D.left result) rows.rows.chains.slots.slots.slots.since }
     ensures short { StayShort (D.left result) rows.rows.chains.slots.slots.slots.since }
+    ensures chains { RecoversToChains rows.rows.chains.slots.slots.slots.since (D.left result) }
     ensures parts { AllHoldParts K.schema K.images → (m : ℕ) (image : Image) (left : ℕ → List ℕ) → rows.rows.chains.slots.slots.slots.since ≤ m → D.left result m image → Recovers image left → HoldParts K.schema left }
 {
     let slots = rows.close();

@@ -3,13 +3,17 @@
 ghost use Rattle.std.specs.Prelude.{◌≡◌, ◌≢◌, ◌≤◌, length, None, Some, IfErr, IfSome, IsTrue, OnOk};
 ghost use Rattle.abl_storage.specs.Slots.{IsReadable};
 ghost use Rattle.abl_values.specs.Schema.{canonical_text};
+ghost use Rattle.slot_contents.specs.Contents.{text_slots};
 ghost use Rattle.stored_text.specs.Held.{HoldText};
-ghost use Rattle.disk_database.specs.Inside.{HasLooked, IsComparison, IsTextRefusal, refused_by_disk};
+ghost use Rattle.disk_database.specs.Inside.{HasLooked, IsComparison, IsSlotRefusal, IsTextRefusal, IsUnusedRefusal, refused_by_disk};
+ghost use Rattle.disk_database.specs.Parts.{AreUnusedLeft, LeaveUnused};
 
 use crate::refusals::OpenRefusal;
+use crate::unused::are_unused_left;
 use abl_base::Bytes;
 use abl_storage::{SlotFault, Slots};
 use abl_values::Schema;
+use new_slots::text_slots::slot_count;
 use std::alloc::Global;
 use stored_text::stored_text;
 
@@ -43,11 +47,7 @@ fn compare(stored: Option<Bytes>, given: Bytes) -> Result<(), OpenRefusal>
 }
 
 /// Whether the slots hold the text of this schema.
-pub(crate) fn compare_text<S: Slots>(
-    alloc: Global,
-    slots: &mut S,
-    schema: &Schema,
-) -> Result<(), OpenRefusal>
+fn compare_text<S: Slots>(alloc: Global, slots: &mut S, schema: &Schema) -> Result<(), OpenRefusal>
     ensures same { OnOk result (IsReadable (S.Slots.state slots.old) → HoldText (S.Slots.state slots.old).reads (canonical_text schema.now)) }
     ensures refused { IfErr result (IsTextRefusal schema.now (S.Slots.state slots.old)) }
     ensures looked { HasLooked (S.Slots.state slots.old) (S.Slots.state slots.new) (S.Slots.stop slots.old) (S.Slots.stop slots.new) (refused_by_disk result) }
@@ -59,5 +59,55 @@ pub(crate) fn compare_text<S: Slots>(
         Ok(stored) => compare(stored, given),
         Err(SlotFault::Disk) => Err(OpenRefusal::Disk),
         Err(SlotFault::TxFull | SlotFault::NoMemory) => Err(OpenRefusal::NoMemory),
+    }
+}
+
+/// How many slots the text of this schema takes, if it is one that a database can have. None also means
+/// out of memory.
+fn slots_of_text(schema: &Schema) -> Option<u32>
+    ensures { IfSome result (λ count. count ≡ text_slots schema.now) }
+{
+    let Ok(text) = schema.canonical() else {
+        return None;
+    };
+    let bytes = text.as_slice().len();
+    if MAX_TEXT_BYTES < bytes {
+        return None;
+    }
+    Some(slot_count(bytes))
+}
+
+/// Whether each slot that belongs to nothing is zeros, where the text of the schema takes this many
+/// slots.
+fn test_unused<S: Slots>(slots: &mut S, text: u32) -> Result<(), OpenRefusal>
+    ensures unused { OnOk result (IsReadable (S.Slots.state slots.old) → AreUnusedLeft text (S.Slots.state slots.old).reads) }
+    ensures refused { IfErr result (IsUnusedRefusal text (S.Slots.state slots.old)) }
+    ensures looked { HasLooked (S.Slots.state slots.old) (S.Slots.state slots.new) (S.Slots.stop slots.old) (S.Slots.stop slots.new) (refused_by_disk result) }
+{
+    match are_unused_left(slots, text) {
+        Ok(true) => Ok(()),
+        Ok(false) => Err(OpenRefusal::NotCreated),
+        Err(SlotFault::Disk) => Err(OpenRefusal::Disk),
+        Err(SlotFault::TxFull | SlotFault::NoMemory) => Err(OpenRefusal::NoMemory),
+    }
+}
+
+/// Whether the slots hold the text of this schema, and zeros where nothing belongs.
+pub(crate) fn test_slots<S: Slots>(
+    alloc: Global,
+    slots: &mut S,
+    schema: &Schema,
+) -> Result<(), OpenRefusal>
+    ensures same { OnOk result (IsReadable (S.Slots.state slots.old) → HoldText (S.Slots.state slots.old).reads (canonical_text schema.now)) }
+    ensures unused { OnOk result (IsReadable (S.Slots.state slots.old) → LeaveUnused schema.now (S.Slots.state slots.old).reads) }
+    ensures refused { IfErr result (IsSlotRefusal schema.now (S.Slots.state slots.old)) }
+    ensures looked { HasLooked (S.Slots.state slots.old) (S.Slots.state slots.new) (S.Slots.stop slots.old) (S.Slots.stop slots.new) (refused_by_disk result) }
+{
+    let Some(text) = slots_of_text(schema) else {
+        return Err(OpenRefusal::NoMemory);
+    };
+    match compare_text(alloc, slots, schema) {
+        Ok(()) => test_unused(slots, text),
+        Err(refusal) => Err(refusal),
     }
 }

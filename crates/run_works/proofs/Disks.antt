@@ -12,7 +12,8 @@ use Rattle.database_meaning.specs.Traces.{acknowledged, after_commits, commits}
 use Rattle.bi_log.specs.Lengths.{IsShort, StayShort}
 use Rattle.disk_steps.specs.Steps.{Image}
 use Rattle.logged_slots.specs.Stops.{IsRecoverable, StayRecoverable}
-use Rattle.disk_database.specs.Images.{AllRecover, IsImageFrom, IsImageOf, RecoversAsBefore}
+use Rattle.disk_database.specs.Images.{AllAreOf, AllRecover, IsImageFrom, IsImageOf, RecoversAsBefore}
+use Rattle.disk_database.proofs.Images.{image_prop}
 use Rattle.run_works.specs.Disks.{DiskState, HoldsContents, KeepsContents, KeepsLogShort, LogStaysShort}
 
 -- ---- a disk that was not touched
@@ -39,6 +40,10 @@ module _ (images : Image → Type 0) (left : Image → Type 0) (still : (image :
   -- where each of them recovers, so does each image of that moment
   pub all_recover : AllRecover images → AllRecover left
   all_recover all image there = ∥∥₁_elim (still image there) ∥∥₁_prop (λ (was : images image). all image was)
+
+  -- where each of them is of some contents, so is each image of that moment
+  pub all_are : (schema : SchemaData) (contents : Contents) → AllAreOf schema contents images → AllAreOf schema contents left
+  all_are schema contents all image there = ∥∥₁_elim (still image there) (image_prop schema contents image) (λ (was : images image). all image was)
 
 short_once : (image : Image) → IsProp (IsShort image)
 short_once image = hlevel props

@@ -5,7 +5,7 @@ ghost use Rattle.database_meaning.specs.declared.contents.Contents.{Contents};
 ghost use Rattle.database_meaning.specs.Setting.{Setting};
 ghost use Rattle.database_meaning.specs.Traces.{IsLegal};
 ghost use Rattle.disk_steps.specs.Steps.{Image};
-ghost use Rattle.disk_database.specs.Images.{AllAreOf, AllRecover, IsImageOf, SurvivesCrashes};
+ghost use Rattle.disk_database.specs.Images.{AllAreOf, IsImageOf, SurvivesCrashes};
 ghost use Rattle.run_report.specs.declared.refusal.Refusal.TheVariants.{NoMemory};
 ghost use Rattle.run_works.specs.Disks.{LogStaysShort};
 
@@ -48,7 +48,7 @@ pub(crate) fn close_after_run<D: Disk + Drop, K: Start + Opening>(
     ensures clients { result.clients.items ≡ served.clients.items }
     ensures log { LogStaysShort K.Start.images K.moment (D.left result.disk) }
     ensures legal { (f : Setting) (contents : Contents) → ⟦<DiskDatabase<RunDisk<D, K>, K> as Database>⟧.opened served.database.database f contents → IsLegal f contents result.trace }
-    ensures survives { (f : Setting) (contents : Contents) → ⟦<DiskDatabase<RunDisk<D, K>, K> as Database>⟧.opened served.database.database f contents → AllRecover K.Start.images → K.schema ≡ f.schema → AllAreOf f.schema contents K.Opening.images →
+    ensures survives { (f : Setting) (contents : Contents) → ⟦<DiskDatabase<RunDisk<D, K>, K> as Database>⟧.opened served.database.database f contents → AllAreOf f.schema contents K.Start.images → K.schema ≡ f.schema → AllAreOf f.schema contents K.Opening.images →
         SurvivesCrashes K.moment (D.time result.disk) (D.left result.disk) f contents result.trace }
 {
     let Served { database, clients } = served;
@@ -67,7 +67,7 @@ pub(crate) fn close_unused<D: Disk + Drop, K: Start + Opening>(
     requires empty { database.database.trace ≡ [] }
     ensures refusal { result.refusal ≡ NoMemory }
     ensures log { LogStaysShort K.Start.images K.moment (D.left result.disk) }
-    ensures kept { (f : Setting) (contents : Contents) → ⟦<DiskDatabase<RunDisk<D, K>, K> as Database>⟧.opened database.database f contents → AllRecover K.Start.images → K.schema ≡ f.schema → AllAreOf f.schema contents K.Opening.images →
+    ensures kept { (f : Setting) (contents : Contents) → ⟦<DiskDatabase<RunDisk<D, K>, K> as Database>⟧.opened database.database f contents → AllAreOf f.schema contents K.Start.images → K.schema ≡ f.schema → AllAreOf f.schema contents K.Opening.images →
         (m : ℕ) (image : Image) → K.moment ≤ m → D.left result.disk m image → ∥ IsImageOf f.schema contents image ∥₁ }
 {
     let Closed { disk, trace } = close_timed(database);
@@ -83,7 +83,7 @@ fn close_timed<D: Disk + Drop, K: Start + Opening>(timed: RunDatabase<D, K>) -> 
     ensures trace { result.trace ≡ timed.database.trace }
     ensures log { LogStaysShort K.Start.images K.moment (D.left result.disk) }
     ensures legal { (f : Setting) (contents : Contents) → ⟦<DiskDatabase<RunDisk<D, K>, K> as Database>⟧.opened timed.database f contents → IsLegal f contents result.trace }
-    ensures survives { (f : Setting) (contents : Contents) → ⟦<DiskDatabase<RunDisk<D, K>, K> as Database>⟧.opened timed.database f contents → AllRecover K.Start.images → K.schema ≡ f.schema → AllAreOf f.schema contents K.Opening.images →
+    ensures survives { (f : Setting) (contents : Contents) → ⟦<DiskDatabase<RunDisk<D, K>, K> as Database>⟧.opened timed.database f contents → AllAreOf f.schema contents K.Start.images → K.schema ≡ f.schema → AllAreOf f.schema contents K.Opening.images →
         SurvivesCrashes K.moment (D.time result.disk) (D.left result.disk) f contents result.trace }
 {
     let Timed { database, of: _ } = timed;

@@ -14,7 +14,7 @@ returns-clause-survives g c = λ f contents opened one all same held.
     subst (λ (n : ℕ). SurvivesCrashes c.args.database.rows.rows.chains.slots.slots.slots.since n (g.D.Disk.left c.disk_of.result) f contents c.close-rows.result.1) (sym (ap (λ d. g.D.Disk.time d) disk))
     (crashes_survive _ _ _ _ f contents _ (rw (c.close-rows.ensures.rows) at c.disk_of.ensures.stops) (rw (c.close-rows.ensures.rows) at c.disk_of.ensures.recoverable) one all (sym opened.was.represents.schema)
     (λ m image slots from there recovers. subst (λ (x : SchemaData). HoldParts x slots) same ((rw (c.close-rows.ensures.rows) at c.disk_of.ensures.parts) kept m image slots from there recovers))
-    (c.close-rows.ensures.crashes f contents opened))
+    (rw (c.close-rows.ensures.rows) at c.disk_of.ensures.chains) (c.close-rows.ensures.crashes f contents opened))
 
 pub returns-clause-short : goal.returns-clause-short
 returns-clause-short g c = rw (c.close-rows.ensures.rows) at c.disk_of.ensures.short

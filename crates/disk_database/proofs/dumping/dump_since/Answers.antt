@@ -6,6 +6,7 @@ use Rattle.logged_slots.specs.Stops.{StayRecoverable}
 use Rattle.abl_values.specs.Schema.{SchemaData, canonical_text}
 use Rattle.stored_text.specs.Held.{HoldText}
 use Rattle.disk_database.specs.Answers.{IsDumped}
+use Rattle.disk_database.specs.Images.{RecoversToChains}
 use Rattle.disk_database.specs.Parts.{AllHoldParts, HoldParts}
 use Rattle.disk_database.proofs.Parts.{parts_of_contents}
 use Rattle.disk_database.proofs.Dumps.{dumped, holds_as_recovers, kept_by_reads, kept_by_recovery, not_dumped, nothing_dumped, output_same, read_observable, read_schema, reads_hold}
@@ -55,6 +56,7 @@ returns-in-Ok-written-clause-kept g c = λ contents held.
     (returns-in-Ok-written-clause-images g c)
     (subst (StayRecoverable (g.D.Disk.left c.disk_of-disk.result)) since c.disk_of-disk.ensures.recoverable)
     (λ m image slots from there recovers. subst (λ (x : SchemaData). HoldParts x slots) c.requires.of (c.disk_of-disk.ensures.parts all m image slots (omega (arith, from, since)) there recovers))
+    (subst (λ (n : ℕ). RecoversToChains n (g.D.Disk.left c.disk_of-disk.result)) since c.disk_of-disk.ensures.chains)
 
 pub returns-clause-part : goal.returns-clause-part
 returns-clause-part g c =
@@ -86,6 +88,7 @@ returns-clause-kept g c = λ contents held.
     (returns-clause-images g c)
     (subst (StayRecoverable (g.D.Disk.left c.disk_of-disk.result)) since c.disk_of-disk.ensures.recoverable)
     (λ m image slots from there recovers. subst (λ (x : SchemaData). HoldParts x slots) c.requires.of (c.disk_of-disk.ensures.parts all m image slots (omega (arith, from, since)) there recovers))
+    (subst (λ (n : ℕ). RecoversToChains n (g.D.Disk.left c.disk_of-disk.result)) since c.disk_of-disk.ensures.chains)
 
 pub returns-clause-recoverable : goal.returns-clause-recoverable
 returns-clause-recoverable g c = subst (StayRecoverable (g.D.Disk.left c.disk_of-disk.result)) (c.write_table-written.ensures.read.since ∙ c.in-Ok.ensures.opened.since) c.disk_of-disk.ensures.recoverable

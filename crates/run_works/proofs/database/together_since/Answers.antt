@@ -11,7 +11,7 @@ use Rattle.disk_database.specs.Images.{RecoversAsBefore, SurvivesCrashes}
 use Rattle.source_files.specs.Compiled.{schema_in}
 use Rattle.served_works.specs.Served.{HaveEnded}
 use Rattle.run_works.specs.Disks.{IsDurable, state_of}
-use Rattle.run_works.proofs.Disks.{held_recover, kept, short_kept, short_since}
+use Rattle.run_works.proofs.Disks.{kept, short_kept, short_since}
 use Rattle.run_works.proofs.Sends.{store_send, txn_send}
 use Rattle.run_works.proofs.database.together_since.Goals as goal
 
@@ -61,7 +61,7 @@ returns-in-Ok-serve-clause-durable g c =
     let opened = c.in-Ok-serve.ensures.opened (record { schema = schema; clients = c.len.result }) contents (c.in-Ok.ensures.opened contents holds) in (
       c.close_after_run.ensures.legal (record { schema = schema; clients = c.len.result }) contents opened,
       subst (λ (m : ℕ). SurvivesCrashes m (g.D.Disk.time left) (g.D.Disk.left left) (record { schema = schema; clients = c.len.result }) contents c.close_after_run.result.trace) c.requires.moment
-          (c.close_after_run.ensures.survives (record { schema = schema; clients = c.len.result }) contents opened (held_recover (state_of g.D.Disk disk) schema contents g.K.Start.images c.requires.began holds) c.requires.schema (λ image was. holds.all image (c.requires.opened image was))),
+          (c.close_after_run.ensures.survives (record { schema = schema; clients = c.len.result }) contents opened (λ image was. holds.all image (c.requires.began image was)) c.requires.schema (λ image was. holds.all image (c.requires.opened image was))),
     ))
 
 pub returns-in-Err-serve-clause-refused : goal.returns-in-Err-serve-clause-refused
@@ -71,7 +71,7 @@ pub returns-in-Err-serve-clause-kept : goal.returns-in-Err-serve-clause-kept
 returns-in-Err-serve-clause-kept g c = λ contents holds m image from there.
     let disk = c.args.disk in
     let schema = schema_in c.args.df.now in
-    c.close_unused.ensures.kept (record { schema = schema; clients = c.len.result }) contents (rw (c.in-Err-serve.ensures.back) (c.in-Ok.ensures.opened contents holds)) (held_recover (state_of g.D.Disk disk) schema contents g.K.Start.images c.requires.began holds)
+    c.close_unused.ensures.kept (record { schema = schema; clients = c.len.result }) contents (rw (c.in-Err-serve.ensures.back) (c.in-Ok.ensures.opened contents holds)) (λ image was. holds.all image (c.requires.began image was))
     c.requires.schema (λ image was. holds.all image (c.requires.opened image was)) m image (subst (λ (n : ℕ). n ≤ m) (sym c.requires.moment) from) there
 
 pub returns-in-Ok-serve-clause-log : goal.returns-in-Ok-serve-clause-log

@@ -1,7 +1,7 @@
--- The images of the call recover, so the disk keeps its contents.
+-- The images of the call are of the contents, so the disk keeps them.
 use Rattle.std.proofs.Common.{◌≡◌, sym, subst, arith, ℕ}
 use Rattle.run_works.specs.Disks.{state_of}
-use Rattle.run_works.proofs.Disks.{all_recover, held_recover, short_kept}
+use Rattle.run_works.proofs.Disks.{all_are, short_kept}
 use Rattle.run_works.proofs.dumping.dump_since.Goals as goal
 
 pub invariant_of-watched : goal.invariant_of-watched
@@ -21,8 +21,8 @@ returns-clause-kept g c = λ contents holds.
     let watched = c.dump-written.result.1 in
     let left = g.D.Disk.left watched.disk in
     c.dump-written.ensures.kept contents holds
-    (all_recover g.K.Start.images (left (g.D.Disk.time disk)) (λ image there. watched.images image (subst (λ (m : ℕ). left m image) (sym c.requires.moment) there))
-    (held_recover (state_of g.D.Disk disk) c.args.schema contents g.K.Start.images c.requires.began holds))
+    (all_are g.K.Start.images (left (g.D.Disk.time disk)) (λ image there. watched.images image (subst (λ (m : ℕ). left m image) (sym c.requires.moment) there)) c.args.schema contents
+    (λ image was. holds.all image (c.requires.began image was)))
 
 pub returns-clause-log : goal.returns-clause-log
 returns-clause-log g c =

@@ -1,17 +1,12 @@
 -- Which writes keep the parts.
-use Rattle.std.proofs.Common.{◌-◌, ℕ, refl, sym, ap, ◌∙◌, subst, arith}
-use Rattle.chain_store.proofs.Rewrites.{low_bound}
+use Rattle.std.proofs.Common.{◌-◌, ℕ, refl, ap, ◌∙◌, subst, arith}
+use Rattle.std.proofs.lemmas.Bool.Decides.{nat_tests}
 use Rattle.disk_database.specs.Parts.{AreValues, values_at}
-use Rattle.disk_database.proofs.Parts.{in_values, past_values}
+use Rattle.disk_database.proofs.Parts.{for_rows, in_values}
 use Rattle.disk_database.proofs.guard.SlotGuardGuard.allows.Goals as goal
 
-pub returns-then-slot-ge-FIRST_ROW : goal.returns-then-slot-ge-FIRST_ROW
-returns-then-slot-ge-FIRST_ROW g c = λ yes. past_values g.K.Opening.schema g.K.Opening.images c.args.slot c.args.bytes.now c.args.self.now.short (omega (arith, c.if-slot-ge-FIRST_ROW.true)) (λ e. sym c.has_form.ensures ∙ yes)
-
 pub returns-then-slot-ge-AFTER_VALUES : goal.returns-then-slot-ge-AFTER_VALUES
-returns-then-slot-ge-AFTER_VALUES g c = λ yes.
-    past_values g.K.Opening.schema g.K.Opening.images c.args.slot c.args.bytes.now c.args.self.now.short (omega (arith, c.if-slot-ge-AFTER_VALUES.true))
-    (λ e. let low = low_bound c.args.slot e in absurd (omega (arith, low, c.if-slot-ge-FIRST_ROW.false)))
+returns-then-slot-ge-AFTER_VALUES g c = λ yes. for_rows g.K.Opening.schema g.K.Opening.images c.args.slot c.args.bytes.now c.args.self.now.short (grind (arith, nat_tests, yes))
 
 pub returns : goal.returns
 returns g c = λ yes.
