@@ -12,7 +12,7 @@ use Rattle.crash_laws.specs.History.{AreRuns, IsLeftBy, NothingIsLost, PastRun}
 use Rattle.crash_laws.proofs.Histories.{history_kept}
 use Rattle.command_laws.specs.History.{AreRunsOver, ClientsRun, CommandHistory, HasCreated, IsCommandHistory, PastCommand, past_run}
 
-made_view : {D : Type 0} (d : Ghosts D) (df : List ℕ) (command : PastCommand D) → HasCreated d df command → IsMade (schema_in df) (view_of d command.outcome.disk)
+pub made_view : {D : Type 0} (d : Ghosts D) (df : List ℕ) (command : PastCommand D) → HasCreated d df command → IsMade (schema_in df) (view_of d command.outcome.disk)
 made_view d df command has =
     let made = creation_has_made (state_of d) command.disk command.arguments command.files command.faults command.old command.new command.outcome has.named has.names df has.there has.done has.result in
     record { short = made.made.short; born = made.made.born }

@@ -1,2 +1,4 @@
 pub mod Unrefused
 pub mod Histories
+pub mod Results
+pub mod Databases

@@ -1,18 +1,21 @@
 //! The laws. Each is the contract of a function with an empty body.
 
-ghost use Rattle.std.specs.Prelude.{◌≡◌, ℕ, List, map};
+ghost use Rattle.std.specs.Prelude.{◌≡◌, ℕ, List, None, map};
 ghost use Rattle.abl_arguments.specs.CommandLine.{Run, arguments_of};
 ghost use Rattle.abl_outside.specs.Files.{FileState};
 ghost use Rattle.abl_outside.specs.Out.{OutState};
+ghost use Rattle.abl_schema.specs.Rules.{violation_of};
 ghost use Rattle.source_files.specs.Compiled.{schema_in};
 ghost use Rattle.disk_database.specs.Images.{created};
 ghost use Rattle.run_works.specs.declared.outcome.Outcome.{Outcome};
 ghost use Rattle.run_works.specs.Disks.{state_of};
 ghost use Rattle.refusal_laws.specs.Unrefused.{NoneRefused};
 ghost use Rattle.abl_cli.specs.Command.{CommandResult};
-ghost use Rattle.crash_laws.specs.Disks.{view_of};
+ghost use Rattle.abl_cli.specs.Undisturbed.{HasDatabase};
+ghost use Rattle.crash_laws.specs.Disks.{ComesNext, view_of};
 ghost use Rattle.crash_laws.specs.History.{NothingIsLost};
-ghost use Rattle.command_laws.specs.History.{CommandHistory, IsCommandHistory, past_run};
+ghost use Rattle.command_laws.specs.Databases.{AreCommandsOver, IsOver, LeaveDatabases, LeavesDatabases, TimedCommand};
+ghost use Rattle.command_laws.specs.History.{CommandHistory, HasCreated, HasResult, IsCommandHistory, PastCommand, past_run};
 
 use abl_storage::Disk;
 
@@ -31,4 +34,22 @@ pub fn no_client_of_a_run_is_refused<D: Disk>()
 pub fn nothing_acknowledged_is_lost<D: Disk>()
     ensures { (history : CommandHistory D) → IsCommandHistory D.Disk history →
         ∥ NothingIsLost (view_of D.Disk) (schema_in history.df) (created (schema_in history.df)) (map past_run history.runs) history.last ∥₁ }
+{}
+
+/// Each crash of a command leaves a database. A command over the database of a schema file that breaks
+/// no rule, whatever the command is, what its files hold besides, and the schedule: each image that a
+/// crash at a moment from its call to its return may leave is born, with some contents of that schema.
+pub fn a_command_leaves_a_database<D: Disk>()
+    ensures { (df : List ℕ) (command : PastCommand D) → HasResult D.Disk command → IsOver df command → violation_of df ≡ None →
+        HasDatabase (schema_in df) (state_of D.Disk command.disk) → LeavesDatabases D.Disk (schema_in df) command }
+{}
+
+/// Each crash leaves a database, in any history of commands: a creation with status 0, then any
+/// commands over its database (runs, dumps, checks, commands that are refused), each over the disk that
+/// the one before left, at a crash at any moment from its call on, or at its end. Each image that a
+/// crash at a moment of one of them may leave is born, with some contents of the schema of the file, and
+/// so is each image of the disk that is left at last.
+pub fn each_crash_leaves_a_database<D: Disk>()
+    ensures { (df : List ℕ) (creation : PastCommand D) (commands : List (TimedCommand D)) (last : D) → HasCreated D.Disk df creation →
+        AreCommandsOver D.Disk df (λ disk. ComesNext (view_of D.Disk creation.outcome.disk) (view_of D.Disk disk)) commands last → ∥ LeaveDatabases D.Disk (schema_in df) commands last ∥₁ }
 {}

@@ -7,10 +7,10 @@ use Rattle.database_meaning.specs.Setting.{Setting}
 use Rattle.database_meaning.specs.Traces.{after_commits}
 use Rattle.disk_steps.specs.Steps.{Image}
 use Rattle.disk_database.specs.Images.{IsImageOf, created}
+use Rattle.disk_database.proofs.Images.{image_prop}
 use Rattle.crash_laws.specs.Disks.{ComesNext, DiskView, MayBeOpened}
-use Rattle.crash_laws.specs.History.{IsLeftBy, IsOpenedAfter, PastRun, setting_of}
+use Rattle.crash_laws.specs.History.{IsLeftBy, IsOpenedAfter, setting_of}
 use Rattle.crash_laws.specs.Calls.{AreCalls, CallHistory, IsCallHistory, IsKeeping, IsLeftByKept, KeptCall, Keeping, KeptCrashed, KeptEnded, NothingIsLostIn, PastCall, Running, opened_by}
-use Rattle.crash_laws.proofs.Images.{image_prop}
 use Rattle.crash_laws.proofs.Opened.{creation_opened, may_be_opened, run_opened}
 
 -- ---- one call that keeps the contents

@@ -1,6 +1,6 @@
-pub mod Images
 pub mod Acknowledged
 pub mod Opened
 pub mod Histories
 pub mod Calls
+pub mod Births
 pub mod Logs

@@ -1,7 +1,6 @@
 -- In a history of commands the log stays short.
-use Rattle.std.proofs.Common.{ℕ, ◌≤◌, List, [], ◌∷◌, sym, subst}
+use Rattle.std.proofs.Common.{List, [], ◌∷◌, sym, subst}
 use Rattle.bi_log.specs.Lengths.{IsShort}
-use Rattle.disk_steps.specs.Steps.{Image}
 use Rattle.crash_laws.specs.Calls.{IsLeftByKept, KeptCall, KeptCrashed, KeptEnded}
 use Rattle.crash_laws.specs.Disks.{DiskView}
 use Rattle.crash_laws.specs.Logs.{AreCommands, HasShortLog, IsShortThrough, LogStaysShort}

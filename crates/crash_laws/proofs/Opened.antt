@@ -24,11 +24,11 @@ use Rattle.disk_database.specs.Answers.{IsRefused}
 use Rattle.disk_database.specs.Images.{AreImagesOf, IsImageFrom, IsImageOf, SurvivesCrashes, created}
 use Rattle.disk_database.specs.declared.refusals.OpenRefusal.{OpenRefusal}
 use Rattle.disk_database.specs.declared.refusals.OpenRefusal.TheVariants.{NotCreated, SchemaDiffers}
+use Rattle.disk_database.proofs.Images.{image_prop}
 use Rattle.disk_database.proofs.Reopenings.{new_is, not_another, not_missing}
 use Rattle.crash_laws.specs.Disks.{ComesNext, DiskView, IsBeingMade, IsMade, MayBeOpened}
 use Rattle.crash_laws.specs.History.{AreKept, Crashed, Ended, IsDurable, IsLeftBy, IsNeverClosed, IsOpenedAfter, PastRun, setting_of}
 use Rattle.crash_laws.proofs.Acknowledged.{among_first, first_within, still_open}
-use Rattle.crash_laws.proofs.Images.{image_prop}
 
 -- ---- sound contents on a disk
 

@@ -2,6 +2,7 @@
 
 ghost use Rattle.std.specs.Prelude.{◌≤◌, ◌++◌, ◌∷◌, [], ℕ, List, IsTrue};
 ghost use Rattle.abl_values.specs.Schema.{SchemaData};
+ghost use Rattle.abl_values.specs.Sound.{IsSound};
 ghost use Rattle.client_database.specs.declared.event.Event.{Event};
 ghost use Rattle.database_meaning.specs.declared.contents.Contents.{Contents};
 ghost use Rattle.database_meaning.specs.Setting.{Setting};
@@ -10,6 +11,7 @@ ghost use Rattle.disk_steps.specs.Steps.{Image};
 ghost use Rattle.log_meaning.specs.Images.{Recovers};
 ghost use Rattle.db_core.specs.Crashes.{AreMoments};
 ghost use Rattle.disk_database.specs.Images.{AreImagesOf, IsImageOf, created};
+ghost use Rattle.crash_laws.specs.Births.{LeavesBorn, RunLeavesBorn};
 ghost use Rattle.crash_laws.specs.Calls.{CallHistory, IsCallHistory, KeptCall, NothingIsLostIn};
 ghost use Rattle.crash_laws.specs.Disks.{ComesNext, IsBeingMade, IsMade, MayBeOpened, view_of};
 ghost use Rattle.crash_laws.specs.Logs.{AreCommands, HasShortLog, LogStaysShort};
@@ -28,6 +30,14 @@ pub fn a_creation_is_opened<D: Disk>()
 pub fn a_creation_is_whole_or_nothing<D: Disk>()
     ensures { (schema : SchemaData) (was now : D) (m : ℕ) (image : Image) (slots : ℕ → List ℕ) → IsBeingMade schema (view_of D.Disk was) (view_of D.Disk now) →
         D.time was ≤ m → D.left now m image → Recovers image slots → ∥ IsImageOf schema (created schema) image ∥₁ }
+{}
+
+/// Each crash of a run over contents that the disk held leaves a database: each image that a crash at a
+/// moment from its opening on may leave is born, with the contents after the commits that were
+/// acknowledged by then, or after one more.
+pub fn each_crash_leaves_a_database<D: Disk>()
+    ensures { (schema : SchemaData) (contents : Contents) (run : PastRun D) → IsSound schema → IsDurable (view_of D.Disk) schema run →
+        AreImagesOf (D.observable run.was) (D.time run.was) (D.left run.was) schema contents → RunLeavesBorn (view_of D.Disk) schema contents run }
 {}
 
 /// What survives a crash is opened again. A run over contents that the disk held crashed, or ended, and
@@ -52,6 +62,15 @@ pub fn nothing_acknowledged_is_lost<D: Disk>()
 /// acknowledged by then, or after one more; after every other call it is over the same contents.
 pub fn no_call_loses_what_was_acknowledged<D: Disk>()
     ensures { (history : CallHistory D) → IsCallHistory (view_of D.Disk) history → ∥ NothingIsLostIn (view_of D.Disk) history.schema (created history.schema) history.calls history.last ∥₁ }
+{}
+
+/// Each crash leaves a database, in any history of one: a creation, then runs and calls that keep the
+/// contents, each over what the one before left, at a crash or at its end. Each image that a crash at a
+/// moment of a run may leave is born, with the contents after the commits that were acknowledged by
+/// then, or after one more; each image of a moment of every other call with the contents that it found;
+/// and so are the images of the disk that is left at last.
+pub fn each_crash_of_a_history_leaves_a_database<D: Disk>()
+    ensures { (history : CallHistory D) → IsSound history.schema → IsCallHistory (view_of D.Disk) history → ∥ LeavesBorn (view_of D.Disk) history.schema (created history.schema) history.calls history.last ∥₁ }
 {}
 
 /// The log stays short, in any history of commands, `create` too, each over what the one before left, at

@@ -1,0 +1,141 @@
+-- Each crash of a command over a database leaves a database, and so does a history of commands.
+use Rattle.std.proofs.Common.{◌≡◌, inl, inr, ℕ, ◌+◌, ◌<◌, ◌≤◌, List, [], ◌∷◌, Option, None, IsTrue, sym, ap, ◌∙◌, subst, arith}
+use Rattle.std.proofs.Math.Logic.{∥∥₁_elim, ∥∥₁_map, ∥∥₁_prop}
+use Rattle.abl_arguments.specs.CommandLine.{Create, create_arguments}
+use Rattle.abl_cli.proofs.FileCauses.{same_text}
+use Rattle.abl_cli.proofs.Judged.{no_status_0}
+use Rattle.abl_cli.proofs.Marks.{check_or_create, create_or_bank, create_or_dump, run_or_create}
+use Rattle.abl_cli.specs.Command.{Banked, Checked, Created, Dumped, NotRun, Ran, Refused}
+use Rattle.abl_cli.specs.Undisturbed.{HasDatabase}
+use Rattle.abl_schema.proofs.ObservableSound.{files-sound}
+use Rattle.abl_schema.specs.Rules.{violation_of}
+use Rattle.abl_storage.specs.Disk.{IsImage}
+use Rattle.abl_storage.specs.declared.disk.Disk.{Ghosts}
+use Rattle.abl_values.specs.Schema.{SchemaData}
+use Rattle.abl_values.specs.Sound.{IsSound}
+use Rattle.crash_laws.proofs.Births.{born_with, crash_born, history_born}
+use Rattle.crash_laws.specs.Births.{IsBornFrom, IsBornWith, LeavesBorn}
+use Rattle.crash_laws.specs.Calls.{AreCalls, IsLeftByKept, KeptCall, KeptCrashed, KeptEnded, Keeping, PastCall, Running}
+use Rattle.crash_laws.specs.Disks.{ComesNext, view_of}
+use Rattle.crash_laws.specs.History.{Crashed, Ended, IsLeftBy, PastRun, setting_of}
+use Rattle.database_meaning.specs.Setting.{Setting}
+use Rattle.database_meaning.specs.Traces.{acknowledged, after_commits, commits}
+use Rattle.database_meaning.specs.declared.contents.Contents.{Contents}
+use Rattle.disk_database.specs.Images.{IsImageOf, created}
+use Rattle.disk_steps.specs.Steps.{Image}
+use Rattle.run_works.specs.Disks.{state_of}
+use Rattle.source_files.specs.Compiled.{schema_in}
+use Rattle.source_files.specs.Files.{HasText}
+use Rattle.command_laws.proofs.Histories.{made_view}
+use Rattle.command_laws.proofs.Results.{KeepsOrRuns, kept_or_run}
+use Rattle.command_laws.specs.Databases.{AreCommandsOver, CommandCrashed, CommandEnded, IsDatabase, IsLeftByCommand, IsOver, LeaveDatabases, LeavesDatabases, TimedCommand}
+use Rattle.command_laws.specs.History.{HasCreated, HasResult, PastCommand}
+
+-- ---- the schema file of a creation with status 0
+
+one_name : (a b : Create) → create_arguments a ≡ create_arguments b → a.schema ≡ b.schema
+one_name a b same = cc same
+
+module _ {D : Type 0} (d : Ghosts D) (df : List ℕ) (command : PastCommand D) (has : HasCreated d df command) where
+  -- it breaks no rule
+  has_clean : HasResult d command → violation_of df ≡ None
+  has_clean (Refused given refusal cause same is) = absurd (no_status_0 (state_of d) command.disk command.arguments command.files command.faults command.old command.new command.outcome refusal (sym is.status ∙ has.done))
+  has_clean (NotRun run form args texts clean works are not_run) = absurd (run_or_create command.arguments run has.named args has.names.arguments_are)
+  has_clean (Ran run form args texts clean works are ran) = absurd (run_or_create command.arguments run has.named args has.names.arguments_are)
+  has_clean (Checked check form args listings listed same checked) = absurd (check_or_create command.arguments check has.named args has.names.arguments_are)
+  has_clean (Banked bank form args result) = absurd (create_or_bank command.arguments has.named bank has.names.arguments_are args)
+  has_clean (Dumped dump form args schema table is result) = absurd (create_or_dump command.arguments has.named dump has.names.arguments_are args)
+  has_clean (Created made form args schema is result) =
+      let name : made.schema ≡ has.named.schema = one_name made has.named (sym args ∙ has.names.arguments_are) in
+      let text : HasText command.files has.named.schema is.df = subst (λ (n : List ℕ). HasText command.files n is.df) name is.has in
+      let same : is.df ≡ df = same_text command.files has.names.observable has.names.sound text has.there.there in
+      ap violation_of (sym same) ∙ is.clean
+
+module _ {D : Type 0} (d : Ghosts D) (known : (disk : D) (m : ℕ) (image : Image) → d.left disk m image → IsImage (d.observable disk) (d.time disk) m image) (reads : (disk : D) → IsTrue (d.observable disk) → d.left disk (d.time disk) (d.seen disk)) where
+  -- ---- one command
+
+  from_run : (schema : SchemaData) (run : PastRun D) (contents : Contents) (n : ℕ) (image : Image) → IsBornFrom (setting_of schema run) contents run.trace n image → IsDatabase schema image
+  from_run schema run contents n image (inl born) = (after_commits (setting_of schema run) contents run.trace n, born)
+  from_run schema run contents n image (inr more) = (after_commits (setting_of schema run) contents run.trace (n + 1), more.1)
+
+  -- the run that a command is, where it is one of so many clients
+  abbrev run_of : TimedCommand D → ℕ → PastRun D
+  run_of c clients = record { clients = clients; was = c.command.disk; now = c.command.outcome.disk; trace = c.command.outcome.report.trace; moment = c.moment }
+
+  abbrev call_of : TimedCommand D → KeptCall D
+  call_of c = record { was = c.command.disk; now = c.command.outcome.disk; moment = c.moment }
+
+  leaves_by : (schema : SchemaData) (command : PastCommand D) → IsSound schema → HasDatabase schema (state_of d command.disk) → KeepsOrRuns d known reads schema command → LeavesDatabases d schema command
+  leaves_by schema command sound has (inl keeps) m image from there = ∥∥₁_elim (keeps has.contents has.holds m image from there) ∥∥₁_prop (λ (is : IsImageOf schema has.contents image).
+      ∥∥₁_map (born_with schema sound has.contents has.sound image is) (λ (born : IsBornWith schema has.contents image). (has.contents, born)))
+  leaves_by schema command sound has (inr runs) m image from there =
+      let run : PastRun D = run_of (record { command = command; moment = m }) runs.0 in
+      let promised = runs.1 has.contents has.holds in
+      ∥∥₁_map (crash_born (setting_of schema run) has.contents run.trace image sound promised.0 (d.time command.disk) (d.time command.outcome.disk) m (d.left command.outcome.disk) promised.1 from there)
+      (from_run schema run has.contents (acknowledged m run.trace) image)
+
+  pub command_leaves : (df : List ℕ) (command : PastCommand D) → HasResult d command → IsOver df command → violation_of df ≡ None → HasDatabase (schema_in df) (state_of d command.disk) → LeavesDatabases d (schema_in df) command
+  command_leaves df command result over clean has = leaves_by (schema_in df) command (files-sound df clean) has (kept_or_run d known reads df command result over)
+
+  -- ---- a history, as the laws of crashes see it
+
+  abbrev past_call : (schema : SchemaData) (c : TimedCommand D) → KeepsOrRuns d known reads schema c.command → PastCall D
+  past_call schema c (inl keeps) = Keeping (call_of c)
+  past_call schema c (inr runs) = Running (run_of c runs.0)
+
+  abbrev past_calls : (df : List ℕ) (left : D → Type 0) (cs : List (TimedCommand D)) (last : D) → AreCommandsOver d df left cs last → List (PastCall D)
+  past_calls df left [] last are = []
+  past_calls df left (c ∷ cs) last are = past_call (schema_in df) c (kept_or_run d known reads df c.command are.1.0 are.1.1.0) ∷ past_calls df (IsLeftByCommand d c) cs last are.1.1.1
+
+  left_by_kept : (c : TimedCommand D) (disk : D) → IsLeftByCommand d c disk → IsLeftByKept (view_of d) (call_of c) disk
+  left_by_kept c disk (CommandCrashed since crash) = KeptCrashed since crash
+  left_by_kept c disk (CommandEnded last since unclosed next) = KeptEnded (omega (arith, last, since)) next
+
+  left_by_run : (c : TimedCommand D) (clients : ℕ) (disk : D) → IsLeftByCommand d c disk → IsLeftBy (view_of d) (run_of c clients) disk
+  left_by_run c clients disk (CommandCrashed since crash) = Crashed since crash
+  left_by_run c clients disk (CommandEnded last since unclosed next) = Ended last unclosed next
+
+  -- how the first disk is left may be said in another way
+  left_so : (schema : SchemaData) (left other : D → Type 0) → ((disk : D) → left disk → other disk) → (calls : List (PastCall D)) (last : D) → AreCalls (view_of d) schema left calls last → AreCalls (view_of d) schema other calls last
+  left_so schema left other so [] last are = so last are
+  left_so schema left other so (Running run ∷ calls) last are = (so run.was are.0, are.1)
+  left_so schema left other so (Keeping call ∷ calls) last are = (so call.was are.0, are.1)
+
+  one_call : (schema : SchemaData) (left : D → Type 0) (c : TimedCommand D) (k : KeepsOrRuns d known reads schema c.command) (calls : List (PastCall D)) (last : D) → left c.command.disk → AreCalls (view_of d) schema (IsLeftByCommand d c) calls last
+      → AreCalls (view_of d) schema left (past_call schema c k ∷ calls) last
+  one_call schema left c (inl keeps) calls last first rest = (first, (keeps, left_so schema (IsLeftByCommand d c) (IsLeftByKept (view_of d) (call_of c)) (left_by_kept c) calls last rest))
+  one_call schema left c (inr runs) calls last first rest = (first, (runs.1, left_so schema (IsLeftByCommand d c) (IsLeftBy (view_of d) (run_of c runs.0)) (left_by_run c runs.0) calls last rest))
+
+  are_calls : (df : List ℕ) (left : D → Type 0) (cs : List (TimedCommand D)) (last : D) (are : AreCommandsOver d df left cs last) → AreCalls (view_of d) (schema_in df) left (past_calls df left cs last are) last
+  are_calls df left [] last are = are
+  are_calls df left (c ∷ cs) last are =
+      one_call (schema_in df) left c (kept_or_run d known reads df c.command are.1.0 are.1.1.0) (past_calls df (IsLeftByCommand d c) cs last are.1.1.1) last are.0 (are_calls df (IsLeftByCommand d c) cs last are.1.1.1)
+
+  one_leaves : (schema : SchemaData) (contents : Contents) (c : TimedCommand D) (k : KeepsOrRuns d known reads schema c.command) (calls : List (PastCall D)) (cs : List (TimedCommand D)) (last : D)
+      → ((then : Contents) → LeavesBorn (view_of d) schema then calls last → LeaveDatabases d schema cs last) → LeavesBorn (view_of d) schema contents (past_call schema c k ∷ calls) last → LeaveDatabases d schema (c ∷ cs) last
+  one_leaves schema contents c (inl keeps) calls cs last rest born =
+      (λ m image from there. ∥∥₁_map (born.0 m image from there) (λ (is : IsBornWith schema contents image). (contents, is)), rest contents born.1)
+  one_leaves schema contents c (inr runs) calls cs last rest born =
+      let run : PastRun D = run_of c runs.0 in
+      (λ m image from there. ∥∥₁_map (born.0 m image from there) (from_run schema run contents (acknowledged m run.trace) image), rest (after_commits (setting_of schema run) contents run.trace born.1.0) born.1.1.1)
+
+  databases : (df : List ℕ) (contents : Contents) (left : D → Type 0) (cs : List (TimedCommand D)) (last : D) (are : AreCommandsOver d df left cs last) → LeavesBorn (view_of d) (schema_in df) contents (past_calls df left cs last are) last
+      → LeaveDatabases d (schema_in df) cs last
+  databases df contents left [] last are born = λ image there. ∥∥₁_map (born image there) (λ (is : IsBornWith (schema_in df) contents image). (contents, is))
+  databases df contents left (c ∷ cs) last are born =
+      one_leaves (schema_in df) contents c (kept_or_run d known reads df c.command are.1.0 are.1.1.0) (past_calls df (IsLeftByCommand d c) cs last are.1.1.1) cs last
+      (λ (then : Contents). databases df then (IsLeftByCommand d c) cs last are.1.1.1) born
+
+  -- ---- a creation, and what comes after it
+
+  abbrev left_by_creation : PastCommand D → D → Type 0
+  left_by_creation creation disk = ComesNext (view_of d creation.outcome.disk) (view_of d disk)
+
+  pub commands_leave : (df : List ℕ) (creation : PastCommand D) (cs : List (TimedCommand D)) (last : D) → HasCreated d df creation → AreCommandsOver d df (left_by_creation creation) cs last → ∥ LeaveDatabases d (schema_in df) cs last ∥₁
+  commands_leave df creation cs last has are =
+      ∥∥₁_map
+      (history_born (view_of d) (record { schema = schema_in df; made = creation.outcome.disk; calls = past_calls df (left_by_creation creation) cs last are; last = last }) (files-sound df (has_clean d df creation has has.result)) (record {
+        made = made_view d df creation has;
+        calls = are_calls df (left_by_creation creation) cs last are;
+      }))
+      (databases df (created (schema_in df)) (left_by_creation creation) cs last are)
