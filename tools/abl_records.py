@@ -1417,7 +1417,7 @@ def thawed(c):
 
 def run(schema, src, units, mode='quiet', name='a', inp=b'', files=None, db=None):
     """The report, the lines of the status, and the status of a run over this database, or over an empty one."""
-    sys.setrecursionlimit(100000)
+    sys.setrecursionlimit(max(sys.getrecursionlimit(), 100000))
     c = RecordClient(schema_of(schema), src, units, inp, files, db)
     end = c.run()
     c.db.close()

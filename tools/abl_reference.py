@@ -1542,5 +1542,5 @@ def report(name, client, mode, end):
 
 def run(src, units, mode='quiet', name='a', inp=b'', files=None):
     c = Client(src, units, inp, files)
-    sys.setrecursionlimit(100000)
+    sys.setrecursionlimit(max(sys.getrecursionlimit(), 100000))
     return report(name, c, mode, c.run())

@@ -1,7 +1,8 @@
 //! Rows of whole commands: arguments, files, rules that a source breaks, reports, several clients, and
-//! `check`. `stdin` has the rows, and `stdout` each row with its answer; what a row says is in
-//! `command_rows`. The answers are read off the description of the language and of the program
-//! (`docs/language.md`, `docs/formats.md`, `docs/outside.md`), never off the program.
+//! `check`; the language without records; records, locks and sequences, and banks. `stdin` has the
+//! rows, and `stdout` each row with its answer; what a row says is in `command_rows`. The answers are
+//! read off the description of the language and of the program (`docs/language.md`, `docs/formats.md`,
+//! `docs/outside.md`), never off the program.
 #![tactic(auto)]
 
 use command_rows::Lines;
