@@ -1,8 +1,8 @@
-use Rattle.std.proofs.Common.{arith, ◌<◌}
-use Rattle.runner_tests.proofs.Serves.{level_op}
+-- A new database may go to another thread.
+use denote.Param.Send.{sendable}
+use Rattle.db_machine.proofs.Sends.{db_send}
+use Rattle.new_database.proofs.Sends.{slots_send, store_send}
 use Rattle.runner_tests.proofs.runs.run_once.Goals as goal
 
-pub run_clients-requires-clause-serves : goal.run_clients-requires-clause-serves
-run_clients-requires-clause-serves g c κs within = λ n op among may.
-    let less : n < c.args.clients = omega (arith, among.1, c.as_mut_slice.ensures.len, c.loop-k.invariant.0, c.loop-k.auto._k-end) in
-    c.in_ok-database.ensures.serves n op less (level_op op may)
+pub run_over-requires-send-D : goal.run_over-requires-send-D
+run_over-requires-send-D g c κs = search (db_send, store_send, slots_send, sendable) depth 20

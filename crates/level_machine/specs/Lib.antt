@@ -1,6 +1,0 @@
-pub mod Reached
-pub mod Inside
-pub mod Turns
-pub mod LevelDatabase
-pub mod Known
-pub mod Examples
