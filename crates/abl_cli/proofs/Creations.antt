@@ -1,11 +1,10 @@
 -- The schema of a file; why a database was not made, and what that leaves.
-use Rattle.std.proofs.Common.{◌≡◌, ◌∙◌, ℕ, List, None, Ok, Err, Result, ap, refl, subst, arith}
+use Rattle.std.proofs.Common.{◌≡◌, ◌⊎◌, ◌∙◌, ℕ, List, None, Ok, Err, Result, ap, refl, subst, arith}
 use Rattle.std.specs.Prelude.{IfOk, IsTrue, OnOk}
 use Rattle.abl_outside.specs.Files.{FileState}
 use Rattle.abl_schema.specs.Rules.{violation_of}
 use Rattle.abl_values.specs.Schema.{SchemaData}
 use Rattle.fault_count.specs.Faults.{Rose}
-use Rattle.abl_storage.specs.Disk.{Stays}
 use Rattle.bi_log.specs.Lengths.{StayShort}
 use Rattle.disk_steps.specs.Steps.{Image, Run}
 use Rattle.disk_database.specs.declared.refusals.CreateRefusal.{CreateRefusal}
@@ -15,7 +14,7 @@ use Rattle.run_report.specs.declared.refusal.Refusal.{Refusal}
 use Rattle.run_works.specs.Disks.{DiskState, KeepsLogShort}
 use Rattle.source_files.specs.Files.{HasText}
 use Rattle.source_files.specs.Compiled.{schema_in}
-use Rattle.abl_cli.specs.Stored.{HasSchema, IsNotMade, creation_refusal}
+use Rattle.abl_cli.specs.Stored.{HasSchema, IsAsItWas, IsNotMade, creation_refusal}
 
 -- ---- the schema
 
@@ -29,18 +28,14 @@ is_schema files name df text (Err e) has same is clean = tt
 
 -- ---- the disk
 
--- the disk is as it was
-abbrev Same : DiskState → DiskState → Type 0
-Same was now = Stays was.observable now.observable was.seen now.seen was.time now.time was.left now.left
-
-unless_disk : (was now : DiskState) (why : CreateRefusal) → (why ≡ create.AlreadyCreated → Same was now) → (why ≡ create.NoMemory → Same was now) → (why ≡ create.Disk → ⊥) → Same was now
+unless_disk : (was now : DiskState) (why : CreateRefusal) → (why ≡ create.AlreadyCreated → IsAsItWas was now) → (why ≡ create.NoMemory → IsAsItWas was now) → (why ≡ create.Disk → ⊥) → IsAsItWas was now
 unless_disk was now create.AlreadyCreated there memory fine = there refl
 unless_disk was now create.NoMemory there memory fine = memory refl
 unless_disk was now create.Disk there memory fine = absurd (fine refl)
 
-pub not_made : (was now : DiskState) (why : CreateRefusal) (refusal : Refusal) → refusal ≡ creation_refusal why → (why ≡ create.AlreadyCreated → IsTrue was.observable → HasOpenLog was.seen) → (why ≡ create.AlreadyCreated → Same was now) → (why ≡ create.NoMemory → Same was now) →
-    (why ≡ create.Disk → Rose was.failures now.failures) → IsNotMade was now refusal
-not_made was now why refusal is already there memory rose = record { why = why; is = is; already = already; rose = rose; stays = unless_disk was now why there memory }
+pub not_made : (was now : DiskState) (why : CreateRefusal) (refusal : Refusal) → refusal ≡ creation_refusal why → (why ≡ create.AlreadyCreated → IsTrue was.observable → HasOpenLog was.seen) → (why ≡ create.AlreadyCreated → IsAsItWas was now) → (why ≡ create.NoMemory → IsAsItWas was now) →
+    (why ≡ create.Disk → Rose was.failures now.failures) → (why ≡ create.Disk → IsTrue was.observable → IsAsItWas was now ⊎ ¬ HasOpenLog was.seen) → IsNotMade was now refusal
+not_made was now why refusal is already there memory rose harmless = record { why = why; is = is; already = already; rose = rose; stays = unless_disk was now why there memory; harmless = harmless }
 
 -- a creation keeps the log short
 pub short_made : (was now : DiskState) (Step : Image → Image → Type 0) → Run was.time now.time was.left now.left Step → StayShort now.left was.time → KeepsLogShort was now

@@ -1,5 +1,5 @@
 -- The commands `create` and `dump`: what they read, what they do to the disk, and what they write.
-use Rattle.std.specs.Prelude.{◌≡◌, ◌≤◌, length, Bool, true, false, not, IsTrue, List, ℕ, [], Option, Some, None}
+use Rattle.std.specs.Prelude.{◌≡◌, ◌⊎◌, ◌≤◌, length, Bool, true, false, not, IsTrue, List, ℕ, [], Option, Some, None}
 use Rattle.fault_count.specs.Faults.{Rose}
 use Rattle.abl_schema.specs.Rules.{violation_of}
 use Rattle.abl_values.specs.Schema.{SchemaData, canonical_text, table_named}
@@ -62,6 +62,10 @@ pub record Creates (schema : SchemaData) (was now : DiskState) : Type 0 where
   pub observable : now.observable ≡ was.observable
   pub steps : Run was.time now.time was.left now.left (CreatesNew schema)
 
+-- the disk is as it was
+abbrev pub IsAsItWas : DiskState → DiskState → Type 0
+IsAsItWas was now = Stays was.observable now.observable was.seen now.seen was.time now.time was.left now.left
+
 -- no log of a database was open on the disk, the text of the schema has at most 2^20 bytes, and each image that a crash now may leave is born:
 -- the new database of this schema
 pub record IsMade (schema : SchemaData) (was now : DiskState) : Type 0 where
@@ -69,13 +73,15 @@ pub record IsMade (schema : SchemaData) (was now : DiskState) : Type 0 where
   pub short : length (canonical_text schema) ≤ 1048576
   pub born : (image : Image) → now.left now.time image → IsBorn image (new_contents schema)
 
--- why it was not made: a log of one is open, or the disk failed, or there was not enough memory. Unless the disk failed it is as it was
+-- why it was not made: a log of one is open, or the disk failed, or there was not enough memory. Unless the disk failed it is as it was, and where
+-- it failed it is, if a log was open: a creation never harms a database
 pub record IsNotMade (was now : DiskState) (refusal : Refusal) : Type 0 where
   pub why : CreateRefusal
   pub is : refusal ≡ creation_refusal why
   pub already : why ≡ create.AlreadyCreated → IsTrue was.observable → HasOpenLog was.seen
   pub rose : why ≡ create.Disk → Rose was.failures now.failures
-  pub stays : (why ≡ create.Disk → ⊥) → Stays was.observable now.observable was.seen now.seen was.time now.time was.left now.left
+  pub stays : (why ≡ create.Disk → ⊥) → IsAsItWas was now
+  pub harmless : why ≡ create.Disk → IsTrue was.observable → IsAsItWas was now ⊎ ¬ HasOpenLog was.seen
 
 -- the report of a command that did its work, with nothing written
 pub record IsSilent (old new : OutState) (report : Report) : Type 0 where

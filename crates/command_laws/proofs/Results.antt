@@ -1,10 +1,10 @@
 -- A command over its database keeps the contents, or it is a run whose commits survive.
-use Rattle.std.proofs.Common.{◌≡◌, ◌≢◌, ◌⊎◌, inl, inr, ⊎_elim, ℕ, ◌+◌, ◌≤◌, List, Some, length, IsTrue, sym, ap, ◌∙◌, subst, arith}
+use Rattle.std.proofs.Common.{◌≡◌, ◌⊎◌, inl, inr, ⊎_elim, ℕ, ◌+◌, ◌≤◌, List, length, IsTrue, refl, sym, ap, ◌∙◌, subst, arith}
 use Rattle.std.proofs.Math.Logic.{∥∥₁_elim, ∥∥₁_prop}
 use Rattle.abl_arguments.specs.CommandLine.{Bank, number_of}
 use Rattle.abl_cli.proofs.FileCauses.{same_text}
 use Rattle.abl_cli.specs.Command.{Banked, Checked, Created, Dumped, NotRun, Ran, Refused, bank_of}
-use Rattle.abl_cli.specs.Stored.{CreateResult, Made, NotMade, creation_refusal}
+use Rattle.abl_cli.specs.Stored.{CreateResult, IsAsItWas, Made, NotMade}
 use Rattle.abl_outside.specs.Files.{FileState}
 use Rattle.abl_storage.specs.Disk.{IsImage}
 use Rattle.abl_storage.specs.declared.disk.Disk.{Ghosts}
@@ -12,14 +12,13 @@ use Rattle.abl_values.specs.Schema.{SchemaData}
 use Rattle.bank_inputs.specs.declared.sources.TheConstants.{BANK_SCHEMA}
 use Rattle.bank_run.specs.Result.{BankNotRun, BankPrevented, BankRan, BankResult}
 use Rattle.disk_database.specs.Answers.{HasOpenLog}
+use Rattle.disk_database.specs.declared.refusals.CreateRefusal.{CreateRefusal}
 use Rattle.disk_database.specs.declared.refusals.CreateRefusal.TheVariants as create
 use Rattle.disk_steps.specs.Steps.{Image}
 use Rattle.log_meaning.specs.Images.{IsOpened, Recovers}
 use Rattle.logged_slots.specs.Stops.{HasSlots}
-use Rattle.run_report.specs.declared.refusal.Refusal.{Refusal}
-use Rattle.run_report.specs.declared.refusal.Refusal.TheVariants.{Disk}
 use Rattle.run_works.proofs.Disks.{untouched}
-use Rattle.run_works.specs.Disks.{IsDurable, KeepsContents, state_of}
+use Rattle.run_works.specs.Disks.{DiskState, IsDurable, KeepsContents, state_of}
 use Rattle.source_files.specs.Compiled.{schema_in}
 use Rattle.source_files.specs.Files.{HasText}
 use Rattle.command_laws.specs.Databases.{HasFile, IsOver}
@@ -44,6 +43,12 @@ module _ {D : Type 0} (d : Ghosts D) (known : (disk : D) (m : ℕ) (image : Imag
   KeepsOrRuns schema command = Keeps schema command
       ⊎ ((clients : ℕ) × IsDurable (record { schema = schema; clients = clients }) command.outcome.report.trace (state_of d command.disk) (state_of d command.outcome.disk))
 
+  -- a disk with an open log is as it was after each refusal of a creation
+  still : (was now : DiskState) (why : CreateRefusal) → ((why ≡ create.Disk → ⊥) → IsAsItWas was now) → (why ≡ create.Disk → IsTrue was.observable → IsAsItWas was now ⊎ ¬ HasOpenLog was.seen) → IsTrue was.observable → HasOpenLog was.seen → IsAsItWas was now
+  still was now create.AlreadyCreated stays harmless seen log = stays (λ e. cc e)
+  still was now create.NoMemory stays harmless seen log = stays (λ e. cc e)
+  still was now create.Disk stays harmless seen log = ⊎_elim (λ (same : IsAsItWas was now). same) (λ (none : ¬ HasOpenLog was.seen). absurd (none log)) (harmless refl seen)
+
   module _ (schema : SchemaData) (command : PastCommand D) where
     not_touched : command.outcome.disk ≡ command.disk → Keeps schema command
     not_touched same = subst (λ (disk : D). KeepsContents schema (state_of d command.disk) (state_of d disk)) (sym same) (untouched (state_of d command.disk) (known command.disk) schema)
@@ -56,16 +61,17 @@ module _ {D : Type 0} (d : Ghosts D) (known : (disk : D) (m : ℕ) (image : Imag
     other_runs clients same durable =
         inr (clients, subst (λ (s : SchemaData). IsDurable (record { schema = s; clients = clients }) command.outcome.report.trace (state_of d command.disk) (state_of d command.outcome.disk)) same durable)
 
-    -- a creation finds the open log of the database, so it is refused; where the disk does not fail, the disk stays
-    creation_keeps : (other : SchemaData) → command.outcome.report.refusal ≢ Some Disk → CreateResult other (state_of d command.disk) (state_of d command.outcome.disk) command.old command.new command.outcome.report → Keeps schema command
-    creation_keeps other fine (Made steps made silent) contents holds m image from there =
+    -- a creation finds the open log of the database, so it is refused, and the disk stays
+    creation_keeps : (other : SchemaData) → CreateResult other (state_of d command.disk) (state_of d command.outcome.disk) command.old command.new command.outcome.report → Keeps schema command
+    creation_keeps other (Made steps made silent) contents holds m image from there =
         ∥∥₁_elim (holds.all (d.seen command.disk) (reads command.disk holds.seen)).some ∥∥₁_prop (λ (h : HasSlots (d.seen command.disk)). absurd (made.fresh holds.seen (open_log (d.seen command.disk) h.slots h.recovers)))
-    creation_keeps other fine (NotMade steps cause is) contents holds m image from there =
-        let stays = cause.stays (λ (failed : cause.why ≡ create.Disk). fine (is.refusal ∙ ap (λ (r : Refusal). Some r) (cause.is ∙ ap creation_refusal failed))) in
-        let past = (known command.outcome.disk m image there).past in
-        let moment = stays.moment in
-        let same : m ≡ d.time command.disk = omega (arith, from, past, moment) in
-        ∣ holds.all image (subst (λ (n : ℕ). d.left command.disk n image) same (stays.nothing_else m image there)) ∣₁
+    creation_keeps other (NotMade steps cause is) contents holds m image from there =
+        ∥∥₁_elim (holds.all (d.seen command.disk) (reads command.disk holds.seen)).some ∥∥₁_prop (λ (h : HasSlots (d.seen command.disk)).
+            let stays = still (state_of d command.disk) (state_of d command.outcome.disk) cause.why cause.stays cause.harmless holds.seen (open_log (d.seen command.disk) h.slots h.recovers) in
+            let past = (known command.outcome.disk m image there).past in
+            let moment = stays.moment in
+            let same : m ≡ d.time command.disk = omega (arith, from, past, moment) in
+            ∣ holds.all image (subst (λ (n : ℕ). d.left command.disk n image) same (stays.nothing_else m image there)) ∣₁)
 
   bank_kept_or_run : (df : List ℕ) (command : PastCommand D) (bank : Bank) → df ≡ BANK_SCHEMA.now → BankResult (bank_of bank) (state_of d) command.disk command.old command.new command.outcome → KeepsOrRuns (schema_in df) command
   bank_kept_or_run df command bank is (BankPrevented refusal prevents same refused) = inl (not_touched (schema_in df) command same)
@@ -80,6 +86,6 @@ module _ {D : Type 0} (d : Ghosts D) (known : (disk : D) (m : ℕ) (image : Imag
       other_runs (schema_in df) command (length works) (same_schema command.files named.schema df (over.of_run named args) texts.df texts.has_schema) ran.durable
   kept_or_run df command (Checked check form args listings listed same checked) over = inl (not_touched (schema_in df) command same)
   kept_or_run df command (Banked bank form args result) over = bank_kept_or_run df command bank (over.of_bank bank args) result
-  kept_or_run df command (Created made form args schema has result) over = inl (creation_keeps (schema_in df) command schema (over.of_create made args) result)
+  kept_or_run df command (Created made form args schema has result) over = inl (creation_keeps (schema_in df) command schema result)
   kept_or_run df command (Dumped dump form args schema table has result) over =
       inl (other_keeps (schema_in df) command (has.has.is ∙ same_schema command.files dump.schema df (over.of_dump dump args) has.has.df has.has.has) result.kept)

@@ -1,6 +1,6 @@
 -- Commands over one database, and the images that their crashes leave.
-use Rattle.std.specs.Prelude.{◌≡◌, ◌≢◌, ℕ, ◌≤◌, IsTrue, List, [], ◌∷◌, Some}
-use Rattle.abl_arguments.specs.CommandLine.{Bank, Create, Dump, Run, arguments_of, bank_arguments, create_arguments, dump_arguments}
+use Rattle.std.specs.Prelude.{◌≡◌, ℕ, ◌≤◌, IsTrue, List, [], ◌∷◌}
+use Rattle.abl_arguments.specs.CommandLine.{Bank, Dump, Run, arguments_of, bank_arguments, dump_arguments}
 use Rattle.abl_cli.specs.Command.{IsThere}
 use Rattle.abl_outside.specs.Files.{FileState}
 use Rattle.abl_storage.specs.declared.disk.Disk.{Ghosts}
@@ -11,7 +11,6 @@ use Rattle.crash_laws.specs.History.{IsNeverClosed}
 use Rattle.database_meaning.specs.declared.contents.Contents.{Contents}
 use Rattle.disk_database.specs.Images.{stored_contents}
 use Rattle.disk_steps.specs.Steps.{Image}
-use Rattle.run_report.specs.declared.refusal.Refusal.TheVariants.{Disk}
 use Rattle.slot_contents.specs.Born.{IsBorn}
 use Rattle.command_laws.specs.History.{HasResult, PastCommand}
 
@@ -23,13 +22,12 @@ pub record HasFile (files : FileState) (name text : List ℕ) : Type 0 where
   pub sound : IsTrue files.sound
   pub there : IsThere files name text
 
--- The command is over the database of the schema file with this text, if it comes to one: a run and a dump name such a file, a bank is one only
--- where the file is that of a bank, and a creation is not refused for the disk
+-- The command is over the database of the schema file with this text, if it comes to one: a run and a dump name such a file, and a bank is one
+-- only where the file is that of a bank. A creation may be of any schema
 pub record IsOver {D : Type 0} (df : List ℕ) (command : PastCommand D) : Type 0 where
   pub of_run : (run : Run) → command.arguments ≡ arguments_of run → HasFile command.files run.schema df
   pub of_dump : (dump : Dump) → command.arguments ≡ dump_arguments dump → HasFile command.files dump.schema df
   pub of_bank : (bank : Bank) → command.arguments ≡ bank_arguments bank → df ≡ BANK_SCHEMA.now
-  pub of_create : (create : Create) → command.arguments ≡ create_arguments create → command.outcome.report.refusal ≢ Some Disk
 
 -- the image is that of a database of this schema: it is born, with some contents
 abbrev pub IsDatabase : SchemaData → Image → Type 0

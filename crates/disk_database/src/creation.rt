@@ -1,6 +1,6 @@
 //! A new database.
 
-ghost use Rattle.std.specs.Prelude.{◌≡◌, ◌≤◌, length, false, IfOk, IsErrOf, IsTrue, OnOk, is_ok};
+ghost use Rattle.std.specs.Prelude.{◌≡◌, ◌⊎◌, ◌≤◌, length, false, IfOk, IsErrOf, IsTrue, OnOk, is_ok};
 ghost use Rattle.fault_count.specs.Faults.{Rose};
 ghost use Rattle.abl_values.specs.Schema.{canonical_text};
 ghost use Rattle.abl_storage.specs.Disk.{HasCause, Stays};
@@ -36,6 +36,7 @@ fn has_open_log<D: Disk>(disk: &mut D) -> Result<bool, DiskFailed>
 /// Makes an empty database of this schema on the disk, where no generation of a log is open on it. At
 /// each moment, and where it fails or is stopped, each image recovers to nothing, to what an image at
 /// the start recovered to, or to the new database. After Ok each image is that of the new database.
+/// A disk with an open log is as it was after each refusal, also where it failed.
 /// No image has an area of the log longer than 167,772,160 bytes, if none at the start has one.
 pub fn create<D: Disk>(alloc: Global, disk: &mut D, schema: &Schema) -> Result<(), CreateRefusal>
     ensures same_observable { D.observable disk.new ≡ D.observable disk.old }
@@ -47,6 +48,7 @@ pub fn create<D: Disk>(alloc: Global, disk: &mut D, schema: &Schema) -> Result<(
     ensures already { IsErrOf result CreateRefusal.AlreadyCreated → IsTrue (D.observable disk.old) → HasOpenLog (D.seen disk.old) }
     ensures refused { IsErrOf result CreateRefusal.AlreadyCreated → Stays (D.observable disk.old) (D.observable disk.new) (D.seen disk.old) (D.seen disk.new) (D.time disk.old) (D.time disk.new) (D.left disk.old) (D.left disk.new) }
     ensures untouched { IsErrOf result CreateRefusal.NoMemory → Stays (D.observable disk.old) (D.observable disk.new) (D.seen disk.old) (D.seen disk.new) (D.time disk.old) (D.time disk.new) (D.left disk.old) (D.left disk.new) }
+    ensures harmless { IsErrOf result CreateRefusal.Disk → IsTrue (D.observable disk.old) → Stays (D.observable disk.old) (D.observable disk.new) (D.seen disk.old) (D.seen disk.new) (D.time disk.old) (D.time disk.new) (D.left disk.old) (D.left disk.new) ⊎ ¬ HasOpenLog (D.seen disk.old) }
     ensures later { D.failures disk.old ≤ D.failures disk.new }
     ensures cause { IsErrOf result CreateRefusal.Disk → Rose (D.failures disk.old) (D.failures disk.new) }
 {
