@@ -67,11 +67,11 @@ module _ {D : Type 0} (d : Ghosts D) (known : (disk : D) (m : ℕ) (image : Imag
         ∥∥₁_elim (holds.all (d.seen command.disk) (reads command.disk holds.seen)).some ∥∥₁_prop (λ (h : HasSlots (d.seen command.disk)). absurd (made.fresh holds.seen (open_log (d.seen command.disk) h.slots h.recovers)))
     creation_keeps other (NotMade steps cause is) contents holds m image from there =
         ∥∥₁_elim (holds.all (d.seen command.disk) (reads command.disk holds.seen)).some ∥∥₁_prop (λ (h : HasSlots (d.seen command.disk)).
-            let stays = still (state_of d command.disk) (state_of d command.outcome.disk) cause.why cause.stays cause.harmless holds.seen (open_log (d.seen command.disk) h.slots h.recovers) in
-            let past = (known command.outcome.disk m image there).past in
-            let moment = stays.moment in
-            let same : m ≡ d.time command.disk = omega (arith, from, past, moment) in
-            ∣ holds.all image (subst (λ (n : ℕ). d.left command.disk n image) same (stays.nothing_else m image there)) ∣₁)
+        let stays = still (state_of d command.disk) (state_of d command.outcome.disk) cause.why cause.stays cause.harmless holds.seen (open_log (d.seen command.disk) h.slots h.recovers) in
+        let past = (known command.outcome.disk m image there).past in
+        let moment = stays.moment in
+        let same : m ≡ d.time command.disk = omega (arith, from, past, moment) in
+        ∣ holds.all image (subst (λ (n : ℕ). d.left command.disk n image) same (stays.nothing_else m image there)) ∣₁)
 
   bank_kept_or_run : (df : List ℕ) (command : PastCommand D) (bank : Bank) → df ≡ BANK_SCHEMA.now → BankResult (bank_of bank) (state_of d) command.disk command.old command.new command.outcome → KeepsOrRuns (schema_in df) command
   bank_kept_or_run df command bank is (BankPrevented refusal prevents same refused) = inl (not_touched (schema_in df) command same)
