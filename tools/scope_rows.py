@@ -1,15 +1,12 @@
-#!/usr/bin/env python3
-"""Writes the files of crates/scope_tables from tools/scope_rows.txt and tools/scope_schema.df: `stdin`,
-and the answers that it must give, `stdout`. The answers in scope_rows.txt were worked by hand; the
-reference below, which reads a part of the language by itself, must agree with each of them, and gives
-those of the generated rows. Run it at the top of the repository."""
+"""The rows of scopes of crates/binding_tables, from tools/scope_rows.txt, for tools/binding_rows.py. The
+answers in scope_rows.txt were worked by hand; the reference below, which reads a part of the language
+by itself, must agree with each of them, and gives those of the generated rows."""
 
 import random
 import re
 from pathlib import Path
 
 HERE = Path(__file__).parent
-OUT = HERE.parent / "crates" / "scope_tables"
 TABLES = {"customer": ("Customer", ["num", "name"]), "item": ("Item", ["code", "label"])}
 TOKEN = re.compile(r'\s+|"[^"]*"|[A-Za-z][A-Za-z0-9_-]*(?:\.[A-Za-z][A-Za-z0-9_-]*)?|[0-9]+|.', re.S)
 OPTIONS = {"where", "no-lock", "share-lock", "exclusive-lock", "no-error"}
@@ -358,14 +355,6 @@ def read():
     return rows
 
 
-def main():
-    rows = read() + generated()
-    OUT.mkdir(exist_ok=True)
-    schema = (HERE / "scope_schema.df").read_text()
-    (OUT / "stdin").write_text("== schema\n" + schema + "".join(f"== {n}\n{s}\n" for n, s, _ in rows))
-    (OUT / "stdout").write_text("".join(f"== {n}\n{a}\n" for n, _, a in rows))
-    print(len(rows), "rows")
-
-
-if __name__ == "__main__":
-    main()
+def rows():
+    """Each row: its name, its source and its answer."""
+    return read() + generated()

@@ -1,15 +1,12 @@
-#!/usr/bin/env python3
-"""Writes the files of crates/type_tables from tools/type_rows.txt and tools/type_schema.df: `stdin`,
-and the answers that it must give, `stdout`. The rows of the limits, which are too long to be read,
-are made here. Each answer was worked by hand from docs/language.md ('Names, types and values');
-this script only counts the lines and columns of the tokens that are marked. Run it at the top of
-the repository."""
+"""The rows of names and types of crates/binding_tables, from tools/type_rows.txt, for
+tools/binding_rows.py. The rows of the limits, which are too long to be read, are made here. Each
+answer was worked by hand from docs/language.md ('Names, types and values'); this script only counts
+the lines and columns of the tokens that are marked."""
 
 import re
 from pathlib import Path
 
 HERE = Path(__file__).parent
-OUT = HERE.parent / "crates" / "type_tables"
 MARK = re.compile(r"([!~])([A-Z]\d+)\1")
 ROWS = []
 
@@ -111,14 +108,8 @@ def limits():
     row("names that differ in the last byte", f"DEFINE VARIABLE {name[1:]}b AS INTEGER.\nMESSAGE !Y1!{name[1:]}c.")
 
 
-def main():
+def rows():
+    """Each row: its name, its source and its answer."""
     read()
     limits()
-    schema = (HERE / "type_schema.df").read_text()
-    OUT.mkdir(exist_ok=True)
-    (OUT / "stdin").write_text("== schema\n" + schema + "".join(f"== {n}\n{s}\n" for n, s, _ in ROWS))
-    (OUT / "stdout").write_text("".join(f"== {n}\n{a}\n" for n, _, a in ROWS))
-    print(len(ROWS), "rows")
-
-
-main()
+    return ROWS
