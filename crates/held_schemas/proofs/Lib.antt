@@ -1,0 +1,4 @@
+pub mod NamedOnce
+pub mod FewSequences
+pub mod UsableIndexes
+pub mod Held

@@ -1,0 +1,15 @@
+pub mod Fitting
+pub mod Exported
+pub mod ToCome
+pub mod Names
+pub mod HeadLines
+pub mod ItemHeads
+pub mod Started
+pub mod FieldsSoFar
+pub mod PartsSoFar
+pub mod IndexesSoFar
+pub mod ToldLines
+pub mod Told
+pub mod Begun
+pub mod SchemaSoFar
+pub mod Runs
