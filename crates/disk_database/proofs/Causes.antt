@@ -1,10 +1,12 @@
 -- Why a disk was not opened, and the disk that is given back.
-use Rattle.std.proofs.Common.{◌≡◌, ◌⊎◌, ⊎_elim, ◌≤◌, ◌<◌, ℕ, Bool, false, List, [], refl, sym, ap, ◌∙◌, subst, arith, inl, inr}
+use Rattle.std.proofs.Common.{◌≡◌, ◌⊎◌, ◌≤◌, ◌<◌, ℕ, Bool, List, refl, sym, ap, ◌∙◌, subst, arith, inl, inr}
 use Rattle.std.proofs.Math.Logic.{∥∥₁_map}
 use Rattle.std.proofs.lemmas.Bool.{cases_lt}
 use Rattle.std.specs.Prelude.{IsTrue}
-use Rattle.abl_storage.specs.Slots.{IsReadable, SlotState, Transaction}
+use Rattle.abl_storage.specs.Slots.{IsReadable, SlotState}
 use Rattle.abl_values.specs.Schema.{SchemaData, canonical_text}
+use Rattle.abl_values.specs.Sound.{IsSound}
+use Rattle.chain_store.specs.Still.{Still}
 use Rattle.disk_steps.specs.Steps.{Image, Run}
 use Rattle.log_meaning.specs.Images.{Recovers}
 use Rattle.bi_recovery.specs.Reopening.{SameRecovery}
@@ -19,18 +21,17 @@ use Rattle.slot_txn.specs.Opening.{IsOpenedOver}
 use Rattle.stored_text.specs.Held.{HoldText}
 use Rattle.disk_database.specs.Answers.{IsRefused}
 use Rattle.disk_database.specs.Images.{IsGivenBack, RecoversAsBefore}
-use Rattle.disk_database.specs.Parts.{LeaveUnused}
-use Rattle.disk_database.specs.Inside.{AreOpened, HasLooked, IsSlotRefusal, of_error, of_fault}
+use Rattle.disk_database.specs.Inside.{AreOpened, IsSlotRefusal, of_error, of_fault}
 use Rattle.disk_database.specs.declared.refusals.OpenRefusal.{OpenRefusal}
 use Rattle.disk_database.specs.declared.refusals.OpenRefusal.TheVariants.{NotCreated, SchemaDiffers, Disk, NoMemory}
 use Rattle.disk_database.proofs.Openings.{opened_images}
-use Rattle.disk_database.proofs.Survivals.{one_array}
+use Rattle.disk_database.proofs.Recognitions.{no_database, none_stored, some_database}
 
 -- ---- why
 
 module _ (schema : SchemaData) (observable : Bool) (seen : Image) where
   pub refused_by_fault : (f : OpenFault) → (f ≡ fault.NotCreated → IsTrue observable → (slots : ℕ → List ℕ) → Recovers seen slots → ⊥) → IsRefused schema observable seen (of_fault f)
-  refused_by_fault fault.NotCreated none = λ known slots recovers. inl (λ text held. none refl known slots recovers)
+  refused_by_fault fault.NotCreated none = λ known other is. none refl known is.slots is.recovered
   refused_by_fault fault.Disk none = tt
   refused_by_fault fault.NoMemory none = tt
 
@@ -40,22 +41,20 @@ module _ (schema : SchemaData) (observable : Bool) (seen : Image) where
   refused_still refusal given (inr is) why = subst (IsRefused schema observable seen) (sym is) tt
 
   pub refused_by_text : (s : SlotState) → (IsTrue observable → IsReadable s) → (IsTrue observable → Recovers seen s.reads) → (refusal : OpenRefusal) → IsSlotRefusal schema s refusal → IsRefused schema observable seen refusal
-  refused_by_text s readable recovered NotCreated none = λ known slots recovers.
-      let same = one_array seen slots s.reads recovers (recovered known) in
-      ⊎_elim (λ (no : (text : List ℕ) → HoldText s.reads text → ⊥). inl (λ text held. no text (subst (λ (x : ℕ → List ℕ). HoldText x text) same held)))
-      (λ (no : HoldText s.reads (canonical_text schema) × ¬ LeaveUnused schema s.reads).
-      inr (subst (λ (x : ℕ → List ℕ). HoldText x (canonical_text schema)) (sym same) no.0, λ all. no.1 (subst (LeaveUnused schema) same all.unused))) (none (readable known))
-  refused_by_text s readable recovered (SchemaDiffers stored given) differs = (differs.0, differs.1, λ known. (s.reads, recovered known, differs.2 (readable known)))
+  refused_by_text s readable recovered NotCreated none = λ known. no_database seen s.reads (recovered known) (none (readable known))
+  refused_by_text s readable recovered (SchemaDiffers stored given) differs = (
+    differs.0,
+    differs.1,
+    λ known. let held = differs.2 (readable known) in (held.0.schema, held.1, some_database seen s.reads (recovered known) held.0),
+  )
   refused_by_text s readable recovered Disk why = tt
   refused_by_text s readable recovered NoMemory why = tt
 
-  pub refused_by_error : (s : SlotState) → (IsTrue observable → IsTrue s.observable) → (IsTrue observable → Recovers seen s.reads) → (IsTrue observable → HoldText s.reads (canonical_text schema)) → (e : OpenError) → (e ≡ error.Unsound → IsTrue s.observable → ¬ HoldStore schema s.reads)
-      → IsRefused schema observable seen (of_error e)
-  refused_by_error s readable recovered text error.Disk unsound = tt
-  refused_by_error s readable recovered text error.NoMemory unsound = tt
-  refused_by_error s readable recovered text error.Unsound unsound = λ known slots recovers.
-      let same = one_array seen slots s.reads recovers (recovered known) in
-      inr (subst (λ (x : ℕ → List ℕ). HoldText x (canonical_text schema)) (sym same) (text known), λ all. unsound refl (readable known) (subst (HoldStore schema) same all.store))
+  pub refused_by_error : (s : SlotState) → IsSound schema → (IsTrue observable → IsTrue s.observable) → (IsTrue observable → Recovers seen s.reads) → (IsTrue observable → HoldText s.reads (canonical_text schema)) → (e : OpenError)
+      → (e ≡ error.Unsound → IsTrue s.observable → ¬ HoldStore schema s.reads) → IsRefused schema observable seen (of_error e)
+  refused_by_error s sound readable recovered text error.Disk unsound = tt
+  refused_by_error s sound readable recovered text error.NoMemory unsound = tt
+  refused_by_error s sound readable recovered text error.Unsound unsound = λ known. no_database seen s.reads (recovered known) (none_stored schema s.reads (text known) sound (unsound refl (readable known)))
 
 -- ---- the disk
 
@@ -92,30 +91,30 @@ back_by_slots s stop observable observable' seen was now left left' opened same 
   short = subst (StayShort left') opened.since short;
 }
 
--- after calls that make no moment
-pub short_after : (was now : ℕ) (left : ℕ → Image → Type 0) → now ≡ was → StayShort left now → StayShort left was
-short_after was now left same short = subst (StayShort left) same short
-
 -- ---- slots that may be opened further
 
 -- what the slots read at first, they have committed
-pub held_after : (P : (ℕ → List ℕ) → Type 0) (s t : SlotState) (at_s at_t : ℕ → (ℕ → List ℕ) → Type 0) (observable : Bool) (seen : Image) (was : ℕ) (left : ℕ → Image → Type 0) → IsOpenedOver s at_s observable seen was left → HasLooked s t at_s at_t false
+pub held_after : (P : (ℕ → List ℕ) → Type 0) (s t : SlotState) (at_s at_t : ℕ → (ℕ → List ℕ) → Type 0) (observable : Bool) (seen : Image) (was : ℕ) (left : ℕ → Image → Type 0) → IsOpenedOver s at_s observable seen was left → Still s t at_s at_t
     → (IsReadable s → P s.reads) → IsTrue observable → P t.committed
-held_after P s t at_s at_t observable seen was left over looked held known =
+held_after P s t at_s at_t observable seen was left over still held known =
     let there : IsTrue s.observable = subst (λ (b : Bool). IsTrue b) (sym over.same_observable) known in
-    subst P (sym (looked.rests.keeps.committed there ∙ over.settled)) (held (there, over.fine))
+    subst P (sym (still.rests.keeps.committed there ∙ over.settled)) (held (there, over.fine))
 
-pub can_open : (s t : SlotState) (at_s at_t : ℕ → (ℕ → List ℕ) → Type 0) (observable : Bool) (seen : Image) (was : ℕ) (left : ℕ → Image → Type 0) → IsOpenedOver s at_s observable seen was left → HasLooked s t at_s at_t false → CanOpen t
-can_open s t at_s at_t observable seen was left over looked = record {
-  idle = λ c. subst (λ (f : ℕ → Transaction). (f c).begun ≡ false) (sym looked.rests.transaction) (over.idle c);
-  clean = λ c. subst (λ (f : ℕ → Transaction). (f c).undo ≡ []) (sym looked.rests.transaction) (over.clean c);
-  fine = looked.fine refl ∙ over.fine;
-  settled = λ readable k. ap (λ (f : ℕ → List ℕ). f k) (looked.rests.keeps.committed (was_seen readable) ∙ over.settled ∙ sym (looked.rests.reads (was_seen readable, over.fine)));
-  certain = λ readable k. ap (λ (f : ℕ → List ℕ). f k) (looked.rests.keeps.doubt (was_seen readable) ∙ over.certain ∙ sym (looked.rests.keeps.committed (was_seen readable)));
+-- what they read then they have committed
+pub settled_after : (s t : SlotState) (at_s at_t : ℕ → (ℕ → List ℕ) → Type 0) (observable : Bool) (seen : Image) (was : ℕ) (left : ℕ → Image → Type 0) → IsOpenedOver s at_s observable seen was left → Still s t at_s at_t → IsTrue observable
+    → t.reads ≡ t.committed
+settled_after s t at_s at_t observable seen was left over still known =
+    let there : IsTrue s.observable = subst (λ (b : Bool). IsTrue b) (sym over.same_observable) known in
+    still.rests.reads (there, over.fine) ∙ sym over.settled ∙ sym (still.rests.keeps.committed there)
+
+pub can_open : (s : SlotState) (stop : ℕ → (ℕ → List ℕ) → Type 0) (observable : Bool) (seen : Image) (was : ℕ) (left : ℕ → Image → Type 0) → IsOpenedOver s stop observable seen was left → CanOpen s
+can_open s stop observable seen was left over = record {
+  idle = over.idle;
+  clean = over.clean;
+  fine = over.fine;
+  settled = λ readable k. ap (λ (f : ℕ → List ℕ). f k) over.settled;
+  certain = λ readable k. ap (λ (f : ℕ → List ℕ). f k) over.certain;
 }
-  where
-    was_seen : IsReadable t → IsTrue s.observable
-    was_seen readable = subst (λ (b : Bool). IsTrue b) looked.rests.keeps.observable readable.0
 
 -- ---- with what opening says of the slots
 
@@ -124,8 +123,8 @@ pub refused_when_opened : (schema : SchemaData) (s : SlotState) (stop : ℕ → 
 refused_when_opened schema s stop observable seen was left over refusal why =
     refused_by_text schema observable seen s (λ known. (subst (λ (b : Bool). IsTrue b) (sym over.same_observable) known, over.fine)) over.recovered refusal why
 
-pub refused_when_rows : (schema : SchemaData) (s : SlotState) (stop : ℕ → (ℕ → List ℕ) → Type 0) (observable : Bool) (seen : Image) (was : ℕ) (left : ℕ → Image → Type 0) → AreOpened s stop observable seen was left
+pub refused_when_rows : (schema : SchemaData) (s : SlotState) (stop : ℕ → (ℕ → List ℕ) → Type 0) (observable : Bool) (seen : Image) (was : ℕ) (left : ℕ → Image → Type 0) → AreOpened s stop observable seen was left → IsSound schema
     → (IsTrue observable → s.reads ≡ s.committed) → (IsTrue observable → HoldText s.committed (canonical_text schema)) → (e : OpenError) → (e ≡ error.Unsound → IsTrue s.observable → ¬ HoldStore schema s.reads) → IsRefused schema observable seen (of_error e)
-refused_when_rows schema s stop observable seen was left opened settled text e unsound =
-    refused_by_error schema observable seen s (λ known. subst (λ (b : Bool). IsTrue b) (sym opened.same_observable) known) (λ known. subst (λ (x : ℕ → List ℕ). Recovers seen x) (sym (settled known)) (opened.recovered known))
+refused_when_rows schema s stop observable seen was left opened sound settled text e unsound =
+    refused_by_error schema observable seen s sound (λ known. subst (λ (b : Bool). IsTrue b) (sym opened.same_observable) known) (λ known. subst (λ (x : ℕ → List ℕ). Recovers seen x) (sym (settled known)) (opened.recovered known))
     (λ known. subst (λ (x : ℕ → List ℕ). HoldText x (canonical_text schema)) (sym (settled known)) (text known)) e unsound

@@ -1,14 +1,10 @@
 -- A table of a database, and the disk after its rows were read.
-use Rattle.std.proofs.Common.{◌≡◌, ◌⊎◌, ◌≤◌, ◌<◌, ℕ, zero, suc, Bool, true, false, List, [], ◌∷◌, None, Some, refl, sym, ap, ◌∙◌, subst, arith, inl, inr}
+use Rattle.std.proofs.Common.{◌≡◌, ◌⊎◌, ◌≤◌, ◌<◌, ℕ, Bool, true, false, List, [], None, refl, sym, ap, ◌∙◌, subst, arith, inl, inr}
 use Rattle.std.proofs.Math.Logic.{∥∥₁_elim, ∥∥₁_map, ∥∥₁_prop}
-use Rattle.std.proofs.lemmas.List.Elements.{All-head, All-tail}
-use Rattle.std.specs.Prelude.{All, IfSome, IsTrue, MatchOption, length, slice_index_or, ⊤, Option}
+use Rattle.std.specs.Prelude.{IsTrue}
 use Rattle.abl_storage.specs.Slots.{SlotState}
-use Rattle.abl_values.specs.declared.schema.TableDef.{TableDef}
-use Rattle.abl_values.specs.Schema.{SchemaData, no_table, primary_of}
-use Rattle.abl_values.specs.Sound.{IsSound, IsSoundTable}
+use Rattle.abl_values.specs.Schema.{SchemaData, primary_of}
 use Rattle.database_meaning.specs.declared.contents.Contents.{Contents}
-use Rattle.database_meaning.specs.Setting.{HasIndex}
 use Rattle.db_core.specs.Crashes.{Holds}
 use Rattle.abl_outside.specs.Out.{OutState}
 use Rattle.abl_rows.specs.Changes.{RowsById}
@@ -35,19 +31,6 @@ use Rattle.disk_database.specs.Parts.{HoldParts}
 use Rattle.disk_database.specs.Inside.{AreOpened, IsStoreOver}
 use Rattle.disk_database.proofs.Starts.{durable_is}
 use Rattle.disk_database.proofs.Survivals.{all_chains, image_of, one_array, slots_of}
-
--- the primary index of a table is one of its own
-by_primary : (t : TableDef) (primary : Option ℕ) → IfSome primary (λ n. n < length t.indexes) → MatchOption primary ⊤ (λ i. i < length t.indexes)
-by_primary t None is = tt
-by_primary t (Some n) is = is
-
-primary_in : (tables : List TableDef) (t : ℕ) → All IsSoundTable tables → t < length tables → MatchOption (slice_index_or tables t no_table).primary ⊤ (λ i. i < length (slice_index_or tables t no_table).indexes)
-primary_in [] t all below = absurd (omega (arith, below))
-primary_in (x ∷ xs) zero all below = by_primary x x.primary (All-head IsSoundTable x xs all).primary
-primary_in (x ∷ xs) (suc t) all below = primary_in xs t (All-tail IsSoundTable x xs all) (omega (arith, below))
-
-pub primary_fits : (schema : SchemaData) (table : ℕ) → IsSound schema → table < length schema.tables → MatchOption (primary_of schema table) ⊤ (λ i. HasIndex schema table i)
-primary_fits schema table sound below = primary_in schema.tables table sound.tables below
 
 -- slots that an image recovered to are slots with its rows and values
 pub holds_as_recovers : (schema : SchemaData) (was : ℕ) (before after : ℕ → Image → Type 0) → RecoversAsBefore was before after → HoldsAsBefore schema was before after

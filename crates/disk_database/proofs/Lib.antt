@@ -2,11 +2,11 @@ pub mod Causes
 pub mod Dumps
 pub mod Guards
 pub mod Images
+pub mod Leftover
 pub mod Openings
 pub mod Parts
+pub mod Recognitions
 pub mod Reopenings
 pub mod Starts
 pub mod Survivals
-pub mod Tests
 pub mod Texts
-pub mod Leftover

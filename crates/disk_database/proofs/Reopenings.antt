@@ -1,5 +1,5 @@
 -- A database that was made is opened, and one that was closed is opened again.
-use Rattle.std.proofs.Common.{◌≡◌, inl, inr, ⊎_elim, ℕ, ◌≤◌, ◌<◌, Bool, true, false, cond, List, [], ◌∷◌, length, map, Option, Some, None, ℤ, refl, sym, ap, ◌∙◌, subst, arith}
+use Rattle.std.proofs.Common.{◌≡◌, inl, inr, ℕ, ◌≤◌, ◌<◌, Bool, true, false, cond, List, [], ◌∷◌, length, map, Option, Some, None, ℤ, refl, sym, ap, ◌∙◌, subst, arith}
 use Rattle.std.proofs.Math.Logic.{∥∥₁_elim, ∥∥₁_map, ∥∥₁_prop}
 use Rattle.std.proofs.Math.Path.{fun_ext}
 use Rattle.std.proofs.Props.{props}
@@ -25,6 +25,7 @@ use Rattle.record_store.specs.Opened.{AreSoundRows, HoldStore}
 use Rattle.record_store.proofs.Sound.{rows_read}
 use Rattle.row_chain.specs.Chains.{AreChains}
 use Rattle.row_chain.specs.Fragments.{StoredBytes, row_at}
+use Rattle.schema_text.specs.Written.{IsHeld}
 use Rattle.sequence_reads.proofs.Contents.{length_values_in}
 use Rattle.sequence_slots.specs.Values.{HoldValues, values_in}
 use Rattle.slot_contents.specs.Born.{IsBorn}
@@ -33,9 +34,8 @@ use Rattle.slot_contents.specs.Contents.{contents_in, initial_values, new_conten
 use Rattle.slot_contents.specs.Contents as slot
 use Rattle.stored_rows.specs.Decoded.{decoded, row_of}
 use Rattle.stored_rows.specs.Durable.{durable_in}
-use Rattle.stored_text.specs.Held.{HoldText}
 use Rattle.disk_database.proofs.Texts.{one_text}
-use Rattle.disk_database.specs.Answers.{AreDatabase, IsRefused}
+use Rattle.disk_database.specs.Answers.{AreDatabase, IsDatabaseOf, IsRefused}
 use Rattle.disk_database.specs.Images.{AreSlotsOf, IsImageOf, created, stored_contents}
 use Rattle.disk_database.specs.Parts.{IsUnused}
 use Rattle.disk_database.specs.declared.refusals.OpenRefusal.TheVariants.{NotCreated, SchemaDiffers}
@@ -92,7 +92,8 @@ module _ (schema : SchemaData) (image : Image) (born : IsBorn image (new_content
 pub not_another : (schema : SchemaData) (contents : Contents) (seen : Image) (stored given : List ℕ) → IsImageOf schema contents seen → IsRefused schema true seen (SchemaDiffers stored given) → ⊥
 not_another schema contents seen stored given image refused =
     let found = refused.2 refl in
-    refused.1 (one_text found.0 stored (canonical_text schema) found.2 (image.each found.0 found.1).text ∙ sym refused.0)
+    let slots = found.2.slots in
+    refused.1 (sym found.1 ∙ one_text slots (canonical_text found.0) (canonical_text schema) found.2.are.text (image.each slots found.2.recovered).text ∙ sym refused.0)
 
 -- ---- a database of sound contents
 
@@ -122,14 +123,22 @@ rows_sound f contents slots sound holds = record {
 hold_store : (f : Setting) (contents : Contents) (slots : ℕ → List ℕ) → IsSoundContents f contents → AreSlotsOf f.schema contents slots → AreChains slots → HoldStore f.schema slots
 hold_store f contents slots sound are chains = record { values = subst (HoldValues slots) are.holds.sequences are.values; rows = rows_sound f contents slots sound are.holds; chains = chains }
 
+pub database_of : (f : Setting) (contents : Contents) (image : Image) → IsSound f.schema → IsHeld f.schema → IsSoundContents f contents → IsImageOf f.schema contents image → ∥ IsDatabaseOf image f.schema ∥₁
+database_of f contents image schema_sound held sound is = ∥∥₁_elim is.some ∥∥₁_prop (λ (h : HasSlots image).
+    let are : AreSlotsOf f.schema contents h.slots = is.each h.slots h.recovers in
+    ∥∥₁_map are.chains (λ (chains : AreChains h.slots). record {
+      sound = schema_sound;
+      held = held;
+      slots = h.slots;
+      recovered = h.recovers;
+      are = record { text = are.text; unused = are.unused; store = hold_store f contents h.slots sound are chains };
+    }))
+
 nothing : IsProp ⊥
 nothing = hlevel props
 
-pub not_missing : (f : Setting) (contents : Contents) (seen : Image) → IsSoundContents f contents → IsImageOf f.schema contents seen → IsRefused f.schema true seen NotCreated → ⊥
-not_missing f contents seen sound image refused = ∥∥₁_elim image.some nothing (λ (h : HasSlots seen).
-    let are : AreSlotsOf f.schema contents h.slots = image.each h.slots h.recovers in
-    ∥∥₁_elim are.chains nothing (λ (chains : AreChains h.slots).
-    ⊎_elim (λ (no : (text : List ℕ) → HoldText h.slots text → ⊥). no (canonical_text f.schema) are.text) (λ (no : HoldText h.slots (canonical_text f.schema) × ¬ AreDatabase f.schema h.slots). no.1 (record { text = are.text; unused = are.unused; store = hold_store f contents h.slots sound are chains })) (refused refl h.slots h.recovers)))
+pub not_missing : (f : Setting) (contents : Contents) (seen : Image) → IsSound f.schema → IsHeld f.schema → IsSoundContents f contents → IsImageOf f.schema contents seen → IsRefused f.schema true seen NotCreated → ⊥
+not_missing f contents seen schema_sound held sound image refused = ∥∥₁_elim (database_of f contents seen schema_sound held sound image) nothing (λ (is : IsDatabaseOf seen f.schema). refused refl f.schema is)
 
 -- ---- what an image is born with
 
@@ -143,6 +152,9 @@ database_contents schema slots sound held = record {
   rows = record { read = rows_read schema slots held.store.rows; chains = held.store.chains.chains; each = held.store.chains.each };
   keys = record { short = λ row stored index there has. (held.store.rows.each row stored there).short index has; apart = held.store.rows.apart };
 }
+
+pub database_born : (schema : SchemaData) (image : Image) (is : IsDatabaseOf image schema) → IsBorn image (contents_in schema is.slots)
+database_born schema image is = record { slots = is.slots; recovered = is.recovered; schema = schema; held = database_contents schema is.slots is.sound is.are; are = refl }
 
 same_contents : (schema : SchemaData) (contents : Contents) (slots : ℕ → List ℕ) → Holds (durable_in schema slots) contents → stored_contents schema contents ≡ contents_in schema slots
 same_contents schema contents slots holds = λ i. record { text = canonical_text schema; rows = fun_ext holds.rows i; values = holds.sequences i }

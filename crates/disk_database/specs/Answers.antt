@@ -1,8 +1,10 @@
 -- What the answers of the calls mean.
-use Rattle.std.specs.Prelude.{◌≡◌, ◌≢◌, ◌⊎◌, ℕ, Bool, true, false, List, None, IsTrue}
+use Rattle.std.specs.Prelude.{◌≡◌, ◌≢◌, ℕ, Bool, true, false, List, None, IsTrue}
 use Rattle.abl_values.specs.Schema.{SchemaData, canonical_text, primary_of}
+use Rattle.abl_values.specs.Sound.{IsSound}
+use Rattle.schema_text.specs.Written.{IsHeld}
 use Rattle.disk_steps.specs.Steps.{Image}
-use Rattle.log_meaning.specs.Images.{IsOpened, Recovers}
+use Rattle.log_meaning.specs.Images.{Recovers}
 use Rattle.stored_text.specs.Held.{HoldText}
 use Rattle.record_store.specs.Opened.{HoldStore}
 use Rattle.slot_contents.specs.Contents.{AreContents}
@@ -33,13 +35,24 @@ pub record AreDatabase (schema : SchemaData) (slots : ℕ → List ℕ) : Type 0
 abbrev pub IsBornOf : Image → SchemaData → Type 0
 IsBornOf seen schema = (slots : ℕ → List ℕ) × Recovers seen slots × AreContents schema slots
 
--- Why the disk was not opened with this schema. NotCreated: what it recovers to, if to anything, holds no text, or the text of this schema and no
--- database of it. SchemaDiffers: the slots that it recovers to hold another text, which is stored
+-- the image is that of a database of this schema, which is sound and one that a `Schema` can hold: what it recovers to holds one
+pub record IsDatabaseOf (seen : Image) (schema : SchemaData) : Type 0 where
+  pub sound : IsSound schema
+  pub held : IsHeld schema
+  pub slots : ℕ → List ℕ
+  pub recovered : Recovers seen slots
+  pub are : AreDatabase schema slots
+
+-- it is that of no database, whatever the schema
+abbrev pub IsNoDatabase : Image → Type 0
+IsNoDatabase seen = (schema : SchemaData) → ¬ IsDatabaseOf seen schema
+
+-- Why the disk was not opened with this schema. NotCreated: its image is that of no database, of no schema at all. SchemaDiffers: its image is that
+-- of a database, of a schema with another text, which is stored
 abbrev pub IsRefused : SchemaData → Bool → Image → OpenRefusal → Type 0
-IsRefused schema observable seen NotCreated =
-    IsTrue observable → (slots : ℕ → List ℕ) → Recovers seen slots → ((text : List ℕ) → HoldText slots text → ⊥) ⊎ (HoldText slots (canonical_text schema) × ¬ AreDatabase schema slots)
+IsRefused schema observable seen NotCreated = IsTrue observable → IsNoDatabase seen
 IsRefused schema observable seen (SchemaDiffers stored given) =
-    (given ≡ canonical_text schema) × (stored ≢ given) × (IsTrue observable → (slots : ℕ → List ℕ) × Recovers seen slots × HoldText slots stored)
+    (given ≡ canonical_text schema) × (stored ≢ given) × (IsTrue observable → (other : SchemaData) × (canonical_text other ≡ stored) × IsDatabaseOf seen other)
 IsRefused schema observable seen refusal = Unit {0}
 
 -- whether a dump was refused because the output did not take a whole line
@@ -70,7 +83,3 @@ pub record IsDumped (schema : SchemaData) (observable : Bool) (seen : Image) (ta
   pub lines : Writes output Standard (export_lines list) old new
   pub first : IsTrue observable → (slots : ℕ → List ℕ) → Recovers seen slots → AreFirst schema (decoded schema slots) table (primary_of schema table) None list
   pub all : whole ≡ true → IsTrue observable → (slots : ℕ → List ℕ) → Recovers seen slots → AreAll schema (decoded schema slots) table (primary_of schema table) None list
-
--- a generation of a log is open in area 1 or 2
-abbrev pub HasOpenLog : Image → Type 0
-HasOpenLog seen = ((generation : ℕ) × IsOpened (seen 1) generation) ⊎ ((generation : ℕ) × IsOpened (seen 2) generation)

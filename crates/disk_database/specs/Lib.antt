@@ -1,4 +1,4 @@
 pub mod Parts
 pub mod Images
-pub mod Inside
 pub mod Answers
+pub mod Inside

@@ -11,6 +11,7 @@ mod dumping;
 mod guard;
 pub mod laws;
 mod opening;
+mod recognition;
 mod refusals;
 mod text;
 mod unused;

@@ -109,11 +109,12 @@ fn open_slots<D: Disk + Drop>(
     ensures back { IfErr result (λ e. IsGivenBack (D.observable disk) (D.observable e.1) (D.time disk) (D.time e.1) (D.left disk) (D.left e.1)) }
     ensures cause { IfErr result (λ e. e.0 ≡ OpenRefusal.Disk → Rose (D.failures disk) (D.failures e.1)) }
 {
-    let mut slots = match SlotTxn::open(alloc, disk) {
+    let slots = match SlotTxn::open(alloc, disk) {
         Ok(slots) => slots,
         Err((fault, disk)) => return Err((of_fault(fault), disk)),
     };
-    match test_slots(alloc, &mut slots, schema) {
+    let (tested, slots) = test_slots(alloc, slots, schema);
+    match tested {
         Ok(()) => Ok(slots),
         Err(refusal) => Err(give_back(before, refusal, slots)),
     }
@@ -136,6 +137,7 @@ pub(crate) fn open_rows<D: Disk + Drop, K: Opening>(
     ensures back { IfErr result (λ e. IsGivenBack (D.observable disk) (D.observable e.1) (D.time disk) (D.time e.1) (D.left disk) (D.left e.1)) }
     ensures cause { IfErr result (λ e. e.0 ≡ OpenRefusal.Disk → Rose (D.failures disk) (D.failures e.1)) }
 {
+    schema.soundness();
     let Some(guard) = SlotGuard::<K>::new(&schema) else {
         return Err((OpenRefusal::NoMemory, disk));
     };

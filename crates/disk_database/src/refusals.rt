@@ -5,25 +5,28 @@ use abl_base::Bytes;
 /// Why a database was not opened.
 #[derive(Drop)]
 pub enum OpenRefusal {
-    /// The disk holds no database.
+    /// The disk holds no database, of whatever schema.
     NotCreated,
-    /// The stored text of the schema is not that of the given schema.
+    /// The disk holds a database of another schema: its text, which is stored, is not that of the given
+    /// one.
     SchemaDiffers { stored: Bytes, given: Bytes },
     /// The disk failed.
     Disk,
-    /// Out of memory.
+    /// Out of memory. Also where the text of the given schema has more than 2^20 bytes, or that schema
+    /// has more than 256 sequences.
     NoMemory,
 }
 
 /// Why a database was not made.
 #[derive(Clone, Copy, Debug, PartialEq, Eq)]
 pub enum CreateRefusal {
-    /// The disk has the open log of a database.
+    /// The disk holds a database, of whatever schema. It is as it was.
     AlreadyCreated,
-    /// The disk failed.
+    /// The disk failed. If it holds a database, it is as it was.
     Disk,
-    /// Out of memory; the disk is as it was. Also where the text of the schema has more than 2^20
-    /// bytes, or it has more than 256 sequences.
+    /// Out of memory; the disk is as it was. Also where the text of the given schema has more than 2^20
+    /// bytes, that schema has more than 256 sequences, or a log is open and area 0 has more than
+    /// 268,435,456 bytes.
     NoMemory,
 }
 

@@ -1,16 +1,20 @@
 //! The text of a schema: whether a database can have it, and the stored one compared with it.
 
-ghost use Rattle.std.specs.Prelude.{◌≡◌, ◌≢◌, ◌≤◌, length, None, Some, IfErr, IfSome, IsTrue, OnOk};
+ghost use Rattle.std.specs.Prelude.{◌≡◌, ◌≤◌, length, IfErr, IfSome, IsTrue, OnOk};
 ghost use Rattle.abl_storage.specs.Slots.{IsReadable};
 ghost use Rattle.abl_values.specs.Schema.{canonical_text};
+ghost use Rattle.chain_store.specs.Still.{Still};
+ghost use Rattle.record_store.specs.Opened.{CanOpen};
+ghost use Rattle.row_chain.specs.Chains.{AreChains};
 ghost use Rattle.slot_contents.specs.Contents.{text_slots};
+ghost use Rattle.stored_rows.specs.Chained.{StayChains};
 ghost use Rattle.stored_text.specs.Held.{HoldText};
-ghost use Rattle.disk_database.specs.Inside.{HasLooked, IsComparison, IsSlotRefusal, IsTextRefusal, IsUnusedRefusal, refused_by_disk};
-ghost use Rattle.disk_database.specs.Parts.{AreUnusedLeft, LeaveUnused};
+ghost use Rattle.disk_database.specs.Inside.{AreBack, IsSlotRefusal, of_slots};
+ghost use Rattle.disk_database.specs.Parts.{LeaveUnused};
 
+use crate::recognition::hold_database_with;
 use crate::refusals::OpenRefusal;
 use crate::unused::are_unused_left;
-use abl_base::Bytes;
 use abl_storage::{SlotFault, Slots};
 use abl_values::Schema;
 use new_slots::text_slots::slot_count;
@@ -32,39 +36,9 @@ pub(crate) fn fits(schema: &Schema) -> Option<bool>
     Some(text.as_slice().len() <= MAX_TEXT_BYTES && schema.sequences().len() <= MAX_SEQUENCES)
 }
 
-/// Whether the stored text is the given one.
-fn compare(stored: Option<Bytes>, given: Bytes) -> Result<(), OpenRefusal>
-    ensures same { OnOk result (stored ≡ Some given) }
-    ensures refused { IfErr result (IsComparison stored given) }
-{
-    let Some(stored) = stored else {
-        return Err(OpenRefusal::NotCreated);
-    };
-    if stored.as_slice() == given.as_slice() {
-        return Ok(());
-    }
-    Err(OpenRefusal::SchemaDiffers { stored, given })
-}
-
-/// Whether the slots hold the text of this schema.
-fn compare_text<S: Slots>(alloc: Global, slots: &mut S, schema: &Schema) -> Result<(), OpenRefusal>
-    ensures same { OnOk result (IsReadable (S.Slots.state slots.old) → HoldText (S.Slots.state slots.old).reads (canonical_text schema.now)) }
-    ensures refused { IfErr result (IsTextRefusal schema.now (S.Slots.state slots.old)) }
-    ensures looked { HasLooked (S.Slots.state slots.old) (S.Slots.state slots.new) (S.Slots.stop slots.old) (S.Slots.stop slots.new) (refused_by_disk result) }
-{
-    let Ok(given) = schema.canonical() else {
-        return Err(OpenRefusal::NoMemory);
-    };
-    match stored_text(slots, alloc) {
-        Ok(stored) => compare(stored, given),
-        Err(SlotFault::Disk) => Err(OpenRefusal::Disk),
-        Err(SlotFault::TxFull | SlotFault::NoMemory) => Err(OpenRefusal::NoMemory),
-    }
-}
-
 /// How many slots the text of this schema takes, if it is one that a database can have. None also means
 /// out of memory.
-fn slots_of_text(schema: &Schema) -> Option<u32>
+pub(crate) fn slots_of_text(schema: &Schema) -> Option<u32>
     ensures { IfSome result (λ count. count ≡ text_slots schema.now) }
 {
     let Ok(text) = schema.canonical() else {
@@ -77,37 +51,73 @@ fn slots_of_text(schema: &Schema) -> Option<u32>
     Some(slot_count(bytes))
 }
 
-/// Whether each slot that belongs to nothing is zeros, where the text of the schema takes this many
-/// slots.
-fn test_unused<S: Slots>(slots: &mut S, text: u32) -> Result<(), OpenRefusal>
-    ensures unused { OnOk result (IsReadable (S.Slots.state slots.old) → AreUnusedLeft text (S.Slots.state slots.old).reads) }
-    ensures refused { IfErr result (IsUnusedRefusal text (S.Slots.state slots.old)) }
-    ensures looked { HasLooked (S.Slots.state slots.old) (S.Slots.state slots.new) (S.Slots.stop slots.old) (S.Slots.stop slots.new) (refused_by_disk result) }
+/// What a refusal of the slots means.
+fn of_slots(fault: SlotFault) -> OpenRefusal
+    ensures { result ≡ of_slots fault }
 {
-    match are_unused_left(slots, text) {
-        Ok(true) => Ok(()),
-        Ok(false) => Err(OpenRefusal::NotCreated),
-        Err(SlotFault::Disk) => Err(OpenRefusal::Disk),
-        Err(SlotFault::TxFull | SlotFault::NoMemory) => Err(OpenRefusal::NoMemory),
+    match fault {
+        SlotFault::Disk => OpenRefusal::Disk,
+        SlotFault::TxFull | SlotFault::NoMemory => OpenRefusal::NoMemory,
+    }
+}
+
+/// Whether the slots hold the text of this schema. Another text refuses it only where they hold a
+/// database of a schema with that text; otherwise they hold none.
+fn compare_text<S: Slots + Drop>(
+    alloc: Global,
+    mut slots: S,
+    schema: &Schema,
+) -> (Result<(), OpenRefusal>, S)
+    requires can { CanOpen (S.Slots.state slots) }
+    requires stops { (IsTrue (S.Slots.state slots).observable → ∥ AreChains (S.Slots.state slots).committed ∥₁) → StayChains (S.Slots.stop slots) (S.Slots.state slots).since }
+    ensures same { OnOk result.0 (IsReadable (S.Slots.state slots) → HoldText (S.Slots.state slots).reads (canonical_text schema.now)) }
+    ensures refused { IfErr result.0 (IsSlotRefusal schema.now (S.Slots.state slots)) }
+    ensures still { OnOk result.0 (Still (S.Slots.state slots) (S.Slots.state result.1) (S.Slots.stop slots) (S.Slots.stop result.1)) }
+    ensures back { AreBack (S.Slots.state slots) (S.Slots.state result.1) (S.Slots.stop slots) (S.Slots.stop result.1) }
+{
+    let Ok(given) = schema.canonical() else {
+        return (Err(OpenRefusal::NoMemory), slots);
+    };
+    let stored = match stored_text(&mut slots, alloc) {
+        Ok(Some(stored)) => stored,
+        Ok(None) => return (Err(OpenRefusal::NotCreated), slots),
+        Err(fault) => return (Err(of_slots(fault)), slots),
+    };
+    if stored.as_slice() == given.as_slice() {
+        return (Ok(()), slots);
+    }
+    let (held, slots) = hold_database_with(alloc, slots, stored.as_slice());
+    match held {
+        Ok(true) => (Err(OpenRefusal::SchemaDiffers { stored, given }), slots),
+        Ok(false) => (Err(OpenRefusal::NotCreated), slots),
+        Err(fault) => (Err(of_slots(fault)), slots),
     }
 }
 
 /// Whether the slots hold the text of this schema, and zeros where nothing belongs.
-pub(crate) fn test_slots<S: Slots>(
+pub(crate) fn test_slots<S: Slots + Drop>(
     alloc: Global,
-    slots: &mut S,
+    slots: S,
     schema: &Schema,
-) -> Result<(), OpenRefusal>
-    ensures same { OnOk result (IsReadable (S.Slots.state slots.old) → HoldText (S.Slots.state slots.old).reads (canonical_text schema.now)) }
-    ensures unused { OnOk result (IsReadable (S.Slots.state slots.old) → LeaveUnused schema.now (S.Slots.state slots.old).reads) }
-    ensures refused { IfErr result (IsSlotRefusal schema.now (S.Slots.state slots.old)) }
-    ensures looked { HasLooked (S.Slots.state slots.old) (S.Slots.state slots.new) (S.Slots.stop slots.old) (S.Slots.stop slots.new) (refused_by_disk result) }
+) -> (Result<(), OpenRefusal>, S)
+    requires can { CanOpen (S.Slots.state slots) }
+    requires stops { (IsTrue (S.Slots.state slots).observable → ∥ AreChains (S.Slots.state slots).committed ∥₁) → StayChains (S.Slots.stop slots) (S.Slots.state slots).since }
+    ensures same { OnOk result.0 (IsReadable (S.Slots.state slots) → HoldText (S.Slots.state slots).reads (canonical_text schema.now)) }
+    ensures unused { OnOk result.0 (IsReadable (S.Slots.state slots) → LeaveUnused schema.now (S.Slots.state slots).reads) }
+    ensures refused { IfErr result.0 (IsSlotRefusal schema.now (S.Slots.state slots)) }
+    ensures still { OnOk result.0 (Still (S.Slots.state slots) (S.Slots.state result.1) (S.Slots.stop slots) (S.Slots.stop result.1)) }
+    ensures back { AreBack (S.Slots.state slots) (S.Slots.state result.1) (S.Slots.stop slots) (S.Slots.stop result.1) }
 {
     let Some(text) = slots_of_text(schema) else {
-        return Err(OpenRefusal::NoMemory);
+        return (Err(OpenRefusal::NoMemory), slots);
     };
-    match compare_text(alloc, slots, schema) {
-        Ok(()) => test_unused(slots, text),
-        Err(refusal) => Err(refusal),
+    let (compared, mut slots) = compare_text(alloc, slots, schema);
+    if let Err(refusal) = compared {
+        return (Err(refusal), slots);
+    }
+    match are_unused_left(&mut slots, text) {
+        Ok(true) => (Ok(()), slots),
+        Ok(false) => (Err(OpenRefusal::NotCreated), slots),
+        Err(fault) => (Err(of_slots(fault)), slots),
     }
 }

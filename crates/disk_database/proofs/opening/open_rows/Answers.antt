@@ -38,7 +38,7 @@ pub returns-in-Err-open-clause-refused : goal.returns-in-Err-open-clause-refused
 returns-in-Err-open-clause-refused g c =
     refused_still c.args.schema (g.D.Disk.observable c.args.disk) (g.D.Disk.seen c.args.disk) c.of_error.result c.give_back.result.0 c.give_back.ensures.refusal
     (subst (IsRefused c.args.schema (g.D.Disk.observable c.args.disk) (g.D.Disk.seen c.args.disk)) (sym c.of_error.ensures)
-    (refused_when_rows c.args.schema _ _ _ _ _ _ (opened_as _ _ _ _ _ _ _ _ c.new-slots.ensures.state c.new-slots.ensures.stops c.in-Ok.ensures.opened) (settled_as _ _ _ c.new-slots.ensures.state c.in-Ok.ensures.settled)
+    (refused_when_rows c.args.schema _ _ _ _ _ _ (opened_as _ _ _ _ _ _ _ _ c.new-slots.ensures.state c.new-slots.ensures.stops c.in-Ok.ensures.opened) c.soundness.ensures (settled_as _ _ _ c.new-slots.ensures.state c.in-Ok.ensures.settled)
     (committed_as (λ x. HoldText x (canonical_text c.args.schema)) _ _ _ c.new-slots.ensures.state c.in-Ok.ensures.text) c.in-Err-open.error c.in-Err-open.ensures.unsound))
 
 pub returns-in-Err-open-clause-back : goal.returns-in-Err-open-clause-back

@@ -1,0 +1,99 @@
+-- Whether slots, and the image that recovers to them, hold a database; and slots that come back.
+use Rattle.std.proofs.Common.{◌≡◌, ◌≢◌, ◌≤◌, ℕ, Bool, List, IsTrue, Result, Ok, Err, length, refl, sym, ◌∙◌, subst, arith}
+use Rattle.std.specs.Prelude.{IfOk}
+use Rattle.abl_storage.specs.Slots.{IsReadable, IsStop, SlotState}
+use Rattle.abl_values.specs.Rows.{fragments_of}
+use Rattle.abl_values.specs.Schema.{SchemaData, canonical_text}
+use Rattle.abl_values.specs.Sound.{IsSound}
+use Rattle.chain_store.specs.Still.{Still}
+use Rattle.database_laws.proofs.Held.{text_decides_held}
+use Rattle.disk_steps.specs.Steps.{Image}
+use Rattle.log_meaning.specs.Images.{Recovers}
+use Rattle.record_store.specs.Opened.{CanOpen, HoldStore, IsRefused}
+use Rattle.record_store.specs.declared.open_error.OpenError.{OpenError}
+use Rattle.row_chain.specs.Chains.{AreChains}
+use Rattle.row_chain.proofs.Composes.{goes_both, keeps_both, readable_on}
+use Rattle.schema_text.specs.Written.{IsHeld}
+use Rattle.slot_contents.specs.Contents.{text_slots}
+use Rattle.stored_rows.specs.Chained.{StayChains}
+use Rattle.stored_rows.proofs.Chaining.{stay_chains}
+use Rattle.stored_text.specs.Held.{HoldText}
+use Rattle.disk_database.specs.Answers.{AreDatabase, IsDatabaseOf, IsNoDatabase}
+use Rattle.disk_database.specs.Inside.{AreBack, HoldDatabase, HoldDatabaseWith}
+use Rattle.disk_database.specs.Parts.{AreUnusedLeft, LeaveUnused}
+use Rattle.disk_database.proofs.Survivals.{one_array}
+use Rattle.disk_database.proofs.Texts.{one_text}
+
+-- ---- images
+
+pub some_database : (seen : Image) (slots : ℕ → List ℕ) → Recovers seen slots → (held : HoldDatabase slots) → IsDatabaseOf seen held.schema
+some_database seen slots recovers held = record { sound = held.sound; held = held.held; slots = slots; recovered = recovers; are = held.are }
+
+pub no_database : (seen : Image) (slots : ℕ → List ℕ) → Recovers seen slots → ¬ HoldDatabase slots → IsNoDatabase seen
+no_database seen slots recovers none schema is = none (record { schema = schema; sound = is.sound; held = is.held; are = subst (AreDatabase schema) (one_array seen is.slots slots is.recovered recovers) is.are })
+
+-- ---- slots that hold none
+
+pub none_of_text : (slots : ℕ → List ℕ) (text : List ℕ) → HoldText slots text → ((schema : SchemaData) → IsSound schema → IsHeld schema → canonical_text schema ≡ text → ⊥) → ¬ HoldDatabase slots
+none_of_text slots text held none has = none has.schema has.sound has.held (one_text slots (canonical_text has.schema) text has.are.text held)
+
+module _ (schema : SchemaData) (slots : ℕ → List ℕ) (held : HoldText slots (canonical_text schema)) where
+  pub none_unused : ¬ LeaveUnused schema slots → ¬ HoldDatabase slots
+  none_unused used has = used (subst (λ (text : List ℕ). AreUnusedLeft (fragments_of (length text)) slots) (one_text slots (canonical_text has.schema) (canonical_text schema) has.are.text held) has.are.unused)
+
+  pub none_stored : IsSound schema → ¬ HoldStore schema slots → ¬ HoldDatabase slots
+  none_stored sound unsound has = unsound (text_decides_held has.schema schema slots has.sound sound (one_text slots (canonical_text has.schema) (canonical_text schema) has.are.text held) has.are.store)
+
+-- ---- slots that come back
+
+module _ (a b : SlotState) (at_a at_b : ℕ → (ℕ → List ℕ) → Type 0) where
+  pub back_still : Still a b at_a at_b → AreBack a b at_a at_b
+  back_still f = record { keeps = f.rests.keeps; time = f.time; later = f.later }
+
+  pub back_refused : (error : OpenError) → IsRefused a b at_a at_b error → AreBack a b at_a at_b
+  back_refused error r = record { keeps = r.keeps; time = r.time; later = r.later }
+
+pub back_after : (a b c : SlotState) (at_a at_b at_c : ℕ → (ℕ → List ℕ) → Type 0) → ((m : ℕ) (slots : ℕ → List ℕ) → at_c m slots → IsStop c m) → Still a b at_a at_b → AreBack b c at_b at_c → AreBack a c at_a at_c
+back_after a b c at_a at_b at_c stop f s = record {
+  keeps = keeps_both a b c f.rests.keeps s.keeps;
+  time = goes_both a b c at_a at_b at_c f.rests.keeps s.keeps stop f.time s.time;
+  later = let one = f.later in let two = s.later in omega (arith, one, two);
+}
+
+-- ---- slots that were looked at
+
+module _ (a b : SlotState) (at_a at_b : ℕ → (ℕ → List ℕ) → Type 0) (f : Still a b at_a at_b) where
+  pub readable_then : IsReadable a → IsReadable b
+  readable_then readable = readable_on a b f.rests.keeps.observable f.failed readable
+
+  -- what they hold
+  pub held_first : (P : (ℕ → List ℕ) → Type 0) → (IsReadable b → P b.reads) → IsReadable a → P a.reads
+  held_first P held readable = subst P (f.rests.reads readable) (held (readable_then readable))
+
+  -- they may be opened as before
+  pub stops_then : CanOpen a → ((m : ℕ) (slots : ℕ → List ℕ) → at_b m slots → IsStop b m) → a.since ≤ a.moment → ((IsTrue a.observable → ∥ AreChains a.committed ∥₁) → StayChains at_a a.since)
+      → (IsTrue b.observable → ∥ AreChains b.committed ∥₁) → StayChains at_b b.since
+  stops_then can stop past before = stay_chains a b at_a at_b stop past f.rests.keeps f.time (λ seen. can.certain (seen, can.fine)) before
+
+  -- with a store they hold a database
+  pub database_held : (schema : SchemaData) (text : ℕ) → text ≡ text_slots schema → IsSound schema → IsHeld schema → (IsReadable a → HoldText a.reads (canonical_text schema)) → (IsReadable a → AreUnusedLeft text a.reads) → (IsTrue b.observable → HoldStore schema b.reads)
+      → IsReadable a → HoldDatabaseWith (canonical_text schema) a.reads
+  database_held schema text same sound is_held held unused store readable = (
+    record {
+      schema = schema;
+      sound = sound;
+      held = is_held;
+      are = record {
+        text = held readable;
+        unused = subst (λ (n : ℕ). AreUnusedLeft n a.reads) same (unused readable);
+        store = subst (HoldStore schema) (f.rests.reads readable) (store (readable_then readable).0);
+      };
+    },
+    refl,
+  )
+
+-- ---- answers
+
+pub if_ok_map : {T E : Type 0} (r : Result T E) (P Q : T → Type 0) → ((x : T) → P x → Q x) → IfOk r P → IfOk r Q
+if_ok_map (Ok x) P Q f held = f x held
+if_ok_map (Err e) P Q f held = tt
