@@ -56,11 +56,11 @@ module _ {D : Type 0} (view : D → DiskView) (schema : SchemaData) (sound : IsS
         (done, (lost.1.1.1.0, leave_born (after_commits (setting_of schema run) contents run.trace done) (IsLeftBy view run) calls last are.1.1 lost.1.1.1.1)),
       )
   leave_born contents left (Keeping call ∷ calls) last are lost = (
-    λ m image from there. ∥∥₁_elim (are.1.0 contents lost.0.holds m image from there) ∥∥₁_prop (born_with schema sound contents lost.0.sound image),
+    λ m image from there. ∥∥₁_elim (are.1.0 contents lost.0.sound lost.0.holds m image from there) ∥∥₁_prop (born_with schema sound contents lost.0.sound image),
     leave_born contents (IsLeftByKept view call) calls last are.1.1 lost.1,
   )
 
-pub history_born : {D : Type 0} (view : D → DiskView) (history : CallHistory D) → IsSound history.schema → IsCallHistory view history → ∥ LeavesBorn view history.schema (created history.schema) history.calls history.last ∥₁
-history_born view history sound is =
+pub history_born : {D : Type 0} (view : D → DiskView) (history : CallHistory D) → IsCallHistory view history → ∥ LeavesBorn view history.schema (created history.schema) history.calls history.last ∥₁
+history_born view history is =
     ∥∥₁_map (calls_kept view history is)
-    (leave_born view history.schema sound (created history.schema) (λ disk. ComesNext (view history.made) (view disk)) history.calls history.last is.calls)
+    (leave_born view history.schema is.made.sound (created history.schema) (λ disk. ComesNext (view history.made) (view disk)) history.calls history.last is.calls)

@@ -2,6 +2,8 @@
 use Rattle.std.proofs.Common.{List, [], ◌∷◌}
 use Rattle.std.proofs.Math.Logic.{∥∥₁_elim, ∥∥₁_map, ∥∥₁_prop}
 use Rattle.abl_values.specs.Schema.{SchemaData}
+use Rattle.abl_values.specs.Sound.{IsSound}
+use Rattle.schema_text.specs.Written.{IsHeld}
 use Rattle.database_meaning.specs.declared.contents.Contents.{Contents}
 use Rattle.database_meaning.specs.Traces.{after_commits}
 use Rattle.disk_database.specs.Images.{created}
@@ -23,20 +25,20 @@ module _ {D : Type 0} (view : D → DiskView) (schema : SchemaData) where
   with_first left other [] last first are = first
   with_first left other (run ∷ runs) last first are = (first, are.1)
 
-  none_lost : (contents : Contents) (runs : List (PastRun D)) (last : D) → AreRuns view schema (λ disk. MayBeOpened schema contents (view disk)) runs last → ∥ NothingIsLost view schema contents runs last ∥₁
-  none_lost contents [] last opened = ∣ opened ∣₁
-  none_lost contents (run ∷ runs) last are =
+  none_lost : IsSound schema → IsHeld schema → (contents : Contents) (runs : List (PastRun D)) (last : D) → AreRuns view schema (λ disk. MayBeOpened schema contents (view disk)) runs last → ∥ NothingIsLost view schema contents runs last ∥₁
+  none_lost sound named contents [] last opened = ∣ opened ∣₁
+  none_lost sound named contents (run ∷ runs) last are =
       let durable = are.1.0 in
       let rest = are.1.1 in
-      ∥∥₁_elim (run_opened view schema contents run (next runs last) durable are.0.holds (first_left (IsLeftBy view run) runs last rest)) ∥∥₁_prop
+      ∥∥₁_elim (run_opened view schema sound named contents run (next runs last) durable are.0.holds (first_left (IsLeftBy view run) runs last rest)) ∥∥₁_prop
       (λ (after : IsOpenedAfter view schema contents run (next runs last)).
       let then : Contents = after_commits (setting_of schema run) contents run.trace after.done in
-      ∥∥₁_map (none_lost then runs last (with_first (IsLeftBy view run) (λ disk. MayBeOpened schema then (view disk)) runs last after.opened rest))
+      ∥∥₁_map (none_lost sound named then runs last (with_first (IsLeftBy view run) (λ disk. MayBeOpened schema then (view disk)) runs last after.opened rest))
       (λ later. (are.0, ((durable contents are.0.holds).0, (after.done, (after.kept, later))))))
 
 pub history_kept : {D : Type 0} (view : D → DiskView) (history : History D) → IsHistory view history → ∥ NothingIsLost view history.schema (created history.schema) history.runs history.last ∥₁
 history_kept view history is =
-    none_lost view history.schema (created history.schema) history.runs history.last
+    none_lost view history.schema is.made.sound is.made.held (created history.schema) history.runs history.last
     (with_first view history.schema (λ disk. ComesNext (view history.made) (view disk)) (λ disk. MayBeOpened history.schema (created history.schema) (view disk)) history.runs history.last
     (creation_opened history.schema (view history.made) (view (next view history.schema history.runs history.last)) is.made (first_left view history.schema (λ disk. ComesNext (view history.made) (view disk)) history.runs history.last is.runs))
     is.runs)

@@ -4,3 +4,5 @@ pub mod Histories
 pub mod Calls
 pub mod Births
 pub mod Logs
+pub mod Fits
+pub mod Born

@@ -8,6 +8,8 @@ use Rattle.std.specs.FinMap.{get, get-from_entries}
 use Rattle.std.proofs.lemmas.List.{length-map}
 use Rattle.abl_values.specs.declared.schema.SequenceDef.{SequenceDef}
 use Rattle.abl_values.specs.Schema.{SchemaData}
+use Rattle.abl_values.specs.Sound.{IsSound}
+use Rattle.schema_text.specs.Written.{IsHeld}
 use Rattle.client_database.specs.declared.event.Event.{Event}
 use Rattle.database_meaning.specs.declared.contents.ContentRow.{ContentRow}
 use Rattle.database_meaning.specs.declared.contents.Contents.{Contents}
@@ -37,7 +39,7 @@ sound_rows : (f : Setting) (rows : List ContentRow) → IsSoundRows f rows → I
 sound_rows f [] sound = tt
 sound_rows f (row ∷ rows) sound = (sound.0, sound_rows f rows sound.1)
 
-module _ (f : Setting) (contents : Contents) (disk : DiskView) (seen : IsTrue disk.observable) (sound : IsSoundContents f contents) (is : IsImageOf f.schema contents disk.seen)
+module _ (f : Setting) (contents : Contents) (disk : DiskView) (schema : IsSound f.schema) (named : IsHeld f.schema) (seen : IsTrue disk.observable) (sound : IsSoundContents f contents) (is : IsImageOf f.schema contents disk.seen)
     (all : (image : Image) → disk.left disk.time image → IsImageOf f.schema contents image) where
   read : (refusal : OpenRefusal) → IsRefused f.schema disk.observable disk.seen refusal → IsRefused f.schema true disk.seen refusal
   read refusal why = subst (λ b. IsRefused f.schema b disk.seen refusal) seen why
@@ -46,7 +48,7 @@ module _ (f : Setting) (contents : Contents) (disk : DiskView) (seen : IsTrue di
   may_be_opened = record {
     sound = record { ascending = sound.ascending; rows = sound_rows f contents.rows sound.rows; unique = sound.unique; sequences = sound.sequences };
     holds = record { seen = seen; ascending = sound.ascending; all = all };
-    created = λ why. not_missing f contents disk.seen sound is (read NotCreated why);
+    created = λ why. not_missing f contents disk.seen schema named sound is (read NotCreated why);
     same = λ stored given why. not_another f.schema contents disk.seen stored given is (read (SchemaDiffers stored given) why);
   }
 
@@ -65,7 +67,7 @@ none_sound schema =
 
 pub creation_opened : (schema : SchemaData) (made disk : DiskView) → IsMade schema made → ComesNext made disk → MayBeOpened schema (created schema) disk
 creation_opened schema made disk is next =
-    may_be_opened (record { schema = schema; clients = 0 }) (created schema) disk next.observable (none_sound schema) (new_is schema disk.seen (is.born disk.seen next.there) is.short)
+    may_be_opened (record { schema = schema; clients = 0 }) (created schema) disk is.sound is.held next.observable (none_sound schema) (new_is schema disk.seen (is.born disk.seen next.there) is.short)
     (λ image there. new_is schema image (is.born image (next.images image there)) is.short)
 
 pub creation_whole : (schema : SchemaData) (was now : DiskView) (m : ℕ) (image : Image) (slots : ℕ → List ℕ) → IsBeingMade schema was now → was.time ≤ m → now.left m image → Recovers image slots
@@ -79,7 +81,7 @@ creation_whole schema was now m image slots making from there recovers =
 
 -- ---- a crash
 
-module _ (f : Setting) (contents : Contents) (trace : List Event) (from now m : ℕ) (left : ℕ → Image → Type 0) (legal : IsLegal f contents trace) (survives : SurvivesCrashes from now left f contents trace) where
+module _ (f : Setting) (schema : IsSound f.schema) (named : IsHeld f.schema) (contents : Contents) (trace : List Event) (from now m : ℕ) (left : ℕ → Image → Type 0) (legal : IsLegal f contents trace) (survives : SurvivesCrashes from now left f contents trace) where
   few : acknowledged m trace ≤ commits f contents trace
   few = let some = acknowledged_within m trace in let all = answered_within f (opened contents) trace in omega (arith, some, all)
 
@@ -95,7 +97,7 @@ module _ (f : Setting) (contents : Contents) (trace : List Event) (from now m : 
   module _ (disk : DiskView) (observable : IsTrue disk.observable) (past : from ≤ m) (there : left m disk.seen) (again : (image : Image) → disk.left disk.time image → image ≡ disk.seen) where
     opens : (done : ℕ) → IsImageOf f.schema (after_commits f contents trace done) disk.seen → MayBeOpened f.schema (after_commits f contents trace done) disk
     opens done is =
-        may_be_opened f (after_commits f contents trace done) disk observable (commits_sound f contents trace done legal) is
+        may_be_opened f (after_commits f contents trace done) disk schema named observable (commits_sound f contents trace done legal) is
         (λ image still. subst (IsImageOf f.schema (after_commits f contents trace done)) (sym (again image still)) is)
 
     abbrev Opens : Type 0
@@ -128,14 +130,14 @@ module _ (f : Setting) (contents : Contents) (trace : List Event) (from now m : 
     acknowledged m trace,
     (
       kept (acknowledged m trace) (omega arith) (omega arith) few,
-      may_be_opened f (after_commits f contents trace (acknowledged m trace)) disk observable (commits_sound f contents trace (acknowledged m trace) legal) (held last unclosed disk.seen there)
+      may_be_opened f (after_commits f contents trace (acknowledged m trace)) disk schema named observable (commits_sound f contents trace (acknowledged m trace) legal) (held last unclosed disk.seen there)
           (λ image still. held last unclosed image (images image still)),
     ),
   )
 
 -- ---- what a run leaves
 
-module _ {D : Type 0} (view : D → DiskView) (schema : SchemaData) (contents : Contents) (run : PastRun D) (disk : D) (durable : IsDurable view schema run)
+module _ {D : Type 0} (view : D → DiskView) (schema : SchemaData) (sound : IsSound schema) (named : IsHeld schema) (contents : Contents) (run : PastRun D) (disk : D) (durable : IsDurable view schema run)
     (holds : AreImagesOf (view run.was).observable (view run.was).time (view run.was).left schema contents) where
   abbrev f : Setting
   f = setting_of schema run
@@ -148,9 +150,9 @@ module _ {D : Type 0} (view : D → DiskView) (schema : SchemaData) (contents : 
 
   pub run_opened : IsLeftBy view run disk → ∥ IsOpenedAfter view schema contents run disk ∥₁
   run_opened (Crashed since crash) =
-      ∥∥₁_map (opens_after f contents run.trace (view run.was).time (view run.now).time run.moment left promised.0 promised.1 (view disk) crash.observable since crash.there crash.again)
+      ∥∥₁_map (opens_after f sound named contents run.trace (view run.was).time (view run.now).time run.moment left promised.0 promised.1 (view disk) crash.observable since crash.there crash.again)
       (λ o. record { done = o.0; kept = o.1.0; opened = o.1.1 })
   run_opened (Ended last unclosed next) =
-      let o = opens_at_end f contents run.trace (view run.was).time (view run.now).time run.moment left promised.0 promised.1 last unclosed (view disk) next.observable
+      let o = opens_at_end f sound named contents run.trace (view run.was).time (view run.now).time run.moment left promised.0 promised.1 last unclosed (view disk) next.observable
       (subst (λ (n : ℕ). left n (view disk).seen) (sym last) next.there) (λ image still. subst (λ (n : ℕ). left n image) (sym last) (next.images image still)) in
       ∣ record { done = o.0; kept = o.1.0; opened = o.1.1 } ∣₁

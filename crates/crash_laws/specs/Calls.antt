@@ -2,7 +2,7 @@
 use Rattle.std.specs.Prelude.{ℕ, ◌≤◌, List, [], ◌∷◌}
 use Rattle.abl_values.specs.Schema.{SchemaData}
 use Rattle.database_meaning.specs.declared.contents.Contents.{Contents}
-use Rattle.database_meaning.specs.Traces.{IsLegal, after_commits}
+use Rattle.database_meaning.specs.Traces.{IsLegal, IsSoundContents, after_commits}
 use Rattle.disk_steps.specs.Steps.{Image}
 use Rattle.disk_database.specs.Images.{AreImagesOf, IsImageOf}
 use Rattle.crash_laws.specs.Disks.{ComesNext, DiskView, IsAfterCrash, IsMade, MayBeOpened}
@@ -16,11 +16,12 @@ pub record KeptCall (D : Type 0) : Type 0 where
   pub now : D
   pub moment : ℕ
 
--- what is proved of each such call (`KeepsContents` of `run_works`): whatever contents the disk held, a crash at any moment from its beginning on
--- leaves them
+-- what is proved of each such call (`KeepsContents` of `run_works`): whatever sound contents the disk held, a crash at any moment from its
+-- beginning on leaves them
 abbrev pub IsKeeping : {D : Type 0} → (D → DiskView) → SchemaData → KeptCall D → Type 0
 IsKeeping view schema call =
-    (contents : Contents) → AreImagesOf (view call.was).observable (view call.was).time (view call.was).left schema contents
+    (contents : Contents) → IsSoundContents (record { schema = schema; clients = 0 }) contents
+    → AreImagesOf (view call.was).observable (view call.was).time (view call.was).left schema contents
     → (m : ℕ) (image : Image) → (view call.was).time ≤ m → (view call.now).left m image → ∥ IsImageOf schema contents image ∥₁
 
 -- what such a call leaves: at a crash, or at its end

@@ -1,6 +1,8 @@
 -- A disk as a law sees it, what a crash or a creation makes of it, and that it may be opened.
 use Rattle.std.specs.Prelude.{◌≡◌, ℕ, ◌≤◌, Bool, List, length, IsTrue}
 use Rattle.abl_values.specs.Schema.{SchemaData, canonical_text}
+use Rattle.abl_values.specs.Sound.{IsSound}
+use Rattle.schema_text.specs.Written.{IsHeld}
 use Rattle.abl_storage.specs.declared.disk.Disk.{Ghosts}
 use Rattle.database_meaning.specs.declared.contents.Contents.{Contents}
 use Rattle.database_meaning.specs.Traces.{IsSoundContents}
@@ -37,8 +39,11 @@ pub record ComesNext (before disk : DiskView) : Type 0 where
   pub there : before.left before.time disk.seen
   pub images : (image : Image) → disk.left disk.time image → before.left before.time image
 
--- `create` answered Ok (`disk_database`): each image that a crash may leave is born of the schema, whose text is short enough
+-- `create` answered Ok (`disk_database`): each image that a crash may leave is born of the schema, which is sound and one that a `Schema` can hold,
+-- as that of each file is, and whose text is short enough
 pub record IsMade (schema : SchemaData) (disk : DiskView) : Type 0 where
+  pub sound : IsSound schema
+  pub held : IsHeld schema
   pub short : length (canonical_text schema) ≤ 1048576
   pub born : (image : Image) → disk.left disk.time image → IsBorn image (new_contents schema)
 

@@ -4,4 +4,4 @@ use Rattle.crash_laws.proofs.Opened.{run_opened}
 use Rattle.crash_laws.proofs.laws.what_survives_is_opened.Goals as goal
 
 pub returns : goal.returns
-returns g c = λ schema contents run disk durable holds left. run_opened (view_of g.D.Disk) schema contents run disk durable holds left
+returns g c = λ schema contents run disk sound named durable holds left. run_opened (view_of g.D.Disk) schema sound named contents run disk durable holds left
