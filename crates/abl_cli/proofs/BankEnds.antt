@@ -5,6 +5,8 @@ use Rattle.abl_arguments.specs.CommandLine.{Bank, IsBank, bank_arguments, number
 use Rattle.abl_arguments.specs.declared.parts.Mode.TheVariants.{Quiet}
 use Rattle.abl_outside.specs.Files.{FileState}
 use Rattle.abl_outside.specs.Out.{OutState}
+use Rattle.abl_schema.proofs.ObservableSound.{files-sound}
+use Rattle.held_schemas.proofs.Held.{files-held}
 use Rattle.abl_schema.specs.Rules.{violation_of}
 use Rattle.abl_source.proofs.Violations.{trees_break_none}
 use Rattle.abl_values.specs.Schema.{SchemaData}
@@ -58,7 +60,7 @@ module _ {D : Type 0} (seen : D → DiskState) (disk : D) (arguments : List (Lis
 
   by_result : BankResult (bank_of bank) seen disk old new result → RunEnd report
   by_result (BankPrevented refusal prevents same_disk is) = memory_was_out (is.status ∙ ap status_of (only_memory refusal prevents))
-  by_result (BankNotRun not_run) = memory_was_out (not_run.reported.status ∙ ap status_of (not_opened_by bank_schema (seen disk) has there (seen result.disk) not_run.refusal fine not_run.cause))
+  by_result (BankNotRun not_run) = memory_was_out (not_run.reported.status ∙ ap status_of (not_opened_by bank_schema (files-sound BANK_SCHEMA.now clean) (files-held BANK_SCHEMA.now clean) (seen disk) has there (seen result.disk) not_run.refusal fine not_run.cause))
   by_result (BankRan works are_works ran) =
       let r = ran.reported in
       done_ends report (has_closed report.trace) r.whole ran.ends refl

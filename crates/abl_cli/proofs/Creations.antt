@@ -9,7 +9,7 @@ use Rattle.bi_log.specs.Lengths.{StayShort}
 use Rattle.disk_steps.specs.Steps.{Image, Run}
 use Rattle.disk_database.specs.declared.refusals.CreateRefusal.{CreateRefusal}
 use Rattle.disk_database.specs.declared.refusals.CreateRefusal.TheVariants as create
-use Rattle.disk_database.specs.Answers.{HasOpenLog}
+use Rattle.disk_database.specs.Answers.{IsDatabaseOf, IsNoDatabase}
 use Rattle.run_report.specs.declared.refusal.Refusal.{Refusal}
 use Rattle.run_works.specs.Disks.{DiskState, KeepsLogShort}
 use Rattle.source_files.specs.Files.{HasText}
@@ -33,9 +33,10 @@ unless_disk was now create.AlreadyCreated there memory fine = there refl
 unless_disk was now create.NoMemory there memory fine = memory refl
 unless_disk was now create.Disk there memory fine = absurd (fine refl)
 
-pub not_made : (was now : DiskState) (why : CreateRefusal) (refusal : Refusal) → refusal ≡ creation_refusal why → (why ≡ create.AlreadyCreated → IsTrue was.observable → HasOpenLog was.seen) → (why ≡ create.AlreadyCreated → IsAsItWas was now) → (why ≡ create.NoMemory → IsAsItWas was now) →
-    (why ≡ create.Disk → Rose was.failures now.failures) → (why ≡ create.Disk → IsTrue was.observable → IsAsItWas was now ⊎ ¬ HasOpenLog was.seen) → IsNotMade was now refusal
-not_made was now why refusal is already there memory rose harmless = record { why = why; is = is; already = already; rose = rose; stays = unless_disk was now why there memory; harmless = harmless }
+pub not_made : (was now : DiskState) (why : CreateRefusal) (refusal : Refusal) → refusal ≡ creation_refusal why →
+    (why ≡ create.AlreadyCreated → IsTrue was.observable → (other : SchemaData) × IsDatabaseOf was.seen other) → (why ≡ create.AlreadyCreated → IsAsItWas was now) → (why ≡ create.NoMemory → IsAsItWas was now) →
+    (why ≡ create.Disk → IsTrue was.observable → IsAsItWas was now ⊎ IsNoDatabase was.seen) → (why ≡ create.Disk → Rose was.failures now.failures) → IsNotMade was now refusal
+not_made was now why refusal is already there memory harmless rose = record { why = why; is = is; already = already; rose = rose; stays = unless_disk was now why there memory; harmless = harmless }
 
 -- a creation keeps the log short
 pub short_made : (was now : DiskState) (Step : Image → Image → Type 0) → Run was.time now.time was.left now.left Step → StayShort now.left was.time → KeepsLogShort was now

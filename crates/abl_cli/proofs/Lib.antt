@@ -14,3 +14,4 @@ pub mod Loads
 pub mod Made
 pub mod Named
 pub mod Prevented
+pub mod Refusals

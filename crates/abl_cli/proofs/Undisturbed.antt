@@ -2,8 +2,12 @@
 use Rattle.std.proofs.Common.{◌≡◌, ◌⊎◌, inl, inr, ◌∙◌, ℕ, List, Option, Some, None, ap, refl, subst, sym}
 use Rattle.std.specs.Prelude.{IsTrue}
 use Rattle.fault_count.specs.Faults.{Rose}
+use Rattle.abl_schema.proofs.ObservableSound.{files-sound}
+use Rattle.held_schemas.proofs.Held.{files-held}
 use Rattle.abl_schema.specs.Rules.{violation_of}
 use Rattle.abl_values.specs.Schema.{SchemaData, table_named}
+use Rattle.abl_values.specs.Sound.{IsSound}
+use Rattle.schema_text.specs.Written.{IsHeld}
 use Rattle.abl_outside.specs.Files.{FileState}
 use Rattle.abl_outside.specs.Out.{OutState}
 use Rattle.abl_arguments.specs.CommandLine.{Create, Dump, create_arguments, dump_arguments}
@@ -12,7 +16,7 @@ use Rattle.disk_database.specs.declared.refusals.CreateRefusal.{CreateRefusal}
 use Rattle.disk_database.specs.declared.refusals.CreateRefusal.TheVariants as create
 use Rattle.disk_database.specs.declared.refusals.DumpRefusal.{DumpRefusal}
 use Rattle.disk_database.specs.declared.refusals.DumpRefusal.TheVariants as dump
-use Rattle.disk_database.specs.Answers.{HasOpenLog}
+use Rattle.disk_database.specs.Answers.{IsDatabaseOf, IsNoDatabase}
 use Rattle.run_report.specs.declared.ending.Report.{Report}
 use Rattle.run_report.specs.declared.refusal.Refusal.{Refusal}
 use Rattle.run_report.specs.declared.refusal.Refusal.TheVariants.{NoMemory}
@@ -32,10 +36,10 @@ use Rattle.abl_cli.proofs.Marks.{check_or_create, check_or_dump, create_or_bank,
 
 -- ---- a run
 
-pub run_is_ended : {D : Type 0} (seen : D → DiskState) (disk : D) (schema : SchemaData) (result : Outcome D) → HasDatabase schema (seen disk) → (seen disk).left (seen disk).time (seen disk).seen → (Rose (seen disk).failures (seen result.disk).failures → ⊥) → IsDone seen disk schema result → RunEnd result.report
-run_is_ended seen disk schema result has there quiet (ended how) = how
-run_is_ended seen disk schema result has there quiet (not_opened refusal given status cause) =
-    memory_was_out (status ∙ ap status_of (not_opened_by schema (seen disk) has there (seen result.disk) refusal quiet cause))
+pub run_is_ended : {D : Type 0} (seen : D → DiskState) (disk : D) (schema : SchemaData) (result : Outcome D) → IsSound schema → IsHeld schema → HasDatabase schema (seen disk) → (seen disk).left (seen disk).time (seen disk).seen → (Rose (seen disk).failures (seen result.disk).failures → ⊥) → IsDone seen disk schema result → RunEnd result.report
+run_is_ended seen disk schema result sound named has there quiet (ended how) = how
+run_is_ended seen disk schema result sound named has there quiet (not_opened refusal given status cause) =
+    memory_was_out (status ∙ ap status_of (not_opened_by schema sound named (seen disk) has there (seen result.disk) refusal quiet cause))
 
 -- ---- the schema file
 
@@ -69,10 +73,14 @@ module _ {D : Type 0} (seen : D → DiskState) (disk : D) (arguments : List (Lis
   lacks : (refusal : Refusal) → report.status ≡ status_of refusal → refusal ≡ NoMemory → IsDoneOrWants
   lacks refusal status is = inr (status ∙ ap status_of is)
 
-  module _ (creation : Create) (names : NamesCreation arguments files creation) (df : List ℕ) (there : IsThere files creation.schema df) (clean : violation_of df ≡ None) (known : IsTrue (seen disk).observable) (fresh : HasOpenLog (seen disk).seen → ⊥)
+  module _ (creation : Create) (names : NamesCreation arguments files creation) (df : List ℕ) (there : IsThere files creation.schema df) (clean : violation_of df ≡ None) (known : IsTrue (seen disk).observable) (fresh : IsNoDatabase (seen disk).seen)
       (quiet : Rose (seen disk).failures (seen result.disk).failures → ⊥) where
-    not_made : (why : CreateRefusal) → (why ≡ create.AlreadyCreated → HasOpenLog (seen disk).seen) → (why ≡ create.Disk → Rose (seen disk).failures (seen result.disk).failures) → creation_refusal why ≡ NoMemory
-    not_made create.AlreadyCreated already rose = absurd (fresh (already refl))
+    -- it holds none
+    none_there : (other : SchemaData) × IsDatabaseOf (seen disk).seen other → ⊥
+    none_there found = fresh found.0 found.1
+
+    not_made : (why : CreateRefusal) → (why ≡ create.AlreadyCreated → (other : SchemaData) × IsDatabaseOf (seen disk).seen other) → (why ≡ create.Disk → Rose (seen disk).failures (seen result.disk).failures) → creation_refusal why ≡ NoMemory
+    not_made create.AlreadyCreated already rose = absurd (none_there (already refl))
     not_made create.Disk already rose = absurd (quiet (rose refl))
     not_made create.NoMemory already rose = refl
 
@@ -122,6 +130,13 @@ module _ {D : Type 0} (seen : D → DiskState) (disk : D) (arguments : List (Lis
 
   module _ (named : Dump) (names : NamesTable arguments files named) (df : List ℕ) (there : IsThere files named.schema df) (clean : violation_of df ≡ None) (table : ℕ) (is_table : table_named (schema_in df) named.table ≡ Some table) (has : HasDatabase (schema_in df) (seen disk)) (at : (seen disk).left (seen disk).time (seen disk).seen)
       (quiet : Rose (seen disk).failures (seen result.disk).failures → ⊥) (unbroken : Rose old.faults new.faults → ⊥) where
+    -- the schema of a file that breaks no rule
+    sound : IsSound (schema_in df)
+    sound = files-sound df clean
+
+    held : IsHeld (schema_in df)
+    held = files-held df clean
+
     dump_prevents : (refusal : Refusal) → PreventsDump files faults named refusal → refusal ≡ NoMemory
     dump_prevents refusal (no_schema h) = schema_wants files names.observable names.sound named.schema df there faults refusal clean h
     dump_prevents refusal (no_table schema is none) =
@@ -132,8 +147,8 @@ module _ {D : Type 0} (seen : D → DiskState) (disk : D) (arguments : List (Lis
     by_cause : (why : Option DumpRefusal) → IsDumpCause (schema_in df) (seen disk) (seen result.disk) why → (dump_refusal why ≡ dump_refusal (Some dump.Output) → ⊥) → report.status ≡ status_after (dump_refusal why) → IsDoneOrWants
     by_cause None cause whole status = inl status
     by_cause (Some (dump.Database opening.Disk)) cause whole status = absurd (quiet (cause.1 refl))
-    by_cause (Some (dump.Database opening.NotCreated)) cause whole status = inr (status ∙ ap status_of (only_memory (schema_in df) (seen disk) has at opening.NotCreated cause.0 (λ e. cc e)))
-    by_cause (Some (dump.Database (opening.SchemaDiffers stored given))) cause whole status = inr (status ∙ ap status_of (only_memory (schema_in df) (seen disk) has at (opening.SchemaDiffers stored given) cause.0 (λ e. cc e)))
+    by_cause (Some (dump.Database opening.NotCreated)) cause whole status = inr (status ∙ ap status_of (only_memory (schema_in df) sound held (seen disk) has at opening.NotCreated cause.0 (λ e. cc e)))
+    by_cause (Some (dump.Database (opening.SchemaDiffers stored given))) cause whole status = inr (status ∙ ap status_of (only_memory (schema_in df) sound held (seen disk) has at (opening.SchemaDiffers stored given) cause.0 (λ e. cc e)))
     by_cause (Some (dump.Database opening.NoMemory)) cause whole status = inr status
     by_cause (Some dump.Output) cause whole status = absurd (whole refl)
 

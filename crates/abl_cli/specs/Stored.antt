@@ -1,5 +1,5 @@
 -- The commands `create` and `dump`: what they read, what they do to the disk, and what they write.
-use Rattle.std.specs.Prelude.{◌≡◌, ◌⊎◌, ◌≤◌, length, Bool, true, false, not, IsTrue, List, ℕ, [], Option, Some, None}
+use Rattle.std.specs.Prelude.{◌≡◌, ◌≢◌, ◌⊎◌, ◌≤◌, length, Bool, true, false, not, IsTrue, List, ℕ, [], Option, Some, None}
 use Rattle.fault_count.specs.Faults.{Rose}
 use Rattle.abl_schema.specs.Rules.{violation_of}
 use Rattle.abl_values.specs.Schema.{SchemaData, canonical_text, table_named}
@@ -14,11 +14,11 @@ use Rattle.disk_database.specs.declared.refusals.CreateRefusal.{CreateRefusal}
 use Rattle.disk_database.specs.declared.refusals.CreateRefusal.TheVariants as create
 use Rattle.disk_database.specs.declared.refusals.DumpRefusal.{DumpRefusal}
 use Rattle.disk_database.specs.declared.refusals.DumpRefusal.TheVariants as dump
-use Rattle.disk_database.specs.Answers.{HasOpenLog, HasText as HasStoredText, IsDumped, IsNotDumped, is_disk, is_output}
+use Rattle.disk_database.specs.Answers.{HasText as HasStoredText, IsDatabaseOf, IsDumped, IsNoDatabase, IsNotDumped, is_disk, is_output}
 use Rattle.abl_arguments.specs.CommandLine.{Dump}
 use Rattle.run_report.specs.declared.ending.Report.{Report}
 use Rattle.run_report.specs.declared.refusal.Refusal.{Refusal}
-use Rattle.run_report.specs.declared.refusal.Refusal.TheVariants.{AlreadyCreated, Disk, NoMemory, NoTable, Output}
+use Rattle.run_report.specs.declared.refusal.Refusal.TheVariants.{AlreadyCreated, Disk, NoMemory, NoTable, NotCreated, Output, SchemaDiffers}
 use Rattle.run_report.specs.Ending.{IsRefused, WritesStatus, status_after}
 use Rattle.source_files.specs.Files.{HasText, IsNotRead}
 use Rattle.source_files.specs.Compiled.{BreaksSchema, schema_in}
@@ -66,22 +66,22 @@ pub record Creates (schema : SchemaData) (was now : DiskState) : Type 0 where
 abbrev pub IsAsItWas : DiskState → DiskState → Type 0
 IsAsItWas was now = Stays was.observable now.observable was.seen now.seen was.time now.time was.left now.left
 
--- no log of a database was open on the disk, the text of the schema has at most 2^20 bytes, and each image that a crash now may leave is born:
--- the new database of this schema
+-- the disk held no database, of whatever schema, the text of this schema has at most 2^20 bytes, and each image that a crash now may leave is
+-- born: the new database of this schema
 pub record IsMade (schema : SchemaData) (was now : DiskState) : Type 0 where
-  pub fresh : IsTrue was.observable → ¬ HasOpenLog was.seen
+  pub fresh : IsTrue was.observable → IsNoDatabase was.seen
   pub short : length (canonical_text schema) ≤ 1048576
   pub born : (image : Image) → now.left now.time image → IsBorn image (new_contents schema)
 
--- why it was not made: a log of one is open, or the disk failed, or there was not enough memory. Unless the disk failed it is as it was, and where
--- it failed it is, if a log was open: a creation never harms a database
+-- why it was not made: the disk holds a database, of some schema, or it failed, or there was not enough memory. Unless the disk failed it is as
+-- it was; and where it failed, a database is as it was
 pub record IsNotMade (was now : DiskState) (refusal : Refusal) : Type 0 where
   pub why : CreateRefusal
   pub is : refusal ≡ creation_refusal why
-  pub already : why ≡ create.AlreadyCreated → IsTrue was.observable → HasOpenLog was.seen
+  pub already : why ≡ create.AlreadyCreated → IsTrue was.observable → (other : SchemaData) × IsDatabaseOf was.seen other
   pub rose : why ≡ create.Disk → Rose was.failures now.failures
   pub stays : (why ≡ create.Disk → ⊥) → IsAsItWas was now
-  pub harmless : why ≡ create.Disk → IsTrue was.observable → IsAsItWas was now ⊎ ¬ HasOpenLog was.seen
+  pub harmless : why ≡ create.Disk → IsTrue was.observable → IsAsItWas was now ⊎ IsNoDatabase was.seen
 
 -- the report of a command that did its work, with nothing written
 pub record IsSilent (old new : OutState) (report : Report) : Type 0 where
@@ -132,3 +132,13 @@ pub record DumpResult (schema : SchemaData) (table : ℕ) (was now : DiskState) 
   pub trace : report.trace ≡ []
   pub ends : report.ends ≡ []
   pub lines : WritesStatus [] [] report.refusal between new
+
+-- ---- for laws
+
+-- What a refusal says of a disk that is observable. NotCreated: its image is that of no database, of whatever schema. AlreadyCreated: it is that of one.
+-- SchemaDiffers: it is that of a database of a schema with the stored text, which is not the given one
+abbrev pub SaysOfDisk : DiskState → Refusal → Type 0
+SaysOfDisk disk NotCreated = IsNoDatabase disk.seen
+SaysOfDisk disk AlreadyCreated = (schema : SchemaData) × IsDatabaseOf disk.seen schema
+SaysOfDisk disk (SchemaDiffers stored given) = (stored ≢ given) × ((schema : SchemaData) × (canonical_text schema ≡ stored) × IsDatabaseOf disk.seen schema)
+SaysOfDisk disk refusal = Unit {0}

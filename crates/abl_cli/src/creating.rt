@@ -17,7 +17,8 @@ use run_works::Outcome;
 use source_files::{read, schema_of};
 use std::alloc::Global;
 
-/// Makes an empty database with the schema that the arguments name. It writes no report.
+/// Makes an empty database with the schema that the arguments name, where the disk holds none of
+/// whatever schema. It writes no report.
 pub fn create_schema<F: Files, D: Disk + Drop, O: Out>(
     alloc: Global,
     arguments: &[Arg],

@@ -6,6 +6,7 @@ ghost use Rattle.bound_tree.specs.Tree.{Source as Tree};
 ghost use Rattle.abl_base.specs.declared.rule.Rule.{Rule as TheRule};
 ghost use Rattle.abl_base.specs.declared.place.Place.{Place as ThePlace};
 ghost use Rattle.abl_schema.specs.Rules.{violation_of};
+ghost use Rattle.run_report.specs.declared.refusal.Refusal.{Refusal};
 ghost use Rattle.run_report.specs.declared.refusal.Refusal.TheVariants.{Usage, File, TooLong, Schema, Source, Output};
 ghost use Rattle.run_works.specs.declared.outcome.Outcome.{Outcome};
 ghost use Rattle.run_works.specs.Disks.{state_of};
@@ -13,17 +14,18 @@ ghost use Rattle.source_files.specs.declared.files.TheConstants.{MAX_FILE_BYTES 
 ghost use Rattle.abl_outside.specs.Out.{appended};
 ghost use Rattle.abl_outside.specs.declared.out.Stream.TheVariants.{Output as Standard};
 ghost use Rattle.abl_source.specs.Sources.{BreaksRule};
-ghost use Rattle.abl_arguments.specs.CommandLine.{Bank, Check, Create, Dump, Run, HaveForm, IsBank, IsWrong, bank_arguments};
-ghost use Rattle.abl_values.specs.Schema.{table_named};
+ghost use Rattle.abl_arguments.specs.CommandLine.{Bank, Check, Create, Dump, Run, HaveForm, IsBank, IsWrong, bank_arguments, create_arguments};
+ghost use Rattle.abl_values.specs.Schema.{SchemaData, table_named};
 ghost use Rattle.bank_inputs.specs.declared.sources.TheConstants.{BANK_SCHEMA};
 ghost use Rattle.bank_run.specs.Result.{bank_schema};
 ghost use Rattle.bank_run.specs.Texts.{bank_texts};
-ghost use Rattle.disk_database.specs.Answers.{HasOpenLog};
+ghost use Rattle.disk_database.specs.Answers.{IsDatabaseOf, IsNoDatabase};
 ghost use Rattle.abl_cli.specs.Check.{HaveListings, check_text};
 ghost use Rattle.abl_outside.specs.Out.{OutState};
 ghost use Rattle.abl_outside.specs.Files.{FileState};
 ghost use Rattle.abl_cli.specs.Command.{AllThere, AreSources, AreThere, AreTrees, bank_of, CommandResult, HasWholeText, IsRefusal, IsThere, IsUsage, NamesRun, named_inputs, run_files};
 ghost use Rattle.source_files.specs.Compiled.{schema_in};
+ghost use Rattle.abl_cli.specs.Stored.{IsAsItWas, SaysOfDisk};
 ghost use Rattle.abl_cli.specs.Undisturbed.{HasDatabase, IsDone, NamesCreation, NamesTable, RunEnd};
 ghost use Rattle.abl_cli.specs.CheckFiles.{AreThereWith, NamesSources, check_files};
 
@@ -105,13 +107,30 @@ pub fn a_bank_over_its_database_ends<D: Disk>()
 {}
 
 /// Where the arguments name a creation, the files are observable and sound, the schema file is there,
-/// short enough and breaks no rule, and the disk has no open log and does not fail: the status is 0, or
-/// 7, for out of memory.
+/// short enough and breaks no rule, and the disk holds no database, of whatever schema, and does not
+/// fail: the status is 0, or 7, for out of memory.
 pub fn a_creation_without_faults_is_done<D: Disk>()
     ensures { (disk : D) (arguments : List (List ℕ)) (files : FileState) (faults : ℕ) (old new : OutState) (outcome : Outcome D) (create : Create) →
         CommandResult (state_of D.Disk) disk arguments files faults old new outcome → NamesCreation arguments files create →
-        (df : List ℕ) → IsThere files create.schema df → violation_of df ≡ None → IsTrue (D.observable disk) → (HasOpenLog (D.seen disk) → ⊥) →
+        (df : List ℕ) → IsThere files create.schema df → violation_of df ≡ None → IsTrue (D.observable disk) → IsNoDatabase (D.seen disk) →
         (Rose (D.failures disk) (D.failures outcome.disk) → ⊥) → (outcome.report.status ≡ 0) ⊎ (outcome.report.status ≡ 7) }
+{}
+
+/// A refusal says what a disk that is observable holds: NotCreated, that its image is that of no
+/// database, of whatever schema; AlreadyCreated, that it is that of one; SchemaDiffers, that it is that
+/// of a database of a schema with the stored text, which is not that of the given one.
+pub fn a_refusal_says_what_the_disk_holds<D: Disk>()
+    ensures { (disk : D) (arguments : List (List ℕ)) (files : FileState) (faults : ℕ) (old new : OutState) (outcome : Outcome D) (refusal : Refusal) →
+        CommandResult (state_of D.Disk) disk arguments files faults old new outcome → IsTrue (D.observable disk) → outcome.report.refusal ≡ Some refusal →
+        SaysOfDisk (state_of D.Disk disk) refusal }
+{}
+
+/// A creation harms no database. Where the disk is observable and holds one, of whatever schema, it is
+/// as it was after a creation, also where it failed.
+pub fn a_creation_harms_no_database<D: Disk>()
+    ensures { (disk : D) (arguments : List (List ℕ)) (files : FileState) (faults : ℕ) (old new : OutState) (outcome : Outcome D) (create : Create) (schema : SchemaData) →
+        CommandResult (state_of D.Disk) disk arguments files faults old new outcome → arguments ≡ create_arguments create → IsTrue (D.observable disk) →
+        IsDatabaseOf (D.seen disk) schema → IsAsItWas (state_of D.Disk disk) (state_of D.Disk outcome.disk) }
 {}
 
 /// After a creation with status 0 over an observable disk, the disk has a database of the schema, which

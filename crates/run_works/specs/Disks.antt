@@ -59,7 +59,8 @@ opening_refusal (opening.SchemaDiffers stored given) = SchemaDiffers stored give
 opening_refusal opening.Disk = Disk
 opening_refusal opening.NoMemory = NoMemory
 
--- why the database of this schema was not opened on the disk: by what its reads give (`IsRefused`), and Disk only where its count rose
+-- why the database of this schema was not opened on the disk: by what its reads give, which is no database of any schema, or one of a schema with
+-- another text (`IsRefused`), and Disk only where its count rose
 pub record IsNotOpened (schema : SchemaData) (old new : DiskState) (refusal : Refusal) : Type 0 where
   pub why : OpenRefusal
   pub is : refusal ≡ opening_refusal why

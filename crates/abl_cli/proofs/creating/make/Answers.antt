@@ -16,8 +16,8 @@ pub returns-in-Err-clause-did : goal.returns-in-Err-clause-did
 returns-in-Err-clause-did g c =
     NotMade (record { observable = c.create.ensures.same_observable; steps = c.create.ensures.time })
     (not_made (state_of g.D.Disk c.args.disk) (state_of g.D.Disk c.create.new.disk) c.in-Err.why _ c.creation_refusal.ensures
-    (λ e. c.in-Err.ensures.already (ap (λ (x : CreateRefusal). Err x) e)) (λ e. c.in-Err.ensures.refused (ap (λ (x : CreateRefusal). Err x) e)) (λ e. c.in-Err.ensures.untouched (ap (λ (x : CreateRefusal). Err x) e)) (λ e. c.in-Err.ensures.cause (ap (λ (x : CreateRefusal). Err x) e))
-    (λ e. c.in-Err.ensures.harmless (ap (λ (x : CreateRefusal). Err x) e)))
+    (λ e. c.in-Err.ensures.already (ap (λ (x : CreateRefusal). Err x) e)) (λ e. c.in-Err.ensures.refused (ap (λ (x : CreateRefusal). Err x) e)) (λ e. c.in-Err.ensures.untouched (ap (λ (x : CreateRefusal). Err x) e)) (λ e. c.in-Err.ensures.harmless (ap (λ (x : CreateRefusal). Err x) e))
+    (λ e. c.in-Err.ensures.cause (ap (λ (x : CreateRefusal). Err x) e)))
     c.refused-report.ensures
 
 pub returns-in-Ok-clause-log : goal.returns-in-Ok-clause-log
