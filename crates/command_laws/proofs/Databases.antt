@@ -1,11 +1,6 @@
--- Each crash of a command over a database leaves a database, and so does a history of commands.
-use Rattle.std.proofs.Common.{◌≡◌, inl, inr, ℕ, ◌+◌, ◌<◌, ◌≤◌, List, [], ◌∷◌, Option, None, IsTrue, sym, ap, ◌∙◌, subst, arith}
+-- Each crash of a command over a database leaves a database, and so does a history of commands, in which nothing acknowledged is lost.
+use Rattle.std.proofs.Common.{◌≡◌, inl, inr, ℕ, ◌+◌, List, [], ◌∷◌, ◌++◌, None, IsTrue, sym, subst, arith}
 use Rattle.std.proofs.Math.Logic.{∥∥₁_elim, ∥∥₁_map, ∥∥₁_prop}
-use Rattle.abl_arguments.specs.CommandLine.{Create, create_arguments}
-use Rattle.abl_cli.proofs.FileCauses.{same_text}
-use Rattle.abl_cli.proofs.Judged.{no_status_0}
-use Rattle.abl_cli.proofs.Marks.{check_or_create, create_or_bank, create_or_dump, run_or_create}
-use Rattle.abl_cli.specs.Command.{Banked, Checked, Created, Dumped, NotRun, Ran, Refused}
 use Rattle.abl_cli.specs.Undisturbed.{HasDatabase}
 use Rattle.abl_schema.proofs.ObservableSound.{files-sound}
 use Rattle.abl_schema.specs.Rules.{violation_of}
@@ -13,43 +8,24 @@ use Rattle.abl_storage.specs.Disk.{IsImage}
 use Rattle.abl_storage.specs.declared.disk.Disk.{Ghosts}
 use Rattle.abl_values.specs.Schema.{SchemaData}
 use Rattle.abl_values.specs.Sound.{IsSound}
+use Rattle.client_database.specs.declared.event.Event.{Event}
 use Rattle.crash_laws.proofs.Births.{born_with, crash_born, history_born}
+use Rattle.crash_laws.proofs.Calls.{calls_kept}
 use Rattle.crash_laws.specs.Births.{IsBornFrom, IsBornWith, LeavesBorn}
-use Rattle.crash_laws.specs.Calls.{AreCalls, IsLeftByKept, KeptCall, KeptCrashed, KeptEnded, Keeping, PastCall, Running}
+use Rattle.crash_laws.specs.Calls.{AreCalls, CallHistory, IsCallHistory, IsLeftByKept, KeptCall, KeptCrashed, KeptEnded, Keeping, NothingIsLostIn, PastCall, Running}
 use Rattle.crash_laws.specs.Disks.{ComesNext, view_of}
-use Rattle.crash_laws.specs.History.{Crashed, Ended, IsLeftBy, PastRun, setting_of}
+use Rattle.crash_laws.specs.History.{AreKept, Crashed, Ended, IsLeftBy, PastRun, setting_of}
 use Rattle.database_meaning.specs.Setting.{Setting}
-use Rattle.database_meaning.specs.Traces.{acknowledged, after_commits, commits}
+use Rattle.database_meaning.specs.Traces.{IsLegal, acknowledged, after_commits}
 use Rattle.database_meaning.specs.declared.contents.Contents.{Contents}
 use Rattle.disk_database.specs.Images.{IsImageOf, created}
 use Rattle.disk_steps.specs.Steps.{Image}
 use Rattle.run_works.specs.Disks.{state_of}
 use Rattle.source_files.specs.Compiled.{schema_in}
-use Rattle.source_files.specs.Files.{HasText}
-use Rattle.command_laws.proofs.Histories.{made_view}
+use Rattle.command_laws.proofs.Histories.{has_clean, made_view}
 use Rattle.command_laws.proofs.Results.{KeepsOrRuns, kept_or_run}
-use Rattle.command_laws.specs.Databases.{AreCommandsOver, CommandCrashed, CommandEnded, IsDatabase, IsLeftByCommand, IsOver, LeaveDatabases, LeavesDatabases, TimedCommand}
+use Rattle.command_laws.specs.Databases.{AreCommandsOver, CommandCrashed, CommandEnded, IsDatabase, IsLeftByCommand, IsOver, LeaveDatabases, LeavesDatabases, LoseNothing, TimedCommand}
 use Rattle.command_laws.specs.History.{HasCreated, HasResult, PastCommand}
-
--- ---- the schema file of a creation with status 0
-
-one_name : (a b : Create) → create_arguments a ≡ create_arguments b → a.schema ≡ b.schema
-one_name a b same = cc same
-
-module _ {D : Type 0} (d : Ghosts D) (df : List ℕ) (command : PastCommand D) (has : HasCreated d df command) where
-  -- it breaks no rule
-  has_clean : HasResult d command → violation_of df ≡ None
-  has_clean (Refused given refusal cause same is) = absurd (no_status_0 (state_of d) command.disk command.arguments command.files command.faults command.old command.new command.outcome refusal (sym is.status ∙ has.done))
-  has_clean (NotRun run form args texts clean works are not_run) = absurd (run_or_create command.arguments run has.named args has.names.arguments_are)
-  has_clean (Ran run form args texts clean works are ran) = absurd (run_or_create command.arguments run has.named args has.names.arguments_are)
-  has_clean (Checked check form args listings listed same checked) = absurd (check_or_create command.arguments check has.named args has.names.arguments_are)
-  has_clean (Banked bank form args result) = absurd (create_or_bank command.arguments has.named bank has.names.arguments_are args)
-  has_clean (Dumped dump form args schema table is result) = absurd (create_or_dump command.arguments has.named dump has.names.arguments_are args)
-  has_clean (Created made form args schema is result) =
-      let name : made.schema ≡ has.named.schema = one_name made has.named (sym args ∙ has.names.arguments_are) in
-      let text : HasText command.files has.named.schema is.df = subst (λ (n : List ℕ). HasText command.files n is.df) name is.has in
-      let same : is.df ≡ df = same_text command.files has.names.observable has.names.sound text has.there.there in
-      ap violation_of (sym same) ∙ is.clean
 
 module _ {D : Type 0} (d : Ghosts D) (known : (disk : D) (m : ℕ) (image : Image) → d.left disk m image → IsImage (d.observable disk) (d.time disk) m image) (reads : (disk : D) → IsTrue (d.observable disk) → d.left disk (d.time disk) (d.seen disk)) where
   -- ---- one command
@@ -66,7 +42,7 @@ module _ {D : Type 0} (d : Ghosts D) (known : (disk : D) (m : ℕ) (image : Imag
   call_of c = record { was = c.command.disk; now = c.command.outcome.disk; moment = c.moment }
 
   leaves_by : (schema : SchemaData) (command : PastCommand D) → IsSound schema → HasDatabase schema (state_of d command.disk) → KeepsOrRuns d known reads schema command → LeavesDatabases d schema command
-  leaves_by schema command sound has (inl keeps) m image from there = ∥∥₁_elim (keeps has.contents has.holds m image from there) ∥∥₁_prop (λ (is : IsImageOf schema has.contents image).
+  leaves_by schema command sound has (inl keeps) m image from there = ∥∥₁_elim (keeps.kept has.contents has.sound has.holds m image from there) ∥∥₁_prop (λ (is : IsImageOf schema has.contents image).
       ∥∥₁_map (born_with schema sound has.contents has.sound image is) (λ (born : IsBornWith schema has.contents image). (has.contents, born)))
   leaves_by schema command sound has (inr runs) m image from there =
       let run : PastRun D = run_of (record { command = command; moment = m }) runs.0 in
@@ -75,7 +51,7 @@ module _ {D : Type 0} (d : Ghosts D) (known : (disk : D) (m : ℕ) (image : Imag
       (from_run schema run has.contents (acknowledged m run.trace) image)
 
   pub command_leaves : (df : List ℕ) (command : PastCommand D) → HasResult d command → IsOver df command → violation_of df ≡ None → HasDatabase (schema_in df) (state_of d command.disk) → LeavesDatabases d (schema_in df) command
-  command_leaves df command result over clean has = leaves_by (schema_in df) command (files-sound df clean) has (kept_or_run d known reads df command result over)
+  command_leaves df command result over clean has = leaves_by (schema_in df) command (files-sound df clean) has (kept_or_run d known reads df clean command result over)
 
   -- ---- a history, as the laws of crashes see it
 
@@ -83,9 +59,13 @@ module _ {D : Type 0} (d : Ghosts D) (known : (disk : D) (m : ℕ) (image : Imag
   past_call schema c (inl keeps) = Keeping (call_of c)
   past_call schema c (inr runs) = Running (run_of c runs.0)
 
-  abbrev past_calls : (df : List ℕ) (left : D → Type 0) (cs : List (TimedCommand D)) (last : D) → AreCommandsOver d df left cs last → List (PastCall D)
-  past_calls df left [] last are = []
-  past_calls df left (c ∷ cs) last are = past_call (schema_in df) c (kept_or_run d known reads df c.command are.1.0 are.1.1.0) ∷ past_calls df (IsLeftByCommand d c) cs last are.1.1.1
+  -- what a command over its database is: a call that keeps the contents, or a run
+  abbrev kind_of : (df : List ℕ) → violation_of df ≡ None → (c : TimedCommand D) → HasResult d c.command → IsOver df c.command → KeepsOrRuns d known reads (schema_in df) c.command
+  kind_of df clean c result over = kept_or_run d known reads df clean c.command result over
+
+  abbrev past_calls : (df : List ℕ) → violation_of df ≡ None → (left : D → Type 0) (cs : List (TimedCommand D)) (last : D) → AreCommandsOver d df left cs last → List (PastCall D)
+  past_calls df clean left [] last are = []
+  past_calls df clean left (c ∷ cs) last are = past_call (schema_in df) c (kind_of df clean c are.1.0 are.1.1.0) ∷ past_calls df clean (IsLeftByCommand d c) cs last are.1.1.1
 
   left_by_kept : (c : TimedCommand D) (disk : D) → IsLeftByCommand d c disk → IsLeftByKept (view_of d) (call_of c) disk
   left_by_kept c disk (CommandCrashed since crash) = KeptCrashed since crash
@@ -103,13 +83,15 @@ module _ {D : Type 0} (d : Ghosts D) (known : (disk : D) (m : ℕ) (image : Imag
 
   one_call : (schema : SchemaData) (left : D → Type 0) (c : TimedCommand D) (k : KeepsOrRuns d known reads schema c.command) (calls : List (PastCall D)) (last : D) → left c.command.disk → AreCalls (view_of d) schema (IsLeftByCommand d c) calls last
       → AreCalls (view_of d) schema left (past_call schema c k ∷ calls) last
-  one_call schema left c (inl keeps) calls last first rest = (first, (keeps, left_so schema (IsLeftByCommand d c) (IsLeftByKept (view_of d) (call_of c)) (left_by_kept c) calls last rest))
+  one_call schema left c (inl keeps) calls last first rest = (first, (keeps.kept, left_so schema (IsLeftByCommand d c) (IsLeftByKept (view_of d) (call_of c)) (left_by_kept c) calls last rest))
   one_call schema left c (inr runs) calls last first rest = (first, (runs.1, left_so schema (IsLeftByCommand d c) (IsLeftBy (view_of d) (run_of c runs.0)) (left_by_run c runs.0) calls last rest))
 
-  are_calls : (df : List ℕ) (left : D → Type 0) (cs : List (TimedCommand D)) (last : D) (are : AreCommandsOver d df left cs last) → AreCalls (view_of d) (schema_in df) left (past_calls df left cs last are) last
-  are_calls df left [] last are = are
-  are_calls df left (c ∷ cs) last are =
-      one_call (schema_in df) left c (kept_or_run d known reads df c.command are.1.0 are.1.1.0) (past_calls df (IsLeftByCommand d c) cs last are.1.1.1) last are.0 (are_calls df (IsLeftByCommand d c) cs last are.1.1.1)
+  are_calls : (df : List ℕ) (clean : violation_of df ≡ None) (left : D → Type 0) (cs : List (TimedCommand D)) (last : D) (are : AreCommandsOver d df left cs last) → AreCalls (view_of d) (schema_in df) left (past_calls df clean left cs last are) last
+  are_calls df clean left [] last are = are
+  are_calls df clean left (c ∷ cs) last are =
+      one_call (schema_in df) left c (kind_of df clean c are.1.0 are.1.1.0) (past_calls df clean (IsLeftByCommand d c) cs last are.1.1.1) last are.0 (are_calls df clean (IsLeftByCommand d c) cs last are.1.1.1)
+
+  -- ---- the images
 
   one_leaves : (schema : SchemaData) (contents : Contents) (c : TimedCommand D) (k : KeepsOrRuns d known reads schema c.command) (calls : List (PastCall D)) (cs : List (TimedCommand D)) (last : D)
       → ((then : Contents) → LeavesBorn (view_of d) schema then calls last → LeaveDatabases d schema cs last) → LeavesBorn (view_of d) schema contents (past_call schema c k ∷ calls) last → LeaveDatabases d schema (c ∷ cs) last
@@ -119,23 +101,64 @@ module _ {D : Type 0} (d : Ghosts D) (known : (disk : D) (m : ℕ) (image : Imag
       let run : PastRun D = run_of c runs.0 in
       (λ m image from there. ∥∥₁_map (born.0 m image from there) (from_run schema run contents (acknowledged m run.trace) image), rest (after_commits (setting_of schema run) contents run.trace born.1.0) born.1.1.1)
 
-  databases : (df : List ℕ) (contents : Contents) (left : D → Type 0) (cs : List (TimedCommand D)) (last : D) (are : AreCommandsOver d df left cs last) → LeavesBorn (view_of d) (schema_in df) contents (past_calls df left cs last are) last
-      → LeaveDatabases d (schema_in df) cs last
-  databases df contents left [] last are born = λ image there. ∥∥₁_map (born image there) (λ (is : IsBornWith (schema_in df) contents image). (contents, is))
-  databases df contents left (c ∷ cs) last are born =
-      one_leaves (schema_in df) contents c (kept_or_run d known reads df c.command are.1.0 are.1.1.0) (past_calls df (IsLeftByCommand d c) cs last are.1.1.1) cs last
-      (λ (then : Contents). databases df then (IsLeftByCommand d c) cs last are.1.1.1) born
+  databases : (df : List ℕ) (clean : violation_of df ≡ None) (contents : Contents) (left : D → Type 0) (cs : List (TimedCommand D)) (last : D) (are : AreCommandsOver d df left cs last)
+      → LeavesBorn (view_of d) (schema_in df) contents (past_calls df clean left cs last are) last → LeaveDatabases d (schema_in df) cs last
+  databases df clean contents left [] last are born = λ image there. ∥∥₁_map (born image there) (λ (is : IsBornWith (schema_in df) contents image). (contents, is))
+  databases df clean contents left (c ∷ cs) last are born =
+      one_leaves (schema_in df) contents c (kind_of df clean c are.1.0 are.1.1.0) (past_calls df clean (IsLeftByCommand d c) cs last are.1.1.1) cs last
+      (λ (then : Contents). databases df clean then (IsLeftByCommand d c) cs last are.1.1.1) born
+
+  -- ---- the contents
+
+  -- a command without events has no commit
+  not_among : (before later : List Event) (e : Event) → [] ≡ before ++ e ∷ later → ⊥
+  not_among [] later e is = cc is
+  not_among (x ∷ before) later e is = cc is
+
+  none_kept : (f : Setting) (contents : Contents) (moment : ℕ) → AreKept f contents [] moment 0
+  none_kept f contents moment = record { all = λ before later e is acknowledges. absurd (not_among before later e is); least = omega arith; most = omega arith; there = omega arith }
+
+  -- what a command says of its trace, where whoever comes next loses nothing
+  abbrev Leaves : (schema : SchemaData) (contents : Contents) (moment : ℕ) (cs : List (TimedCommand D)) (last : D) → List Event → Type 0
+  Leaves schema contents moment cs last trace =
+      (clients : ℕ) × (IsLegal (record { schema = schema; clients = clients }) contents trace
+      × ((done : ℕ) × (AreKept (record { schema = schema; clients = clients }) contents trace moment done
+      × LoseNothing d schema (after_commits (record { schema = schema; clients = clients }) contents trace done) cs last)))
+
+  one_loses : (schema : SchemaData) (contents : Contents) (c : TimedCommand D) (k : KeepsOrRuns d known reads schema c.command) (calls : List (PastCall D)) (cs : List (TimedCommand D)) (last : D)
+      → ((then : Contents) → NothingIsLostIn (view_of d) schema then calls last → LoseNothing d schema then cs last) → NothingIsLostIn (view_of d) schema contents (past_call schema c k ∷ calls) last → LoseNothing d schema contents (c ∷ cs) last
+  one_loses schema contents c (inl keeps) calls cs last rest lost = (
+    lost.0,
+    subst (Leaves schema contents c.moment cs last) (sym keeps.silent) (0, ((lost.0.sound, tt), (0, (none_kept (record { schema = schema; clients = 0 }) contents c.moment, rest contents lost.1)))),
+  )
+  one_loses schema contents c (inr runs) calls cs last rest lost =
+      let done : ℕ = lost.1.1.0 in
+      (lost.0, (runs.0, (lost.1.0, (done, (lost.1.1.1.0, rest (after_commits (setting_of schema (run_of c runs.0)) contents c.command.outcome.report.trace done) lost.1.1.1.1)))))
+
+  lose_nothing : (df : List ℕ) (clean : violation_of df ≡ None) (contents : Contents) (left : D → Type 0) (cs : List (TimedCommand D)) (last : D) (are : AreCommandsOver d df left cs last)
+      → NothingIsLostIn (view_of d) (schema_in df) contents (past_calls df clean left cs last are) last → LoseNothing d (schema_in df) contents cs last
+  lose_nothing df clean contents left [] last are lost = lost
+  lose_nothing df clean contents left (c ∷ cs) last are lost =
+      one_loses (schema_in df) contents c (kind_of df clean c are.1.0 are.1.1.0) (past_calls df clean (IsLeftByCommand d c) cs last are.1.1.1) cs last
+      (λ (then : Contents). lose_nothing df clean then (IsLeftByCommand d c) cs last are.1.1.1) lost
 
   -- ---- a creation, and what comes after it
 
   abbrev left_by_creation : PastCommand D → D → Type 0
   left_by_creation creation disk = ComesNext (view_of d creation.outcome.disk) (view_of d disk)
 
-  pub commands_leave : (df : List ℕ) (creation : PastCommand D) (cs : List (TimedCommand D)) (last : D) → HasCreated d df creation → AreCommandsOver d df (left_by_creation creation) cs last → ∥ LeaveDatabases d (schema_in df) cs last ∥₁
-  commands_leave df creation cs last has are =
-      ∥∥₁_map
-      (history_born (view_of d) (record { schema = schema_in df; made = creation.outcome.disk; calls = past_calls df (left_by_creation creation) cs last are; last = last }) (files-sound df (has_clean d df creation has has.result)) (record {
-        made = made_view d df creation has;
-        calls = are_calls df (left_by_creation creation) cs last are;
-      }))
-      (databases df (created (schema_in df)) (left_by_creation creation) cs last are)
+  module _ (df : List ℕ) (creation : PastCommand D) (cs : List (TimedCommand D)) (last : D) (has : HasCreated d df creation) (are : AreCommandsOver d df (left_by_creation creation) cs last) where
+    clean : violation_of df ≡ None
+    clean = has_clean d df creation has has.result
+
+    abbrev history : CallHistory D
+    history = record { schema = schema_in df; made = creation.outcome.disk; calls = past_calls df clean (left_by_creation creation) cs last are; last = last }
+
+    is_history : IsCallHistory (view_of d) history
+    is_history = record { made = made_view d df creation has; calls = are_calls df clean (left_by_creation creation) cs last are }
+
+    pub commands_leave : ∥ LeaveDatabases d (schema_in df) cs last ∥₁
+    commands_leave = ∥∥₁_map (history_born (view_of d) history is_history) (databases df clean (created (schema_in df)) (left_by_creation creation) cs last are)
+
+    pub commands_lose_nothing : ∥ LoseNothing d (schema_in df) (created (schema_in df)) cs last ∥₁
+    commands_lose_nothing = ∥∥₁_map (calls_kept (view_of d) history is_history) (lose_nothing df clean (created (schema_in df)) (left_by_creation creation) cs last are)

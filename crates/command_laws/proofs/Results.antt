@@ -1,24 +1,29 @@
 -- A command over its database keeps the contents, or it is a run whose commits survive.
-use Rattle.std.proofs.Common.{◌≡◌, ◌⊎◌, inl, inr, ⊎_elim, ℕ, ◌+◌, ◌≤◌, List, length, IsTrue, refl, sym, ap, ◌∙◌, subst, arith}
-use Rattle.std.proofs.Math.Logic.{∥∥₁_elim, ∥∥₁_prop}
+use Rattle.std.proofs.Common.{◌≡◌, ◌⊎◌, inl, inr, ℕ, ◌+◌, ◌≤◌, List, [], None, length, IsTrue, refl, sym, ap, ◌∙◌, subst, arith}
+use Rattle.abl_schema.proofs.ObservableSound.{files-sound}
+use Rattle.held_schemas.proofs.Held.{files-held}
+use Rattle.abl_schema.specs.Rules.{violation_of}
 use Rattle.abl_arguments.specs.CommandLine.{Bank, number_of}
 use Rattle.abl_cli.proofs.FileCauses.{same_text}
+use Rattle.abl_cli.proofs.Refusals.{creation_stays}
 use Rattle.abl_cli.specs.Command.{Banked, Checked, Created, Dumped, NotRun, Ran, Refused, bank_of}
 use Rattle.abl_cli.specs.Stored.{CreateResult, IsAsItWas, Made, NotMade}
 use Rattle.abl_outside.specs.Files.{FileState}
 use Rattle.abl_storage.specs.Disk.{IsImage}
 use Rattle.abl_storage.specs.declared.disk.Disk.{Ghosts}
 use Rattle.abl_values.specs.Schema.{SchemaData}
+use Rattle.abl_values.specs.Sound.{IsSound}
+use Rattle.schema_text.specs.Written.{IsHeld}
 use Rattle.bank_inputs.specs.declared.sources.TheConstants.{BANK_SCHEMA}
 use Rattle.bank_run.specs.Result.{BankNotRun, BankPrevented, BankRan, BankResult}
-use Rattle.disk_database.specs.Answers.{HasOpenLog}
-use Rattle.disk_database.specs.declared.refusals.CreateRefusal.{CreateRefusal}
-use Rattle.disk_database.specs.declared.refusals.CreateRefusal.TheVariants as create
+use Rattle.database_meaning.specs.Traces.{IsSoundContents}
+use Rattle.database_meaning.specs.declared.contents.Contents.{Contents}
+use Rattle.disk_database.proofs.Reopenings.{not_missing}
+use Rattle.disk_database.specs.Answers.{IsNoDatabase}
+use Rattle.disk_database.specs.Images.{IsImageOf}
 use Rattle.disk_steps.specs.Steps.{Image}
-use Rattle.log_meaning.specs.Images.{IsOpened, Recovers}
-use Rattle.logged_slots.specs.Stops.{HasSlots}
 use Rattle.run_works.proofs.Disks.{untouched}
-use Rattle.run_works.specs.Disks.{DiskState, IsDurable, KeepsContents, state_of}
+use Rattle.run_works.specs.Disks.{HoldsContents, IsDurable, KeepsContents, state_of}
 use Rattle.source_files.specs.Compiled.{schema_in}
 use Rattle.source_files.specs.Files.{HasText}
 use Rattle.command_laws.specs.Databases.{HasFile, IsOver}
@@ -28,64 +33,71 @@ use Rattle.command_laws.specs.History.{HasResult, PastCommand}
 pub same_schema : (files : FileState) (name df : List ℕ) → HasFile files name df → (text : List ℕ) → HasText files name text → schema_in text ≡ schema_in df
 same_schema files name df file text has = ap (λ (t : List ℕ). schema_in t) (same_text files file.observable file.sound has file.there.there)
 
--- what recovers has an open log
-open_log : (seen : Image) (slots : ℕ → List ℕ) → Recovers seen slots → HasOpenLog seen
-open_log seen slots is = ⊎_elim
-    (λ (first : is.area ≡ 1). inl (is.generation, subst (λ (area : ℕ). IsOpened (seen area) is.generation) first is.log.opened))
-    (λ (second : is.area ≡ 2). inr (is.generation, subst (λ (area : ℕ). IsOpened (seen area) is.generation) second is.log.opened)) is.newest.log
-
 module _ {D : Type 0} (d : Ghosts D) (known : (disk : D) (m : ℕ) (image : Image) → d.left disk m image → IsImage (d.observable disk) (d.time disk) m image) (reads : (disk : D) → IsTrue (d.observable disk) → d.left disk (d.time disk) (d.seen disk)) where
-  abbrev Keeps : SchemaData → PastCommand D → Type 0
-  Keeps schema command = KeepsContents schema (state_of d command.disk) (state_of d command.outcome.disk)
+  -- it keeps sound contents, and has no events
+  pub record Keeps (schema : SchemaData) (command : PastCommand D) : Type 0 where
+    pub silent : command.outcome.report.trace ≡ []
+    pub kept : (contents : Contents) → IsSoundContents (record { schema = schema; clients = 0 }) contents → HoldsContents (state_of d command.disk) schema contents →
+        (m : ℕ) (image : Image) → d.time command.disk ≤ m → d.left command.outcome.disk m image → ∥ IsImageOf schema contents image ∥₁
 
-  -- it keeps the contents, or it is a run of so many clients
+  -- or it is a run of so many clients
   abbrev pub KeepsOrRuns : SchemaData → PastCommand D → Type 0
   KeepsOrRuns schema command = Keeps schema command
       ⊎ ((clients : ℕ) × IsDurable (record { schema = schema; clients = clients }) command.outcome.report.trace (state_of d command.disk) (state_of d command.outcome.disk))
 
-  -- a disk with an open log is as it was after each refusal of a creation
-  still : (was now : DiskState) (why : CreateRefusal) → ((why ≡ create.Disk → ⊥) → IsAsItWas was now) → (why ≡ create.Disk → IsTrue was.observable → IsAsItWas was now ⊎ ¬ HasOpenLog was.seen) → IsTrue was.observable → HasOpenLog was.seen → IsAsItWas was now
-  still was now create.AlreadyCreated stays harmless seen log = stays (λ e. cc e)
-  still was now create.NoMemory stays harmless seen log = stays (λ e. cc e)
-  still was now create.Disk stays harmless seen log = ⊎_elim (λ (same : IsAsItWas was now). same) (λ (none : ¬ HasOpenLog was.seen). absurd (none log)) (harmless refl seen)
-
   module _ (schema : SchemaData) (command : PastCommand D) where
-    not_touched : command.outcome.disk ≡ command.disk → Keeps schema command
-    not_touched same = subst (λ (disk : D). KeepsContents schema (state_of d command.disk) (state_of d disk)) (sym same) (untouched (state_of d command.disk) (known command.disk) schema)
+    -- what keeps any contents of a schema keeps sound ones of the same schema
+    other_keeps : {other : SchemaData} → other ≡ schema → command.outcome.report.trace ≡ [] → KeepsContents other (state_of d command.disk) (state_of d command.outcome.disk) → Keeps schema command
+    other_keeps same silent keeps = record {
+      silent = silent;
+      kept = λ contents sound. subst (λ (s : SchemaData). KeepsContents s (state_of d command.disk) (state_of d command.outcome.disk)) same keeps contents;
+    }
 
-    -- contents of one schema are those of the same one
-    other_keeps : {other : SchemaData} → other ≡ schema → Keeps other command → Keeps schema command
-    other_keeps same keeps = subst (λ (s : SchemaData). Keeps s command) same keeps
+    not_touched : command.outcome.report.trace ≡ [] → command.outcome.disk ≡ command.disk → Keeps schema command
+    not_touched silent same =
+        other_keeps refl silent (subst (λ (disk : D). KeepsContents schema (state_of d command.disk) (state_of d disk)) (sym same) (untouched (state_of d command.disk) (known command.disk) schema))
 
     other_runs : {other : SchemaData} (clients : ℕ) → other ≡ schema → IsDurable (record { schema = other; clients = clients }) command.outcome.report.trace (state_of d command.disk) (state_of d command.outcome.disk) → KeepsOrRuns schema command
     other_runs clients same durable =
         inr (clients, subst (λ (s : SchemaData). IsDurable (record { schema = s; clients = clients }) command.outcome.report.trace (state_of d command.disk) (state_of d command.outcome.disk)) same durable)
 
-    -- a creation finds the open log of the database, so it is refused, and the disk stays
-    creation_keeps : (other : SchemaData) → CreateResult other (state_of d command.disk) (state_of d command.outcome.disk) command.old command.new command.outcome.report → Keeps schema command
-    creation_keeps other (Made steps made silent) contents holds m image from there =
-        ∥∥₁_elim (holds.all (d.seen command.disk) (reads command.disk holds.seen)).some ∥∥₁_prop (λ (h : HasSlots (d.seen command.disk)). absurd (made.fresh holds.seen (open_log (d.seen command.disk) h.slots h.recovers)))
-    creation_keeps other (NotMade steps cause is) contents holds m image from there =
-        ∥∥₁_elim (holds.all (d.seen command.disk) (reads command.disk holds.seen)).some ∥∥₁_prop (λ (h : HasSlots (d.seen command.disk)).
-        let stays = still (state_of d command.disk) (state_of d command.outcome.disk) cause.why cause.stays cause.harmless holds.seen (open_log (d.seen command.disk) h.slots h.recovers) in
+    -- ---- a creation, of whatever schema
+
+    -- a disk that is as it was has the images that it had
+    as_it_was : (contents : Contents) → HoldsContents (state_of d command.disk) schema contents → IsAsItWas (state_of d command.disk) (state_of d command.outcome.disk) → (m : ℕ) (image : Image) → d.time command.disk ≤ m → d.left command.outcome.disk m image → IsImageOf schema contents image
+    as_it_was contents holds stays m image from there =
         let past = (known command.outcome.disk m image there).past in
         let moment = stays.moment in
         let same : m ≡ d.time command.disk = omega (arith, from, past, moment) in
-        ∣ holds.all image (subst (λ (n : ℕ). d.left command.disk n image) same (stays.nothing_else m image there)) ∣₁)
+        holds.all image (subst (λ (n : ℕ). d.left command.disk n image) same (stays.nothing_else m image there))
+
+    -- what the disk reads is a database
+    not_none : IsSound schema → IsHeld schema → (contents : Contents) → IsSoundContents (record { schema = schema; clients = 0 }) contents → HoldsContents (state_of d command.disk) schema contents → IsNoDatabase (d.seen command.disk) → ⊥
+    not_none sound named contents are holds none = not_missing (record { schema = schema; clients = 0 }) contents (d.seen command.disk) sound named are (holds.all (d.seen command.disk) (reads command.disk holds.seen)) (λ observable. none)
+
+    no_events : (other : SchemaData) → CreateResult other (state_of d command.disk) (state_of d command.outcome.disk) command.old command.new command.outcome.report → command.outcome.report.trace ≡ []
+    no_events other (Made steps made silent) = silent.trace
+    no_events other (NotMade steps cause is) = is.trace
+
+    creation_keeps : IsSound schema → IsHeld schema → (other : SchemaData) → CreateResult other (state_of d command.disk) (state_of d command.outcome.disk) command.old command.new command.outcome.report → Keeps schema command
+    creation_keeps sound named other result = record {
+      silent = no_events other result;
+      kept = λ contents are holds m image from there. ∣ as_it_was contents holds (creation_stays (state_of d command.disk) (state_of d command.outcome.disk) holds.seen (not_none sound named contents are holds) result) m image from there ∣₁;
+    }
 
   bank_kept_or_run : (df : List ℕ) (command : PastCommand D) (bank : Bank) → df ≡ BANK_SCHEMA.now → BankResult (bank_of bank) (state_of d) command.disk command.old command.new command.outcome → KeepsOrRuns (schema_in df) command
-  bank_kept_or_run df command bank is (BankPrevented refusal prevents same refused) = inl (not_touched (schema_in df) command same)
-  bank_kept_or_run df command bank is (BankNotRun not_run) = inl (other_keeps (schema_in df) command (ap (λ (t : List ℕ). schema_in t) (sym is)) not_run.kept)
+  bank_kept_or_run df command bank is (BankPrevented refusal prevents same refused) = inl (not_touched (schema_in df) command refused.trace same)
+  bank_kept_or_run df command bank is (BankNotRun not_run) = inl (other_keeps (schema_in df) command (ap (λ (t : List ℕ). schema_in t) (sym is)) not_run.reported.trace not_run.kept)
   bank_kept_or_run df command bank is (BankRan works are ran) = other_runs (schema_in df) command (number_of bank.clients + 2) (ap (λ (t : List ℕ). schema_in t) (sym is)) ran.durable
 
-  pub kept_or_run : (df : List ℕ) (command : PastCommand D) → HasResult d command → IsOver df command → KeepsOrRuns (schema_in df) command
-  kept_or_run df command (Refused names refusal cause same refused) over = inl (not_touched (schema_in df) command same)
-  kept_or_run df command (NotRun named form args texts clean works are not_run) over =
-      inl (other_keeps (schema_in df) command (same_schema command.files named.schema df (over.of_run named args) texts.df texts.has_schema) not_run.kept)
-  kept_or_run df command (Ran named form args texts clean works are ran) over =
+  pub kept_or_run : (df : List ℕ) → violation_of df ≡ None → (command : PastCommand D) → HasResult d command → IsOver df command → KeepsOrRuns (schema_in df) command
+  kept_or_run df clean command (Refused names refusal cause same refused) over = inl (not_touched (schema_in df) command refused.trace same)
+  kept_or_run df clean command (NotRun named form args texts fine works are not_run) over =
+      inl (other_keeps (schema_in df) command (same_schema command.files named.schema df (over.of_run named args) texts.df texts.has_schema) not_run.reported.trace not_run.kept)
+  kept_or_run df clean command (Ran named form args texts fine works are ran) over =
       other_runs (schema_in df) command (length works) (same_schema command.files named.schema df (over.of_run named args) texts.df texts.has_schema) ran.durable
-  kept_or_run df command (Checked check form args listings listed same checked) over = inl (not_touched (schema_in df) command same)
-  kept_or_run df command (Banked bank form args result) over = bank_kept_or_run df command bank (over.of_bank bank args) result
-  kept_or_run df command (Created made form args schema has result) over = inl (creation_keeps (schema_in df) command schema result)
-  kept_or_run df command (Dumped dump form args schema table has result) over =
-      inl (other_keeps (schema_in df) command (has.has.is ∙ same_schema command.files dump.schema df (over.of_dump dump args) has.has.df has.has.has) result.kept)
+  kept_or_run df clean command (Checked check form args listings listed same checked) over = inl (not_touched (schema_in df) command checked.trace same)
+  kept_or_run df clean command (Banked bank form args result) over = bank_kept_or_run df command bank (over.of_bank bank args) result
+  kept_or_run df clean command (Created made form args schema has result) over = inl (creation_keeps (schema_in df) command (files-sound df clean) (files-held df clean) schema result)
+  kept_or_run df clean command (Dumped dump form args schema table has result) over =
+      inl (other_keeps (schema_in df) command (has.has.is ∙ same_schema command.files dump.schema df (over.of_dump dump args) has.has.df has.has.has) result.trace result.kept)

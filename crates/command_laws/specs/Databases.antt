@@ -1,4 +1,4 @@
--- Commands over one database, and the images that their crashes leave.
+-- Commands over one database, the images that their crashes leave, and what they keep.
 use Rattle.std.specs.Prelude.{◌≡◌, ℕ, ◌≤◌, IsTrue, List, [], ◌∷◌}
 use Rattle.abl_arguments.specs.CommandLine.{Bank, Dump, Run, arguments_of, bank_arguments, dump_arguments}
 use Rattle.abl_cli.specs.Command.{IsThere}
@@ -6,8 +6,9 @@ use Rattle.abl_outside.specs.Files.{FileState}
 use Rattle.abl_storage.specs.declared.disk.Disk.{Ghosts}
 use Rattle.abl_values.specs.Schema.{SchemaData}
 use Rattle.bank_inputs.specs.declared.sources.TheConstants.{BANK_SCHEMA}
-use Rattle.crash_laws.specs.Disks.{ComesNext, IsAfterCrash, view_of}
-use Rattle.crash_laws.specs.History.{IsNeverClosed}
+use Rattle.crash_laws.specs.Disks.{ComesNext, IsAfterCrash, MayBeOpened, view_of}
+use Rattle.crash_laws.specs.History.{AreKept, IsNeverClosed}
+use Rattle.database_meaning.specs.Traces.{IsLegal, after_commits}
 use Rattle.database_meaning.specs.declared.contents.Contents.{Contents}
 use Rattle.disk_database.specs.Images.{stored_contents}
 use Rattle.disk_steps.specs.Steps.{Image}
@@ -23,7 +24,7 @@ pub record HasFile (files : FileState) (name text : List ℕ) : Type 0 where
   pub there : IsThere files name text
 
 -- The command is over the database of the schema file with this text, if it comes to one: a run and a dump name such a file, and a bank is one
--- only where the file is that of a bank. A creation may be of any schema
+-- only where the file is that of a bank. A creation may name any file, and the disk may fail in it
 pub record IsOver {D : Type 0} (df : List ℕ) (command : PastCommand D) : Type 0 where
   pub of_run : (run : Run) → command.arguments ≡ arguments_of run → HasFile command.files run.schema df
   pub of_dump : (dump : Dump) → command.arguments ≡ dump_arguments dump → HasFile command.files dump.schema df
@@ -62,3 +63,15 @@ AreCommandsOver d df left (c ∷ cs) last = left c.command.disk × (HasResult d 
 abbrev pub LeaveDatabases : {D : Type 0} → Ghosts D → SchemaData → List (TimedCommand D) → D → Type 0
 LeaveDatabases d schema [] last = (image : Image) → d.left last (d.time last) image → ∥ IsDatabase schema image ∥₁
 LeaveDatabases d schema (c ∷ cs) last = LeavesDatabases d schema c.command × LeaveDatabases d schema cs last
+
+-- NO COMMAND LOSES WHAT WAS ACKNOWLEDGED: the first command is over a disk that may be opened with these contents, each other one over one with those
+-- that the command before it left, and so is whoever opens the disk that is left at last. A command leaves the contents after the first `done`
+-- commits of its trace, which is legal from what it found: each one that was acknowledged by its moment, and at most one more. What is no run has an
+-- empty trace, and leaves what it found
+abbrev pub LoseNothing : {D : Type 0} → Ghosts D → SchemaData → Contents → List (TimedCommand D) → D → Type 0
+LoseNothing d schema contents [] last = MayBeOpened schema contents (view_of d last)
+LoseNothing d schema contents (c ∷ cs) last =
+    MayBeOpened schema contents (view_of d c.command.disk)
+    × ((clients : ℕ) × (IsLegal (record { schema = schema; clients = clients }) contents c.command.outcome.report.trace
+    × ((done : ℕ) × (AreKept (record { schema = schema; clients = clients }) contents c.command.outcome.report.trace c.moment done
+    × LoseNothing d schema (after_commits (record { schema = schema; clients = clients }) contents c.command.outcome.report.trace done) cs last))))

@@ -14,7 +14,7 @@ ghost use Rattle.abl_cli.specs.Command.{CommandResult};
 ghost use Rattle.abl_cli.specs.Undisturbed.{HasDatabase};
 ghost use Rattle.crash_laws.specs.Disks.{ComesNext, view_of};
 ghost use Rattle.crash_laws.specs.History.{NothingIsLost};
-ghost use Rattle.command_laws.specs.Databases.{AreCommandsOver, IsOver, LeaveDatabases, LeavesDatabases, TimedCommand};
+ghost use Rattle.command_laws.specs.Databases.{AreCommandsOver, IsOver, LeaveDatabases, LeavesDatabases, LoseNothing, TimedCommand};
 ghost use Rattle.command_laws.specs.History.{CommandHistory, HasCreated, HasResult, IsCommandHistory, PastCommand, past_run};
 
 use abl_storage::Disk;
@@ -36,19 +36,32 @@ pub fn nothing_acknowledged_is_lost<D: Disk>()
         ∥ NothingIsLost (view_of D.Disk) (schema_in history.df) (created (schema_in history.df)) (map past_run history.runs) history.last ∥₁ }
 {}
 
+/// No command loses what was acknowledged. A creation with status 0, then any commands over its database
+/// (runs, banks, dumps, checks, other creations, commands that are refused), each over the disk that the
+/// one before left, at a crash at any moment from its call on, or at its end: each command finds the
+/// contents after the commits that the one before acknowledged, or after one more, and so does whoever
+/// opens the disk that is left at last. A command that is no run leaves the contents that it found, also
+/// a creation in which the disk fails.
+pub fn no_command_loses_what_was_acknowledged<D: Disk>()
+    ensures { (df : List ℕ) (creation : PastCommand D) (commands : List (TimedCommand D)) (last : D) → HasCreated D.Disk df creation →
+        AreCommandsOver D.Disk df (λ disk. ComesNext (view_of D.Disk creation.outcome.disk) (view_of D.Disk disk)) commands last →
+        ∥ LoseNothing D.Disk (schema_in df) (created (schema_in df)) commands last ∥₁ }
+{}
+
 /// Each crash of a command leaves a database. A command over the database of a schema file that breaks
 /// no rule, whatever the command is, what its files hold besides, and the schedule: each image that a
 /// crash at a moment from its call to its return may leave is born, with some contents of that schema.
+/// So it is of a creation too, of any schema file, also where the disk fails.
 pub fn a_command_leaves_a_database<D: Disk>()
     ensures { (df : List ℕ) (command : PastCommand D) → HasResult D.Disk command → IsOver df command → violation_of df ≡ None →
         HasDatabase (schema_in df) (state_of D.Disk command.disk) → LeavesDatabases D.Disk (schema_in df) command }
 {}
 
 /// Each crash leaves a database, in any history of commands: a creation with status 0, then any
-/// commands over its database (runs, dumps, checks, commands that are refused), each over the disk that
-/// the one before left, at a crash at any moment from its call on, or at its end. Each image that a
-/// crash at a moment of one of them may leave is born, with some contents of the schema of the file, and
-/// so is each image of the disk that is left at last.
+/// commands over its database (runs, banks, dumps, checks, other creations, commands that are refused),
+/// each over the disk that the one before left, at a crash at any moment from its call on, or at its
+/// end. Each image that a crash at a moment of one of them may leave is born, with some contents of the
+/// schema of the file, and so is each image of the disk that is left at last.
 pub fn each_crash_leaves_a_database<D: Disk>()
     ensures { (df : List ℕ) (creation : PastCommand D) (commands : List (TimedCommand D)) (last : D) → HasCreated D.Disk df creation →
         AreCommandsOver D.Disk df (λ disk. ComesNext (view_of D.Disk creation.outcome.disk) (view_of D.Disk disk)) commands last → ∥ LeaveDatabases D.Disk (schema_in df) commands last ∥₁ }
