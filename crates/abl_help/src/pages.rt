@@ -984,9 +984,10 @@ It prints on standard error
 What was not committed was undone. See the page of the stop.
 ",
     "status 9: The database is not as the command needs it. `not created`: there is
-none of this name, so make it with `create`. `already created`: there is one,
-which `create` leaves as it is. `schema differs`: it was created with a schema
-file that says something else.
+none of this name, or what is there is no whole database; `create` makes a new
+one, and what was there is lost. `already created`: there is one, which
+`create` leaves as it is, whatever its schema. `schema differs`: there is one,
+and it was created with a schema file that says something else.
 
     abl shop create orders.df
 
