@@ -1,10 +1,17 @@
 -- The names of the rules, as a refusal prints them.
 use Rattle.std.specs.Prelude.{ℕ, List, codes}
 use Rattle.abl_base.specs.declared.rule.Rule.{Rule}
-use Rattle.abl_base.specs.declared.rule.Rule.TheVariants.{L1, L2, L3, L4, L5, G1, G2, Y1, Y2, Y3, Y4, Y5, Y6, Y7, Y8, Y9, Y10, Y11, Y12, Y13, Y14, S1, S2, S3, S4, U1, U2, U3, U4, U5, U6, U7, F1, F2, F3, F4, F5, F6, F7, F8, F9, F10, F11, F12}
+use Rattle.abl_base.specs.declared.rule.Rule.TheVariants.{E1, E2, E3, E4, E5, E6, E7, L1, L2, L3, L4, L5, G1, G2, Y1, Y2, Y3, Y4, Y5, Y6, Y7, Y8, Y9, Y10, Y11, Y12, Y13, Y14, Y15, Y16, Y17, S1, S2, S3, S4, U1, U2, U3, U4, U5, U6, U7, U8, U9, U10, F1, F2, F3, F4, F5, F6, F7, F8, F9, F10, F11, F12, F13, F14}
 
 -- the bytes of a rule's name
 abbrev pub rule_name : Rule → List ℕ
+rule_name E1 = codes "E1"
+rule_name E2 = codes "E2"
+rule_name E3 = codes "E3"
+rule_name E4 = codes "E4"
+rule_name E5 = codes "E5"
+rule_name E6 = codes "E6"
+rule_name E7 = codes "E7"
 rule_name L1 = codes "L1"
 rule_name L2 = codes "L2"
 rule_name L3 = codes "L3"
@@ -26,6 +33,9 @@ rule_name Y11 = codes "Y11"
 rule_name Y12 = codes "Y12"
 rule_name Y13 = codes "Y13"
 rule_name Y14 = codes "Y14"
+rule_name Y15 = codes "Y15"
+rule_name Y16 = codes "Y16"
+rule_name Y17 = codes "Y17"
 rule_name S1 = codes "S1"
 rule_name S2 = codes "S2"
 rule_name S3 = codes "S3"
@@ -37,6 +47,9 @@ rule_name U4 = codes "U4"
 rule_name U5 = codes "U5"
 rule_name U6 = codes "U6"
 rule_name U7 = codes "U7"
+rule_name U8 = codes "U8"
+rule_name U9 = codes "U9"
+rule_name U10 = codes "U10"
 rule_name F1 = codes "F1"
 rule_name F2 = codes "F2"
 rule_name F3 = codes "F3"
@@ -49,3 +62,5 @@ rule_name F9 = codes "F9"
 rule_name F10 = codes "F10"
 rule_name F11 = codes "F11"
 rule_name F12 = codes "F12"
+rule_name F13 = codes "F13"
+rule_name F14 = codes "F14"

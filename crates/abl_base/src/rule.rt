@@ -3,11 +3,20 @@
 ghost use Rattle.std.specs.Prelude.{◌≡◌};
 ghost use Rattle.abl_base.specs.Rules.{rule_name};
 
-/// A rule, by its name in a refusal: L of tokens, G of the grammar, Y of names and types, S of
-/// buffer scopes, U of blocks and undo, and F of schema files. Every rule name is this project's
-/// choice.
+/// A rule, by its name in a refusal: E of the preprocessor, L of tokens, G of the grammar, Y of
+/// names and types, S of buffer scopes, U of blocks and undo, and F of schema files. Every rule name
+/// is this project's choice. E1 to E7 (include files, `&` directives), Y15 (CATCH and THROW), Y16
+/// (temporary tables), Y17 (queries), U8 to U10 (CATCH parts), and F13 and F14 (a change of a stored
+/// schema) are reserved: no source and no schema file is refused by them yet.
 #[derive(Clone, Copy, Debug, PartialEq, Eq)]
 pub enum Rule {
+    E1,
+    E2,
+    E3,
+    E4,
+    E5,
+    E6,
+    E7,
     L1,
     L2,
     L3,
@@ -29,6 +38,9 @@ pub enum Rule {
     Y12,
     Y13,
     Y14,
+    Y15,
+    Y16,
+    Y17,
     S1,
     S2,
     S3,
@@ -40,6 +52,9 @@ pub enum Rule {
     U5,
     U6,
     U7,
+    U8,
+    U9,
+    U10,
     F1,
     F2,
     F3,
@@ -52,6 +67,8 @@ pub enum Rule {
     F10,
     F11,
     F12,
+    F13,
+    F14,
 }
 
 impl Rule {
@@ -60,6 +77,13 @@ impl Rule {
         ensures { result.now ≡ rule_name self }
     {
         match self {
+            Rule::E1 => b"E1",
+            Rule::E2 => b"E2",
+            Rule::E3 => b"E3",
+            Rule::E4 => b"E4",
+            Rule::E5 => b"E5",
+            Rule::E6 => b"E6",
+            Rule::E7 => b"E7",
             Rule::L1 => b"L1",
             Rule::L2 => b"L2",
             Rule::L3 => b"L3",
@@ -81,6 +105,9 @@ impl Rule {
             Rule::Y12 => b"Y12",
             Rule::Y13 => b"Y13",
             Rule::Y14 => b"Y14",
+            Rule::Y15 => b"Y15",
+            Rule::Y16 => b"Y16",
+            Rule::Y17 => b"Y17",
             Rule::S1 => b"S1",
             Rule::S2 => b"S2",
             Rule::S3 => b"S3",
@@ -92,6 +119,9 @@ impl Rule {
             Rule::U5 => b"U5",
             Rule::U6 => b"U6",
             Rule::U7 => b"U7",
+            Rule::U8 => b"U8",
+            Rule::U9 => b"U9",
+            Rule::U10 => b"U10",
             Rule::F1 => b"F1",
             Rule::F2 => b"F2",
             Rule::F3 => b"F3",
@@ -104,6 +134,8 @@ impl Rule {
             Rule::F10 => b"F10",
             Rule::F11 => b"F11",
             Rule::F12 => b"F12",
+            Rule::F13 => b"F13",
+            Rule::F14 => b"F14",
         }
     }
 }
