@@ -1,9 +1,9 @@
 //! One row: a request of a client, or another call.
 
-use crate::written::{answer_text, freed_text, lock_text, numbered};
+use crate::written::{freed_text, lock_text, numbered};
 use abl_base::{Items, RowId};
 use client_database::RowIds;
-use record_locks::{KeyWait, KeyWaits, Locks};
+use record_locks::{BlockedLock, KeyWait, KeyWaits, Locks};
 use std::alloc::{AllocError, Global};
 
 /// The locks, and what one client waits for by a key.
@@ -55,7 +55,7 @@ impl Table {
         }
     }
 
-    /// A request for a lock.
+    /// A request for a lock, decided and applied by the calls that the database makes for it.
     fn request(
         &mut self,
         alloc: Global,
@@ -64,10 +64,27 @@ impl Table {
         exclusive: bool,
         wait: bool,
     ) -> Result<String, AllocError> {
-        let answer = self
-            .locks
-            .request(client, RowId(row), exclusive, wait, &self.key_waits);
-        answer_text(alloc, &answer)
+        let row = RowId(row);
+        let against = self.locks.against(alloc, client, row, exclusive)?;
+        if against.len() == 0 {
+            self.locks.grant(alloc, client, row, exclusive)?;
+            return String::from_str(alloc, "Granted");
+        }
+        if !wait {
+            self.locks.end_wait(client);
+            return numbered(alloc, "Busy", against.as_slice());
+        }
+        match self.locks.would_cycle(client, &against, &self.key_waits)? {
+            Some(cycle) => {
+                self.locks.end_wait(client);
+                numbered(alloc, "Deadlock", cycle.as_slice())
+            }
+            None => {
+                self.locks
+                    .block(alloc, client, BlockedLock { row, exclusive })?;
+                numbered(alloc, "Blocked", against.as_slice())
+            }
+        }
     }
 
     /// The client waits for another one by a key.

@@ -1,18 +1,6 @@
 //! The text of an answer.
 
-use record_locks::LockAnswer;
 use std::alloc::{AllocError, Global};
-
-/// The answer's name and the clients in it.
-pub fn answer_text(alloc: Global, answer: &LockAnswer) -> Result<String, AllocError> {
-    match answer {
-        LockAnswer::Granted => numbered(alloc, "Granted", &[]),
-        LockAnswer::Busy(holders) => numbered(alloc, "Busy", holders.as_slice()),
-        LockAnswer::Blocked(holders) => numbered(alloc, "Blocked", holders.as_slice()),
-        LockAnswer::Deadlock(cycle) => numbered(alloc, "Deadlock", cycle.as_slice()),
-        LockAnswer::NoMemory => numbered(alloc, "NoMemory", &[]),
-    }
-}
 
 /// A name with numbers after it.
 pub fn numbered(alloc: Global, name: &str, numbers: &[u16]) -> Result<String, AllocError> {
