@@ -1,12 +1,13 @@
 #!/usr/bin/env python3
-"""Writes the calls that chain_tables is run on, and the answers that they must have.
+"""Writes the section `chains` of crates/test_machine: its calls in `stdin`, and the answers that must come in `stdout`.
 
 The answers come from a map of rows kept here: a row's identity is the lowest free slot, a row of n
 bytes takes one slot for each 240 bytes and at least one, and a slot that a transaction drew or freed
 stays taken until it ends.
 """
-import pathlib
 import random
+
+from sections import put
 
 
 def data(length, seed):
@@ -365,9 +366,7 @@ def main():
     chance(rows, 26, 1500)
     crowded(rows)
     filled(rows)
-    folder = pathlib.Path(__file__).resolve().parent.parent / "crates" / "chain_tables"
-    (folder / "stdin").write_text("".join(line + "\n" for line in rows.lines))
-    (folder / "stdout").write_text("".join(answer + "\n" for answer in rows.answers))
+    put("test_machine", "chains", "".join(line + "\n" for line in rows.lines), "".join(answer + "\n" for answer in rows.answers))
 
 
 main()

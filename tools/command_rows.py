@@ -1,5 +1,5 @@
 #!/usr/bin/env python3
-"""Writes `stdout` of crates/command_tables and database_tables, the answers to the rows of their `stdin`.
+"""Writes `stdout` of crates/test_commands and test_databases, the answers to the rows of their `stdin`.
 
 Each row that runs sources without records is answered by tools/abl_reference.py, each row that runs one
 source over a schema by tools/abl_records.py, each row of `bank` by the balances that its transfers leave, and each row of `check` that lists sources by the reference of
@@ -16,7 +16,7 @@ import abl_records
 import abl_reference
 import scope_rows
 
-TABLES = [Path(__file__).parent.parent / "crates" / name for name in ("command_tables", "database_tables")]
+TABLES = [Path(__file__).parent.parent / "crates" / name for name in ("test_commands", "test_databases")]
 MOST_SHOWN, SHOWN_AT_ENDS, MOST_FILE = 400, 80, 1048576
 COMMAND = re.compile(r"run s\.df ([1-9]\d{0,8}) (quiet|trace)((?: [A-Za-z0-9]{1,16}=[^ <]+(?:<[^ <]+)?){1,16})$")
 CLIENT = re.compile(r" ([^=]+)=([^ <]+)(?:<([^ <]+))?")
@@ -31,7 +31,7 @@ BANK_FILE = Path(__file__).parent.parent / "examples" / "bank" / "bank.df"
 
 
 def text_of(written):
-    """The bytes that a row writes so, as crates/command_rows/README.md says."""
+    """The bytes that a row writes so, as crates/test_runs/README.md says."""
 
     def plain(text, number):
         return text.replace("|", "\n").replace("^", "x" * 10000).replace("`", "^").replace("@", number)

@@ -1,12 +1,12 @@
 #!/usr/bin/env python3
-"""Writes the rows of crates/container_tables, `stdin`, and the answers that it must give, `stdout`,
-from tools/container_rows.txt, where both are worked by hand. Run it at the top of the repository."""
+"""Writes the section `containers` of crates/test_machine: its rows in `stdin`, and the answers that must come in `stdout`,
+from tools/container_rows.txt, where both are worked by hand. It runs from anywhere."""
 
 from pathlib import Path
+
+from sections import put
 
 TOP = Path(__file__).parent.parent
 LINES = (TOP / "tools/container_rows.txt").read_text().splitlines()
 ROWS = [line for line in LINES if line and not line.startswith("#")]
-CRATE = TOP / "crates/container_tables"
-(CRATE / "stdin").write_text("".join(row.split(" = ")[0] + "\n" for row in ROWS))
-(CRATE / "stdout").write_text("".join(row + "\n" for row in ROWS))
+put("test_machine", "containers", "".join(row.split(" = ")[0] + "\n" for row in ROWS), "".join(row + "\n" for row in ROWS))

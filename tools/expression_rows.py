@@ -1,15 +1,15 @@
 #!/usr/bin/env python3
-"""Writes the rows of crates/expression_tables, `stdin`, and the answers that it must give, `stdout`.
+"""Writes the section `expressions` of crates/test_values: its rows in `stdin`, and the answers that must come in `stdout`.
 
 The answers come from the rules of docs/language.md ('Values'): most are worked by hand and are here as they
-are, the others come from Python's fractions, calendar and texts; none from the program. Run it at the top
-of the repository."""
+are, the others come from Python's fractions, calendar and texts; none from the program. It runs from anywhere."""
 
 from datetime import date
 from fractions import Fraction
 from math import floor
-from pathlib import Path
 from random import Random
+
+from sections import put
 
 UNIT = 10**10
 EPOCH = date(1970, 1, 1).toordinal()
@@ -224,6 +224,4 @@ for _ in range(40):
         row(f"first {word(a)} {word(b)} {operator}", "yes" if holds else "no")
 
 seen = {left: right for left, right in rows}
-crate = Path("crates/expression_tables")
-crate.joinpath("stdin").write_text("".join(f"{left}\n" for left in seen))
-crate.joinpath("stdout").write_text("".join(f"{left} = {right}\n" for left, right in seen.items()))
+put("test_values", "expressions", "".join(f"{left}\n" for left in seen), "".join(f"{left} = {right}\n" for left, right in seen.items()))

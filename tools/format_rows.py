@@ -1,15 +1,15 @@
 #!/usr/bin/env python3
-"""Writes the rows of crates/format_tables, `stdin`, and the answers that it must give, `stdout`.
+"""Writes the section `formats` of crates/test_values: its rows in `stdin`, and the answers that must come in `stdout`.
 
 The answers come from the rules of docs/formats.md ('Texts'): most are worked by hand and are here as they
-are, the others come from Python's decimals, calendar and regular expressions; none from the program. Run it
-at the top of the repository."""
+are, the others come from Python's decimals, calendar and regular expressions; none from the program. It runs from anywhere."""
 
 import re
 from datetime import date
 from decimal import Decimal, ROUND_HALF_UP, getcontext
-from pathlib import Path
 from random import Random
+
+from sections import put
 
 getcontext().prec = 120
 UNIT = 10**10
@@ -324,7 +324,5 @@ random_lines()
 exported_rows()
 for left in ("", "put", "put 9", "put 9 what", "import integer 1 ", "import integer x 5", "what 1 2"):
     row(left, "no row")
-folder = Path("crates/format_tables")
-(folder / "stdin").write_text("".join(f"{left}\n" for left, _ in rows))
-(folder / "stdout").write_text("".join(f"{left} = {answer}\n" for left, answer in rows))
+put("test_values", "formats", "".join(f"{left}\n" for left, _ in rows), "".join(f"{left} = {answer}\n" for left, answer in rows))
 print(len(PUT), "masked values and", len(IMPORT), "lines by hand,", len(rows), "rows")

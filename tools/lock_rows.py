@@ -1,12 +1,12 @@
 #!/usr/bin/env python3
-"""Writes the rows of crates/lock_tables, `stdin`, and the answers that it must give, `stdout`.
+"""Writes the section `locks` of crates/test_machine: its rows in `stdin`, and the answers that must come in `stdout`.
 
 The rows are here with their answers, each worked by hand from docs/machine.md, and none from an answer of the
 program. After a heading no client holds or waits for anything. `key N` says that the client waits for client N
 by a key; `cycle N` asks for the cycle that would close if it waited for client N; `commit ROW` keeps the lock on
-the row. Run it at the top of the repository."""
+the row. It runs from anywhere."""
 
-from pathlib import Path
+from sections import put
 
 ROWS = """\
 == three clients close a cycle
@@ -47,6 +47,4 @@ ROWS = """\
 3 cycle 5 = none
 """
 
-crate = Path("crates/lock_tables")
-crate.joinpath("stdout").write_text(ROWS)
-crate.joinpath("stdin").write_text("".join(line.split(" = ")[0] + "\n" for line in ROWS.splitlines()))
+put("test_machine", "locks", "".join(line.split(" = ")[0] + "\n" for line in ROWS.splitlines()), ROWS)

@@ -1,5 +1,5 @@
 #!/usr/bin/env python3
-"""Writes the rows of crates/machine_tables, `stdin`, and the answers that it must give, `stdout`.
+"""Writes the section `steps` of crates/test_machine: its rows in `stdin`, and the answers that must come in `stdout`.
 
 The first rows are here with their answers, each worked by hand from docs/machine.md. After them come random steps of
 three clients. Their answers are those of `Machine`, the machine of docs/machine.md as a plain program: whole copies in
@@ -8,11 +8,11 @@ place of undo lists, and no index. The rows worked by hand must have its answers
 A heading opens the database anew, with three clients and the customers 1, 2 and 3, each named Ann, in the rows 8192,
 8193 and 8194. Index 0 of customers is unique, on the number. Items have a code, a price and a lot: index 0 is unique,
 on the code; index 1 is on the price, descending, and then the lot; index 2 is unique, on the lot. The first sequence
-is one short of the greatest value of 64 bits, the second one short of the least. Run it at the top of the
-repository."""
+is one short of the greatest value of 64 bits, the second one short of the least. It runs from anywhere."""
 
 import random
-from pathlib import Path
+
+from sections import put
 
 # A customer with a name of 29,900 bytes has 125 fragments. A transaction has 7,989 slot writes: 63 such rows and 112
 # of one fragment leave two.
@@ -897,9 +897,7 @@ def main():
         assert plain == answer, f"{row}: by hand {answer}, by the machine {plain}"
     for seed in range(1, 7):
         lines += random_rows(seed, 150)
-    crate = Path("crates/machine_tables")
-    crate.joinpath("stdout").write_text("".join(line + "\n" for line in lines))
-    crate.joinpath("stdin").write_text("".join(line.split(" = ")[0] + "\n" for line in lines))
+    put("test_machine", "steps", "".join(line.split(" = ")[0] + "\n" for line in lines), "".join(line + "\n" for line in lines))
 
 
 main()

@@ -1,5 +1,5 @@
 """Random programs over records: `record_programs.py SEED` prints the program of that number. The rows of
-crates/command_tables under the heading of programs drawn at random are among them."""
+crates/test_commands under the heading of programs drawn at random are among them."""
 import random
 SCHEMA='''ADD SEQUENCE "NextNum"
   INITIAL 10

@@ -1,11 +1,10 @@
 #!/usr/bin/env python3
-"""Writes the files of crates/schema_tables, `stdin`, and the answers that it must give, `stdout`.
+"""Writes the section `schemas` of crates/test_sources: its files in `stdin`, and the answers that must come in `stdout`.
 
 Each answer is written by hand from the rules of docs/formats.md ('Schema files'), save the long
-ones of the limits, which are counted out here. None comes from an answer of the program. Run it at
-the top of the repository."""
+ones of the limits, which are counted out here. None comes from an answer of the program. It runs from anywhere."""
 
-from pathlib import Path
+from sections import put
 
 ROWS = []
 
@@ -422,7 +421,5 @@ def encoded(text):
     return "".join(row + "\n" for row in rows)
 
 
-folder = Path("crates/schema_tables")
-(folder / "stdin").write_text("".join(f"== {name}\n{encoded(text)}" for name, text, _ in ROWS)
-                              + "".join(f"== {name}\n{text}" for name, text, _ in SIZES))
-(folder / "stdout").write_text("".join(f"== {name}\n{answer}\n" for name, _, answer in ROWS + SIZES))
+asked = "".join(f"== {name}\n{encoded(text)}" for name, text, _ in ROWS) + "".join(f"== {name}\n{text}" for name, text, _ in SIZES)
+put("test_sources", "schemas", asked, "".join(f"== {name}\n{answer}\n" for name, _, answer in ROWS + SIZES))

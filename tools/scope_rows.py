@@ -1,4 +1,4 @@
-"""The rows of scopes of crates/binding_tables, from tools/scope_rows.txt, for tools/binding_rows.py. The
+"""The rows of scopes of crates/test_sources, from tools/scope_rows.txt, for tools/binding_rows.py. The
 answers in scope_rows.txt were worked by hand; the reference below, which reads a part of the language
 by itself, must agree with each of them, and gives those of the generated rows."""
 

@@ -1,5 +1,5 @@
 #!/usr/bin/env python3
-"""Counts what the random schedules of slot_tables do: the answer to a row `schedules COUNT STEPS SEED` over ten slots and a log without notes.
+"""Counts what the random schedules of test_disks do: the answer to a row `schedules COUNT STEPS SEED` over ten slots and a log without notes.
 
     tools/slot_schedules.py COUNT STEPS SEED
 

@@ -1,12 +1,14 @@
 #!/usr/bin/env python3
-"""Writes the rows of crates/source_tables, `stdin`, and the answers that it must give, `stdout`.
+"""Writes the section `sources` of crates/test_sources: its rows in `stdin`, and the answers that must come in `stdout`.
 
 The rows and their answers are in tools/source_rows.txt, worked by hand from the rules of
 docs/language.md; here the places of tokens are counted, and each keyword is tried as a name. None
-of the answers comes from the program. Run it at the top of the repository."""
+of the answers comes from the program. It runs from anywhere."""
 
 import re
 from pathlib import Path
+
+from sections import put
 
 TOP = Path(__file__).parent.parent
 ROWS = []
@@ -63,9 +65,7 @@ def main():
             read(line)
     for word in keywords():
         row("parse", f"CREATE {word} .", "G1 at token 1, 1:8")
-    crate = TOP / "crates/source_tables"
-    (crate / "stdin").write_text("".join(f"{shown}\n" for shown, _ in ROWS))
-    (crate / "stdout").write_text("".join(f"{shown} = {answer}\n" for shown, answer in ROWS))
+    put("test_sources", "sources", "".join(f"{shown}\n" for shown, _ in ROWS), "".join(f"{shown} = {answer}\n" for shown, answer in ROWS))
 
 
 main()

@@ -1,4 +1,4 @@
-"""The rows of names and types of crates/binding_tables, from tools/type_rows.txt, for
+"""The rows of names and types of crates/test_sources, from tools/type_rows.txt, for
 tools/binding_rows.py. The rows of the limits, which are too long to be read, are made here. Each
 answer was worked by hand from docs/language.md ('Names, types and values'); this script only counts
 the lines and columns of the tokens that are marked."""

@@ -1,13 +1,14 @@
 #!/usr/bin/env python3
-"""Writes the rows of crates/value_tables, `stdin`, and the answers that it must give, `stdout`.
+"""Writes the section `values` of crates/test_values: its rows in `stdin`, and the answers that must come in `stdout`.
 
 The answers come from Python's integers, fractions and calendar, and from the rules of
-docs/language.md ('Values'), and from no answer of the program. Run it at the top of the repository."""
+docs/language.md ('Values'), and from no answer of the program. It runs from anywhere."""
 
 from datetime import date, timedelta
 from fractions import Fraction
-from pathlib import Path
 from random import Random
+
+from sections import put
 
 UNIT = 10**10
 I32, I64, I128 = 2**31, 2**63, 2**127
@@ -385,7 +386,5 @@ written()
 stored()
 for left in ("", "add", "add int:1", "add int:1 what:2", "what int:1 int:2", "fit what int:1", "add int:2147483648 int:1"):
     row(left, "no row")
-folder = Path("crates/value_tables")
-(folder / "stdin").write_text("".join(f"{left}\n" for left, _ in rows))
-(folder / "stdout").write_text("".join(f"{left} = {answer}\n" for left, answer in rows))
+put("test_values", "values", "".join(f"{left}\n" for left, _ in rows), "".join(f"{left} = {answer}\n" for left, answer in rows))
 print(len(rows), "rows")

@@ -4,7 +4,7 @@
 //! `evaluate`, which gives what `evaluate` of `abl_expr` says of the tree over any text forms that
 //! read numbers and write masks as `abl_format` does (`specs/Forms.antt`), and on `holds`,
 //! `at_most` and `at_least`, with which IF, WHILE, TO and WHERE test values. Its rows are those of
-//! `expression_tables`.
+//! `test_values`.
 #![tactic(auto)]
 
 mod arguments;

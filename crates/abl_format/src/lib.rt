@@ -3,7 +3,7 @@
 //! `text_values`). It depends on these two and on `text_forms`. The layer above may rely on
 //! `specs/Masked.antt` and `Imports.antt`, which `masked` and `import_line` compute; on `text_forms`
 //! there, the forms that expressions and statements take as a parameter; on `Lines.antt`, which says
-//! what a line is by its elements; and on `laws`. Its rows are those of `format_tables`.
+//! what a line is by its elements; and on `laws`. Its rows are those of `test_values`.
 #![tactic(auto)]
 
 pub mod answer;

@@ -2,7 +2,7 @@
 //! depends on `abl_values`, which has the plain text and the EXPORT text of one value and says which
 //! masks fit a kind. The layer above may rely on `specs/Put.antt` and `Export.antt`, which the calls
 //! compute, and on `laws`: what is written under a mask has the mask's width. The rows `put`,
-//! `plain` and `export` of `format_tables` run it.
+//! `plain` and `export` of `test_values` run it.
 #![tactic(auto)]
 
 pub mod export;

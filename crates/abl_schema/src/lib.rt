@@ -3,7 +3,7 @@
 //! `abl_values`, whose `Schema` it makes. `Rules` in specs/ says which rules a file breaks and which
 //! comes first, and `Meaning` which schema a file without violation means; the layer above may rely
 //! on both, exactly. `laws` states that such a file means a sound schema, and exactly what the
-//! canonical text of a schema determines. The rows of `schema_tables` run it.
+//! canonical text of a schema determines. The rows of `test_sources` run it.
 #![tactic(auto)]
 
 mod census;

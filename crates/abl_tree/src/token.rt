@@ -1,7 +1,7 @@
 //! Tokens, and the list of a source's tokens.
 
 ghost use Rattle.std.specs.Prelude.{◌≡◌, IsTrue, length};
-ghost use Rattle.abl_tree.specs.Tokens.{ends_once, is_end};
+ghost use Rattle.abl_tree.specs.Tokens.{ends_once};
 
 use abl_base::{Bytes, Place};
 use std::marker::Model;
@@ -194,15 +194,6 @@ pub struct Token {
     pub end: u32,
     pub place: Place,
     pub meaning: Meaning,
-}
-
-impl TokenKind {
-    /// Whether this is the end of the source.
-    pub fn is_end(self) -> bool
-        ensures { result ≡ is_end self }
-    {
-        matches!(self, TokenKind::EndOfSource)
-    }
 }
 
 /// The tokens of a source in order. The end token is the last and occurs nowhere else.

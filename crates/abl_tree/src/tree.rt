@@ -1,6 +1,6 @@
 //! The syntax tree of a source.
 
-ghost use Rattle.std.specs.Prelude.{◌≡◌, ◌<◌, length, slice_get, Some};
+ghost use Rattle.std.specs.Prelude.{◌≡◌, ◌<◌, length};
 
 use std::marker::Model;
 
@@ -56,13 +56,5 @@ impl Tree {
         ensures { result ≡ length self.now }
     {
         self.nodes.len()
-    }
-
-    /// The node with this number, in constant time.
-    pub fn node(&self, number: u32) -> Node
-        requires { number < length self.now }
-        ensures { slice_get self.now number ≡ Some result }
-    {
-        self.nodes[number as usize]
     }
 }

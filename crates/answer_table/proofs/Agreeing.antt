@@ -4,8 +4,5 @@ use Rattle.abl_base.specs.declared.row.RowId.{RowId}
 use Rattle.client_database.specs.declared.operation.Op.{Op}
 use Rattle.database_meaning.specs.declared.state.BlockedRequest.{BlockedRequest}
 
-pub row_same : (a b : RowId) → a.0 ≡ b.0 → a ≡ b
-row_same a b e = λ z. record { 0 = e z }
-
 pub blocked_same : (w : BlockedRequest) (op : Op) (frees : ℕ) → w.op ≡ op → w.frees ≡ frees → w ≡ record { op = op; frees = frees }
 blocked_same w op frees o n = λ z. record { op = o z; frees = n z }

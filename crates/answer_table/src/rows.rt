@@ -1,6 +1,6 @@
 //! Whether values are a row of a table, and how many bytes and fragments they take.
 
-ghost use Rattle.std.specs.Prelude.{◌≡◌, ◌<◌, ◌≤◌, ◌↔◌, IsTrue, IfSome, MatchOption, ℕ, length, None, true};
+ghost use Rattle.std.specs.Prelude.{◌≡◌, ◌<◌, ◌≤◌, ◌↔◌, IsTrue, MatchOption, ℕ, length, None, true};
 ghost use Rattle.abl_values.specs.Arithmetic.{fits_bits};
 ghost use Rattle.abl_values.specs.Fit.{IsOfKind, IsOfField};
 ghost use Rattle.abl_values.specs.Rows.{FitsFields, field_bytes, fragments_of};
@@ -8,16 +8,8 @@ ghost use Rattle.abl_values.specs.Schema.{field_kinds};
 ghost use Rattle.database_meaning.specs.Setting.{row_size};
 
 use abl_base::limits::FRAGMENT_BYTES;
-use abl_base::{Kind, MAX_TEXT_BYTES, RowId, Value};
+use abl_base::{Kind, MAX_TEXT_BYTES, Value};
 use abl_values::FieldDef;
-
-/// Whether two identities are the same.
-#[tactic(auto, using(crate::proofs::Agreeing::row_same))]
-pub fn same_row(a: RowId, b: RowId) -> bool
-    ensures { IsTrue result ↔ (a ≡ b) }
-{
-    a.0 == b.0
-}
 
 /// Whether the value is one of the kind, or `?`.
 pub fn is_of_kind(kind: Kind, value: &Value) -> bool
@@ -145,13 +137,6 @@ pub fn size_within(values: &[Value], limit: u64) -> Option<u64>
             Some(first + rest)
         }
     }
-}
-
-/// How many bytes the values take as a row, where the number fits.
-pub fn size_of_row(values: &[Value]) -> Option<u64>
-    ensures { IfSome result (λ n. n ≡ row_size values.now) }
-{
-    size_within(values, u64::MAX)
 }
 
 /// How many fragments hold this number of bytes.

@@ -1,11 +1,11 @@
 //! The log: its area, and the notes that are in no batch yet.
 
-ghost use Rattle.std.specs.Prelude.{◌≡◌, ◌≢◌, ◌⊎◌, ◌↔◌, ◌+◌, ◌<◌, ◌≤◌, ◌^◌, ◌++◌, ◌∷◌, [], ℕ, List, length, IsTrue, IfOk, OnOk, is_ok};
+ghost use Rattle.std.specs.Prelude.{◌≡◌, ◌≢◌, ◌↔◌, ◌+◌, ◌<◌, ◌≤◌, ◌^◌, ◌++◌, ◌∷◌, [], List, length, IsTrue, IfOk, OnOk, is_ok};
 ghost use Rattle.abl_storage.specs.Disk.{Others, HasCause};
-ghost use Rattle.disk_steps.specs.Steps.{Image, Run, Any};
+ghost use Rattle.disk_steps.specs.Steps.{Run, Any};
 ghost use Rattle.log_meaning.specs.declared.note.Note.{Note as LogNote};
 ghost use Rattle.log_meaning.specs.declared.note.Note.TheVariants.{Commit as Committed};
-ghost use Rattle.log_meaning.specs.Bytes.{note_bytes, IsNote};
+ghost use Rattle.log_meaning.specs.Bytes.{IsNote};
 ghost use Rattle.bi_log.specs.Appending.{Held, with_batch, Appends};
 ghost use Rattle.bi_log.specs.Buffer.{content};
 ghost use Rattle.bi_log.specs.Logs.{HasNotes, Keeps};
@@ -54,13 +54,6 @@ impl Log {
         self.appended
     }
 
-    /// How many of the notes that were appended, the first ones, are in open batches.
-    pub fn settled(&self) -> u64
-        ensures { result ≡ self.now.settled }
-    {
-        self.settled
-    }
-
     /// Whether the buffer has no room for one note more.
     pub fn is_full(&self) -> bool
         ensures { IsTrue result ↔ (1048576 < length (content self.now.buffer) + 525) }
@@ -73,13 +66,6 @@ impl Log {
         ensures { IsTrue result ↔ (length (content self.now.buffer) ≡ 0) }
     {
         self.buffer.len() == 0
-    }
-
-    /// Whether the area has room for a whole batch.
-    pub fn has_room(&self) -> bool
-        ensures { IsTrue result ↔ (self.now.gate < 2 ^ 39) }
-    {
-        self.gate < 1 << 39
     }
 
     /// Adds a note to the buffer.

@@ -1,16 +1,14 @@
 -- The continuation of each step of a change, from the state before it to the state after it.
-use Rattle.std.specs.Prelude.{◌≡◌, ℕ, Bool, true, false, List, ◌∷◌, Option, Some, None, nat_lt, length}
-use Rattle.abl_base.specs.declared.limits.TheConstants.{MAX_ROW_BYTES}
+use Rattle.std.specs.Prelude.{◌≡◌, ℕ, List, ◌∷◌, Option}
 use Rattle.abl_base.specs.declared.row.RowId.{RowId}
 use Rattle.abl_base.specs.declared.value.Value.{Value}
-use Rattle.abl_values.specs.Rows.{bytes_of_row}
-use Rattle.block_meaning.specs.Lines.{Complaint, IsMandatory, IsReadNoLock, NoRecordIn, RecordTooLong}
+use Rattle.block_meaning.specs.Lines.{IsReadNoLock, NoRecordIn}
 use Rattle.block_meaning.specs.Program.{Program, table_at}
-use Rattle.block_meaning.specs.State.{State, Held, Record, Pending, Share, Normal}
+use Rattle.block_meaning.specs.State.{State, Held, Record, Share, Normal}
 use Rattle.block_meaning.specs.Frames.{content_of, emptied, table_of}
 use Rattle.block_meaning.specs.Buffers.{own, missing_field}
-use Rattle.block_flat.specs.Config.{StackEntry, Execute, Unwind, EntersOne, DeletesRow, ThenDo, WasInserted, WasPut, WasUpgraded}
-use Rattle.block_flat.specs.Steps.{ask, config, fault, delete_step, enter_step, insert_unless, lock_step, put_unless, settle_step, upgrade_step}
+use Rattle.block_flat.specs.Config.{StackEntry, Execute, Unwind, EntersOne, DeletesRow, ThenDo, WasPut, WasUpgraded}
+use Rattle.block_flat.specs.Steps.{ask, config, fault, delete_step, lock_step, put_unless, settle_step, upgrade_step}
 use Rattle.complaint_lines.specs.Complaints.{complaint_in}
 use Rattle.client_changes.specs.declared.locks.ChangeLock.{ChangeLock}
 use Rattle.client_changes.specs.declared.locks.ChangeLock.TheVariants as change_lock
@@ -44,16 +42,6 @@ FoundGoes delete.NoRecord b s = (ks : List StackEntry) → delete_step (content_
 FoundGoes delete.Dropped b s = (ks : List StackEntry) → delete_step (content_of b s) (table_of b s) b ks s ≡ config (Unwind Normal) ks (emptied b s)
 FoundGoes (delete.Row table row) b s = (ks : List StackEntry) → delete_step (content_of b s) (table_of b s) b ks s ≡ lock_step (content_of b s) (table_of b s) b (ThenDo (DeletesRow b table row) ∷ ks) s
 
--- why a row may not be stored: its first mandatory field that is `?`, or else its size
-abbrev pub storing_complaint : Option ℕ → Bool → ℕ → Option Complaint
-storing_complaint (Some f) long t = Some (IsMandatory t f)
-storing_complaint None true t = Some (RecordTooLong t)
-storing_complaint None false t = None
-
--- of a row of this table
-abbrev pub complaint_about : Program → ℕ → List Value → Option Complaint
-complaint_about p t vs = storing_complaint (missing_field 0 (table_at p t).fields vs) (nat_lt MAX_ROW_BYTES (length (bytes_of_row vs))) t
-
 -- a row in a buffer is stored: a fault if it may not be, else the operation that stores it
 abbrev pub PutGoes : StoreStep → Program → ℕ → RowId → List Value → Type 0
 PutGoes store.Nothing p t row vs = ⊥
@@ -61,23 +49,9 @@ PutGoes store.Inserts p t row vs = ⊥
 PutGoes (store.Fails c) p t row vs = (b : ℕ) (ks : List StackEntry) (s : State) → put_unless (missing_field 0 (table_at p t).fields vs) b t row vs ks s ≡ fault (complaint_in c) ks s
 PutGoes (store.Asks op) p t row vs = (b : ℕ) (ks : List StackEntry) (s : State) → put_unless (missing_field 0 (table_at p t).fields vs) b t row vs ks s ≡ ask op (WasPut b t) ks s
 
--- a pending record is inserted: a fault if it may not be, else the operation that inserts it
-abbrev pub InsertGoes : StoreStep → Program → ℕ → List Value → Type 0
-InsertGoes store.Nothing p t vs = ⊥
-InsertGoes store.Inserts p t vs = ⊥
-InsertGoes (store.Fails c) p t vs = (b made : ℕ) (ks : List StackEntry) (s : State) → insert_unless (missing_field 0 (table_at p t).fields vs) p (own b) t vs made ks s ≡ fault (complaint_in c) ks s
-InsertGoes (store.Asks op) p t vs = (b made : ℕ) (ks : List StackEntry) (s : State) → insert_unless (missing_field 0 (table_at p t).fields vs) p (own b) t vs made ks s ≡ ask op (WasInserted (own b) t vs made) ks s
-
 -- a changed record is stored: there is nothing to store, a pending one is inserted now, it may not be stored, or Put is asked
 abbrev pub SettleGoes : StoreStep → Program → ℕ → State → Type 0
 SettleGoes store.Nothing p b s = (ks : List StackEntry) → settle_step p (content_of b s) (table_of b s) b ks s ≡ config (Unwind Normal) ks s
 SettleGoes store.Inserts p b s = (ks : List StackEntry) → settle_step p (content_of b s) (table_of b s) b ks s ≡ config (Execute (EntersOne (own b))) ks s
 SettleGoes (store.Fails c) p b s = (ks : List StackEntry) → settle_step p (content_of b s) (table_of b s) b ks s ≡ fault (complaint_in c) ks s
 SettleGoes (store.Asks op) p b s = (ks : List StackEntry) → settle_step p (content_of b s) (table_of b s) b ks s ≡ ask op (WasPut b (table_of b s)) ks s
-
--- the record of a buffer of the running procedure is inserted, if it is pending
-abbrev pub EnterGoes : StoreStep → Program → ℕ → State → Type 0
-EnterGoes store.Nothing p b s = (ks : List StackEntry) → enter_step p (own b) (table_of b s) (content_of b s) ks s ≡ config (Unwind Normal) ks s
-EnterGoes store.Inserts p b s = ⊥
-EnterGoes (store.Fails c) p b s = (ks : List StackEntry) → enter_step p (own b) (table_of b s) (content_of b s) ks s ≡ fault (complaint_in c) ks s
-EnterGoes (store.Asks op) p b s = (values : List Value) × (since : List ℕ) × (made : ℕ) × (content_of b s ≡ Pending values since made) × ((ks : List StackEntry) → enter_step p (own b) (table_of b s) (content_of b s) ks s ≡ ask op (WasInserted (own b) (table_of b s) values made) ks s)

@@ -1,5 +1,5 @@
-//! How a record is changed, step by step: the lock before the change, storing a changed record,
-//! inserting a pending one, CREATE and DELETE. It depends on `client_buffers` for the buffers of the
+//! How a record is changed, step by step: the lock before the change, assigning to a field, storing a
+//! changed record, CREATE and DELETE. It depends on `client_buffers` for the buffers of the
 //! running procedure and on `record_rules` for what may be stored. A layer above may rely on
 //! `specs/Steps.antt`: each call changes the buffers as the step of `block_flat` does, and returns
 //! how the step continues.
@@ -14,5 +14,5 @@ pub mod stores;
 pub use creates::new_record;
 pub use deletes::{DeleteStep, begin_delete};
 pub use fields::set_field;
-pub use locks::{ChangeLock, lock_for_change, upgrade};
-pub use stores::{StoreStep, enter, settle};
+pub use locks::{ChangeLock, lock_for_change};
+pub use stores::{StoreStep, settle};

@@ -1,13 +1,9 @@
 //! The lock before a change.
 
-ghost use Rattle.std.specs.Prelude.{◌≡◌, Option, ℕ, List};
-ghost use Rattle.abl_base.specs.declared.row.RowId.{RowId};
-ghost use Rattle.abl_base.specs.declared.value.Value.{Value};
+ghost use Rattle.std.specs.Prelude.{◌≡◌};
 ghost use Rattle.block_meaning.specs.Program.{Program};
-ghost use Rattle.block_meaning.specs.State.{State, Record, Exclusive, Held as HeldMeant};
-ghost use Rattle.block_meaning.specs.Frames.{content_of, holding};
+ghost use Rattle.block_meaning.specs.State.{State};
 ghost use Rattle.client_memory.specs.Buffers.{denoted_held};
-ghost use Rattle.client_buffers.specs.Fixed.{fixed_of};
 ghost use Rattle.client_changes.specs.Buffers.{Fits, state_of};
 ghost use Rattle.client_changes.specs.Steps.{LockGoes, UpgradeGoes};
 
@@ -57,31 +53,5 @@ fn lock_of(table: u16, row: RowId, held: Held) -> ChangeLock
             row,
         ),
         Held::Exclusive => ChangeLock::Enough,
-    }
-}
-
-/// After the lock was granted: the buffer holds its row exclusively.
-pub fn upgrade(buffers: &mut RunningBuffers<'_>, buffer: u32)
-    ensures fits { (p : Program) (rest : State) → Fits p rest buffers.old → Fits p rest buffers.new }
-    ensures fixed { fixed_of buffers.new ≡ fixed_of buffers.old }
-    ensures state { (p : Program) (rest : State) (row : RowId) (values : List Value) (held : HeldMeant) (made : Option ℕ) → Fits p rest buffers.old → content_of buffer (state_of rest buffers.old) ≡ Record row values held made → state_of rest buffers.new ≡ holding buffer (Record row values Exclusive made) (state_of rest buffers.old) }
-{
-    match buffers.replace(buffer, Content::Empty) {
-        Content::Record {
-            row,
-            values,
-            made,
-            ..
-        } => {
-            let content = Content::Record {
-                row,
-                values,
-                held: Held::Exclusive,
-                made,
-            };
-            let _ = buffers.replace(buffer, content);
-        }
-        Content::Pending { .. } => {}
-        Content::Empty => {}
     }
 }

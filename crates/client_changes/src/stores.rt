@@ -1,20 +1,19 @@
-//! Storing a changed record, and inserting a pending one.
+//! Storing a changed record.
 
 ghost use Rattle.std.specs.Prelude.{◌≡◌, IfOk};
 ghost use Rattle.block_meaning.specs.Program.{Program};
 ghost use Rattle.block_meaning.specs.State.{State};
-ghost use Rattle.complaint_lines.specs.Complaints.{complaint_if};
 ghost use Rattle.client_changes.specs.Buffers.{Fits, HasTables, state_of};
-ghost use Rattle.client_changes.specs.Steps.{EnterGoes, InsertGoes, PutGoes, SettleGoes, complaint_about};
+ghost use Rattle.client_changes.specs.Steps.{PutGoes, SettleGoes};
 
-use abl_base::{Row, RowId, Value, copy_row};
+use abl_base::{Row, RowId, copy_row};
 use abl_values::Schema;
 use client_buffers::RunningBuffers;
 use client_database::Op;
 use client_memory::Content;
 use complaint_lines::Complaint;
-use complaint_lines::names::{fields_of, indexes_of};
-use record_rules::{all_begun, is_too_long, missing_field};
+use complaint_lines::names::indexes_of;
+use record_rules::{all_begun, unstorable};
 use std::alloc::AllocError;
 
 /// How a record is stored.
@@ -56,25 +55,6 @@ pub fn settle(
     }
 }
 
-/// A pending record of the running procedure is inserted; another content needs nothing. Out of
-/// memory is the only error. (OpenEdge ABL Reference, CREATE and RELEASE statements.)
-pub fn enter(
-    buffers: &RunningBuffers<'_>,
-    schema: &Schema,
-    buffer: u32,
-) -> Result<StoreStep, AllocError>
-    ensures { IfOk result (λ step. (p : Program) (rest : State) → HasTables p schema.now → Fits p rest buffers.now → EnterGoes step p buffer (state_of rest buffers.now)) }
-{
-    let Some(found) = buffers.own(buffer) else {
-        return Ok(StoreStep::Nothing);
-    };
-    match &found.content {
-        Content::Empty => Ok(StoreStep::Nothing),
-        Content::Record { .. } => Ok(StoreStep::Nothing),
-        Content::Pending { values, .. } => insert(schema, found.table, values),
-    }
-}
-
 /// Stores a row that is held.
 fn put(schema: &Schema, table: u16, row: RowId, values: &Row) -> Result<StoreStep, AllocError>
     ensures { IfOk result (λ step. (p : Program) → HasTables p schema.now → PutGoes step p table row values.now) }
@@ -84,32 +64,4 @@ fn put(schema: &Schema, table: u16, row: RowId, values: &Row) -> Result<StoreSte
     }
     let values = copy_row(values)?;
     Ok(StoreStep::Asks(Op::Put { table, row, values }))
-}
-
-/// Inserts a pending record.
-fn insert(schema: &Schema, table: u16, values: &Row) -> Result<StoreStep, AllocError>
-    ensures { IfOk result (λ step. (p : Program) → HasTables p schema.now → InsertGoes step p table values.now) }
-{
-    if let Some(complaint) = unstorable(schema, table, values.as_slice()) {
-        return Ok(StoreStep::Fails(complaint));
-    }
-    let values = copy_row(values)?;
-    Ok(StoreStep::Asks(Op::Insert { table, values }))
-}
-
-/// Why a row of the table may not be stored, if so: its first mandatory field that is `?`, else that
-/// it has too many bytes.
-fn unstorable(schema: &Schema, table: u16, values: &[Value]) -> Option<Complaint>
-    ensures { (p : Program) → HasTables p schema.now → complaint_if result ≡ complaint_about p table values.now }
-{
-    match missing_field(fields_of(schema, table), values) {
-        Some(field) => Some(Complaint::Mandatory { table, field }),
-        None => {
-            if is_too_long(values) {
-                Some(Complaint::RecordTooLong(table))
-            } else {
-                None
-            }
-        }
-    }
 }

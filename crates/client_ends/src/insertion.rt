@@ -10,8 +10,7 @@ use abl_base::{Row, copy_row};
 use abl_values::Schema;
 use client_memory::{Buffer, Content};
 use complaint_lines::Complaint;
-use complaint_lines::names::fields_of;
-use record_rules::{is_too_long, missing_field};
+use record_rules::unstorable;
 use std::alloc::AllocError;
 
 /// What becomes of the record in a buffer.
@@ -41,11 +40,8 @@ pub fn insertion_of(schema: &Schema, buffer: &Buffer) -> Result<Insertion, Alloc
 fn inserted(schema: &Schema, table: u16, values: &Row, made: u64) -> Result<Insertion, AllocError>
     ensures { IfOk result (λ step. (p : Program) → p.tables ≡ schema.now.tables → InsertsAs step p table values.now made) }
 {
-    if let Some(field) = missing_field(fields_of(schema, table), values.as_slice()) {
-        return Ok(Insertion::Fails(Complaint::Mandatory { table, field }));
-    }
-    if is_too_long(values.as_slice()) {
-        return Ok(Insertion::Fails(Complaint::RecordTooLong(table)));
+    if let Some(complaint) = unstorable(schema, table, values.as_slice()) {
+        return Ok(Insertion::Fails(complaint));
     }
     let values = copy_row(values)?;
     Ok(Insertion::Inserts {

@@ -1,45 +1,24 @@
 //! What follows an answer.
 
-ghost use Rattle.std.specs.Prelude.{Bool, Option, ◌≡◌, ◌⊎◌, ◌∷◌, [], ℕ, List, None, Some, OnOk, OnErr, IfSome, true, false, reverse};
+ghost use Rattle.std.specs.Prelude.{None, OnOk, OnErr};
 ghost use Rattle.client_database.specs.declared.answer.Answer.{Answer};
 ghost use Rattle.client_database.specs.declared.operation.Op.{Op};
-ghost use Rattle.client_database.specs.declared.next_step.NextStep.{NextStep};
-ghost use Rattle.bound_tree.specs.Tree.{Body};
-ghost use Rattle.block_meaning.specs.State.{State};
-ghost use Rattle.block_meaning.specs.Program.{Program};
-ghost use Rattle.block_meaning.specs.Meaning.{finished};
-ghost use Rattle.block_flat.specs.Flat.{means};
-ghost use Rattle.block_flat.specs.Works.{IsRunning};
 ghost use Rattle.block_flat.specs.Flat as flat;
 ghost use Rattle.block_meaning.specs.State.{Copy, Done};
-ghost use Rattle.block_meaning.specs.Blocks.{own_or_outer, after_iteration, iterates, acts, instead_of_retry};
-ghost use Rattle.bound_tree.specs.Bound.{action_of};
-ghost use Rattle.block_code.specs.declared.code.Instr.{Instr};
-ghost use Rattle.client_machine.specs.declared.mode.StackEntry.{StackEntry};
-ghost use Rattle.client_machine.specs.InstrClasses.{IsOfClass};
-ghost use Rattle.client_machine.specs.Order.{outer_of, ClosesIteration, InOrder, Named, first_in, ModeInOrder};
-ghost use Rattle.client_machine.specs.Config.{mode_of, entry_of, completion_of, turn_of, after_undo_of, instr_at, header_at, body_at};
 ghost use Rattle.client_output.specs.Written.{IsUnchanged};
-ghost use Rattle.client_machine.specs.Machine.{config_of, stack_in, state_in};
 ghost use Rattle.client_machine.specs.AnswerClass.{IsOfAnswerClass, KeepsAnswer};
 ghost use Rattle.client_machine.specs.declared.answers.AnswerClass.{AnswerClass};
 ghost use Rattle.client_machine.specs.declared.mode.OnAnswer.{OnAnswer};
-ghost use Rattle.client_machine.specs.Step.{Fits, KeepsRun, KeepsTask, KeepsCompletion, NextStepIs, IsAwaiting, IsAtEnd};
 ghost use Rattle.client_machine.specs.declared.mode.Mode.{Mode};
 ghost use Rattle.client_machine.specs.declared.mode.Task.{Task};
 ghost use Rattle.client_machine.specs.declared.mode.Completion.{Completion};
 
-use crate::machine::{Machine, mode_again, mode_then};
+use crate::machine::Machine;
 use crate::mode::ends::{BufferList, EndTask};
-use crate::mode::{
-    AfterUndo, Completion, IterationData, Mode, OnAnswer, PassedLevels, StackEntry, Task, TurnData,
-};
-use abl_base::{Bytes, Value};
-use block_code::Instr;
-use bound_tree::{Action, BlockKind, Stmt};
-use client_database::{Answer, ClientEnd, NextStep, Op, RowIds, StopWhy};
+use crate::mode::{Completion, Mode, OnAnswer, Task, TurnData};
+use abl_base::Value;
+use client_database::{Answer, Op, StopWhy};
 use std::alloc::{AllocError, Global};
-use std::mem;
 
 /// How a client treats an answer.
 #[derive(Clone, Copy, Debug)]
@@ -80,18 +59,6 @@ pub fn answer_class(answer: &Answer) -> AnswerClass
 }
 
 impl Machine {
-    /// Takes the answer to the operation that it awaits.
-    pub fn answer(&mut self, answer: Answer) -> Result<(), AllocError>
-        ensures ok { OnOk result (IsAwaiting self.old.mode → KeepsRun (answer ∷ []) self.old self.new) }
-        ensures err { OnErr result (IsUnchanged self.old.output self.new.output) }
-    {
-        match mem::replace(&mut self.mode, Mode::Unwind(Completion::Normal)) {
-            Mode::Await { op, on_answer } => self.answered(op, on_answer, answer),
-            Mode::Execute(_) => Err(AllocError),
-            Mode::Unwind(_) => Err(AllocError),
-        }
-    }
-
     /// Takes the answer to this one.
     pub fn answered(
         &mut self,

@@ -1,8 +1,7 @@
 -- The continuation of each step of a reading, from the state before it to the state after it.
-use Rattle.std.specs.Prelude.{◌≡◌, ℕ, Bool, true, false, List, ◌∷◌, Option, Some, None, Result, Ok, Err}
+use Rattle.std.specs.Prelude.{◌≡◌, ℕ, Bool, true, false, List, ◌∷◌, Option, Some, Result, Ok, Err}
 use Rattle.abl_base.specs.declared.row.RowId.{RowId}
 use Rattle.abl_base.specs.declared.value.Value.{Value}
-use Rattle.client_database.specs.declared.operation.Op.{Op}
 use Rattle.client_database.specs.declared.row_order.Cursor.{Cursor}
 use Rattle.bound_tree.specs.declared.block.LockWanted.{LockWanted}
 use Rattle.bound_tree.specs.Tree.{Fetch, Reading}
@@ -10,19 +9,17 @@ use Rattle.abl_eval.specs.declared.fault.EvalFault.{EvalFault}
 use Rattle.abl_eval.specs.declared.fault.EvalFault.TheVariants.{Fault, NoMemory}
 use Rattle.block_meaning.specs.Lines.{complaint_of, IsLocked, MoreThanOne, NoRecordFound, NoRecordIn}
 use Rattle.block_meaning.specs.Program.{Program}
-use Rattle.block_meaning.specs.State.{State, NoLock, Normal, Lost, NotFound, Found}
+use Rattle.block_meaning.specs.State.{State, Normal, Lost, NotFound, Found}
 use Rattle.block_meaning.specs.Frames.{content_of}
 use Rattle.block_meaning.specs.Views.{FoundRow, IsBusy, IsGone}
 use Rattle.block_meaning.specs.Reads.{Search, held_as, is_forward}
-use Rattle.block_flat.specs.Config.{Config, StackEntry, Execute, Unwind, Takes, TakesAgain, Looks, Seconds, Searches, Completes, ThenDo, OrDo, WasGranted, WasRead, CurrentGranted, WasCurrent}
-use Rattle.block_flat.specs.Steps.{ask, config, fault, fetch_step, test_step, current_in_step, current_step, take_step, take_again_step}
+use Rattle.block_flat.specs.Config.{Config, StackEntry, Execute, Unwind, Takes, TakesAgain, Looks, Seconds, Searches, Completes, ThenDo, OrDo}
+use Rattle.block_flat.specs.Steps.{config, fault, fetch_step, test_step, current_in_step, current_step}
 use Rattle.block_flat.specs.Machine.{next_answered, second_answered, read_answered, grant_answered, current_grant_answered, current_answered}
 use Rattle.record_rules.specs.declared.answers.Grant.{Grant}
 use Rattle.record_rules.specs.declared.answers.Grant.TheVariants as grant
 use Rattle.client_reads.specs.declared.buffers.Current.{Current}
 use Rattle.client_reads.specs.declared.buffers.Current.TheVariants as current
-use Rattle.client_reads.specs.declared.locks.RowRequest.{RowRequest}
-use Rattle.client_reads.specs.declared.locks.RowRequest.TheVariants as row_request
 use Rattle.client_reads.specs.declared.search.NextTest.{NextTest}
 use Rattle.client_reads.specs.declared.starts.FetchStart.{FetchStart}
 use Rattle.client_reads.specs.declared.starts.FetchStart.TheVariants as fetch_start
@@ -63,18 +60,6 @@ SecondGoes (Ok found) p r retry x s t = (found.cursor ≡ x.cursor) × SecondTes
 SecondGoes (Err (Fault f)) p r retry x s t = (n : ℕ) (forward only wait : Bool) (prefix : List Value) (c : Cursor) (values : List Value) (ks : List StackEntry) →
     second_answered p (Some x) n (search_with r forward only wait retry prefix) c values ks s ≡ fault (complaint_of f) ks t
 SecondGoes (Err NoMemory) p r retry x s t = Unit {0}
-
--- a record that passed WHERE is locked if the reading requires a lock
-abbrev pub TakeGoes : Option Op → Reading → RowId → Bool → State → Type 0
-TakeGoes None r row wait s = (retry : Bool) (ks : List StackEntry) → take_step r.lock r wait retry row ks s ≡ config (Unwind Normal) ks s
-TakeGoes (Some op) r row wait s = (retry : Bool) (ks : List StackEntry) → take_step r.lock r wait retry row ks s ≡ ask op (WasGranted r retry row) ks s
-
--- a row is locked if the reading requires a lock, else read. This serves FIND CURRENT, and the retry of a FOR, which waits
-abbrev pub RequestGoes : RowRequest → Reading → RowId → Bool → State → Type 0
-RequestGoes (row_request.Lock op) r row wait s = (retry : Bool) (made : Option ℕ) (ks : List StackEntry) →
-    (current_step r.lock r wait row made ks s ≡ ask op (CurrentGranted r row made) ks s) × (wait ≡ true → take_again_step r.lock r retry row ks s ≡ ask op (WasGranted r retry row) ks s)
-RequestGoes (row_request.Get op) r row wait s = (retry : Bool) (made : Option ℕ) (ks : List StackEntry) →
-    (current_step r.lock r wait row made ks s ≡ ask op (WasCurrent r row made) ks s) × (take_again_step r.lock r retry row ks s ≡ ask op (WasRead r retry row NoLock) ks s)
 
 -- after the row was read again: the buffer holds it under the lock, or it is lost
 abbrev pub ReadGoes : Result Bool EvalFault → Program → Option (List Value) → Reading → Bool → RowId → LockWanted → State → State → Type 0

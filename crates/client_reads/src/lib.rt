@@ -14,6 +14,6 @@ pub mod tests;
 
 pub use buffers::{Current, RecordBuffers};
 pub use current::{begin_current, read_current};
-pub use locks::{RowRequest, get_op, lock_op, read_again, request_row, settle_grant, take};
-pub use search::{NextTest, next_op, show_next, show_second};
+pub use locks::{read_again, settle_grant};
+pub use search::{NextTest, show_next, show_second};
 pub use starts::{FetchStart, FindStart, fetch_start, find_start};

@@ -1,92 +1,18 @@
 //! The lock of a record that is read, and the second reading under it.
 
 ghost use Rattle.std.specs.Prelude.{◌≡◌};
-ghost use Rattle.client_database.specs.declared.operation.Op.{Op};
 ghost use Rattle.bound_tree.specs.Bound.{reading_of};
 ghost use Rattle.block_meaning.specs.Program.{Program};
 ghost use Rattle.block_meaning.specs.State.{State};
-ghost use Rattle.block_meaning.specs.Frames.{table_of};
-ghost use Rattle.block_meaning.specs.Reads.{is_exclusive};
-ghost use Rattle.client_reads.specs.Steps.{GrantGoes, ReadGoes, RequestGoes, TakeGoes};
+ghost use Rattle.client_reads.specs.Steps.{GrantGoes, ReadGoes};
 
 use crate::buffers::RecordBuffers;
 use crate::tests::test;
 use abl_base::{Row, RowId};
 use abl_eval::EvalFault;
 use bound_tree::{LockWanted, Reading};
-use client_database::Op;
 use record_rules::Grant;
 use std::alloc::Global;
-
-/// The operation that reads the row again.
-pub fn get_op<B: RecordBuffers>(buffers: &B, reading: &Reading, row: RowId) -> Op
-    ensures { (p : Program) (rest : State) → B.fits p rest buffers.now → result ≡ Op.Get (table_of (reading_of reading.now).buffer (B.state rest buffers.now)) row }
-{
-    Op::Get {
-        table: buffers.table(reading.buffer),
-        row,
-    }
-}
-
-/// The operation that locks the row as the reading asks. `wait` says whether the client waits while
-/// others prevent it.
-pub fn lock_op<B: RecordBuffers>(buffers: &B, reading: &Reading, row: RowId, wait: bool) -> Op
-    ensures { (p : Program) (rest : State) → B.fits p rest buffers.now → result ≡ Op.Lock (table_of (reading_of reading.now).buffer (B.state rest buffers.now)) row (is_exclusive (reading_of reading.now).lock) wait }
-{
-    Op::Lock {
-        table: buffers.table(reading.buffer),
-        row,
-        exclusive: wants_exclusive(reading.lock),
-        wait,
-    }
-}
-
-/// The operation that locks a record that passed WHERE, or None if the reading requires no lock.
-pub fn take<B: RecordBuffers>(buffers: &B, reading: &Reading, row: RowId, wait: bool) -> Option<Op>
-    ensures { (p : Program) (rest : State) → B.fits p rest buffers.now → TakeGoes result (reading_of reading.now) row wait (B.state rest buffers.now) }
-{
-    match reading.lock {
-        LockWanted::NoLock => None,
-        LockWanted::Share | LockWanted::Exclusive => Some(lock_op(buffers, reading, row, wait)),
-    }
-}
-
-/// How a known row is read: under a lock, or without one.
-#[derive(Drop)]
-pub enum RowRequest {
-    /// It is locked, and then read.
-    Lock(Op),
-    /// It is read.
-    Get(Op),
-}
-
-/// The operation that reads a row known to the client: the row of FIND CURRENT, or the row of the
-/// iteration in a retry of a FOR.
-pub fn request_row<B: RecordBuffers>(
-    buffers: &B,
-    reading: &Reading,
-    row: RowId,
-    wait: bool,
-) -> RowRequest
-    ensures { (p : Program) (rest : State) → B.fits p rest buffers.now → RequestGoes result (reading_of reading.now) row wait (B.state rest buffers.now) }
-{
-    match reading.lock {
-        LockWanted::NoLock => RowRequest::Get(get_op(buffers, reading, row)),
-        LockWanted::Share | LockWanted::Exclusive => {
-            RowRequest::Lock(lock_op(buffers, reading, row, wait))
-        }
-    }
-}
-
-/// EXCLUSIVE-LOCK.
-fn wants_exclusive(lock: LockWanted) -> bool
-    ensures { result ≡ is_exclusive lock }
-{
-    match lock {
-        LockWanted::NoLock | LockWanted::Share => false,
-        LockWanted::Exclusive => true,
-    }
-}
 
 /// After the answer to Lock. A granted lock changes nothing yet: the row is read again next. Where
 /// another client holds the row, the buffer becomes empty and LOCKED; where the row is gone, it

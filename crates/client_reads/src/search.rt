@@ -1,20 +1,17 @@
 //! What follows a Next: the buffer shows the record, and WHERE is tested.
 
 ghost use Rattle.std.specs.Prelude.{◌≡◌};
-ghost use Rattle.client_database.specs.declared.operation.Op.{Op};
 ghost use Rattle.bound_tree.specs.Bound.{reading_of};
 ghost use Rattle.block_meaning.specs.Program.{Program};
 ghost use Rattle.block_meaning.specs.State.{State};
-ghost use Rattle.block_meaning.specs.Frames.{table_of};
 ghost use Rattle.record_rules.specs.Answers.{found_row_in};
 ghost use Rattle.client_reads.specs.Steps.{NextGoes, SecondGoes};
 
 use crate::buffers::RecordBuffers;
 use crate::tests::test;
-use abl_base::Row;
 use abl_eval::EvalFault;
 use bound_tree::Reading;
-use client_database::{Cursor, Op};
+use client_database::Cursor;
 use record_rules::FoundRow;
 use std::alloc::Global;
 
@@ -23,26 +20,6 @@ use std::alloc::Global;
 pub struct NextTest {
     pub cursor: Cursor,
     pub passes: bool,
-}
-
-/// The operation that finds the next row after `from` in the index of the reading (before it where
-/// `forward` is false), among those that the prefix brackets.
-pub fn next_op<B: RecordBuffers>(
-    buffers: &B,
-    reading: &Reading,
-    prefix: Row,
-    from: Option<Cursor>,
-    forward: bool,
-) -> Op
-    ensures { (p : Program) (rest : State) → B.fits p rest buffers.now → result ≡ Op.Next (table_of (reading_of reading.now).buffer (B.state rest buffers.now)) (reading_of reading.now).index prefix from forward }
-{
-    Op::Next {
-        table: buffers.table(reading.buffer),
-        index: reading.index,
-        prefix,
-        cursor: from,
-        forward,
-    }
 }
 
 /// After Next found a record: the buffer shows it and has its place, and WHERE is tested. A record

@@ -4,7 +4,7 @@
 //! the client that keeps the key. The layer above may rely on this: `next` finds the entries in order
 //! and passes placeholders over; what `leave` took out `enter` takes back without memory; `forget`
 //! undoes an `enter`. `keeps` and `end` go over the keys and rows that any client touched since the
-//! last end, never over all. `container_tables` runs rows of calls.
+//! last end, never over all. `test_machine` runs rows of calls.
 #![tactic(auto)]
 
 mod chain;

@@ -6,13 +6,11 @@ use Rattle.std.specs.FinMap as map
 use Rattle.std.proofs.lemmas.Bool.{cases_eq}
 use Rattle.abl_base.specs.declared.row.RowId.{RowId}
 use Rattle.database_meaning.specs.Waiting.{LocksConflict}
+use Rattle.record_locks.specs.declared.locks.BlockedLock.{BlockedLock}
 use Rattle.record_locks.specs.declared.locks.Client.{Client}
-use Rattle.record_locks.specs.declared.locks.KeyWait.{KeyWait}
-use Rattle.record_locks.specs.declared.locks.LockAnswer.{LockAnswer}
-use Rattle.record_locks.specs.declared.locks.LockAnswer.TheVariants.{Granted, Busy, Blocked, Deadlock, NoMemory}
 use Rattle.record_locks.specs.Settled.{has_row, settled}
-use Rattle.record_locks.specs.Table.{client_of, lock_of, no_client, AreApart, IsSame, OnlyChanges, Settles}
-use Rattle.record_locks.specs.Requests.{HasConflict, AnswersRequest, AfterRequest, granted}
+use Rattle.record_locks.specs.Table.{client_of, lock_of, no_client, AreApart, OnlyChanges, Settles}
+use Rattle.record_locks.specs.Requests.{HasConflict, granted}
 use Rattle.record_locks.proofs.Settling.{same_at}
 use Rattle.record_locks.proofs.Tables.{both}
 
@@ -95,10 +93,6 @@ none_beside None exclusive (Some false) is apart free = absurd (free is)
 none_beside (Some true) exclusive (Some false) is apart free = apart refl
 none_beside (Some false) exclusive (Some false) is apart free = absurd (free is)
 
-pub same_apart : (old new : List Client) → IsSame old new → AreApart old → AreApart new
-same_apart old new same apart =
-    lessened_apart old new (λ d row is. sym (lock_kept old new d row (same d)) ∙ is) (λ d row is. lock_kept old new d row (same d) ∙ is) apart
-
 -- the client's locks after a grant
 now_held : (old new : List Client) (c row : ℕ) (lock : Bool) → OnlyChanges old c (record { held = map.insert (client_of old c).held row lock; blocked = None }) new
     → (q : ℕ) → lock_of new c q ≡ cond (eq_by_cmp nat_cmp q row) (Some lock) (lock_of old c q)
@@ -139,15 +133,8 @@ granted_apart old new c row exclusive apart free only q a b differ is =
           ]
     ]
 
--- ---- a request
-
-pub requested_apart : (old new : List Client) (key_waits : List KeyWait) (c : ℕ) (row : RowId) (exclusive wait : Bool) (answer : LockAnswer)
-    → AreApart old → AnswersRequest old key_waits c row.0 exclusive wait answer → AfterRequest old c row exclusive answer new → AreApart new
-requested_apart old new key_waits c row exclusive wait Granted apart free only = granted_apart old new c row.0 exclusive apart free only
-requested_apart old new key_waits c row exclusive wait (Busy holders) apart is only = kept_apart old new c _ only refl apart
-requested_apart old new key_waits c row exclusive wait (Blocked holders) apart is only = kept_apart old new c _ only refl apart
-requested_apart old new key_waits c row exclusive wait (Deadlock cycle) apart is only = kept_apart old new c _ only refl apart
-requested_apart old new key_waits c row exclusive wait NoMemory apart is same = same_apart old new same apart
-
 pub first_apart : (table : List Client) → ((c : ℕ) → client_of table c ≡ no_client) → AreApart table
 first_apart table none row c d differ is = ap (λ client. map.get client.held row) (none d) ∙ map.get-empty nat_cmp row
+
+pub blocked_apart : (old new : List Client) (c : ℕ) (blocked : Option BlockedLock) → AreApart old → OnlyChanges old c (record { held = (client_of old c).held; blocked = blocked }) new → AreApart new
+blocked_apart old new c blocked apart only = kept_apart old new c _ only refl apart

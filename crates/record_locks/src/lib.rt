@@ -12,4 +12,4 @@ pub mod locks;
 mod search;
 
 pub use held::Held;
-pub use locks::{BlockedLock, Client, KeyWait, KeyWaits, LockAnswer, Locks};
+pub use locks::{BlockedLock, Client, KeyWait, KeyWaits, Locks};

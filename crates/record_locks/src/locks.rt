@@ -6,7 +6,7 @@ ghost use Rattle.database_meaning.specs.Waiting.{Chain, IsCycleFrom, ListsAll, W
 ghost use Rattle.std.specs.List.{Contains};
 ghost use Rattle.record_locks.specs.Settled.{IsFreed, has_row, settled};
 ghost use Rattle.record_locks.specs.Table.{client_of, lock_of, no_client, AreApart, IsSame, OnlyChanges, Settles, ConflictsOnLock, WaitsAgainst};
-ghost use Rattle.record_locks.specs.Requests.{AfterRequest, AnswersRequest, granted};
+ghost use Rattle.record_locks.specs.Requests.{granted};
 
 use crate::held::Held;
 use crate::search::{Search, find_cycle, holders};
@@ -38,21 +38,6 @@ pub struct KeyWait {
 
 /// What all other clients wait for by keys.
 pub type KeyWaits = Items<KeyWait>;
-
-/// The answer to a request for a lock.
-#[derive(Drop)]
-pub enum LockAnswer {
-    /// The client has the lock.
-    Granted,
-    /// Locks of these others conflict with it, and the client does not wait.
-    Busy(ClientIds),
-    /// Locks of these others conflict with it, and the client waits.
-    Blocked(ClientIds),
-    /// Waiting would close a cycle of waiting clients; the cycle begins with the client.
-    Deadlock(ClientIds),
-    /// Out of memory; nothing is changed.
-    NoMemory,
-}
 
 /// The locks of all clients, and what clients wait for. Contracts see a record for each client
 /// number, and beyond the last one clients that hold nothing and wait for nothing.
@@ -146,34 +131,6 @@ impl Locks {
         }
     }
 
-    /// Asks for a share lock on the row, or an exclusive one. `wait` says whether the client waits
-    /// where locks of others conflict; `key_waits` lists what all other clients wait for by keys. The
-    /// lock is granted exactly where none conflicts. After Blocked the client waits for the lock; after
-    /// each other answer but NoMemory it waits for nothing. NoMemory may come at any request.
-    pub fn request(
-        &mut self,
-        client: u16,
-        row: RowId,
-        exclusive: bool,
-        wait: bool,
-        key_waits: &KeyWaits,
-    ) -> LockAnswer
-        ensures answer { AnswersRequest self.old key_waits.now client row.0 exclusive wait result }
-        ensures after { AfterRequest self.old client row exclusive result self.new }
-    {
-        let answer = match self.decide(client, row, exclusive, wait, key_waits) {
-            Ok(answer) => answer,
-            Err(_) => return LockAnswer::NoMemory,
-        };
-        if self
-            .apply(key_waits.allocator(), client, row, exclusive, &answer)
-            .is_err()
-        {
-            return LockAnswer::NoMemory;
-        }
-        answer
-    }
-
     /// A cycle that would close if the client waited for these; None where there is none. It begins with
     /// the client, and its clients all differ. Each waits for the next, and the last for the first. An
     /// error means out of memory.
@@ -198,31 +155,6 @@ impl Locks {
         }
     }
 
-    /// The answer to the request. It changes nothing.
-    fn decide(
-        &self,
-        client: u16,
-        row: RowId,
-        exclusive: bool,
-        wait: bool,
-        key_waits: &KeyWaits,
-    ) -> Result<LockAnswer, AllocError>
-        ensures { IfOk result (λ answer. AnswersRequest self.now key_waits.now client row.0 exclusive wait answer) }
-    {
-        let against = self.against(key_waits.allocator(), client, row, exclusive)?;
-        if against.len() == 0 {
-            return Ok(LockAnswer::Granted);
-        }
-        if !wait {
-            return Ok(LockAnswer::Busy(against));
-        }
-        let closing = self.would_cycle(client, &against, key_waits)?;
-        match closing {
-            Some(cycle) => Ok(LockAnswer::Deadlock(cycle)),
-            None => Ok(LockAnswer::Blocked(against)),
-        }
-    }
-
     /// The clients whose locks conflict with the lock, ascending. It changes nothing; an error means
     /// out of memory.
     pub fn against(
@@ -236,29 +168,6 @@ impl Locks {
     {
         let listed = holders(alloc, self.clients.as_slice(), client, row, exclusive)?;
         Ok(Items::from_vec(listed))
-    }
-
-    /// Applies an answer.
-    fn apply(
-        &mut self,
-        alloc: Global,
-        client: u16,
-        row: RowId,
-        exclusive: bool,
-        answer: &LockAnswer,
-    ) -> Result<(), AllocError>
-        ensures ok { OnOk result (AfterRequest self.old client row exclusive answer.now self.new) }
-        ensures err { OnErr result (IsSame self.old self.new) }
-    {
-        match answer {
-            LockAnswer::Granted => self.grant(alloc, client, row, exclusive),
-            LockAnswer::Blocked(_) => self.block(alloc, client, BlockedLock { row, exclusive }),
-            LockAnswer::Busy(_) | LockAnswer::Deadlock(_) => {
-                self.end_wait(client);
-                Ok(())
-            }
-            LockAnswer::NoMemory => Ok(()),
-        }
     }
 
     /// Grants the client the lock; it then waits for nothing. An error means out of memory; all clients

@@ -15,4 +15,4 @@ pub use answers::{
 };
 pub use bracket::bracket_values;
 pub use indexes::{all_begun, cursor_in, is_row_in};
-pub use stored::{initial_row, is_too_long, missing_field};
+pub use stored::{initial_row, unstorable};

@@ -6,10 +6,15 @@ ghost use Rattle.abl_expr.specs.Operators.{is_unknown};
 ghost use Rattle.abl_values.specs.Rows.{bytes_of_row, field_bytes};
 ghost use Rattle.block_meaning.specs.Buffers.{missing_field};
 ghost use Rattle.block_meaning.specs.Changes.{initial_values};
+ghost use Rattle.block_meaning.specs.Program.{Program};
+ghost use Rattle.complaint_lines.specs.Complaints.{complaint_if};
+ghost use Rattle.record_rules.specs.Storing.{complaint_about};
 
 use abl_base::limits::MAX_ROW_BYTES;
 use abl_base::{Items, Row, Value};
-use abl_values::FieldDef;
+use abl_values::{FieldDef, Schema};
+use complaint_lines::Complaint;
+use complaint_lines::names::fields_of;
 use std::alloc::{AllocError, Global};
 
 /// The values of a new record: the initial value of each field (OpenEdge ABL Reference, CREATE
@@ -24,9 +29,26 @@ pub fn initial_row(alloc: Global, fields: &[FieldDef]) -> Result<Row, AllocError
     Ok(Items::from_vec(values))
 }
 
+/// Why a row of the table may not be stored, if so: its first mandatory field that is `?`, else that
+/// it has too many bytes.
+pub fn unstorable(schema: &Schema, table: u16, values: &[Value]) -> Option<Complaint>
+    ensures { (p : Program) → p.tables ≡ schema.now.tables → complaint_if result ≡ complaint_about p table values.now }
+{
+    match missing_field(fields_of(schema, table), values) {
+        Some(field) => Some(Complaint::Mandatory { table, field }),
+        None => {
+            if is_too_long(values) {
+                Some(Complaint::RecordTooLong(table))
+            } else {
+                None
+            }
+        }
+    }
+}
+
 /// The number of the first mandatory field whose value is `?` (OpenEdge ABL Reference, mandatory
 /// fields). Fields without a value, and values without a field, are not looked at.
-pub fn missing_field(fields: &[FieldDef], values: &[Value]) -> Option<usize>
+fn missing_field(fields: &[FieldDef], values: &[Value]) -> Option<usize>
     ensures { result ≡ missing_field 0 fields.now values.now }
 {
     for (number, field) in fields.iter().enumerate() {
@@ -56,7 +78,7 @@ fn is_unknown(value: &Value) -> bool
 
 /// Whether the row has more than `MAX_ROW_BYTES` bytes. The bytes are counted and not made. (This
 /// project's choice.)
-pub fn is_too_long(values: &[Value]) -> bool
+fn is_too_long(values: &[Value]) -> bool
     ensures { result ≡ nat_lt MAX_ROW_BYTES (length (bytes_of_row values.now)) }
 {
     let limit = MAX_ROW_BYTES as usize;

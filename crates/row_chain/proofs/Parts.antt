@@ -1,12 +1,11 @@
 -- A chain is written, and then zeros into other slots.
-use Rattle.std.proofs.Common.{◌≡◌, ◌≢◌, ℕ, zero, suc, ◌+◌, ◌<◌, ◌≤◌, List, [], ◌∷◌, ◌++◌, length, Some, None, sym, ap, ◌∙◌, subst, arith, length-append}
+use Rattle.std.proofs.Common.{◌≡◌, ◌≢◌, ℕ, zero, suc, ◌+◌, ◌≤◌, List, [], ◌∷◌, ◌++◌, length, sym, ap, ◌∙◌, subst, arith, length-append}
 use Rattle.std.specs.List.{Contains}
-use Rattle.abl_storage.specs.Slots.{SlotState, Transaction, IsReadable}
-use Rattle.row_chain.specs.Fragments.{AreClear, AreDistinct, AreRowSlots, BeginsAs, Holds, IsClear, first_or_zero, kind_in, row_at, table_in}
+use Rattle.abl_storage.specs.Slots.{SlotState, Transaction}
+use Rattle.row_chain.specs.Fragments.{AreDistinct, AreRowSlots}
 use Rattle.row_chain.specs.Calls.{CanTouch, Wrote}
-use Rattle.row_chain.proofs.Within.{none_in, head_in, left_in, parted, right_in}
-use Rattle.row_chain.proofs.Composes.{readable_on, wrote_both}
-use Rattle.row_chain.proofs.Chained.{holds_same, none_of_zeros, row_same, row_written}
+use Rattle.row_chain.proofs.Within.{none_in, left_in, parted, right_in}
+use Rattle.row_chain.proofs.Composes.{wrote_both}
 
 pub rows_left : (xs ys : List ℕ) → AreRowSlots (xs ++ ys) → AreRowSlots xs
 rows_left [] ys h = tt
@@ -56,22 +55,3 @@ module _ (client : ℕ) (chain freed : List ℕ) (s : SlotState) (can : CanTouch
     pub all_wrote : Wrote s u client (chain ++ freed)
     all_wrote = wrote_both s t u client chain freed (chain ++ freed) seen (apart_parts chain freed can.distinct)
         (λ k out. (λ there. out (left_in chain freed k there), λ there. out (right_in chain freed k there))) (parted chain freed) (length-append chain freed) f g
-
-    begins_same : (slots : List ℕ) (kind table : ℕ) → ((k : ℕ) → Contains slots k → u.reads k ≡ t.reads k) → BeginsAs t.reads slots kind table → BeginsAs u.reads slots kind table
-    begins_same [] kind table same h = tt
-    begins_same (at ∷ rest) kind table same h = let here = same at (head_in at rest) in (ap kind_in here ∙ h.0, ap table_in here ∙ h.1)
-
-    pub put_row : (bytes : List ℕ) (table : ℕ) → 0 < length chain → length chain ≤ 125 → IsReadable s → (IsReadable s → Holds t.reads chain bytes) → (IsReadable s → BeginsAs t.reads chain 1 table)
-        → row_at u.reads (first_or_zero chain) ≡ Some (record { table = table; bytes = bytes })
-    put_row bytes table some few readable holds is_first =
-        let same : (k : ℕ) → Contains chain k → u.reads k ≡ t.reads k = λ k there. g.rest (readable_on s t seen f.failed readable) k (apart_parts chain freed can.distinct k there) in
-        row_written u.reads chain bytes table some few (rows_left chain freed can.rows) (holds_same t.reads u.reads chain bytes same (holds readable)) (begins_same chain 1 table same (is_first readable))
-
--- a row clear of the slots that were written stays
-pub clear_same : (client : ℕ) (slots : List ℕ) (old new : SlotState) (row : ℕ) → Wrote old new client slots → IsReadable old → IsClear old.reads slots row → row_at new.reads row ≡ row_at old.reads row
-clear_same client slots old new row written readable clear = row_same old.reads new.reads row (λ k there. written.rest readable k (clear k there))
-
--- no row begins at the first of slots of zeros
-pub no_row : (reads : ℕ → List ℕ) (freed : List ℕ) → 0 < length freed → AreClear reads freed → row_at reads (first_or_zero freed) ≡ None
-no_row reads [] some h = absurd (omega arith)
-no_row reads (at ∷ rest) some h = none_of_zeros reads at h.0

@@ -99,10 +99,6 @@ slots_from (suc n) slots at = if ends at then [] else at ∷ slots_from n slots 
 abbrev pub chain_of : (ℕ → List ℕ) → ℕ → List ℕ
 chain_of slots row = row ∷ slots_from 124 slots (next_in (slots row))
 
--- the row is read from none of these slots
-abbrev pub IsClear : (ℕ → List ℕ) → List ℕ → ℕ → Type 0
-IsClear slots drawn row = (k : ℕ) → Contains (chain_of slots row) k → ¬ Contains drawn k
-
 -- each of the slots has zeros alone
 abbrev pub AreClear : (ℕ → List ℕ) → List ℕ → Type 0
 AreClear slots [] = Unit {0}

@@ -6,7 +6,6 @@
 
 pub mod back;
 pub mod laws;
-pub mod make;
 pub mod moves;
 
 pub use moves::{Move, Moved};

@@ -2,7 +2,7 @@
 //! attribute lines under it, and the values of the attributes. It depends on `abl_values` and
 //! `text_values`. The layer above may rely on the definitions in `specs/`: `Files` says which items
 //! a file has, `Forms` what a line says, and `Attributes` what the attribute lines of an item mean.
-//! The rows of `schema_tables` run it.
+//! The rows of `test_sources` run it.
 #![tactic(auto)]
 
 pub mod attributes;

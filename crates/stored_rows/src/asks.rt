@@ -131,14 +131,6 @@ impl<S: Slots + Drop> StoredRows<S> {
         moved(self.used, 0, drawn_all(self.opens.as_slice()))
     }
 
-    /// The number of fragments that the client's transaction drew, undone changes included.
-    pub fn drawn(&self, client: u16) -> u64
-        requires { client < 16 }
-        ensures { result ≡ (open_in self.now.opens.items client).drawn }
-    {
-        self.opens[client as usize].drawn
-    }
-
     /// The number of slots that the client's transaction wrote, undone changes included.
     pub fn written(&self, client: u16) -> u64
         requires { client < 16 }

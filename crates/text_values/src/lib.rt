@@ -1,7 +1,7 @@
 //! Which texts denote a value of a kind, and which one: the forms that IMPORT, INITIAL in a schema
 //! file and the conversions of texts have in common. It depends on `abl_values`. The layer above may
 //! rely on `specs/TextValues.antt`, whose definitions the calls compute. The rows `value` of
-//! `value_tables` run it.
+//! `test_values` run it.
 #![tactic(auto)]
 
 mod dates;

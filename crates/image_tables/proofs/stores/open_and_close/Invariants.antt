@@ -1,5 +1,0 @@
-use Rattle.image_tables.proofs.stores.open_and_close.Given as goal
-
--- the opening is that of this schema, over the images of the moment
-abbrev pub ghosts-open_since : goal.ghosts-open_since
-ghosts-open_since g a = record { schema = a.schema; images = g.D.Disk.left a.disk (g.D.Disk.time a.disk) }
