@@ -3,8 +3,8 @@
 #![tactic(auto)]
 
 mod arguments;
-mod disk_fault;
 mod explain;
+mod files_explained;
 mod real_files;
 mod real_out;
 
@@ -12,9 +12,9 @@ use abl_cli::run_abl;
 use abl_help::HELP;
 use abl_outside::OpenGate;
 use arguments::{arguments, database_in};
-use disk_fault::explain_fault;
 use disk_files::DiskFiles;
 use explain::{explain, list_pages, print};
+use files_explained::explain_fault;
 use real_files::RealFiles;
 use real_out::RealOut;
 use std::io;

@@ -16,8 +16,9 @@ use std::rt::Files as Machine;
 /// The files `DATABASE.d0`, `DATABASE.b1` and `DATABASE.b2` of the machine as areas 0, 1 and 2. What
 /// they hold is not observable in proofs. They are opened at the first call, under an exclusive
 /// lock each, so the calls of a second process on the same database fail until the first has ended.
-/// A missing file is an area without bytes; a write makes it. After a sync that failed each later
-/// sync fails.
+/// A missing file is an area without bytes, where no other file has bytes: then the first write makes
+/// the files that are missing. Where another file has bytes each call fails. After a sync that failed
+/// each later sync fails.
 #[derive(Drop)]
 pub struct DiskFiles<'a, R> {
     files: OpenFiles<'a, R>,
@@ -52,6 +53,12 @@ impl<'a, R: Machine<File = File>> DiskFiles<'a, R> {
             Some(fault) => Some((self.files.name_of(fault.place), fault.error)),
             None => None,
         }
+    }
+
+    /// The first file that was not empty when the files were opened: its name, and how many bytes it
+    /// had.
+    pub fn held(&self) -> Option<(&str, u64)> {
+        self.files.held()
     }
 
     /// Goes to the next moment, and returns false where this is the last.

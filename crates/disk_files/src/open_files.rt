@@ -14,15 +14,20 @@ use std::rt::Files as Machine;
 /// How many bytes an area has at most: 2^40.
 const MOST_BYTES: u64 = 1 << 40;
 
+/// What is wrong with a file that is missing where another one has bytes.
+const LOST: &str = "missing, but another file of the database is not empty";
+
 /// The file of each area, where there is one. Each is held under an exclusive lock until it is
 /// closed, so no other process has it open here.
 #[derive(Drop)]
 struct AreaFiles {
     files: [Option<File>; 3],
+    /// How many bytes each file had when the files were opened. A missing one had none.
+    lengths: [u64; 3],
 }
 
-/// The files of a database. They are opened at the first call, all three, and a missing one is made
-/// at the first write to its area.
+/// The files of a database. They are opened at the first call, all three, and those that are missing
+/// are made at the first write.
 #[derive(Drop)]
 pub struct OpenFiles<'a, R> {
     machine: &'a R,
@@ -55,6 +60,17 @@ impl<'a, R: Machine<File = File>> OpenFiles<'a, R> {
         }
     }
 
+    /// The first file that was not empty when the files were opened, and how many bytes it had.
+    pub fn held(&self) -> Option<(&str, u64)> {
+        let areas = self.areas.as_ref()?;
+        for (area, length) in areas.lengths.iter().enumerate() {
+            if *length > 0 {
+                return Some((self.names.of_area(area), *length));
+            }
+        }
+        None
+    }
+
     /// The area's bytes from there on, with zeros past its end. A missing file has no byte.
     pub fn read(&mut self, area: usize, at: u64, into: &mut [u8]) -> Result<(), Fault>
         requires area { area < 3 }
@@ -73,10 +89,7 @@ impl<'a, R: Machine<File = File>> OpenFiles<'a, R> {
     pub fn length(&mut self, area: usize) -> Result<u64, Fault>
         requires area { area < 3 }
     {
-        match &self.opened()?.files[area] {
-            Some(file) => Ok(Fault::at(Place::Area(area), file.metadata())?.len()),
-            None => Ok(0),
-        }
+        Fault::at(Place::Area(area), length_of(&self.opened()?.files[area]))
     }
 
     /// Puts the bytes there, with zeros between the area's old end and them.
@@ -84,10 +97,7 @@ impl<'a, R: Machine<File = File>> OpenFiles<'a, R> {
         requires area { area < 3 }
         requires end { at + length bytes.now < 2 ^ 40 }
     {
-        self.opened()?;
-        // The first area's file is made before the others, so that whoever finds a file finds its lock.
-        self.make_if_missing(0)?;
-        self.make_if_missing(area)?;
+        self.make_files()?;
         match &mut self.opened()?.files[area] {
             Some(file) => Fault::at(Place::Area(area), write_to(file, at, bytes)),
             None => Err(Fault::new(Place::Area(area), ErrorKind::NotFound.into())),
@@ -119,13 +129,20 @@ impl<'a, R: Machine<File = File>> OpenFiles<'a, R> {
     /// Syncs the directory, if there is a file and no sync of the directory since the last was made.
     fn sync_names(&mut self) -> Result<(), Fault> {
         let has_file = self.opened()?.files.iter().any(|file| file.is_some());
-        if has_file && !self.has_synced_names {
-            let directory = File::open(self.machine, self.names.directory());
-            let directory = Fault::at(Place::Directory, directory)?;
-            Fault::at(Place::Directory, directory.sync_all())?;
-            self.has_synced_names = true;
+        if !has_file || self.has_synced_names {
+            return Ok(());
         }
-        Ok(())
+        if self.has_failed_sync {
+            return Err(Fault::new(Place::Directory, ErrorKind::Other.into()));
+        }
+        let outcome = Fault::at(Place::Directory, self.sync_directory());
+        self.has_synced_names = outcome.is_ok();
+        self.has_failed_sync = outcome.is_err();
+        outcome
+    }
+
+    fn sync_directory(&self) -> io::Result<()> {
+        File::open(self.machine, self.names.directory())?.sync_all()
     }
 
     /// The files, opened if they are not open yet.
@@ -135,6 +152,16 @@ impl<'a, R: Machine<File = File>> OpenFiles<'a, R> {
             None => open_all(self.machine, &self.names)?,
         };
         Ok(self.areas.insert(areas))
+    }
+
+    /// Makes the files that are missing, that of area 0 first, so that whoever finds a file finds its
+    /// lock. Their entries are durable before a file gets a byte, so no stop leaves one of them
+    /// missing beside one that is not empty.
+    fn make_files(&mut self) -> Result<(), Fault> {
+        self.make_if_missing(0)?;
+        self.make_if_missing(1)?;
+        self.make_if_missing(2)?;
+        self.sync_names()
     }
 
     /// Makes the area's file, if there is none.
@@ -153,8 +180,8 @@ impl<'a, R: Machine<File = File>> OpenFiles<'a, R> {
     }
 }
 
-/// The files of a database that are there, each under its lock. A database without a name has none,
-/// and none can be made.
+/// The files of a database that are there, each under its lock. It fails where one is missing and
+/// another is not empty. A database without a name has none, and none can be made.
 fn open_all<R: Machine<File = File>>(machine: &R, names: &Names) -> Result<AreaFiles, Fault> {
     if !names.has_database() {
         return Err(Fault::new(Place::Area(0), ErrorKind::InvalidInput.into()));
@@ -162,9 +189,39 @@ fn open_all<R: Machine<File = File>>(machine: &R, names: &Names) -> Result<AreaF
     let d0 = Fault::at(Place::Area(0), open_file(machine, names.of_area(0)))?;
     let b1 = Fault::at(Place::Area(1), open_file(machine, names.of_area(1)))?;
     let b2 = Fault::at(Place::Area(2), open_file(machine, names.of_area(2)))?;
-    Ok(AreaFiles {
+    let lengths = [
+        Fault::at(Place::Area(0), length_of(&d0))?,
+        Fault::at(Place::Area(1), length_of(&b1))?,
+        Fault::at(Place::Area(2), length_of(&b2))?,
+    ];
+    let areas = AreaFiles {
         files: [d0, b1, b2],
-    })
+        lengths,
+    };
+    match lost_area(&areas) {
+        Some(area) => {
+            let error = io::Error::new(ErrorKind::NotFound, LOST);
+            Err(Fault::new(Place::Area(area), error))
+        }
+        None => Ok(areas),
+    }
+}
+
+/// The first area whose file is missing, where another file is not empty. No stop of this program
+/// leaves files so: all three are made before one gets a byte.
+fn lost_area(areas: &AreaFiles) -> Option<usize> {
+    if areas.lengths.iter().all(|length| *length == 0) {
+        return None;
+    }
+    areas.files.iter().position(|file| file.is_none())
+}
+
+/// How many bytes the file has; a missing one has none.
+fn length_of(file: &Option<File>) -> io::Result<u64> {
+    match file {
+        Some(file) => Ok(file.metadata()?.len()),
+        None => Ok(0),
+    }
 }
 
 /// The file of that name under its lock, if there is one, synced once.
