@@ -14,6 +14,7 @@ pub mod fresh;
 pub mod laws;
 pub mod noted;
 pub mod opened;
+pub mod other_slots;
 pub mod places;
 pub mod release;
 pub mod row;
