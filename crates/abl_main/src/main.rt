@@ -3,7 +3,7 @@
 #![tactic(auto)]
 
 mod arguments;
-mod disk_fault;
+mod database_files;
 mod explain;
 mod real_files;
 mod real_out;
@@ -12,7 +12,7 @@ use abl_cli::run_abl;
 use abl_help::HELP;
 use abl_outside::OpenGate;
 use arguments::{arguments, database_in};
-use disk_fault::explain_fault;
+use database_files::explain_files;
 use disk_files::DiskFiles;
 use explain::{explain, list_pages, print};
 use real_files::RealFiles;
@@ -22,9 +22,6 @@ use std::process::ExitCode;
 
 /// The line on standard error where there is no memory for the arguments.
 const NO_MEMORY: &str = "abl: no memory\n";
-
-/// The status of a command whose disk failed.
-const DISK_FAILED: u8 = 5;
 
 const VERSION: &str = "abl 0.1.0\n";
 
@@ -64,8 +61,13 @@ fn main(rt: HostRuntime) -> io::Result<ExitCode> {
         &mut out,
         &OpenGate,
     );
-    if outcome.report.status == DISK_FAILED {
-        explain_fault(rt.alloc(), &mut rt.stderr(), outcome.disk.first_fault());
-    }
-    Ok(ExitCode::from(outcome.report.status))
+    let status = outcome.report.status;
+    explain_files(
+        rt.alloc(),
+        &mut rt.stderr(),
+        status,
+        after_database,
+        &outcome.disk,
+    );
+    Ok(ExitCode::from(status))
 }
