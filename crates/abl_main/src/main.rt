@@ -3,8 +3,8 @@
 #![tactic(auto)]
 
 mod arguments;
+mod database_files;
 mod explain;
-mod files_explained;
 mod real_files;
 mod real_out;
 
@@ -12,9 +12,9 @@ use abl_cli::run_abl;
 use abl_help::HELP;
 use abl_outside::OpenGate;
 use arguments::{arguments, database_in};
+use database_files::explain_files;
 use disk_files::DiskFiles;
 use explain::{explain, list_pages, print};
-use files_explained::explain_fault;
 use real_files::RealFiles;
 use real_out::RealOut;
 use std::io;
@@ -22,9 +22,6 @@ use std::process::ExitCode;
 
 /// The line on standard error where there is no memory for the arguments.
 const NO_MEMORY: &str = "abl: no memory\n";
-
-/// The status of a command whose disk failed.
-const DISK_FAILED: u8 = 5;
 
 const VERSION: &str = "abl 0.1.0\n";
 
@@ -64,8 +61,13 @@ fn main(rt: HostRuntime) -> io::Result<ExitCode> {
         &mut out,
         &OpenGate,
     );
-    if outcome.report.status == DISK_FAILED {
-        explain_fault(rt.alloc(), &mut rt.stderr(), outcome.disk.first_fault());
-    }
-    Ok(ExitCode::from(outcome.report.status))
+    let status = outcome.report.status;
+    explain_files(
+        rt.alloc(),
+        &mut rt.stderr(),
+        status,
+        after_database,
+        &outcome.disk,
+    );
+    Ok(ExitCode::from(status))
 }

@@ -2,6 +2,7 @@
 
 use crate::files::calls;
 use disk_files::DiskFiles;
+use std::alloc::Global;
 use std::fs::{File, OpenOptions, Permissions};
 use std::os::unix::fs::{PermissionsExt, symlink};
 use std::{fs, io};
@@ -53,9 +54,29 @@ fn answer_of<'a>(
             Ok(String::from_str(alloc, "done")?)
         }
         _ => match disk {
-            Some(disk) => Ok(calls::answer(alloc, disk, call, rest)?),
+            Some(disk) => called(alloc, disk, call, rest),
             None => Ok(String::from_str(alloc, "no disk")?),
         },
+    }
+}
+
+/// The answer to a call on an opened disk: `held` and `fault`, which are of files, or one of every disk.
+fn called(
+    alloc: Global,
+    disk: &mut DiskFiles<'_, HostRuntime>,
+    call: &str,
+    rest: &str,
+) -> io::Result<String> {
+    match call {
+        "held" => match disk.held() {
+            Some((name, bytes)) => Ok(format!(in alloc; "{name} {bytes}")?),
+            None => Ok(String::from_str(alloc, "none")?),
+        },
+        "fault" => match disk.first_fault() {
+            Some((name, error)) => Ok(format!(in alloc; "{name}: {error}")?),
+            None => Ok(String::from_str(alloc, "none")?),
+        },
+        _ => Ok(calls::answer(alloc, disk, call, rest)?),
     }
 }
 
