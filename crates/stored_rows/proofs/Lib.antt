@@ -14,6 +14,7 @@ pub mod Methods
 pub mod Closed
 pub mod Committed
 pub mod Opening
+pub mod OtherSlots
 pub mod Looked
 pub mod Decodes
 pub mod Replaced

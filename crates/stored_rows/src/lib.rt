@@ -14,6 +14,7 @@ pub mod log;
 pub mod noted;
 pub mod open;
 pub mod opened;
+pub mod other_slots;
 pub mod reads;
 pub mod replaces;
 pub mod returns;
