@@ -11,4 +11,5 @@ pub mod Sound
 pub mod Entered
 pub mod Refused
 pub mod OpenedStore
+pub mod OtherSlots
 pub mod Contents

@@ -8,6 +8,7 @@ pub mod changes;
 pub mod entering;
 pub mod open_error;
 pub mod opened;
+pub mod other_slots;
 pub mod questions;
 pub mod reads;
 pub mod reopened;
