@@ -7,6 +7,10 @@ and standard error, and its status."""
 
 import sys
 
+if __name__ == "__main__" and sys.argv[1:] == ["--help"]:
+    print(__doc__.strip())
+    sys.exit()
+
 import abl_reference as plain_reference
 from abl_reference import KINDS, Block, Client, Fault, Parser, Refused, Stop, Var, fit, lex, order
 

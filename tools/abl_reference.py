@@ -7,6 +7,10 @@ writes to standard output and standard error, and its status."""
 
 import sys
 
+if __name__ == "__main__" and sys.argv[1:] == ["--help"]:
+    print(__doc__.strip())
+    sys.exit()
+
 S = 10 ** 10
 MAXTEXT = 30000
 KEYWORDS = set("""

@@ -3,7 +3,12 @@
 sections are the rows of names and types (tools/type_rows.py, over tools/type_schema.df) and those of
 scopes (tools/scope_rows.py, over tools/scope_schema.df). It runs from anywhere."""
 
+import sys
 from pathlib import Path
+
+if __name__ == "__main__" and sys.argv[1:] == ["--help"]:
+    print(__doc__.strip())
+    sys.exit()
 
 import scope_rows
 import type_rows

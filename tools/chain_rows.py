@@ -6,6 +6,11 @@ bytes takes one slot for each 240 bytes and at least one, and a slot that a tran
 stays taken until it ends.
 """
 import random
+import sys
+
+if __name__ == "__main__" and sys.argv[1:] == ["--help"]:
+    print(__doc__.strip())
+    sys.exit()
 
 from sections import put
 

@@ -12,6 +12,10 @@ import re
 import sys
 from pathlib import Path
 
+if __name__ == "__main__" and sys.argv[1:] == ["--help"]:
+    print(__doc__.strip())
+    sys.exit()
+
 import abl_records
 import abl_reference
 import scope_rows

@@ -1,6 +1,11 @@
 """Random programs over records: `record_programs.py SEED` prints the program of that number. The rows of
 crates/test_commands under the heading of programs drawn at random are among them."""
 import random
+import sys
+
+if __name__ == "__main__" and sys.argv[1:] == ["--help"]:
+    print(__doc__.strip())
+    sys.exit()
 SCHEMA='''ADD SEQUENCE "NextNum"
   INITIAL 10
   INCREMENT 5

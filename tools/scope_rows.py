@@ -4,7 +4,12 @@ by itself, must agree with each of them, and gives those of the generated rows."
 
 import random
 import re
+import sys
 from pathlib import Path
+
+if __name__ == "__main__" and sys.argv[1:] == ["--help"]:
+    print(__doc__.strip())
+    sys.exit()
 
 HERE = Path(__file__).parent
 TABLES = {"customer": ("Customer", ["num", "name"]), "item": ("Item", ["code", "label"])}

@@ -9,6 +9,10 @@ the length of the other area, which is closed, prepared and opened by a write an
 of the ten slots is a call, and a commit makes four. Once a call has failed none is made any more."""
 import sys
 
+if __name__ == "__main__" and sys.argv[1:] == ["--help"]:
+    print(__doc__.strip())
+    sys.exit()
+
 SLOTS, COMPARED, OPENING, COMMIT = 10, 24, 18, 4
 
 

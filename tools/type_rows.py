@@ -4,7 +4,12 @@ answer was worked by hand from docs/language.md ('Names, types and values'); thi
 the lines and columns of the tokens that are marked."""
 
 import re
+import sys
 from pathlib import Path
+
+if __name__ == "__main__" and sys.argv[1:] == ["--help"]:
+    print(__doc__.strip())
+    sys.exit()
 
 HERE = Path(__file__).parent
 MARK = re.compile(r"([!~])([A-Z]\d+)\1")
