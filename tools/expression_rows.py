@@ -4,10 +4,15 @@
 The answers come from the rules of docs/language.md ('Values'): most are worked by hand and are here as they
 are, the others come from Python's fractions, calendar and texts; none from the program. It runs from anywhere."""
 
+import sys
 from datetime import date
 from fractions import Fraction
 from math import floor
 from random import Random
+
+if __name__ == "__main__" and sys.argv[1:] == ["--help"]:
+    print(__doc__.strip())
+    sys.exit()
 
 from sections import put
 

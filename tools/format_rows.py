@@ -5,9 +5,14 @@ The answers come from the rules of docs/formats.md ('Texts'): most are worked by
 are, the others come from Python's decimals, calendar and regular expressions; none from the program. It runs from anywhere."""
 
 import re
+import sys
 from datetime import date
 from decimal import Decimal, ROUND_HALF_UP, getcontext
 from random import Random
+
+if __name__ == "__main__" and sys.argv[1:] == ["--help"]:
+    print(__doc__.strip())
+    sys.exit()
 
 from sections import put
 

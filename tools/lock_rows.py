@@ -6,6 +6,11 @@ program. After a heading no client holds or waits for anything. `key N` says tha
 by a key; `cycle N` asks for the cycle that would close if it waited for client N; `commit ROW` keeps the lock on
 the row. It runs from anywhere."""
 
+import sys
+
+if __name__ == "__main__" and sys.argv[1:] == ["--help"]:
+    print(__doc__.strip())
+    sys.exit()
 from sections import put
 
 ROWS = """\

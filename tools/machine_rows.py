@@ -11,6 +11,11 @@ on the code; index 1 is on the price, descending, and then the lot; index 2 is u
 is one short of the greatest value of 64 bits, the second one short of the least. It runs from anywhere."""
 
 import random
+import sys
+
+if __name__ == "__main__" and sys.argv[1:] == ["--help"]:
+    print(__doc__.strip())
+    sys.exit()
 
 from sections import put
 

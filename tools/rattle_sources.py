@@ -4,6 +4,11 @@ import dataclasses
 import functools
 import pathlib
 import re
+import sys
+
+if __name__ == "__main__" and sys.argv[1:] == ["--help"]:
+    print(__doc__.strip())
+    sys.exit()
 
 TOP = pathlib.Path(__file__).resolve().parent.parent
 CRATES = TOP / "crates"

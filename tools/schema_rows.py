@@ -4,6 +4,11 @@
 Each answer is written by hand from the rules of docs/formats.md ('Schema files'), save the long
 ones of the limits, which are counted out here. None comes from an answer of the program. It runs from anywhere."""
 
+import sys
+
+if __name__ == "__main__" and sys.argv[1:] == ["--help"]:
+    print(__doc__.strip())
+    sys.exit()
 from sections import put
 
 ROWS = []

@@ -2,7 +2,12 @@
 
     from sections import put
     put("test_values", "formats", asked, answered)    # replaces the section in both files, and leaves the others"""
+import sys
 from pathlib import Path
+
+if __name__ == "__main__" and sys.argv[1:] == ["--help"]:
+    print(__doc__.strip())
+    sys.exit()
 
 CRATES = Path(__file__).resolve().parent.parent / "crates"
 

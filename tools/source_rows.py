@@ -6,7 +6,12 @@ docs/language.md; here the places of tokens are counted, and each keyword is tri
 of the answers comes from the program. It runs from anywhere."""
 
 import re
+import sys
 from pathlib import Path
+
+if __name__ == "__main__" and sys.argv[1:] == ["--help"]:
+    print(__doc__.strip())
+    sys.exit()
 
 from sections import put
 

@@ -4,9 +4,14 @@
 The answers come from Python's integers, fractions and calendar, and from the rules of
 docs/language.md ('Values'), and from no answer of the program. It runs from anywhere."""
 
+import sys
 from datetime import date, timedelta
 from fractions import Fraction
 from random import Random
+
+if __name__ == "__main__" and sys.argv[1:] == ["--help"]:
+    print(__doc__.strip())
+    sys.exit()
 
 from sections import put
 
