@@ -986,11 +986,11 @@ It prints on standard error
 What was not committed was undone. See the page of the stop.
 ",
     "status 9: The database is not as the command needs it. `not created`: there is
-none of this name, or what is there is no whole database. No file was changed;
-copy the files before you do anything else, if there are any: `create` makes a
-new database in them, and what was there is lost. `already created`: there is
-one, which `create` leaves as it is, whatever its schema. `schema differs`:
-there is one, and it was created with a schema file that says something else.
+none of this name, or what is there is no whole database. Copy the files
+before you do anything else, if there are any: `create` makes a new database
+in them, and what was there is lost. `already created`: there is one, which
+`create` leaves as it is, whatever its schema. `schema differs`: there is one,
+and it was created with a schema file that says something else.
 
     abl shop create orders.df
 
