@@ -11,10 +11,10 @@ use Rattle.disk_database.specs.declared.refusals.CreateRefusal.{CreateRefusal}
 use Rattle.disk_database.specs.declared.refusals.CreateRefusal.TheVariants as create
 use Rattle.disk_database.specs.Answers.{IsDatabaseOf, IsNoDatabase}
 use Rattle.run_report.specs.declared.refusal.Refusal.{Refusal}
-use Rattle.run_works.specs.Disks.{DiskState, KeepsLogShort}
+use Rattle.run_works.specs.Disks.{DiskState, IsUntouched, KeepsLogShort}
 use Rattle.source_files.specs.Files.{HasText}
 use Rattle.source_files.specs.Compiled.{schema_in}
-use Rattle.abl_cli.specs.Stored.{HasSchema, IsAsItWas, IsNotMade, creation_refusal}
+use Rattle.abl_cli.specs.Stored.{HasSchema, IsNotMade, creation_refusal}
 
 -- ---- the schema
 
@@ -28,14 +28,14 @@ is_schema files name df text (Err e) has same is clean = tt
 
 -- ---- the disk
 
-unless_disk : (was now : DiskState) (why : CreateRefusal) → (why ≡ create.AlreadyCreated → IsAsItWas was now) → (why ≡ create.NoMemory → IsAsItWas was now) → (why ≡ create.Disk → ⊥) → IsAsItWas was now
+unless_disk : (was now : DiskState) (why : CreateRefusal) → (why ≡ create.AlreadyCreated → IsUntouched was now) → (why ≡ create.NoMemory → IsUntouched was now) → (why ≡ create.Disk → ⊥) → IsUntouched was now
 unless_disk was now create.AlreadyCreated there memory fine = there refl
 unless_disk was now create.NoMemory there memory fine = memory refl
 unless_disk was now create.Disk there memory fine = absurd (fine refl)
 
 pub not_made : (was now : DiskState) (why : CreateRefusal) (refusal : Refusal) → refusal ≡ creation_refusal why →
-    (why ≡ create.AlreadyCreated → IsTrue was.observable → (other : SchemaData) × IsDatabaseOf was.seen other) → (why ≡ create.AlreadyCreated → IsAsItWas was now) → (why ≡ create.NoMemory → IsAsItWas was now) →
-    (why ≡ create.Disk → IsTrue was.observable → IsAsItWas was now ⊎ IsNoDatabase was.seen) → (why ≡ create.Disk → Rose was.failures now.failures) → IsNotMade was now refusal
+    (why ≡ create.AlreadyCreated → IsTrue was.observable → (other : SchemaData) × IsDatabaseOf was.seen other) → (why ≡ create.AlreadyCreated → IsUntouched was now) → (why ≡ create.NoMemory → IsUntouched was now) →
+    (why ≡ create.Disk → IsTrue was.observable → IsUntouched was now ⊎ IsNoDatabase was.seen) → (why ≡ create.Disk → Rose was.failures now.failures) → IsNotMade was now refusal
 not_made was now why refusal is already there memory harmless rose = record { why = why; is = is; already = already; rose = rose; stays = unless_disk was now why there memory; harmless = harmless }
 
 -- a creation keeps the log short

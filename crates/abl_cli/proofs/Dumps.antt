@@ -7,8 +7,8 @@ use Rattle.fault_count.specs.Faults.{Rose}
 use Rattle.abl_outside.specs.Out.{OutState}
 use Rattle.abl_values.specs.Schema.{SchemaData, number_of_name, same_name, table_named, table_names}
 use Rattle.disk_database.specs.declared.refusals.DumpRefusal.{DumpRefusal}
-use Rattle.disk_database.specs.Answers.{HasText, IsDumped, IsNotDumped, is_disk, is_output}
-use Rattle.run_works.specs.Disks.{DiskState}
+use Rattle.disk_database.specs.Answers.{HasText, IsDumped, IsNotDumped, is_disk, is_judged, is_output}
+use Rattle.run_works.specs.Disks.{DiskState, IsUntouched, ReadsAsDatabase}
 use Rattle.abl_cli.specs.Stored.{IsDumpCause, has_all_rows, has_whole_lines}
 
 -- ---- the number of a table
@@ -32,10 +32,10 @@ table_is_within schema name n e =
 -- ---- what came of the rows
 
 module _ (schema : SchemaData) (was now : DiskState) where
-  pub dump_cause : (written : Result (Unit {0}) DumpRefusal) → OnOk written (IsTrue was.observable → HasText was.seen schema) → IfErr written (IsNotDumped schema was.observable was.seen) → IfErr written (λ (e : DumpRefusal). is_disk e ≡ true → Rose was.failures now.failures) →
-      IsDumpCause schema was now (result_err written)
-  dump_cause (Ok done) text refused rose = text
-  dump_cause (Err why) text refused rose = (refused, rose)
+  pub dump_cause : (written : Result (Unit {0}) DumpRefusal) → OnOk written (IsTrue was.observable → HasText was.seen schema) → OnOk written (ReadsAsDatabase was schema) → IfErr written (IsNotDumped schema was.observable was.seen) →
+      IfErr written (λ (e : DumpRefusal). is_disk e ≡ true → Rose was.failures now.failures) → IfErr written (λ (e : DumpRefusal). is_judged e ≡ true → IsUntouched was now) → IsDumpCause schema was now (result_err written)
+  dump_cause (Ok done) text born refused rose untouched = (text, born)
+  dump_cause (Err why) text born refused rose untouched = (refused, rose, untouched)
 
   pub dumped_by : (table : ℕ) (old between : OutState) (written : Result (Unit {0}) DumpRefusal) → OnOk written (IsDumped schema was.observable was.seen table true true old between) →
       IfErr written (λ (e : DumpRefusal). IsDumped schema was.observable was.seen table false (not (is_output e)) old between) →

@@ -7,6 +7,7 @@ pub mod Checks
 pub mod Commands
 pub mod Databases
 pub mod Undisturbed
+pub mod Untouched
 pub mod Marks
 pub mod FileCauses
 pub mod Judged

@@ -20,14 +20,14 @@ use Rattle.run_report.specs.declared.refusal.Refusal.{Refusal}
 use Rattle.run_report.specs.declared.refusal.Refusal.TheVariants.{Client, Disk, NoMemory, Output}
 use Rattle.run_report.specs.Ending.{failure_refusal, first_failure, has_closed, one_lacks_memory, output_refusal, refusal_after}
 use Rattle.run_works.specs.declared.outcome.Outcome.{Outcome}
-use Rattle.run_works.specs.Disks.{DiskState, opening_refusal}
+use Rattle.run_works.specs.Disks.{DiskState, IsUntouched, opening_refusal}
 use Rattle.run_works.specs.Works.{HasNotRun}
 use Rattle.source_files.specs.declared.files.ClientTexts.{ClientTexts}
 use Rattle.source_files.specs.Compiled.{BreaksSchema, BreaksSource, OneSourceBreaks, breaks_f, breaks_rule, later_source, schema_wants, source_wants, this_source}
 use Rattle.source_files.specs.Files.{IsNotRead, OneIsNotRead, is_missing, is_too_long, later_one, reading_wants, this_one}
 use Rattle.abl_cli.specs.Check.{BreaksProgram, OneBreaks, later_breaks, program_breaks, program_wants, this_breaks}
 use Rattle.abl_cli.specs.Command.{Banked, Cause, Checked, CommandResult, Created, Dumped, NotRun, Prevents, PreventsCheck, Ran, Refused, bank_of, check_prevented, create_prevented, dump_prevented, no_file, no_named_input, no_program, no_schema_file, one_breaks, prevented, run_wants, schema_breaks, schema_is_broken, source_breaks, wrong_argument}
-use Rattle.abl_cli.specs.Stored.{CreateResult, IsAsItWas, IsDumpCause, Made, NotMade, PreventsDump, PreventsSchema, SaysOfDisk, creation_refusal, df_breaks, dump_refusal, dump_wants, no_df, no_schema, no_table}
+use Rattle.abl_cli.specs.Stored.{CreateResult, IsDumpCause, Made, NotMade, PreventsDump, PreventsSchema, SaysOfDisk, creation_refusal, df_breaks, dump_refusal, dump_wants, no_df, no_schema, no_table}
 use Rattle.abl_cli.proofs.Marks.{check_or_create, create_or_bank, create_or_dump, run_or_create}
 
 -- ---- what comes before the disk says nothing of it
@@ -156,24 +156,24 @@ module _ {D : Type 0} (seen : D → DiskState) (disk : D) (arguments : List (Lis
 -- ---- a creation harms no database
 
 -- a disk is as it was where nothing was done
-unchanged : (disk : DiskState) → IsAsItWas disk disk
+pub unchanged : (disk : DiskState) → IsUntouched disk disk
 unchanged disk = record { same_observable = refl; same = λ known. refl; moment = refl; nothing_else = λ m image there. there; stays = λ m image there. there }
 
 module _ (was now : DiskState) (known : IsTrue was.observable) (there : IsNoDatabase was.seen → ⊥) where
-  was_left : (why : CreateRefusal) → ((why ≡ create.Disk → ⊥) → IsAsItWas was now) → (why ≡ create.Disk → IsTrue was.observable → IsAsItWas was now ⊎ IsNoDatabase was.seen) → IsAsItWas was now
+  was_left : (why : CreateRefusal) → ((why ≡ create.Disk → ⊥) → IsUntouched was now) → (why ≡ create.Disk → IsTrue was.observable → IsUntouched was now ⊎ IsNoDatabase was.seen) → IsUntouched was now
   was_left create.AlreadyCreated stays harmless = stays (λ e. cc e)
   was_left create.NoMemory stays harmless = stays (λ e. cc e)
-  was_left create.Disk stays harmless = ⊎_elim (λ (still : IsAsItWas was now). still) (λ (none : IsNoDatabase was.seen). absurd (there none)) (harmless refl known)
+  was_left create.Disk stays harmless = ⊎_elim (λ (still : IsUntouched was now). still) (λ (none : IsNoDatabase was.seen). absurd (there none)) (harmless refl known)
 
   -- the disk holds a database, so it is as it was
-  pub creation_stays : {schema : SchemaData} {old new : OutState} {report : Report} → CreateResult schema was now old new report → IsAsItWas was now
+  pub creation_stays : {schema : SchemaData} {old new : OutState} {report : Report} → CreateResult schema was now old new report → IsUntouched was now
   creation_stays (Made steps made done) = absurd (there (made.fresh known))
   creation_stays (NotMade steps cause is) = was_left cause.why cause.stays cause.harmless
 
 module _ {D : Type 0} (seen : D → DiskState) (disk : D) (arguments : List (List ℕ)) (files : FileState) (faults : ℕ) (old new : OutState) (result : Outcome D) (known : IsTrue (seen disk).observable) (there : IsNoDatabase (seen disk).seen → ⊥)
     (creation : Create) (args : arguments ≡ create_arguments creation) where
-  pub creation_harmless : CommandResult seen disk arguments files faults old new result → IsAsItWas (seen disk) (seen result.disk)
-  creation_harmless (Refused names refusal cause same is) = subst (λ (other : D). IsAsItWas (seen disk) (seen other)) (sym same) (unchanged (seen disk))
+  pub creation_harmless : CommandResult seen disk arguments files faults old new result → IsUntouched (seen disk) (seen result.disk)
+  creation_harmless (Refused names refusal cause same is) = subst (λ (other : D). IsUntouched (seen disk) (seen other)) (sym same) (unchanged (seen disk))
   creation_harmless (NotRun run is_run are texts clean works are_works not_run) = absurd (run_or_create arguments run creation are args)
   creation_harmless (Ran run is_run are texts clean works are_works ran) = absurd (run_or_create arguments run creation are args)
   creation_harmless (Checked check is_check are listings listed same told) = absurd (check_or_create arguments check creation are args)

@@ -128,7 +128,8 @@ pub data CommandResult {D : Type 0} (seen : D → DiskState) (disk : D) (argumen
   -- it was refused before it came to the disk, which is as it was
   Refused : (names : List (List ℕ)) (refusal : Refusal) → Cause arguments files faults names refusal → outcome.disk ≡ disk → IsRefused names refusal old new outcome.report →
       CommandResult seen disk arguments files faults old new outcome
-  -- it opened no database for the clients that the arguments name, over a schema and sources that break no rule
+  -- it opened no database for the clients that the arguments name, over a schema and sources that break no rule. A disk that holds none, or one of
+  -- another schema, is untouched
   NotRun : (named : Run) → IsRun named → arguments ≡ arguments_of named →
       (texts : Texts files named.schema named.clients) → violation_of texts.df ≡ None → (works : List Work) → AreWorks files (schema_in texts.df) texts.texts works →
       HasNotRun (schema_in texts.df) (client_names named) (seen disk) (seen outcome.disk) old new outcome.report → CommandResult seen disk arguments files faults old new outcome
@@ -144,7 +145,7 @@ pub data CommandResult {D : Type 0} (seen : D → DiskState) (disk : D) (argumen
   -- it made the database of the schema that the arguments name, or could not
   Created : (create : Create) → IsCreate create → arguments ≡ create_arguments create → (schema : SchemaData) → HasSchema files create.schema schema → CreateResult schema (seen disk) (seen outcome.disk) old new outcome.report →
       CommandResult seen disk arguments files faults old new outcome
-  -- it wrote the rows of the table that the arguments name, or could not
+  -- it wrote the rows of the table that the arguments name, or could not, as over a disk that holds no database of the schema, which is untouched
   Dumped : (dump : Dump) → IsDump dump → arguments ≡ dump_arguments dump → (schema : SchemaData) (table : ℕ) → HasTable files dump schema table → DumpResult schema table (seen disk) (seen outcome.disk) old new outcome.report →
       CommandResult seen disk arguments files faults old new outcome
 

@@ -5,7 +5,6 @@ use Rattle.abl_schema.specs.Rules.{violation_of}
 use Rattle.abl_values.specs.Schema.{SchemaData, canonical_text, table_named}
 use Rattle.abl_outside.specs.Files.{FileState}
 use Rattle.abl_outside.specs.Out.{OutState}
-use Rattle.abl_storage.specs.Disk.{Stays}
 use Rattle.disk_steps.specs.Steps.{Image, Run}
 use Rattle.slot_contents.specs.Contents.{new_contents}
 use Rattle.slot_contents.specs.Born.{IsBorn}
@@ -14,15 +13,15 @@ use Rattle.disk_database.specs.declared.refusals.CreateRefusal.{CreateRefusal}
 use Rattle.disk_database.specs.declared.refusals.CreateRefusal.TheVariants as create
 use Rattle.disk_database.specs.declared.refusals.DumpRefusal.{DumpRefusal}
 use Rattle.disk_database.specs.declared.refusals.DumpRefusal.TheVariants as dump
-use Rattle.disk_database.specs.Answers.{HasText as HasStoredText, IsDatabaseOf, IsDumped, IsNoDatabase, IsNotDumped, is_disk, is_output}
+use Rattle.disk_database.specs.Answers.{HasText as HasStoredText, IsDatabaseOf, IsDumped, IsNoDatabase, IsNotDumped, is_disk, is_judged, is_output}
 use Rattle.abl_arguments.specs.CommandLine.{Dump}
 use Rattle.run_report.specs.declared.ending.Report.{Report}
 use Rattle.run_report.specs.declared.refusal.Refusal.{Refusal}
-use Rattle.run_report.specs.declared.refusal.Refusal.TheVariants.{AlreadyCreated, Disk, NoMemory, NoTable, NotCreated, Output, SchemaDiffers}
+use Rattle.run_report.specs.declared.refusal.Refusal.TheVariants.{AlreadyCreated, Client, Disk, NoMemory, NoTable, NotCreated, Output, SchemaDiffers}
 use Rattle.run_report.specs.Ending.{IsRefused, WritesStatus, status_after}
 use Rattle.source_files.specs.Files.{HasText, IsNotRead}
 use Rattle.source_files.specs.Compiled.{BreaksSchema, schema_in}
-use Rattle.run_works.specs.Disks.{DiskState, KeepsContents, opening_refusal}
+use Rattle.run_works.specs.Disks.{DiskState, IsUntouched, KeepsContents, ReadsAsDatabase, opening_refusal}
 
 -- ---- the schema
 
@@ -62,10 +61,6 @@ pub record Creates (schema : SchemaData) (was now : DiskState) : Type 0 where
   pub observable : now.observable ≡ was.observable
   pub steps : Run was.time now.time was.left now.left (CreatesNew schema)
 
--- the disk is as it was
-abbrev pub IsAsItWas : DiskState → DiskState → Type 0
-IsAsItWas was now = Stays was.observable now.observable was.seen now.seen was.time now.time was.left now.left
-
 -- the disk held no database, of whatever schema, the text of this schema has at most 2^20 bytes, and each image that a crash now may leave is
 -- born: the new database of this schema
 pub record IsMade (schema : SchemaData) (was now : DiskState) : Type 0 where
@@ -80,8 +75,8 @@ pub record IsNotMade (was now : DiskState) (refusal : Refusal) : Type 0 where
   pub is : refusal ≡ creation_refusal why
   pub already : why ≡ create.AlreadyCreated → IsTrue was.observable → (other : SchemaData) × IsDatabaseOf was.seen other
   pub rose : why ≡ create.Disk → Rose was.failures now.failures
-  pub stays : (why ≡ create.Disk → ⊥) → IsAsItWas was now
-  pub harmless : why ≡ create.Disk → IsTrue was.observable → IsAsItWas was now ⊎ IsNoDatabase was.seen
+  pub stays : (why ≡ create.Disk → ⊥) → IsUntouched was now
+  pub harmless : why ≡ create.Disk → IsTrue was.observable → IsUntouched was now ⊎ IsNoDatabase was.seen
 
 -- the report of a command that did its work, with nothing written
 pub record IsSilent (old new : OutState) (report : Report) : Type 0 where
@@ -114,10 +109,12 @@ abbrev pub has_whole_lines : Option DumpRefusal → Bool
 has_whole_lines None = true
 has_whole_lines (Some why) = not (is_output why)
 
--- what reads of the disk gave: without a refusal the text of this schema, else why; and Disk only where its count rose
+-- What reads of the disk gave: without a refusal the text of this schema, and a database of it; else why, and Disk only where its count rose.
+-- Where the disk holds no database, or one of another schema, it is untouched
 abbrev pub IsDumpCause : SchemaData → DiskState → DiskState → Option DumpRefusal → Type 0
-IsDumpCause schema was now None = IsTrue was.observable → HasStoredText was.seen schema
-IsDumpCause schema was now (Some why) = IsNotDumped schema was.observable was.seen why × (is_disk why ≡ true → Rose was.failures now.failures)
+IsDumpCause schema was now None = (IsTrue was.observable → HasStoredText was.seen schema) × ReadsAsDatabase was schema
+IsDumpCause schema was now (Some why) =
+    IsNotDumped schema was.observable was.seen why × (is_disk why ≡ true → Rose was.failures now.failures) × (is_judged why ≡ true → IsUntouched was now)
 
 -- THE RESULT OF A DUMP once its table is known: the lines of the committed rows in the order of the primary index (`IsDumped`), of all of
 -- them or, where it was refused, of the first ones. The contents of the disk stay
@@ -142,3 +139,17 @@ SaysOfDisk disk NotCreated = IsNoDatabase disk.seen
 SaysOfDisk disk AlreadyCreated = (schema : SchemaData) × IsDatabaseOf disk.seen schema
 SaysOfDisk disk (SchemaDiffers stored given) = (stored ≢ given) × ((schema : SchemaData) × (canonical_text schema ≡ stored) × IsDatabaseOf disk.seen schema)
 SaysOfDisk disk refusal = Unit {0}
+
+-- Whether a command that ends by this refusal has written nothing to the disk. The others: the disk failed, out of memory, standard output did not
+-- take the report, a client ended in an error or a stop
+abbrev pub is_before_writes : Refusal → Bool
+is_before_writes Disk = false
+is_before_writes NoMemory = false
+is_before_writes Output = false
+is_before_writes (Client first) = false
+is_before_writes refusal = true
+
+-- A REFUSED COMMAND WRITES NOTHING: where it ends by a refusal of an argument, a file, a rule, a table, or of what the disk holds (`NotCreated`,
+-- `AlreadyCreated`, `SchemaDiffers`), the disk is untouched
+abbrev pub WritesNothingIfRefused : DiskState → DiskState → Report → Type 0
+WritesNothingIfRefused was now report = (refusal : Refusal) → report.refusal ≡ Some refusal → is_before_writes refusal ≡ true → IsUntouched was now

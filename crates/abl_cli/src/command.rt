@@ -5,6 +5,7 @@ ghost use Rattle.abl_outside.specs.Files.{FileState};
 ghost use Rattle.abl_arguments.specs.CommandLine.{Names, NamesBank, NamesCheck};
 ghost use Rattle.run_works.specs.Disks.{KeepsLogShort, state_of};
 ghost use Rattle.abl_cli.specs.Command.{CommandResult};
+ghost use Rattle.abl_cli.specs.Stored.{WritesNothingIfRefused};
 
 use crate::check::check_sources;
 use crate::clients::{clients_of, names_of};
@@ -30,7 +31,26 @@ use std::thread::Threads;
 /// between accounts. The report is written to standard output, and the lines of the status to standard
 /// error. A client comes to the gate before each of its steps. Where no image that a crash at the call
 /// may leave has an area of the log longer than 167,772,160 bytes, none of a moment of the call has one.
+/// A command that is refused, by an argument, a file, a rule, a table or by what the disk holds, writes
+/// nothing to the disk.
 pub fn run_abl<R: Threads + Wait + Sync, F: Files, D: Disk + Send + Drop, O: Out, G: Gate + Sync>(
+    rt: &R,
+    alloc: Global,
+    arguments: &[Arg],
+    files: &mut F,
+    disk: D,
+    out: &mut O,
+    gate: &G,
+) -> Outcome<D>
+    ensures did { CommandResult (state_of D.Disk) disk arguments.now (F.state files.old) (F.state files.new).faults (O.state out.old) (O.state out.new) result }
+    ensures refused { WritesNothingIfRefused (state_of D.Disk disk) (state_of D.Disk result.disk) result.report }
+    ensures log { KeepsLogShort (state_of D.Disk disk) (state_of D.Disk result.disk) }
+{
+    obey(rt, alloc, arguments, files, disk, out, gate)
+}
+
+/// Does what the arguments say, or refuses it.
+fn obey<R: Threads + Wait + Sync, F: Files, D: Disk + Send + Drop, O: Out, G: Gate + Sync>(
     rt: &R,
     alloc: Global,
     arguments: &[Arg],

@@ -9,7 +9,7 @@ ghost use Rattle.abl_schema.specs.Rules.{violation_of};
 ghost use Rattle.run_report.specs.declared.refusal.Refusal.{Refusal};
 ghost use Rattle.run_report.specs.declared.refusal.Refusal.TheVariants.{Usage, File, TooLong, Schema, Source, Output};
 ghost use Rattle.run_works.specs.declared.outcome.Outcome.{Outcome};
-ghost use Rattle.run_works.specs.Disks.{state_of};
+ghost use Rattle.run_works.specs.Disks.{IsUntouched, state_of};
 ghost use Rattle.source_files.specs.declared.files.TheConstants.{MAX_FILE_BYTES as MOST};
 ghost use Rattle.abl_outside.specs.Out.{appended};
 ghost use Rattle.abl_outside.specs.declared.out.Stream.TheVariants.{Output as Standard};
@@ -25,7 +25,7 @@ ghost use Rattle.abl_outside.specs.Out.{OutState};
 ghost use Rattle.abl_outside.specs.Files.{FileState};
 ghost use Rattle.abl_cli.specs.Command.{AllThere, AreSources, AreThere, AreTrees, bank_of, CommandResult, HasWholeText, IsRefusal, IsThere, IsUsage, NamesRun, named_inputs, run_files};
 ghost use Rattle.source_files.specs.Compiled.{schema_in};
-ghost use Rattle.abl_cli.specs.Stored.{IsAsItWas, SaysOfDisk};
+ghost use Rattle.abl_cli.specs.Stored.{SaysOfDisk, WritesNothingIfRefused};
 ghost use Rattle.abl_cli.specs.Undisturbed.{HasDatabase, IsDone, NamesCreation, NamesTable, RunEnd};
 ghost use Rattle.abl_cli.specs.CheckFiles.{AreThereWith, NamesSources, check_files};
 
@@ -125,12 +125,22 @@ pub fn a_refusal_says_what_the_disk_holds<D: Disk>()
         SaysOfDisk (state_of D.Disk disk) refusal }
 {}
 
+/// A refused command writes nothing. Where it ends by a wrong argument, a file that cannot be read or is
+/// too long, a rule that the schema or a source breaks, a table that is not there, or by what the disk
+/// holds (not created, already created, another schema), the disk is untouched: it reads as before, no
+/// write and no sync was made, and a crash leaves the same images.
+pub fn a_refused_command_writes_nothing<D: Disk>()
+    ensures { (disk : D) (arguments : List (List ℕ)) (files : FileState) (faults : ℕ) (old new : OutState) (outcome : Outcome D) →
+        CommandResult (state_of D.Disk) disk arguments files faults old new outcome →
+        WritesNothingIfRefused (state_of D.Disk disk) (state_of D.Disk outcome.disk) outcome.report }
+{}
+
 /// A creation harms no database. Where the disk is observable and holds one, of whatever schema, it is
 /// as it was after a creation, also where it failed.
 pub fn a_creation_harms_no_database<D: Disk>()
     ensures { (disk : D) (arguments : List (List ℕ)) (files : FileState) (faults : ℕ) (old new : OutState) (outcome : Outcome D) (create : Create) (schema : SchemaData) →
         CommandResult (state_of D.Disk) disk arguments files faults old new outcome → arguments ≡ create_arguments create → IsTrue (D.observable disk) →
-        IsDatabaseOf (D.seen disk) schema → IsAsItWas (state_of D.Disk disk) (state_of D.Disk outcome.disk) }
+        IsDatabaseOf (D.seen disk) schema → IsUntouched (state_of D.Disk disk) (state_of D.Disk outcome.disk) }
 {}
 
 /// After a creation with status 0 over an observable disk, the disk has a database of the schema, which

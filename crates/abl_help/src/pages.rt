@@ -121,7 +121,7 @@ static SUMMARIES: [&str; 63] = [
     "A file cannot be read",
     "The schema file breaks one of the rules F1 to F12",
     "The source breaks a rule",
-    "The disk failed while a database was made, opened, run or read",
+    "The disk failed",
     "Standard output failed, as on a full device or a closed pipe",
     "Memory ran out",
     "The client ended in an error, by RETURN ERROR of the external procedure, or in a stop",
@@ -924,13 +924,11 @@ It prints on standard error
 
 See the page of the rule. Nothing was run.
 ",
-    "status 5: The disk failed while a database was made, opened, run or read; a
-second line names the file and the reason, as `in use by another process`, or
-`missing, but another file of the database is not empty`: then nothing was
-written, and the file is to be put back beside the others. What was committed
-before is kept; of a commit that was under way it is not known. After a run
-the report is printed, and each client that asked for something later has
-stopped with Closed.
+    "status 5: The disk failed; a second line names the file and why, as `in use by
+another process`, or `missing, but another file of the database is not empty`:
+then nothing was written; put the file back. What was committed before is
+kept; of a commit under way it is not known. After a run the report is
+printed, and each client that asked for more later has stopped with Closed.
 
     abl missing/shop create orders.df
 
@@ -986,11 +984,10 @@ It prints on standard error
 What was not committed was undone. See the page of the stop.
 ",
     "status 9: The database is not as the command needs it. `not created`: there is
-none of this name, or what is there is no whole database. Copy the files
-before you do anything else, if there are any: `create` makes a new database
-in them, and what was there is lost. `already created`: there is one, which
-`create` leaves as it is, whatever its schema. `schema differs`: there is one,
-and it was created with a schema file that says something else.
+no whole database of this name. No file was changed; copy the files, if there
+are any, before `create` makes a new one in them. `already created`: there is
+one, which `create` leaves as it is. `schema differs`: there is one, and it
+was created with a schema file that says something else.
 
     abl shop create orders.df
 

@@ -16,7 +16,7 @@ use Rattle.abl_arguments.specs.declared.parts.Mode.{Mode}
 use Rattle.run_report.specs.declared.ending.Report.{Report}
 use Rattle.run_report.specs.Ending.{IsReported}
 use Rattle.served_works.specs.ClientRun.{ClientOutcome, own_events}
-use Rattle.run_works.specs.Disks.{DiskState, IsDurable}
+use Rattle.run_works.specs.Disks.{DiskState, IsDurable, ReadsAsDatabase}
 use Rattle.served_works.specs.Works.{IsProgram, Work}
 
 -- What a client of a phase did over a database of this setting: as its source means under the answers to its own events. Or there was no
@@ -35,11 +35,12 @@ DidInPhases setting units trace number works ends parts = ⊥
 
 -- A RUN IN THREE PHASES of the clients of these names and works over the database of this schema that the disk has, and its report: each client
 -- did as its source means under its own answers, or could not begin. The phases are one trace over one database, which is legal from the
--- contents of the disk; and these survive a crash at any moment
+-- contents of the disk; and these survive a crash at any moment. No phase is over another schema, or over no database
 pub record HasRunPhases (mode : Mode) (schema : SchemaData) (names : List (List ℕ)) (units clients : ℕ) (works : List Work) (was now : DiskState) (old new : OutState) (report : Report) : Type 0 where
   pub ends : List ClientEnd
   pub parts : List (List Section)
   pub did : DidInPhases (record { schema = schema; clients = clients + 2 }) units report.trace 0 works ends parts
   pub phases : AreThreePhases clients report.trace
   pub durable : IsDurable (record { schema = schema; clients = clients + 2 }) report.trace was now
+  pub born : ReadsAsDatabase was schema
   pub reported : IsReported mode schema names ends parts old new report

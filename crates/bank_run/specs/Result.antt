@@ -40,7 +40,7 @@ AreTextWorks schema (t ∷ ts) (w ∷ ws) = (IsTreeOf schema t.source w.tree × 
 pub data BankResult (bank : Bank) {D : Type 0} (seen : D → DiskState) (disk : D) (old new : OutState) (outcome : Outcome D) : Type 0 where
   -- it was refused before it came to the disk, which is as it was
   BankPrevented : (refusal : Refusal) → PreventsBank bank refusal → outcome.disk ≡ disk → IsRefused (bank_names bank.clients) refusal old new outcome.report → BankResult bank seen disk old new outcome
-  -- it opened no database of the schema of a bank
+  -- it opened no database of the schema of a bank. A disk that holds none, or one of another schema, is untouched
   BankNotRun : HasNotRun bank_schema (bank_names bank.clients) (seen disk) (seen outcome.disk) old new outcome.report → BankResult bank seen disk old new outcome
   -- its clients ran: the one that sets up the accounts, then those that make transfers, then the one that adds up
   BankRan : (works : List Work) → AreTextWorks bank_schema (bank_texts bank) works → HasRunPhases Quiet bank_schema (bank_names bank.clients) BANK_UNITS bank.clients works (seen disk) (seen outcome.disk) old new outcome.report →

@@ -7,7 +7,7 @@ use Rattle.abl_arguments.specs.CommandLine.{Bank, number_of}
 use Rattle.abl_cli.proofs.FileCauses.{same_text}
 use Rattle.abl_cli.proofs.Refusals.{creation_stays}
 use Rattle.abl_cli.specs.Command.{Banked, Checked, Created, Dumped, NotRun, Ran, Refused, bank_of}
-use Rattle.abl_cli.specs.Stored.{CreateResult, IsAsItWas, Made, NotMade}
+use Rattle.abl_cli.specs.Stored.{CreateResult, Made, NotMade}
 use Rattle.abl_outside.specs.Files.{FileState}
 use Rattle.abl_storage.specs.Disk.{IsImage}
 use Rattle.abl_storage.specs.declared.disk.Disk.{Ghosts}
@@ -23,7 +23,7 @@ use Rattle.disk_database.specs.Answers.{IsNoDatabase}
 use Rattle.disk_database.specs.Images.{IsImageOf}
 use Rattle.disk_steps.specs.Steps.{Image}
 use Rattle.run_works.proofs.Disks.{untouched}
-use Rattle.run_works.specs.Disks.{HoldsContents, IsDurable, KeepsContents, state_of}
+use Rattle.run_works.specs.Disks.{HoldsContents, IsDurable, IsUntouched, KeepsContents, state_of}
 use Rattle.source_files.specs.Compiled.{schema_in}
 use Rattle.source_files.specs.Files.{HasText}
 use Rattle.command_laws.specs.Databases.{HasFile, IsOver}
@@ -64,7 +64,7 @@ module _ {D : Type 0} (d : Ghosts D) (known : (disk : D) (m : ℕ) (image : Imag
     -- ---- a creation, of whatever schema
 
     -- a disk that is as it was has the images that it had
-    as_it_was : (contents : Contents) → HoldsContents (state_of d command.disk) schema contents → IsAsItWas (state_of d command.disk) (state_of d command.outcome.disk) → (m : ℕ) (image : Image) → d.time command.disk ≤ m → d.left command.outcome.disk m image → IsImageOf schema contents image
+    as_it_was : (contents : Contents) → HoldsContents (state_of d command.disk) schema contents → IsUntouched (state_of d command.disk) (state_of d command.outcome.disk) → (m : ℕ) (image : Image) → d.time command.disk ≤ m → d.left command.outcome.disk m image → IsImageOf schema contents image
     as_it_was contents holds stays m image from there =
         let past = (known command.outcome.disk m image there).past in
         let moment = stays.moment in

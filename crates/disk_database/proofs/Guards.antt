@@ -1,13 +1,18 @@
 -- Slots that were just opened may be guarded, and the same slots guarded.
-use Rattle.std.proofs.Common.{◌≡◌, ℕ, Bool, List, sym, subst}
+use Rattle.std.proofs.Common.{◌≡◌, ◌∙◌, ℕ, Bool, List, refl, ap, sym, subst}
 use Rattle.std.specs.Prelude.{IsTrue}
-use Rattle.abl_storage.specs.Slots.{IsReadable, KeepsCommitted, SlotState}
+use Rattle.abl_rows.specs.Rows.{RowState}
+use Rattle.abl_storage.specs.Slots.{IsReadable, SlotState}
 use Rattle.abl_values.specs.Schema.{SchemaData}
 use Rattle.disk_steps.specs.Steps.{Image}
 use Rattle.guarded_slots.specs.Guarded.{AllAllowed}
-use Rattle.disk_database.specs.Inside.{AreOpened}
+use Rattle.log_meaning.specs.Images.{Recovers}
+use Rattle.record_store.specs.Opened.{CanOpen, IsOpenedStore}
+use Rattle.slot_txn.specs.Opening.{IsOpenedOver}
+use Rattle.disk_database.specs.Inside.{AreOpened, IsStoreOver}
 use Rattle.disk_database.specs.Parts.{KeptSince}
 use Rattle.disk_database.proofs.Parts.{kept_from}
+use Rattle.disk_database.proofs.Survivals.{one_array}
 
 module _ (schema : SchemaData) (images : Image → Type 0) (s : SlotState) (stop : ℕ → (ℕ → List ℕ) → Type 0) (observable : Bool) (seen : Image) (was : ℕ) (left : ℕ → Image → Type 0) (opened : AreOpened s stop observable seen was left)
     (there : IsTrue observable → left was seen) (covers : (image : Image) → left was image → images image) where
@@ -37,12 +42,30 @@ opened_as s t at_s at_t observable seen was left same stops opened = subst (λ (
   come = λ m slots st. opened.come m slots (stops m slots st);
 })
 
-pub committed_as : (P : (ℕ → List ℕ) → Type 0) (s t : SlotState) (observable : Bool) → t ≡ s → (IsTrue observable → P s.committed) → IsTrue observable → P t.committed
-committed_as P s t observable same held known = subst (λ (x : SlotState). P x.committed) (sym same) (held known)
+-- just opened and guarded, they may be opened further
+pub can_open_as : (s t : SlotState) (stop : ℕ → (ℕ → List ℕ) → Type 0) (observable : Bool) (seen : Image) (was : ℕ) (left : ℕ → Image → Type 0) → t ≡ s → IsOpenedOver s stop observable seen was left → CanOpen t
+can_open_as s t stop observable seen was left same over = subst CanOpen (sym same) (record {
+  idle = over.idle;
+  clean = over.clean;
+  fine = over.fine;
+  settled = λ readable k. ap (λ (f : ℕ → List ℕ). f k) over.settled;
+  certain = λ readable k. ap (λ (f : ℕ → List ℕ). f k) over.certain;
+})
 
--- what is committed stays over calls that commit nothing
-pub committed_on : (P : (ℕ → List ℕ) → Type 0) (s t : SlotState) (observable : Bool) → s.observable ≡ observable → KeepsCommitted s t → (IsTrue observable → P s.committed) → IsTrue observable → P t.committed
-committed_on P s t observable seen keeps held known = subst P (sym (keeps.committed (subst (λ (b : Bool). IsTrue b) (sym seen) known))) (held known)
+-- and read what the view of the disk reads
+pub same_reads : (s t view : SlotState) (stop : ℕ → (ℕ → List ℕ) → Type 0) (observable : Bool) (seen : Image) (was : ℕ) (left : ℕ → Image → Type 0) → t ≡ s → IsOpenedOver s stop observable seen was left → (IsTrue observable → Recovers seen view.reads) → IsReadable view
+    → IsTrue t.observable → IsTrue view.observable × (t.reads ≡ view.reads)
+same_reads s t view stop observable seen was left same over recovers readable known = (readable.0, ap (λ (x : SlotState). x.reads) same ∙ one_array seen s.reads view.reads (over.recovered known_disk) (recovers known_disk))
+  where
+    known_disk : IsTrue observable
+    known_disk = subst (λ (b : Bool). IsTrue b) (ap (λ (x : SlotState). x.observable) same ∙ over.same_observable) known
 
-pub settled_as : (s t : SlotState) (observable : Bool) → t ≡ s → (IsTrue observable → s.reads ≡ s.committed) → IsTrue observable → t.reads ≡ t.committed
-settled_as s t observable same settled known = subst (λ (x : SlotState). x.reads ≡ x.committed) (sym same) (settled known)
+-- so what they have committed is what the view reads
+pub committed_same : (s t view : SlotState) (stop : ℕ → (ℕ → List ℕ) → Type 0) (observable : Bool) (seen : Image) (was : ℕ) (left : ℕ → Image → Type 0) → t ≡ s → IsOpenedOver s stop observable seen was left → (IsTrue observable → Recovers seen view.reads) → IsTrue observable
+    → t.committed ≡ view.reads
+committed_same s t view stop observable seen was left same over recovers known = ap (λ (x : SlotState). x.committed) same ∙ over.settled ∙ one_array seen s.reads view.reads (over.recovered known) (recovers known)
+
+-- a store that was opened over them has what they have committed
+pub store_over : (rows : RowState) (schema : SchemaData) (s t : SlotState) (stop : ℕ → (ℕ → List ℕ) → Type 0) (observable : Bool) (seen : Image) (was : ℕ) (left : ℕ → Image → Type 0) → t ≡ s → IsOpenedOver s stop observable seen was left → IsOpenedStore rows schema t
+    → IsStoreOver rows schema t
+store_over rows schema s t stop observable seen was left same over store = record { opened = t; store = store; same_observable = refl; reads = λ known. subst (λ (x : SlotState). x.reads ≡ x.committed) (sym same) (sym over.settled) }

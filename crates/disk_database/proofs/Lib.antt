@@ -2,6 +2,7 @@ pub mod Causes
 pub mod Dumps
 pub mod Guards
 pub mod Images
+pub mod Judgements
 pub mod Leftover
 pub mod Openings
 pub mod Parts

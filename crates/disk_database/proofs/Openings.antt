@@ -1,14 +1,13 @@
 -- Slots and stores from the moment at which a disk is opened.
-use Rattle.std.proofs.Common.{◌≡◌, ◌⊎◌, ◌≤◌, ◌<◌, ℕ, Bool, List, sym, ◌∙◌, subst, arith, inl, inr}
-use Rattle.std.proofs.Math.Logic.{∥∥₁_elim}
+use Rattle.std.proofs.Common.{◌≡◌, ◌⊎◌, ◌≤◌, ◌<◌, ℕ, Bool, List, sym, subst, arith, inl, inr}
 use Rattle.std.proofs.Props.{props}
 use Rattle.std.proofs.lemmas.Bool.{cases_lt}
-use Rattle.std.specs.Prelude.{IsTrue}
-use Rattle.abl_storage.specs.Slots.{Goes, IsStop, KeepsCommitted, SlotState}
+use Rattle.abl_storage.specs.Slots.{SlotState}
 use Rattle.disk_steps.specs.Steps.{Image, Run}
 use Rattle.log_meaning.specs.Images.{Recovers}
 use Rattle.bi_recovery.specs.Reopening.{SameRecovery}
 use Rattle.logged_slots.specs.Stops.{Stops}
+use Rattle.stored_rows.specs.Chained.{StayChains}
 use Rattle.slot_txn.specs.Opening.{IsOpenedOver}
 use Rattle.disk_database.specs.Inside.{AreOpened}
 use Rattle.disk_database.specs.Images.{RecoversAsBefore}
@@ -24,6 +23,10 @@ stops_first now_observable since now left' was left same run m slots st = (st.0,
     by_time : (was < m) ⊎ (m ≤ was) → (image : Image) × left' since image × Recovers image slots
     by_time (inl later) = let h = run.here m st.3.0 later st.3.1 in (h.0, subst (λ (k : ℕ). left' k h.0) (sym same) (run.stays was h.0 (omega arith) h.1), h.2.from slots st.3.2)
     by_time (inr le) = let from = st.1 in let first : m ≡ since = omega (arith, le, from, same) in (st.3.0, subst (λ (k : ℕ). left' k st.3.0) first st.3.1, st.3.2)
+
+-- so it leaves what one at the first moment leaves, or chains
+pub stays_first : (now_observable : Bool) (since now : ℕ) (left' : ℕ → Image → Type 0) (was : ℕ) (left : ℕ → Image → Type 0) → since ≡ was → Run was now left left' SameRecovery → StayChains (Stops now_observable since now left') since
+stays_first now_observable since now left' was left same run m slots st = ∣ inl (stops_first now_observable since now left' was left same run m slots st) ∣₁
 
 -- after opening
 pub opened_over : (s : SlotState) (now_observable : Bool) (since now : ℕ) (left' : ℕ → Image → Type 0) (observable : Bool) (seen : Image) (was : ℕ) (left : ℕ → Image → Type 0) → since ≡ was
@@ -45,36 +48,6 @@ opened_over s now_observable since now left' observable seen was left same over 
         by_time : (was < m) ⊎ (m ≤ was) → (old : Image) × left was old × Recovers old slots
         by_time (inl later) = let h = run.here m st.3.0 later st.3.1 in (h.0, h.1, h.2.from slots st.3.2)
         by_time (inr le) = (st.3.0, subst (λ (k : ℕ). left k st.3.0) (at_start le) (run.nothing_else m st.3.0 le st.3.1), st.3.2)
-
--- after calls that only read
-pub opened_goes : (s t : SlotState) (at_s at_t : ℕ → (ℕ → List ℕ) → Type 0) (observable : Bool) (seen : Image) (was : ℕ) (left : ℕ → Image → Type 0) → (IsTrue observable → left was seen)
-    → ((m : ℕ) (slots : ℕ → List ℕ) → at_t m slots → IsStop t m) → KeepsCommitted s t → Goes s t at_s at_t → AreOpened s at_s observable seen was left → AreOpened t at_t observable seen was left
-opened_goes s t at_s at_t observable seen was left there stops keeps time opened = record {
-  same_observable = keeps.observable ∙ opened.same_observable;
-  since = time.since ∙ opened.since;
-  certain = λ known. keeps.doubt (known_s known) ∙ opened.certain known ∙ sym (keeps.committed (known_s known));
-  recovered = λ known. subst (λ (slots : ℕ → List ℕ). Recovers seen slots) (sym (keeps.committed (known_s known))) (opened.recovered known);
-  come = come;
-}
-  where
-    known_s : IsTrue observable → IsTrue s.observable
-    known_s known = subst (λ (b : Bool). IsTrue b) (sym opened.same_observable) known
-
-    come : (m : ℕ) (slots : ℕ → List ℕ) → at_t m slots → (old : Image) × left was old × Recovers old slots
-    come m slots st = by_time (cases_lt s.moment m)
-      where
-        known : IsTrue observable
-        known = subst (λ (b : Bool). IsTrue b) (keeps.observable ∙ opened.same_observable) (stops m slots st).observable
-
-        is : (slots ≡ s.committed) ⊎ (slots ≡ t.doubt) → slots ≡ s.committed
-        is (inl e) = e
-        is (inr e) = e ∙ keeps.doubt (known_s known) ∙ opened.certain known
-
-        by_time : (s.moment < m) ⊎ (m ≤ s.moment) → (old : Image) × left was old × Recovers old slots
-        by_time (inl later) =
-            let same : slots ≡ s.committed = ∥∥₁_elim (time.here m slots later st) (same_slots slots s.committed) is in
-            (seen, there known, subst (λ (x : ℕ → List ℕ). Recovers seen x) (sym same) (opened.recovered known))
-        by_time (inr le) = opened.come m slots (time.nothing_else m slots le st)
 
 -- the images of a disk whose slots were opened and then only read
 pub opened_images : (s : SlotState) (stop : ℕ → (ℕ → List ℕ) → Type 0) (observable : Bool) (seen : Image) (was : ℕ) (left left' : ℕ → Image → Type 0) → AreOpened s stop observable seen was left

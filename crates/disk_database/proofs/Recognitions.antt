@@ -1,6 +1,6 @@
 -- Whether slots, and the image that recovers to them, hold a database; and slots that come back.
-use Rattle.std.proofs.Common.{◌≡◌, ◌≢◌, ◌≤◌, ℕ, Bool, List, IsTrue, Result, Ok, Err, length, refl, sym, ◌∙◌, subst, arith}
-use Rattle.std.specs.Prelude.{IfOk}
+use Rattle.std.proofs.Common.{◌≡◌, ◌≤◌, ℕ, List, IsTrue, Result, Ok, Err, length, refl, subst}
+use Rattle.std.specs.Prelude.{IfErr, IfOk}
 use Rattle.abl_storage.specs.Slots.{IsReadable, IsStop, SlotState}
 use Rattle.abl_values.specs.Rows.{fragments_of}
 use Rattle.abl_values.specs.Schema.{SchemaData, canonical_text}
@@ -9,17 +9,16 @@ use Rattle.chain_store.specs.Still.{Still}
 use Rattle.database_laws.proofs.Held.{text_decides_held}
 use Rattle.disk_steps.specs.Steps.{Image}
 use Rattle.log_meaning.specs.Images.{Recovers}
-use Rattle.record_store.specs.Opened.{CanOpen, HoldStore, IsRefused}
-use Rattle.record_store.specs.declared.open_error.OpenError.{OpenError}
+use Rattle.record_store.specs.Opened.{CanOpen, HoldStore}
 use Rattle.row_chain.specs.Chains.{AreChains}
-use Rattle.row_chain.proofs.Composes.{goes_both, keeps_both, readable_on}
+use Rattle.row_chain.proofs.Composes.{readable_on}
 use Rattle.schema_text.specs.Written.{IsHeld}
 use Rattle.slot_contents.specs.Contents.{text_slots}
 use Rattle.stored_rows.specs.Chained.{StayChains}
 use Rattle.stored_rows.proofs.Chaining.{stay_chains}
 use Rattle.stored_text.specs.Held.{HoldText}
 use Rattle.disk_database.specs.Answers.{AreDatabase, IsDatabaseOf, IsNoDatabase}
-use Rattle.disk_database.specs.Inside.{AreBack, HoldDatabase, HoldDatabaseWith}
+use Rattle.disk_database.specs.Inside.{HoldDatabase, HoldDatabaseWith}
 use Rattle.disk_database.specs.Parts.{AreUnusedLeft, LeaveUnused}
 use Rattle.disk_database.proofs.Survivals.{one_array}
 use Rattle.disk_database.proofs.Texts.{one_text}
@@ -43,22 +42,6 @@ module _ (schema : SchemaData) (slots : ℕ → List ℕ) (held : HoldText slots
 
   pub none_stored : IsSound schema → ¬ HoldStore schema slots → ¬ HoldDatabase slots
   none_stored sound unsound has = unsound (text_decides_held has.schema schema slots has.sound sound (one_text slots (canonical_text has.schema) (canonical_text schema) has.are.text held) has.are.store)
-
--- ---- slots that come back
-
-module _ (a b : SlotState) (at_a at_b : ℕ → (ℕ → List ℕ) → Type 0) where
-  pub back_still : Still a b at_a at_b → AreBack a b at_a at_b
-  back_still f = record { keeps = f.rests.keeps; time = f.time; later = f.later }
-
-  pub back_refused : (error : OpenError) → IsRefused a b at_a at_b error → AreBack a b at_a at_b
-  back_refused error r = record { keeps = r.keeps; time = r.time; later = r.later }
-
-pub back_after : (a b c : SlotState) (at_a at_b at_c : ℕ → (ℕ → List ℕ) → Type 0) → ((m : ℕ) (slots : ℕ → List ℕ) → at_c m slots → IsStop c m) → Still a b at_a at_b → AreBack b c at_b at_c → AreBack a c at_a at_c
-back_after a b c at_a at_b at_c stop f s = record {
-  keeps = keeps_both a b c f.rests.keeps s.keeps;
-  time = goes_both a b c at_a at_b at_c f.rests.keeps s.keeps stop f.time s.time;
-  later = let one = f.later in let two = s.later in omega (arith, one, two);
-}
 
 -- ---- slots that were looked at
 
@@ -97,3 +80,7 @@ module _ (a b : SlotState) (at_a at_b : ℕ → (ℕ → List ℕ) → Type 0) (
 pub if_ok_map : {T E : Type 0} (r : Result T E) (P Q : T → Type 0) → ((x : T) → P x → Q x) → IfOk r P → IfOk r Q
 if_ok_map (Ok x) P Q f held = f x held
 if_ok_map (Err e) P Q f held = tt
+
+pub if_err_map : {T E : Type 0} (r : Result T E) (P Q : E → Type 0) → ((e : E) → P e → Q e) → IfErr r P → IfErr r Q
+if_err_map (Ok x) P Q f held = tt
+if_err_map (Err e) P Q f held = f e held

@@ -55,6 +55,12 @@ IsRefused schema observable seen (SchemaDiffers stored given) =
     (given ≡ canonical_text schema) × (stored ≢ given) × (IsTrue observable → (other : SchemaData) × (canonical_text other ≡ stored) × IsDatabaseOf seen other)
 IsRefused schema observable seen refusal = Unit {0}
 
+-- whether the refusal is a judgement on what the disk holds: no database, or one of another schema
+abbrev pub is_judgement : OpenRefusal → Bool
+is_judgement NotCreated = true
+is_judgement (SchemaDiffers stored given) = true
+is_judgement refusal = false
+
 -- whether a dump was refused because the output did not take a whole line
 abbrev pub is_output : DumpRefusal → Bool
 is_output Output = true
@@ -64,6 +70,11 @@ is_output refusal = false
 abbrev pub is_disk : DumpRefusal → Bool
 is_disk (Database Disk) = true
 is_disk refusal = false
+
+-- whether it was refused by such a judgement
+abbrev pub is_judged : DumpRefusal → Bool
+is_judged (Database refusal) = is_judgement refusal
+is_judged Output = false
 
 -- why a table was not written
 abbrev pub IsNotDumped : SchemaData → Bool → Image → DumpRefusal → Type 0

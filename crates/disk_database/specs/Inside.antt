@@ -1,6 +1,6 @@
 -- What is kept between the parts of an opening.
-use Rattle.std.specs.Prelude.{◌≡◌, ◌≢◌, ◌≤◌, ℕ, Bool, List, IsTrue}
-use Rattle.abl_storage.specs.Slots.{Goes, IsReadable, KeepsCommitted, SlotState}
+use Rattle.std.specs.Prelude.{◌≡◌, ◌≢◌, ℕ, Bool, false, List, IsTrue}
+use Rattle.abl_storage.specs.Slots.{IsReadable, SlotState}
 use Rattle.abl_storage.specs.declared.slots.SlotFault.{SlotFault}
 use Rattle.abl_storage.specs.declared.slots.SlotFault.TheVariants as slot
 use Rattle.abl_values.specs.Schema.{SchemaData, canonical_text}
@@ -14,7 +14,9 @@ use Rattle.bi_recovery.specs.declared.open_fault.OpenFault.TheVariants as fault
 use Rattle.record_store.specs.Opened.{IsOpenedStore}
 use Rattle.record_store.specs.declared.open_error.OpenError.{OpenError}
 use Rattle.record_store.specs.declared.open_error.OpenError.TheVariants as error
+use Rattle.stored_text.specs.Held.{HoldText}
 use Rattle.disk_database.specs.Answers.{AreDatabase}
+use Rattle.disk_database.specs.Parts.{LeaveUnused}
 use Rattle.disk_database.specs.declared.refusals.OpenRefusal.{OpenRefusal}
 use Rattle.disk_database.specs.declared.refusals.OpenRefusal.TheVariants.{NotCreated, SchemaDiffers, Disk, NoMemory}
 
@@ -23,6 +25,12 @@ abbrev pub of_fault : OpenFault → OpenRefusal
 of_fault fault.NotCreated = NotCreated
 of_fault fault.Disk = Disk
 of_fault fault.NoMemory = NoMemory
+
+-- what a fault of the recovery means after the disk was judged: the disk recovers, so NotCreated would be out of memory
+abbrev pub of_late_fault : OpenFault → OpenRefusal
+of_late_fault fault.NotCreated = NoMemory
+of_late_fault fault.Disk = Disk
+of_late_fault fault.NoMemory = NoMemory
 
 -- what an error of the store means: slots without the rows of a database are none
 abbrev pub of_error : OpenError → OpenRefusal
@@ -53,12 +61,6 @@ IsSlotRefusal schema s NotCreated = IsReadable s → ¬ HoldDatabase s.reads
 IsSlotRefusal schema s (SchemaDiffers stored given) = (given ≡ canonical_text schema) × (stored ≢ given) × (IsReadable s → HoldDatabaseWith stored s.reads)
 IsSlotRefusal schema s refusal = Unit {0}
 
--- slots that were lent are back: what is committed stays, and the count of faults never falls
-pub record AreBack (old new : SlotState) (before after : ℕ → (ℕ → List ℕ) → Type 0) : Type 0 where
-  pub keeps : KeepsCommitted old new
-  pub time : Goes old new before after
-  pub later : old.faults ≤ new.faults
-
 -- Slots of a disk that was opened at the moment `was`, at which it was observable or not, read `seen` and could leave these images: what is
 -- committed is what `seen` recovers to, no commit is in doubt, and a stop leaves what an image of that moment recovered to
 pub record AreOpened (s : SlotState) (stop : ℕ → (ℕ → List ℕ) → Type 0) (observable : Bool) (seen : Image) (was : ℕ) (left : ℕ → Image → Type 0) : Type 0 where
@@ -74,3 +76,12 @@ pub record IsStoreOver (rows : RowState) (schema : SchemaData) (s : SlotState) :
   pub store : IsOpenedStore rows schema opened
   pub same_observable : opened.observable ≡ s.observable
   pub reads : IsTrue s.observable → opened.reads ≡ s.committed
+
+-- the store has the rows and values of its slots, in which no transaction is begun, and these hold the text of this schema, and zeros where
+-- nothing belongs
+pub record AreJudged (rows : RowState) (schema : SchemaData) (s : SlotState) : Type 0 where
+  pub store : IsOpenedStore rows schema s
+  pub readable : IsReadable s
+  pub idle : (c : ℕ) → (s.transaction c).begun ≡ false
+  pub text : HoldText s.reads (canonical_text schema)
+  pub unused : LeaveUnused schema s.reads

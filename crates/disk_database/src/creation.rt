@@ -35,7 +35,7 @@ fn holds_database<D: Disk>(alloc: Global, disk: &mut D) -> Result<bool, CreateFa
         Err(OpenFault::NoMemory) => return Err(CreateFault::NoMemory),
     };
     // The slots are in memory, so the disk cannot fail any more.
-    match hold_database(alloc, view).0 {
+    match hold_database(alloc, view) {
         Ok(held) => Ok(held),
         Err(_) => Err(CreateFault::NoMemory),
     }

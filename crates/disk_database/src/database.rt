@@ -1,7 +1,8 @@
 //! Opening and closing a database.
 
-ghost use Rattle.std.specs.Prelude.{◌≡◌, ◌<◌, ◌≤◌, ℕ, List, [], map, IfErr, IfOk, IsTrue};
+ghost use Rattle.std.specs.Prelude.{◌≡◌, ◌<◌, ◌≤◌, ℕ, List, [], map, true, IfErr, IfOk, IsTrue};
 ghost use Rattle.fault_count.specs.Faults.{Rose};
+ghost use Rattle.abl_storage.specs.Disk.{Stays};
 ghost use Rattle.database_meaning.specs.declared.contents.Contents.{Contents};
 ghost use Rattle.database_meaning.specs.Setting.{Setting};
 ghost use Rattle.database_meaning.specs.Traces.{identity_of};
@@ -12,7 +13,7 @@ ghost use Rattle.log_meaning.specs.Images.{Recovers};
 ghost use Rattle.bi_log.specs.Lengths.{StayShort};
 ghost use Rattle.logged_slots.specs.Stops.{StayRecoverable};
 ghost use Rattle.db_machine.specs.Database.{HasSetting, IsActive, IsOpened};
-ghost use Rattle.disk_database.specs.Answers.{HasText, IsBornOf, IsRefused};
+ghost use Rattle.disk_database.specs.Answers.{HasText, IsBornOf, IsRefused, is_judgement};
 ghost use Rattle.disk_database.specs.Inside.{IsStoreOver};
 ghost use Rattle.disk_database.specs.Images.{AllAreOf, AreImagesOf, RecoversAsBefore, SurvivesCrashes};
 
@@ -33,8 +34,10 @@ pub type DiskDatabase<D, K> = Db<DiskStore<D, K>>;
 /// anything. The store and the machine each have a schema of their own, which is one schema. Where each
 /// image that a crash may leave at the call holds the same contents, the database is opened with them,
 /// and they survive each crash from then on. What the disk's reads give is then an image that is born of
-/// the schema. A refusal hands the disk back: each image from the call on
-/// recovers only to what an image at the call recovered to.
+/// the schema. The disk is judged before it is recovered, so where it holds no database, or one of
+/// another schema, nothing is written. The slots that were judged are those of the database, read once:
+/// they take 256 bytes each, until the disk is recovered. A refusal hands the disk back: each image from
+/// the call on recovers only to what an image at the call recovered to.
 pub fn open<D: Disk + Drop, K: Opening>(
     alloc: Global,
     disk: D,
@@ -54,6 +57,7 @@ pub fn open<D: Disk + Drop, K: Opening>(
     ensures text { IfOk result (λ db. IsTrue (D.observable disk) → HasText (D.seen disk) schema) }
     ensures born { IfOk result (λ db. IsTrue (D.observable disk) → IsBornOf (D.seen disk) schema) }
     ensures refused { IfErr result (λ e. IsRefused schema (D.observable disk) (D.seen disk) e.0) }
+    ensures untouched { IfErr result (λ e. is_judgement e.0 ≡ true → Stays (D.observable disk) (D.observable e.1) (D.seen disk) (D.seen e.1) (D.time disk) (D.time e.1) (D.left disk) (D.left e.1)) }
     ensures observable { IfErr result (λ e. D.observable e.1 ≡ D.observable disk) }
     ensures time { IfErr result (λ e. D.time disk ≤ D.time e.1) }
     ensures images { IfErr result (λ e. RecoversAsBefore (D.time disk) (D.left disk) (D.left e.1)) }

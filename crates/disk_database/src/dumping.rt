@@ -2,11 +2,12 @@
 
 ghost use Rattle.std.specs.Prelude.{◌≡◌, ◌⊎◌, ◌<◌, ◌≤◌, ℕ, MatchOption, length, not, true, false, IfErr, IfOk, IsTrue, OnOk, ⊤};
 ghost use Rattle.fault_count.specs.Faults.{Rose};
+ghost use Rattle.abl_storage.specs.Disk.{Stays};
 ghost use Rattle.abl_values.specs.Schema.{primary_of};
 ghost use Rattle.database_meaning.specs.Setting.{HasIndex};
 ghost use Rattle.bi_log.specs.Lengths.{StayShort};
 ghost use Rattle.logged_slots.specs.Stops.{StayRecoverable};
-ghost use Rattle.disk_database.specs.Answers.{HasText, IsDumped, IsNotDumped, is_disk, is_output, of_table};
+ghost use Rattle.disk_database.specs.Answers.{HasText, IsBornOf, IsDumped, IsNotDumped, is_disk, is_judged, is_output, of_table};
 ghost use Rattle.disk_steps.specs.Steps.{Image};
 ghost use Rattle.database_meaning.specs.declared.contents.Contents.{Contents};
 ghost use Rattle.disk_database.specs.Images.{AllAreOf, AreImagesOf, HoldsAsBefore, IsImageOf};
@@ -34,6 +35,7 @@ fn order_of(schema: &Schema, table: u16) -> Option<u16>
 /// What the answer of the table means, where the disk had `before` faults at first and has `now`.
 fn of_table(before: u64, now: u64, error: TableError) -> DumpRefusal
     ensures is { (result ≡ of_table error) ⊎ ((is_output (of_table error) ≡ false) × (result ≡ DumpRefusal.Database OpenRefusal.NoMemory)) }
+    ensures late { is_judged result ≡ false }
     ensures cause { is_disk result ≡ true → Rose before now }
 {
     match error {
@@ -52,7 +54,8 @@ fn of_table(before: u64, now: u64, error: TableError) -> DumpRefusal
 /// Writes the committed rows of a table of the database that the disk holds to standard output: a line
 /// as EXPORT writes it for each row, in the order of the table's primary index, or of the rows'
 /// identities without one. Each line is written as its row is read, so after a refusal the lines of the
-/// first rows may be written. The disk is handed back: each image from the call on recovers only to
+/// first rows may be written. Where the disk holds no database, or one of another schema, it is as it
+/// was. The disk is handed back in every case: each image from the call on recovers only to
 /// what an image at the call recovered to. Out of memory comes too where the table has more than
 /// 1,040,384 rows, which no disk holds.
 pub fn dump<D: Disk + Drop, O: Out>(
@@ -68,7 +71,9 @@ pub fn dump<D: Disk + Drop, O: Out>(
     ensures whole { OnOk result.0 (IsDumped schema (D.observable disk) (D.seen disk) table true true (O.Out.state out.old) (O.Out.state out.new)) }
     ensures part { IfErr result.0 (λ e. IsDumped schema (D.observable disk) (D.seen disk) table false (not (is_output e)) (O.Out.state out.old) (O.Out.state out.new)) }
     ensures text { OnOk result.0 (IsTrue (D.observable disk) → HasText (D.seen disk) schema) }
+    ensures born { OnOk result.0 (IsTrue (D.observable disk) → IsBornOf (D.seen disk) schema) }
     ensures refused { IfErr result.0 (IsNotDumped schema (D.observable disk) (D.seen disk)) }
+    ensures untouched { IfErr result.0 (λ e. is_judged e ≡ true → Stays (D.observable disk) (D.observable result.1) (D.seen disk) (D.seen result.1) (D.time disk) (D.time result.1) (D.left disk) (D.left result.1)) }
     ensures observable { D.observable result.1 ≡ D.observable disk }
     ensures time { D.time disk ≤ D.time result.1 }
     ensures images { HoldsAsBefore schema (D.time disk) (D.left disk) (D.left result.1) }
@@ -98,7 +103,9 @@ fn dump_since<D: Disk + Drop, K: Opening, O: Out>(
     ensures whole { OnOk result.0 (IsDumped schema (D.observable disk) (D.seen disk) table true true (O.Out.state out.old) (O.Out.state out.new)) }
     ensures part { IfErr result.0 (λ e. IsDumped schema (D.observable disk) (D.seen disk) table false (not (is_output e)) (O.Out.state out.old) (O.Out.state out.new)) }
     ensures text { OnOk result.0 (IsTrue (D.observable disk) → HasText (D.seen disk) schema) }
+    ensures born { OnOk result.0 (IsTrue (D.observable disk) → IsBornOf (D.seen disk) schema) }
     ensures refused { IfErr result.0 (IsNotDumped schema (D.observable disk) (D.seen disk)) }
+    ensures untouched { IfErr result.0 (λ e. is_judged e ≡ true → Stays (D.observable disk) (D.observable result.1) (D.seen disk) (D.seen result.1) (D.time disk) (D.time result.1) (D.left disk) (D.left result.1)) }
     ensures observable { D.observable result.1 ≡ D.observable disk }
     ensures time { D.time disk ≤ D.time result.1 }
     ensures images { HoldsAsBefore schema (D.time disk) (D.left disk) (D.left result.1) }
@@ -108,6 +115,7 @@ fn dump_since<D: Disk + Drop, K: Opening, O: Out>(
     ensures short { StayShort (D.left result.1) (D.time disk) }
     ensures cause { IfErr result.0 (λ e. is_disk e ≡ true → Rose (D.failures disk) (D.failures result.1)) }
 {
+    schema.soundness();
     let before = disk.faults();
     let mut rows = match open_rows::<D, K>(alloc, disk, schema_of_rows) {
         Ok(rows) => rows,

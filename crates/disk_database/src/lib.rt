@@ -9,6 +9,7 @@ mod creation;
 mod database;
 mod dumping;
 mod guard;
+mod judging;
 pub mod laws;
 mod opening;
 mod recognition;

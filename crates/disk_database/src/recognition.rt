@@ -8,7 +8,7 @@ ghost use Rattle.row_chain.specs.Chains.{AreChains};
 ghost use Rattle.schema_text.specs.Written.{IsHeld};
 ghost use Rattle.stored_rows.specs.Chained.{StayChains};
 ghost use Rattle.stored_text.specs.Held.{HoldText};
-ghost use Rattle.disk_database.specs.Inside.{AreBack, HoldDatabase, HoldDatabaseWith};
+ghost use Rattle.disk_database.specs.Inside.{HoldDatabase, HoldDatabaseWith};
 
 use crate::text::slots_of_text;
 use crate::unused::are_unused_left;
@@ -35,27 +35,26 @@ fn hold_database_of<S: Slots + Drop>(
     alloc: Global,
     mut slots: S,
     schema: Schema,
-) -> (Result<bool, SlotFault>, S)
+) -> Result<bool, SlotFault>
     requires can { CanOpen (S.Slots.state slots) }
     requires stops { (IsTrue (S.Slots.state slots).observable → ∥ AreChains (S.Slots.state slots).committed ∥₁) → StayChains (S.Slots.stop slots) (S.Slots.state slots).since }
     requires held { IsHeld schema }
     requires text { IsReadable (S.Slots.state slots) → HoldText (S.Slots.state slots).reads (canonical_text schema) }
-    ensures yes { IfOk result.0 (λ held. IsTrue held → IsReadable (S.Slots.state slots) → HoldDatabaseWith (canonical_text schema) (S.Slots.state slots).reads) }
-    ensures no { IfOk result.0 (λ held. held ≡ false → IsReadable (S.Slots.state slots) → ¬ HoldDatabase (S.Slots.state slots).reads) }
-    ensures back { AreBack (S.Slots.state slots) (S.Slots.state result.1) (S.Slots.stop slots) (S.Slots.stop result.1) }
+    ensures yes { IfOk result (λ held. IsTrue held → IsReadable (S.Slots.state slots) → HoldDatabaseWith (canonical_text schema) (S.Slots.state slots).reads) }
+    ensures no { IfOk result (λ held. held ≡ false → IsReadable (S.Slots.state slots) → ¬ HoldDatabase (S.Slots.state slots).reads) }
 {
     schema.soundness();
     let Some(text) = slots_of_text(&schema) else {
-        return (Err(SlotFault::NoMemory), slots);
+        return Err(SlotFault::NoMemory);
     };
     match are_unused_left(&mut slots, text) {
         Ok(true) => {}
-        Ok(false) => return (Ok(false), slots),
-        Err(fault) => return (Err(fault), slots),
+        Ok(false) => return Ok(false),
+        Err(fault) => return Err(fault),
     }
     match RecordStore::open(alloc, slots, schema) {
-        Ok(store) => (Ok(true), store.close()),
-        Err((error, slots)) => (found(error), slots),
+        Ok(_) => Ok(true),
+        Err((error, _)) => found(error),
     }
 }
 
@@ -64,35 +63,30 @@ pub(crate) fn hold_database_with<S: Slots + Drop>(
     alloc: Global,
     slots: S,
     text: &[u8],
-) -> (Result<bool, SlotFault>, S)
+) -> Result<bool, SlotFault>
     requires can { CanOpen (S.Slots.state slots) }
     requires stops { (IsTrue (S.Slots.state slots).observable → ∥ AreChains (S.Slots.state slots).committed ∥₁) → StayChains (S.Slots.stop slots) (S.Slots.state slots).since }
     requires text { IsReadable (S.Slots.state slots) → HoldText (S.Slots.state slots).reads text.now }
-    ensures yes { IfOk result.0 (λ held. IsTrue held → IsReadable (S.Slots.state slots) → HoldDatabaseWith text.now (S.Slots.state slots).reads) }
-    ensures no { IfOk result.0 (λ held. held ≡ false → IsReadable (S.Slots.state slots) → ¬ HoldDatabase (S.Slots.state slots).reads) }
-    ensures back { AreBack (S.Slots.state slots) (S.Slots.state result.1) (S.Slots.stop slots) (S.Slots.stop result.1) }
+    ensures yes { IfOk result (λ held. IsTrue held → IsReadable (S.Slots.state slots) → HoldDatabaseWith text.now (S.Slots.state slots).reads) }
+    ensures no { IfOk result (λ held. held ≡ false → IsReadable (S.Slots.state slots) → ¬ HoldDatabase (S.Slots.state slots).reads) }
 {
     match read_canonical(alloc, text) {
         Ok(Some(schema)) => hold_database_of(alloc, slots, schema),
-        Ok(None) => (Ok(false), slots),
-        Err(_) => (Err(SlotFault::NoMemory), slots),
+        Ok(None) => Ok(false),
+        Err(_) => Err(SlotFault::NoMemory),
     }
 }
 
 /// Whether the slots hold a database.
-pub(crate) fn hold_database<S: Slots + Drop>(
-    alloc: Global,
-    mut slots: S,
-) -> (Result<bool, SlotFault>, S)
+pub(crate) fn hold_database<S: Slots + Drop>(alloc: Global, mut slots: S) -> Result<bool, SlotFault>
     requires can { CanOpen (S.Slots.state slots) }
     requires stops { (IsTrue (S.Slots.state slots).observable → ∥ AreChains (S.Slots.state slots).committed ∥₁) → StayChains (S.Slots.stop slots) (S.Slots.state slots).since }
-    ensures yes { IfOk result.0 (λ held. IsTrue held → IsReadable (S.Slots.state slots) → HoldDatabase (S.Slots.state slots).reads) }
-    ensures no { IfOk result.0 (λ held. held ≡ false → IsReadable (S.Slots.state slots) → ¬ HoldDatabase (S.Slots.state slots).reads) }
-    ensures back { AreBack (S.Slots.state slots) (S.Slots.state result.1) (S.Slots.stop slots) (S.Slots.stop result.1) }
+    ensures yes { IfOk result (λ held. IsTrue held → IsReadable (S.Slots.state slots) → HoldDatabase (S.Slots.state slots).reads) }
+    ensures no { IfOk result (λ held. held ≡ false → IsReadable (S.Slots.state slots) → ¬ HoldDatabase (S.Slots.state slots).reads) }
 {
     match stored_text(&mut slots, alloc) {
         Ok(Some(text)) => hold_database_with(alloc, slots, text.as_slice()),
-        Ok(None) => (Ok(false), slots),
-        Err(fault) => (Err(fault), slots),
+        Ok(None) => Ok(false),
+        Err(fault) => Err(fault),
     }
 }

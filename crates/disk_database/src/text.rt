@@ -1,6 +1,6 @@
 //! The text of a schema: whether a database can have it, and the stored one compared with it.
 
-ghost use Rattle.std.specs.Prelude.{◌≡◌, ◌≤◌, length, IfErr, IfSome, IsTrue, OnOk};
+ghost use Rattle.std.specs.Prelude.{◌≡◌, ◌≤◌, length, IfErr, IfOk, IfSome, IsTrue, OnOk};
 ghost use Rattle.abl_storage.specs.Slots.{IsReadable};
 ghost use Rattle.abl_values.specs.Schema.{canonical_text};
 ghost use Rattle.chain_store.specs.Still.{Still};
@@ -9,7 +9,7 @@ ghost use Rattle.row_chain.specs.Chains.{AreChains};
 ghost use Rattle.slot_contents.specs.Contents.{text_slots};
 ghost use Rattle.stored_rows.specs.Chained.{StayChains};
 ghost use Rattle.stored_text.specs.Held.{HoldText};
-ghost use Rattle.disk_database.specs.Inside.{AreBack, IsSlotRefusal, of_slots};
+ghost use Rattle.disk_database.specs.Inside.{IsSlotRefusal, of_slots};
 ghost use Rattle.disk_database.specs.Parts.{LeaveUnused};
 
 use crate::recognition::hold_database_with;
@@ -61,63 +61,60 @@ fn of_slots(fault: SlotFault) -> OpenRefusal
     }
 }
 
-/// Whether the slots hold the text of this schema. Another text refuses it only where they hold a
+/// The slots, where they hold the text of this schema. Another text refuses it only where they hold a
 /// database of a schema with that text; otherwise they hold none.
 fn compare_text<S: Slots + Drop>(
     alloc: Global,
     mut slots: S,
     schema: &Schema,
-) -> (Result<(), OpenRefusal>, S)
+) -> Result<S, OpenRefusal>
     requires can { CanOpen (S.Slots.state slots) }
     requires stops { (IsTrue (S.Slots.state slots).observable → ∥ AreChains (S.Slots.state slots).committed ∥₁) → StayChains (S.Slots.stop slots) (S.Slots.state slots).since }
-    ensures same { OnOk result.0 (IsReadable (S.Slots.state slots) → HoldText (S.Slots.state slots).reads (canonical_text schema.now)) }
-    ensures refused { IfErr result.0 (IsSlotRefusal schema.now (S.Slots.state slots)) }
-    ensures still { OnOk result.0 (Still (S.Slots.state slots) (S.Slots.state result.1) (S.Slots.stop slots) (S.Slots.stop result.1)) }
-    ensures back { AreBack (S.Slots.state slots) (S.Slots.state result.1) (S.Slots.stop slots) (S.Slots.stop result.1) }
+    ensures same { OnOk result (IsReadable (S.Slots.state slots) → HoldText (S.Slots.state slots).reads (canonical_text schema.now)) }
+    ensures refused { IfErr result (IsSlotRefusal schema.now (S.Slots.state slots)) }
+    ensures still { IfOk result (λ s. Still (S.Slots.state slots) (S.Slots.state s) (S.Slots.stop slots) (S.Slots.stop s)) }
 {
     let Ok(given) = schema.canonical() else {
-        return (Err(OpenRefusal::NoMemory), slots);
+        return Err(OpenRefusal::NoMemory);
     };
     let stored = match stored_text(&mut slots, alloc) {
         Ok(Some(stored)) => stored,
-        Ok(None) => return (Err(OpenRefusal::NotCreated), slots),
-        Err(fault) => return (Err(of_slots(fault)), slots),
+        Ok(None) => return Err(OpenRefusal::NotCreated),
+        Err(fault) => return Err(of_slots(fault)),
     };
     if stored.as_slice() == given.as_slice() {
-        return (Ok(()), slots);
+        return Ok(slots);
     }
-    let (held, slots) = hold_database_with(alloc, slots, stored.as_slice());
-    match held {
-        Ok(true) => (Err(OpenRefusal::SchemaDiffers { stored, given }), slots),
-        Ok(false) => (Err(OpenRefusal::NotCreated), slots),
-        Err(fault) => (Err(of_slots(fault)), slots),
+    match hold_database_with(alloc, slots, stored.as_slice()) {
+        Ok(true) => Err(OpenRefusal::SchemaDiffers { stored, given }),
+        Ok(false) => Err(OpenRefusal::NotCreated),
+        Err(fault) => Err(of_slots(fault)),
     }
 }
 
-/// Whether the slots hold the text of this schema, and zeros where nothing belongs.
+/// The slots, where they hold the text of this schema, and zeros where nothing belongs.
 pub(crate) fn test_slots<S: Slots + Drop>(
     alloc: Global,
     slots: S,
     schema: &Schema,
-) -> (Result<(), OpenRefusal>, S)
+) -> Result<S, OpenRefusal>
     requires can { CanOpen (S.Slots.state slots) }
     requires stops { (IsTrue (S.Slots.state slots).observable → ∥ AreChains (S.Slots.state slots).committed ∥₁) → StayChains (S.Slots.stop slots) (S.Slots.state slots).since }
-    ensures same { OnOk result.0 (IsReadable (S.Slots.state slots) → HoldText (S.Slots.state slots).reads (canonical_text schema.now)) }
-    ensures unused { OnOk result.0 (IsReadable (S.Slots.state slots) → LeaveUnused schema.now (S.Slots.state slots).reads) }
-    ensures refused { IfErr result.0 (IsSlotRefusal schema.now (S.Slots.state slots)) }
-    ensures still { OnOk result.0 (Still (S.Slots.state slots) (S.Slots.state result.1) (S.Slots.stop slots) (S.Slots.stop result.1)) }
-    ensures back { AreBack (S.Slots.state slots) (S.Slots.state result.1) (S.Slots.stop slots) (S.Slots.stop result.1) }
+    ensures same { OnOk result (IsReadable (S.Slots.state slots) → HoldText (S.Slots.state slots).reads (canonical_text schema.now)) }
+    ensures unused { OnOk result (IsReadable (S.Slots.state slots) → LeaveUnused schema.now (S.Slots.state slots).reads) }
+    ensures refused { IfErr result (IsSlotRefusal schema.now (S.Slots.state slots)) }
+    ensures still { IfOk result (λ s. Still (S.Slots.state slots) (S.Slots.state s) (S.Slots.stop slots) (S.Slots.stop s)) }
 {
     let Some(text) = slots_of_text(schema) else {
-        return (Err(OpenRefusal::NoMemory), slots);
+        return Err(OpenRefusal::NoMemory);
     };
-    let (compared, mut slots) = compare_text(alloc, slots, schema);
-    if let Err(refusal) = compared {
-        return (Err(refusal), slots);
-    }
+    let mut slots = match compare_text(alloc, slots, schema) {
+        Ok(slots) => slots,
+        Err(refusal) => return Err(refusal),
+    };
     match are_unused_left(&mut slots, text) {
-        Ok(true) => (Ok(()), slots),
-        Ok(false) => (Err(OpenRefusal::NotCreated), slots),
-        Err(fault) => (Err(of_slots(fault)), slots),
+        Ok(true) => Ok(slots),
+        Ok(false) => Err(OpenRefusal::NotCreated),
+        Err(fault) => Err(of_slots(fault)),
     }
 }

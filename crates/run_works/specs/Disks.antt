@@ -1,7 +1,8 @@
 -- What a call does to the disk, by the images that a crash at its moments may leave.
-use Rattle.std.specs.Prelude.{◌≡◌, ℕ, ◌≤◌, Bool, List}
+use Rattle.std.specs.Prelude.{◌≡◌, ℕ, ◌≤◌, Bool, true, IsTrue, List}
 use Rattle.fault_count.specs.Faults.{Rose}
 use Rattle.abl_values.specs.Schema.{SchemaData}
+use Rattle.abl_storage.specs.Disk.{Stays}
 use Rattle.abl_storage.specs.declared.disk.Disk.{Ghosts}
 use Rattle.client_database.specs.declared.event.Event.{Event}
 use Rattle.database_meaning.specs.declared.contents.Contents.{Contents}
@@ -11,7 +12,7 @@ use Rattle.bi_log.specs.Lengths.{IsShort}
 use Rattle.disk_steps.specs.Steps.{Image}
 use Rattle.disk_database.specs.declared.refusals.OpenRefusal.{OpenRefusal}
 use Rattle.disk_database.specs.declared.refusals.OpenRefusal.TheVariants as opening
-use Rattle.disk_database.specs.Answers.{IsRefused}
+use Rattle.disk_database.specs.Answers.{IsBornOf, IsRefused, is_judgement}
 use Rattle.disk_database.specs.Images.{AreImagesOf, IsImageOf, SurvivesCrashes}
 use Rattle.run_report.specs.declared.refusal.Refusal.{Refusal}
 use Rattle.run_report.specs.declared.refusal.Refusal.TheVariants.{Disk, NoMemory, NotCreated, SchemaDiffers}
@@ -32,6 +33,14 @@ state_of d disk = record { observable = d.observable disk; time = d.time disk; s
 -- of this schema with these contents
 abbrev pub HoldsContents : DiskState → SchemaData → Contents → Type 0
 HoldsContents disk schema contents = AreImagesOf disk.observable disk.time disk.left schema contents
+
+-- the disk, where it is observable, reads as an image that is born of this schema: it holds a database of it
+abbrev pub ReadsAsDatabase : DiskState → SchemaData → Type 0
+ReadsAsDatabase disk schema = IsTrue disk.observable → IsBornOf disk.seen schema
+
+-- THE DISK IS UNTOUCHED: it reads as before, no write and no sync was made, and a crash leaves the same images at the same moments
+abbrev pub IsUntouched : DiskState → DiskState → Type 0
+IsUntouched old new = Stays old.observable new.observable old.seen new.seen old.time new.time old.left new.left
 
 -- whatever contents of this schema the disk held, it holds at each moment from the call to its return
 abbrev pub KeepsContents : SchemaData → DiskState → DiskState → Type 0
@@ -60,9 +69,10 @@ opening_refusal opening.Disk = Disk
 opening_refusal opening.NoMemory = NoMemory
 
 -- why the database of this schema was not opened on the disk: by what its reads give, which is no database of any schema, or one of a schema with
--- another text (`IsRefused`), and Disk only where its count rose
+-- another text (`IsRefused`), and Disk only where its count rose. Where the disk holds no database, or one of another schema, it is untouched
 pub record IsNotOpened (schema : SchemaData) (old new : DiskState) (refusal : Refusal) : Type 0 where
   pub why : OpenRefusal
   pub is : refusal ≡ opening_refusal why
   pub cause : IsRefused schema old.observable old.seen why
   pub rose : why ≡ opening.Disk → Rose old.failures new.failures
+  pub untouched : is_judgement why ≡ true → IsUntouched old new

@@ -8,7 +8,7 @@ ghost use Rattle.block_clients.specs.Phases.{AreThreePhases};
 ghost use Rattle.disk_steps.specs.Steps.{Image};
 ghost use Rattle.source_files.specs.Compiled.{schema_in};
 ghost use Rattle.run_report.specs.declared.refusal.Refusal.TheVariants.{NoMemory};
-ghost use Rattle.run_works.specs.Disks.{IsDurable, IsNotOpened, KeepsContents, KeepsLogShort, state_of};
+ghost use Rattle.run_works.specs.Disks.{IsDurable, IsNotOpened, KeepsContents, KeepsLogShort, ReadsAsDatabase, state_of};
 ghost use Rattle.served_works.specs.Served.{HaveEnded, HaveEndedOrNot};
 
 use crate::closing::{Ran, RunDatabase, RunDisk, close_after_run, close_unused, unwatched};
@@ -41,6 +41,7 @@ pub fn run_together<R: Threads + Wait + Sync, D: Disk + Send + Drop, G: Gate + S
     ensures events { IfOk result (λ ran. All (λ (e : Event). e.client < length clients.items) ran.trace) }
     ensures ended { IfOk result (λ ran. HaveEnded (record { schema = schema_in df.now; clients = length clients.items }) ran.trace 0 clients.items ran.clients.items) }
     ensures durable { IfOk result (λ ran. IsDurable (record { schema = schema_in df.now; clients = length clients.items }) ran.trace (state_of D.Disk disk) (state_of D.Disk ran.disk)) }
+    ensures born { IfOk result (λ ran. ReadsAsDatabase (state_of D.Disk disk) (schema_in df.now)) }
     ensures log { IfOk result (λ ran. KeepsLogShort (state_of D.Disk disk) (state_of D.Disk ran.disk)) }
     ensures refused { IfErr result (λ not_run. IsNotOpened (schema_in df.now) (state_of D.Disk disk) (state_of D.Disk not_run.disk) not_run.refusal) }
     ensures kept { IfErr result (λ not_run. KeepsContents (schema_in df.now) (state_of D.Disk disk) (state_of D.Disk not_run.disk)) }
@@ -75,6 +76,7 @@ fn together_since<
     ensures events { IfOk result (λ ran. All (λ (e : Event). e.client < length clients.items) ran.trace) }
     ensures ended { IfOk result (λ ran. HaveEnded (record { schema = schema_in df.now; clients = length clients.items }) ran.trace 0 clients.items ran.clients.items) }
     ensures durable { IfOk result (λ ran. IsDurable (record { schema = schema_in df.now; clients = length clients.items }) ran.trace (state_of D.Disk disk) (state_of D.Disk ran.disk)) }
+    ensures born { IfOk result (λ ran. ReadsAsDatabase (state_of D.Disk disk) (schema_in df.now)) }
     ensures log { IfOk result (λ ran. KeepsLogShort (state_of D.Disk disk) (state_of D.Disk ran.disk)) }
     ensures refused { IfErr result (λ not_run. IsNotOpened (schema_in df.now) (state_of D.Disk disk) (state_of D.Disk not_run.disk) not_run.refusal) }
     ensures kept { IfErr result (λ not_run. KeepsContents (schema_in df.now) (state_of D.Disk disk) (state_of D.Disk not_run.disk)) }
@@ -116,6 +118,7 @@ pub fn run_in_phases<R: Threads + Wait + Sync, D: Disk + Send + Drop, G: Gate + 
     ensures phases { IfOk result (λ ran. (between : ℕ) → length clients.items ≡ between + 2 → AreThreePhases between ran.trace) }
     ensures ended { IfOk result (λ ran. HaveEndedOrNot (record { schema = schema_in df.now; clients = length clients.items }) ran.trace 0 clients.items ran.clients.items) }
     ensures durable { IfOk result (λ ran. IsDurable (record { schema = schema_in df.now; clients = length clients.items }) ran.trace (state_of D.Disk disk) (state_of D.Disk ran.disk)) }
+    ensures born { IfOk result (λ ran. ReadsAsDatabase (state_of D.Disk disk) (schema_in df.now)) }
     ensures log { IfOk result (λ ran. KeepsLogShort (state_of D.Disk disk) (state_of D.Disk ran.disk)) }
     ensures refused { IfErr result (λ not_run. IsNotOpened (schema_in df.now) (state_of D.Disk disk) (state_of D.Disk not_run.disk) not_run.refusal) }
     ensures kept { IfErr result (λ not_run. KeepsContents (schema_in df.now) (state_of D.Disk disk) (state_of D.Disk not_run.disk)) }
@@ -150,6 +153,7 @@ fn phases_since<
     ensures phases { IfOk result (λ ran. (between : ℕ) → length clients.items ≡ between + 2 → AreThreePhases between ran.trace) }
     ensures ended { IfOk result (λ ran. HaveEndedOrNot (record { schema = schema_in df.now; clients = length clients.items }) ran.trace 0 clients.items ran.clients.items) }
     ensures durable { IfOk result (λ ran. IsDurable (record { schema = schema_in df.now; clients = length clients.items }) ran.trace (state_of D.Disk disk) (state_of D.Disk ran.disk)) }
+    ensures born { IfOk result (λ ran. ReadsAsDatabase (state_of D.Disk disk) (schema_in df.now)) }
     ensures log { IfOk result (λ ran. KeepsLogShort (state_of D.Disk disk) (state_of D.Disk ran.disk)) }
     ensures refused { IfErr result (λ not_run. IsNotOpened (schema_in df.now) (state_of D.Disk disk) (state_of D.Disk not_run.disk) not_run.refusal) }
     ensures kept { IfErr result (λ not_run. KeepsContents (schema_in df.now) (state_of D.Disk disk) (state_of D.Disk not_run.disk)) }

@@ -3,8 +3,8 @@
 ghost use Rattle.std.specs.Prelude.{◌≡◌, ◌<◌, ◌≤◌, length, not, true, false, IfErr, IsTrue, OnOk};
 ghost use Rattle.fault_count.specs.Faults.{Rose};
 ghost use Rattle.disk_steps.specs.Steps.{Image};
-ghost use Rattle.disk_database.specs.Answers.{HasText, IsDumped, IsNotDumped, is_disk, is_output};
-ghost use Rattle.run_works.specs.Disks.{KeepsContents, KeepsLogShort, state_of};
+ghost use Rattle.disk_database.specs.Answers.{HasText, IsDumped, IsNotDumped, is_disk, is_judged, is_output};
+ghost use Rattle.run_works.specs.Disks.{IsUntouched, KeepsContents, KeepsLogShort, ReadsAsDatabase, state_of};
 
 use crate::closing::RunDisk;
 use abl_outside::Out;
@@ -19,7 +19,8 @@ use watched_disk::{Start, Watched};
 /// output: a line as EXPORT writes it for each row, in the order of the table's primary index, or of
 /// the rows' identities without one. The store and the machine of a database each have a schema of
 /// their own, which is one schema. After a refusal the lines of the first rows may be written. The
-/// disk is handed back in every case, and keeps its contents.
+/// disk is handed back in every case, and keeps its contents; where it holds no database, or one of
+/// another schema, it is untouched.
 pub fn dump_rows<D: Disk + Drop, O: Out>(
     alloc: Global,
     disk: D,
@@ -33,7 +34,9 @@ pub fn dump_rows<D: Disk + Drop, O: Out>(
     ensures whole { OnOk result.0 (IsDumped schema (D.observable disk) (D.seen disk) table true true (O.state out.old) (O.state out.new)) }
     ensures part { IfErr result.0 (λ e. IsDumped schema (D.observable disk) (D.seen disk) table false (not (is_output e)) (O.state out.old) (O.state out.new)) }
     ensures text { OnOk result.0 (IsTrue (D.observable disk) → HasText (D.seen disk) schema) }
+    ensures born { OnOk result.0 (ReadsAsDatabase (state_of D.Disk disk) schema) }
     ensures refused { IfErr result.0 (IsNotDumped schema (D.observable disk) (D.seen disk)) }
+    ensures untouched { IfErr result.0 (λ e. is_judged e ≡ true → IsUntouched (state_of D.Disk disk) (state_of D.Disk result.1)) }
     ensures observable { D.observable result.1 ≡ D.observable disk }
     ensures time { D.time disk ≤ D.time result.1 }
     ensures cause { IfErr result.0 (λ e. is_disk e ≡ true → Rose (D.failures disk) (D.failures result.1)) }
@@ -60,7 +63,9 @@ fn dump_since<D: Disk + Drop, K: Start, O: Out>(
     ensures whole { OnOk result.0 (IsDumped schema (D.observable disk) (D.seen disk) table true true (O.state out.old) (O.state out.new)) }
     ensures part { IfErr result.0 (λ e. IsDumped schema (D.observable disk) (D.seen disk) table false (not (is_output e)) (O.state out.old) (O.state out.new)) }
     ensures text { OnOk result.0 (IsTrue (D.observable disk) → HasText (D.seen disk) schema) }
+    ensures born { OnOk result.0 (ReadsAsDatabase (state_of D.Disk disk) schema) }
     ensures refused { IfErr result.0 (IsNotDumped schema (D.observable disk) (D.seen disk)) }
+    ensures untouched { IfErr result.0 (λ e. is_judged e ≡ true → IsUntouched (state_of D.Disk disk) (state_of D.Disk result.1)) }
     ensures observable { D.observable result.1 ≡ D.observable disk }
     ensures time { D.time disk ≤ D.time result.1 }
     ensures cause { IfErr result.0 (λ e. is_disk e ≡ true → Rose (D.failures disk) (D.failures result.1)) }

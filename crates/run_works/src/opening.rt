@@ -7,7 +7,7 @@ ghost use Rattle.disk_steps.specs.Steps.{Image};
 ghost use Rattle.disk_database.specs.Images.{RecoversAsBefore};
 ghost use Rattle.bi_log.specs.Lengths.{StayShort};
 ghost use Rattle.logged_slots.specs.Stops.{StayRecoverable};
-ghost use Rattle.run_works.specs.Disks.{HoldsContents, IsNotOpened, opening_refusal, state_of};
+ghost use Rattle.run_works.specs.Disks.{HoldsContents, IsNotOpened, ReadsAsDatabase, opening_refusal, state_of};
 
 use abl_rows::RowStore;
 use abl_storage::Disk;
@@ -40,6 +40,7 @@ pub(crate) fn open_database<D: Disk + Drop, K: Opening>(
     ensures setting { IfOk result (λ database. ⟦<DiskDatabase<D, K> as Database>⟧.has_setting database (record { schema = schema_in df.now; clients = clients })) }
     ensures since { IfOk result (λ database. (⟦<DiskStore<D, K> as RowStore>⟧.times database.rows).since ≡ D.time disk) }
     ensures opened { IfOk result (λ database. (contents : Contents) → HoldsContents (state_of D.Disk disk) (schema_in df.now) contents → ⟦<DiskDatabase<D, K> as Database>⟧.opened database (record { schema = schema_in df.now; clients = clients }) contents) }
+    ensures born { IfOk result (λ database. ReadsAsDatabase (state_of D.Disk disk) (schema_in df.now)) }
     ensures refused { IfErr result (λ not_run. IsNotOpened (schema_in df.now) (state_of D.Disk disk) (state_of D.Disk not_run.disk) not_run.refusal) }
     ensures images { IfErr result (λ not_run. RecoversAsBefore (D.time disk) (D.left disk) (D.left not_run.disk)) }
     ensures recoverable { IfErr result (λ not_run. StayRecoverable (D.left not_run.disk) (D.time disk)) }

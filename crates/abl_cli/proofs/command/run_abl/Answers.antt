@@ -1,10 +1,7 @@
--- A command is refused by its arguments, or does what they name.
-use Rattle.std.proofs.Common.{refl}
-use Rattle.abl_cli.specs.Command.{Refused, wrong_argument}
+-- What a refusal says follows from what the command did.
+use Rattle.run_works.specs.Disks.{state_of}
+use Rattle.abl_cli.proofs.Untouched.{untouched_if_refused}
 use Rattle.abl_cli.proofs.command.run_abl.Goals as goal
 
-pub returns-in-Err-clause-did : goal.returns-in-Err-clause-did
-returns-in-Err-clause-did g c = Refused _ _ (wrong_argument c.in-Err.ensures.wrong) refl c.refused-report.ensures
-
-pub returns-in-Ok-Bank-clause-did : goal.returns-in-Ok-Bank-clause-did
-returns-in-Ok-Bank-clause-did g c = c.run_bank_of.ensures.did (g.F.Files.state c.args.files.now) (g.F.Files.state c.args.files.now).faults
+pub returns-clause-refused : goal.returns-clause-refused
+returns-clause-refused g c = untouched_if_refused (state_of g.D.Disk) c.args.disk _ _ _ _ _ c.obey.result c.obey.ensures.did

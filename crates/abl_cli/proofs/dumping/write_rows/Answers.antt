@@ -16,7 +16,7 @@ returns-clause-did g c =
     record {
       why = result_err written;
       refusal = c.dump_refusal-refusal.ensures ∙ ap (λ (why : Option DumpRefusal). dump_refusal why) c.err.ensures.value;
-      cause = dump_cause c.args.table.schema was now written told.text told.refused told.cause;
+      cause = dump_cause c.args.table.schema was now written told.text told.born told.refused told.cause told.untouched;
       between = g.O.Out.state c.dump_rows-written.new.out;
       written = dumped_by c.args.table.schema was now c.args.table.number (g.O.Out.state c.args.out.now) (g.O.Out.state c.dump_rows-written.new.out) written told.whole told.part;
       kept = told.kept;

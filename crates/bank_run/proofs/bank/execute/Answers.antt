@@ -7,7 +7,7 @@ use Rattle.abl_values.specs.Schema.{SchemaData}
 use Rattle.block_clients.specs.Phases.{AreThreePhases}
 use Rattle.served_works.specs.declared.clients.EndedClient.{EndedClient}
 use Rattle.served_works.specs.Served.{end_or_none}
-use Rattle.run_works.specs.Disks.{IsDurable, state_of}
+use Rattle.run_works.specs.Disks.{IsDurable, ReadsAsDatabase, state_of}
 use Rattle.run_works.specs.Works.{HasNotRun}
 use Rattle.run_works.proofs.Runs.{as_many_ended_or_not}
 use Rattle.database_meaning.specs.Setting.{Setting}
@@ -46,6 +46,7 @@ returns-in-Ok-clause-ran g c = λ units between works many to_do.
       durable = subst (λ (events : List Event). IsDurable (record { schema = c.args.form.now.schema.now; clients = between + 2 }) events was now) (sym is)
           (subst (λ (n : ℕ). IsDurable (record { schema = c.args.form.now.schema.now; clients = n }) ran.trace was now) many
           (subst (λ (s : SchemaData). IsDurable (record { schema = s; clients = length c.args.clients.items }) ran.trace was now) (sym c.requires.schema) c.in-Ok.ensures.durable));
+      born = subst (λ (s : SchemaData). ReadsAsDatabase was s) (sym c.requires.schema) c.in-Ok.ensures.born;
       reported = told.2;
     })
 

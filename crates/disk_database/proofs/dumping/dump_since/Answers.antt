@@ -10,6 +10,7 @@ use Rattle.disk_database.specs.Images.{RecoversToChains}
 use Rattle.disk_database.specs.Parts.{AllHoldParts, HoldParts}
 use Rattle.disk_database.proofs.Parts.{parts_of_contents}
 use Rattle.disk_database.proofs.Dumps.{dumped, holds_as_recovers, kept_by_reads, kept_by_recovery, not_dumped, nothing_dumped, output_same, read_observable, read_schema, reads_hold}
+use Rattle.disk_database.proofs.Starts.{born_over}
 use Rattle.disk_database.proofs.Survivals.{one_array}
 use Rattle.disk_database.proofs.dumping.dump_since.Goals as goal
 
@@ -31,6 +32,10 @@ returns-in-Ok-written-clause-whole g c =
 pub returns-in-Ok-written-clause-text : goal.returns-in-Ok-written-clause-text
 returns-in-Ok-written-clause-text g c = λ known slots recovers.
     subst (λ (x : ℕ → List ℕ). HoldText x (canonical_text c.args.schema)) (one_array (g.D.Disk.seen c.args.disk) _ slots (c.in-Ok.ensures.opened.recovered known) recovers) (rw (c.requires.same) at (c.in-Ok.ensures.text known))
+
+pub returns-in-Ok-written-clause-born : goal.returns-in-Ok-written-clause-born
+returns-in-Ok-written-clause-born g c =
+    born_over _ c.args.schema _ (rw (c.requires.same) at c.in-Ok.ensures.store) _ _ _ _ _ c.in-Ok.ensures.opened c.soundness.ensures (rw (c.requires.same) at c.in-Ok.ensures.text) (rw (c.requires.same) at c.in-Ok.ensures.unused)
 
 pub returns-in-Ok-written-clause-images : goal.returns-in-Ok-written-clause-images
 returns-in-Ok-written-clause-images g c =
@@ -66,6 +71,9 @@ returns-clause-part g c =
 
 pub returns-clause-refused : goal.returns-clause-refused
 returns-clause-refused g c = not_dumped c.args.schema (g.D.Disk.observable c.args.disk) (g.D.Disk.seen c.args.disk) c.in-Err-written.error c.of_table.result c.of_table.ensures.is
+
+pub returns-clause-untouched : goal.returns-clause-untouched
+returns-clause-untouched g c = λ judged. absurd (cc (sym c.of_table.ensures.late ∙ judged))
 
 pub returns-clause-observable : goal.returns-clause-observable
 returns-clause-observable g c = ap (λ d. g.D.Disk.observable d) c.disk_of-disk.ensures.disk ∙ read_observable _ _ _ _ _ _ _ _ _ c.write_table-written.ensures.read ∙ c.in-Ok.ensures.opened.same_observable

@@ -1,11 +1,10 @@
 -- The text is held; the rest is what the two tests say.
-use Rattle.std.proofs.Common.{◌≡◌, ℕ, List, sym, subst}
+use Rattle.std.proofs.Common.{ℕ, sym, subst}
 use Rattle.chain_store.specs.Still.{Still}
 use Rattle.chain_store.proofs.Reading.{looked_still}
 use Rattle.record_store.specs.Opened.{HoldStore}
-use Rattle.disk_database.specs.Inside.{AreBack}
 use Rattle.disk_database.specs.Parts.{AreUnusedLeft}
-use Rattle.disk_database.proofs.Recognitions.{back_after, back_refused, back_still, database_held, if_ok_map, none_stored, none_unused, readable_then, stops_then}
+use Rattle.disk_database.proofs.Recognitions.{database_held, if_ok_map, none_stored, none_unused, readable_then, stops_then}
 use Rattle.disk_database.proofs.recognition.hold_database_of.Goals as goal
 
 pub open-requires-clause-stops : goal.open-requires-clause-stops
@@ -21,22 +20,11 @@ pub returns-in-Ok-clause-yes : goal.returns-in-Ok-clause-yes
 returns-in-Ok-clause-yes g c = λ yes.
     database_held _ _ _ _ (looked_still _ _ _ _ _ (λ e. cc e) c.in-Ok-true.ensures.looked) c.args.schema c.in-Some.text c.in-Some.ensures c.soundness.ensures c.requires.held c.requires.text (c.in-Ok-true.ensures.left c.in-Ok-true.field-0-test) c.in-Ok.ensures.opened.held
 
-pub returns-in-Ok-clause-back : goal.returns-in-Ok-clause-back
-returns-in-Ok-clause-back g c =
-    let a = g.S.Slots.state c.args.slots in
-    let at_a = g.S.Slots.stop c.args.slots in
-    subst (λ s. AreBack a (g.S.Slots.state s) at_a (g.S.Slots.stop s)) (sym c.close.ensures.same)
-    (back_after _ _ _ _ _ _ (g.met.S.Slots.stop_known c.in-Ok.store.rows.chains.slots) (looked_still _ _ _ _ _ (λ e. cc e) c.in-Ok-true.ensures.looked) (back_still _ _ _ _ c.in-Ok.ensures.still))
-
-pub returns-in-Err-open-clause-no : goal.returns-in-Err-open-clause-no
-returns-in-Err-open-clause-no g c =
+pub returns-clause-no : goal.returns-clause-no
+returns-clause-no g c =
     let a = g.S.Slots.state c.args.slots in
     let b = g.S.Slots.state c.are_unused_left.new.slots in
     let still : Still a b (g.S.Slots.stop c.args.slots) (g.S.Slots.stop c.are_unused_left.new.slots) = looked_still _ _ _ _ _ (λ e. cc e) c.in-Ok-true.ensures.looked in
     if_ok_map c.found.result _ _ (λ held never no readable.
     none_stored c.args.schema a.reads (c.requires.text readable) c.soundness.ensures
     (λ store. c.in-Err-open.ensures.unsound never.1 (readable_then a b _ _ still readable).0 (subst (HoldStore c.args.schema) (sym (still.rests.reads readable)) store))) c.found.ensures
-
-pub returns-in-Err-open-clause-back : goal.returns-in-Err-open-clause-back
-returns-in-Err-open-clause-back g c =
-    back_after _ _ _ _ _ _ (g.met.S.Slots.stop_known c.in-Err-open.slots) (looked_still _ _ _ _ _ (λ e. cc e) c.in-Ok-true.ensures.looked) (back_refused _ _ _ _ c.in-Err-open.error c.in-Err-open.ensures.refused)

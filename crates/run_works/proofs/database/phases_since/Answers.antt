@@ -68,7 +68,7 @@ returns-in-Ok-serve_phases-clause-durable g c =
     ))
 
 pub returns-in-Err-serve_phases-clause-refused : goal.returns-in-Err-serve_phases-clause-refused
-returns-in-Err-serve_phases-clause-refused g c = record { why = opening.NoMemory; is = c.close_unused.ensures.refusal; cause = tt; rose = λ e. absurd (cc e) }
+returns-in-Err-serve_phases-clause-refused g c = record { why = opening.NoMemory; is = c.close_unused.ensures.refusal; cause = tt; rose = λ e. absurd (cc e); untouched = λ e. absurd (cc e) }
 
 pub returns-in-Err-serve_phases-clause-kept : goal.returns-in-Err-serve_phases-clause-kept
 returns-in-Err-serve_phases-clause-kept g c = λ contents holds m image from there.

@@ -65,7 +65,7 @@ returns-in-Ok-serve-clause-durable g c =
     ))
 
 pub returns-in-Err-serve-clause-refused : goal.returns-in-Err-serve-clause-refused
-returns-in-Err-serve-clause-refused g c = record { why = opening.NoMemory; is = c.close_unused.ensures.refusal; cause = tt; rose = λ e. absurd (cc e) }
+returns-in-Err-serve-clause-refused g c = record { why = opening.NoMemory; is = c.close_unused.ensures.refusal; cause = tt; rose = λ e. absurd (cc e); untouched = λ e. absurd (cc e) }
 
 pub returns-in-Err-serve-clause-kept : goal.returns-in-Err-serve-clause-kept
 returns-in-Err-serve-clause-kept g c = λ contents holds m image from there.

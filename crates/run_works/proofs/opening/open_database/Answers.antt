@@ -2,6 +2,7 @@
 use Rattle.std.proofs.Common.{sym, subst}
 use Rattle.abl_values.specs.Schema.{SchemaData}
 use Rattle.disk_database.specs.Images.{AreImagesOf}
+use Rattle.run_works.specs.Disks.{ReadsAsDatabase, state_of}
 use Rattle.run_works.proofs.Disks.{as_before, stays_recoverable, stays_short}
 use Rattle.run_works.proofs.opening.open_database.Goals as goal
 
@@ -28,3 +29,6 @@ returns-in-Ok-open-clause-opened g c = λ contents holds.
     let disk = c.args.disk in
     let held = subst (λ (s : SchemaData). AreImagesOf (g.D.Disk.observable disk) (g.D.Disk.time disk) (g.D.Disk.left disk) s contents) (sym c.in-Ok.ensures.schema) holds in
     rw (← c.in-Ok.ensures.schema) (c.in-Ok-open.ensures.opened contents held)
+
+pub returns-in-Ok-open-clause-born : goal.returns-in-Ok-open-clause-born
+returns-in-Ok-open-clause-born g c = subst (ReadsAsDatabase (state_of g.D.Disk c.args.disk)) c.in-Ok.ensures.schema c.in-Ok-open.ensures.born

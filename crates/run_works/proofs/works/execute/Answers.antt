@@ -8,7 +8,7 @@ use Rattle.source_files.specs.Compiled.{schema_in}
 use Rattle.served_works.specs.declared.clients.EndedClient.{EndedClient}
 use Rattle.served_works.specs.Served.{end_or_none}
 use Rattle.served_works.specs.Works.{DidAsMeant}
-use Rattle.run_works.specs.Disks.{IsDurable, state_of}
+use Rattle.run_works.specs.Disks.{IsDurable, ReadsAsDatabase, state_of}
 use Rattle.run_works.specs.Works.{HasNotRun}
 use Rattle.run_works.proofs.Runs.{as_many_clients, as_many_ended, did_as_meant}
 use Rattle.run_works.proofs.works.execute.Goals as goal
@@ -47,6 +47,7 @@ returns-in-Ok-run_together-clause-ran g c = λ units works to_do.
       durable = subst (λ (events : List Event). IsDurable (record { schema = schema; clients = length works }) events was now) (sym same)
           (subst (λ (n : ℕ). IsDurable (record { schema = schema; clients = n }) ran.trace was now) many
           (subst (λ (s : SchemaData). IsDurable (record { schema = s; clients = length c.args.clients.items }) ran.trace was now) (sym c.requires.schema) c.in-Ok-run_together.ensures.durable));
+      born = subst (λ (s : SchemaData). ReadsAsDatabase was s) (sym c.requires.schema) c.in-Ok-run_together.ensures.born;
       reported = told.2;
     })
 

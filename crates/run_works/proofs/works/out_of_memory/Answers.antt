@@ -11,7 +11,7 @@ returns-clause-not_run g c =
     let disk = state_of g.D.Disk c.args.disk in
     record {
       refusal = NoMemory;
-      cause = record { why = opening.NoMemory; is = refl; cause = tt; rose = λ e. absurd (cc e) };
+      cause = record { why = opening.NoMemory; is = refl; cause = tt; rose = λ e. absurd (cc e); untouched = λ e. absurd (cc e) };
       kept = untouched disk (g.met.D.Disk.image_known c.args.disk) c.args.form.now.schema.now;
       others = λ memory other. untouched disk (g.met.D.Disk.image_known c.args.disk) other;
       reported = c.refused-report.ensures;
