@@ -1,16 +1,16 @@
 -- What a bank comes to that nothing prevents.
 use Rattle.std.proofs.Common.{◌≡◌, ◌∙◌, ◌+◌, ℕ, List, [], ◌∷◌, None, ap, inl, inr, refl, subst, sym}
-use Rattle.fault_count.specs.Faults.{Rose}
-use Rattle.abl_arguments.specs.CommandLine.{Bank, IsBank, bank_arguments, number_of}
-use Rattle.abl_arguments.specs.declared.parts.Mode.TheVariants.{Quiet}
-use Rattle.abl_outside.specs.Files.{FileState}
-use Rattle.abl_outside.specs.Out.{OutState}
-use Rattle.abl_schema.proofs.ObservableSound.{files-sound}
-use Rattle.held_schemas.proofs.Held.{files-held}
-use Rattle.abl_schema.specs.Rules.{violation_of}
-use Rattle.abl_source.proofs.Violations.{trees_break_none}
+use Rattle.storage.specs.faults.Faults.{Rose}
+use Rattle.command_arguments.specs.CommandLine.{Bank, IsBank, bank_arguments, number_of}
+use Rattle.command_arguments.specs.declared.parts.Mode.TheVariants.{Quiet}
+use Rattle.host_io.specs.Files.{FileState}
+use Rattle.host_io.specs.Out.{OutState}
+use Rattle.schema_reader.proofs.ObservableSound.{files-sound}
+use Rattle.schema_text.proofs.HeldLemmas.Held.{files-held}
+use Rattle.schema_reader.specs.Rules.{violation_of}
+use Rattle.source_reader.proofs.Violations.{trees_break_none}
 use Rattle.abl_values.specs.Schema.{SchemaData}
-use Rattle.bank_inputs.specs.declared.sources.TheConstants.{BANK_SCHEMA}
+use Rattle.bank_run.specs.declared.inputs.sources.TheConstants.{BANK_SCHEMA}
 use Rattle.bank_run.specs.Result.{BankResult, BankPrevented, BankNotRun, BankRan, PreventsBank, schema_breaks, source_breaks, bank_wants, bank_schema}
 use Rattle.bank_run.specs.Texts.{bank_names, bank_texts}
 use Rattle.bound_tree.specs.Tree.{Source as Tree}

@@ -1,8 +1,8 @@
 -- The bank that arguments name, and what follows from its result.
 use Rattle.std.proofs.Common.{◌≡◌, ℕ, List, arith}
-use Rattle.abl_arguments.specs.CommandLine.{NamesBank}
-use Rattle.abl_arguments.specs.declared.bank.BankArguments.{BankArguments}
-use Rattle.bank_inputs.specs.declared.bank.Bank.{Bank as BankNumbers}
+use Rattle.command_arguments.specs.CommandLine.{NamesBank}
+use Rattle.command_arguments.specs.declared.bank.BankArguments.{BankArguments}
+use Rattle.bank_run.specs.declared.inputs.bank.Bank.{Bank as BankNumbers}
 use Rattle.bank_run.specs.Result.{PreventsBank, schema_breaks, source_breaks}
 use Rattle.bank_run.specs.Texts.{IsBank}
 use Rattle.run_report.specs.declared.refusal.Refusal.TheVariants.{Usage, Output}

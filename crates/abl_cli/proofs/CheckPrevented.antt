@@ -1,18 +1,18 @@
 -- The first cause that prevents a check is its refusal, and without one the sources are listed.
 use Rattle.std.proofs.Common.{◌≡◌, ◌⊎◌, inl, inr, ◌+◌, ◌<◌, ℕ, Bool, true, false, List, [], ◌∷◌, ◌++◌, Some, None, refl, sym, ap, ◌∙◌, subst, arith, length}
 use Rattle.std.specs.Prelude.{IsTrue}
-use Rattle.fault_count.specs.Faults.{Rose}
+use Rattle.storage.specs.faults.Faults.{Rose}
 use Rattle.abl_base.specs.declared.rule.Rule.{Rule}
 use Rattle.abl_base.specs.declared.place.Place.{Place}
-use Rattle.abl_outside.specs.declared.out.Stream.TheVariants.{Output as Standard}
-use Rattle.abl_outside.specs.Files.{FileState}
-use Rattle.abl_outside.specs.Out.{OutState, appended}
-use Rattle.abl_schema.specs.Rules.{violation_of}
+use Rattle.host_io.specs.declared.out.Stream.TheVariants.{Output as Standard}
+use Rattle.host_io.specs.Files.{FileState}
+use Rattle.host_io.specs.Out.{OutState, appended}
+use Rattle.schema_reader.specs.Rules.{violation_of}
 use Rattle.abl_values.specs.Schema.{SchemaData}
-use Rattle.block_listing.specs.Listing.{listing}
-use Rattle.abl_source.specs.Sources.{BreaksRule}
-use Rattle.abl_source.proofs.Violations.{one_rule, one_tree_of, trees_break_none}
-use Rattle.abl_arguments.specs.CommandLine.{Check, check_arguments}
+use Rattle.source_reader.specs.listing.Listing.{listing}
+use Rattle.source_reader.specs.Sources.{BreaksRule}
+use Rattle.source_reader.proofs.Violations.{one_rule, one_tree_of, trees_break_none}
+use Rattle.command_arguments.specs.CommandLine.{Check, check_arguments}
 use Rattle.abl_cli.proofs.Marks.{check_or_bank, check_or_create, check_or_dump, run_or_check}
 use Rattle.run_report.specs.declared.refusal.Refusal.{Refusal}
 use Rattle.run_report.specs.declared.refusal.Refusal.TheVariants.{File, TooLong, Schema, Source, NoMemory}

@@ -2,12 +2,12 @@
 use Rattle.std.proofs.Common.{◌≡◌, ◌⊎◌, inl, inr, ◌+◌, ◌<◌, ◌≤◌, ℕ, zero, suc, List, [], ◌∷◌, ◌++◌, None, refl, ap, subst, arith, length, take, get_or}
 use Rattle.std.specs.Prelude.{All}
 use Rattle.std.proofs.lemmas.List.Elements.{All-cons, All-nil}
-use Rattle.abl_schema.specs.Rules.{violation_of}
-use Rattle.abl_outside.specs.Files.{FileState}
+use Rattle.schema_reader.specs.Rules.{violation_of}
+use Rattle.host_io.specs.Files.{FileState}
 use Rattle.abl_values.specs.Schema.{SchemaData}
 use Rattle.source_files.specs.declared.files.TheConstants.{MAX_FILE_BYTES}
 use Rattle.run_report.specs.declared.refusal.Refusal.{Refusal}
-use Rattle.abl_arguments.specs.CommandLine.{Check}
+use Rattle.command_arguments.specs.CommandLine.{Check}
 use Rattle.abl_cli.specs.Check.{IsListing, HaveListings, BreaksProgram, OneBreaks, this_breaks, later_breaks}
 use Rattle.source_files.specs.Compiled.{schema_in, BreaksSchema}
 use Rattle.source_files.specs.Files.{HasText, HaveTexts}

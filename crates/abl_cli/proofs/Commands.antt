@@ -1,20 +1,20 @@
 -- The result of a run, from what was read, begun and executed.
 use Rattle.std.proofs.Common.{◌≡◌, ◌⊎◌, inl, inr, ℕ, List, [], subst}
-use Rattle.abl_outside.specs.Files.{FileState}
-use Rattle.abl_outside.specs.Out.{OutState}
+use Rattle.host_io.specs.Files.{FileState}
+use Rattle.host_io.specs.Out.{OutState}
 use Rattle.abl_values.specs.Schema.{SchemaData}
-use Rattle.block_vm.specs.ClientView.{ClientView}
-use Rattle.abl_arguments.specs.CommandLine.{Names, NamesCheck, ClientFiles, check_of, number_of}
-use Rattle.abl_arguments.specs.declared.check.CheckArguments.{CheckArguments}
-use Rattle.abl_arguments.specs.declared.run.RunArguments.{RunArguments}
-use Rattle.abl_arguments.specs.declared.parts.Mode.{Mode}
+use Rattle.client_core.specs.ClientView.{ClientView}
+use Rattle.command_arguments.specs.CommandLine.{Names, NamesCheck, ClientFiles, check_of, number_of}
+use Rattle.command_arguments.specs.declared.check.CheckArguments.{CheckArguments}
+use Rattle.command_arguments.specs.declared.run.RunArguments.{RunArguments}
+use Rattle.command_arguments.specs.declared.parts.Mode.{Mode}
 use Rattle.run_report.specs.declared.ending.Report.{Report}
 use Rattle.run_report.specs.declared.refusal.Refusal.{Refusal}
 use Rattle.run_report.specs.declared.refusal.Refusal.TheVariants.{NoMemory}
 use Rattle.run_report.specs.Ending.{IsRefused}
 use Rattle.source_files.specs.Compiled.{schema_in}
-use Rattle.served_works.specs.Works.{Work}
-use Rattle.served_works.specs.Served.{AreToDo}
+use Rattle.client_threads.specs.served.Works.{Work}
+use Rattle.client_threads.specs.served.Served.{AreToDo}
 use Rattle.run_works.specs.declared.outcome.Outcome.{Outcome}
 use Rattle.run_works.specs.Disks.{DiskState}
 use Rattle.run_works.specs.Works.{HasNotRun, HasRun}

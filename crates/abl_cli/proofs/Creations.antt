@@ -1,12 +1,12 @@
 -- The schema of a file; why a database was not made, and what that leaves.
 use Rattle.std.proofs.Common.{◌≡◌, ◌⊎◌, ◌∙◌, ℕ, List, None, Ok, Err, Result, ap, refl, subst, arith}
 use Rattle.std.specs.Prelude.{IfOk, IsTrue, OnOk}
-use Rattle.abl_outside.specs.Files.{FileState}
-use Rattle.abl_schema.specs.Rules.{violation_of}
+use Rattle.host_io.specs.Files.{FileState}
+use Rattle.schema_reader.specs.Rules.{violation_of}
 use Rattle.abl_values.specs.Schema.{SchemaData}
-use Rattle.fault_count.specs.Faults.{Rose}
+use Rattle.storage.specs.faults.Faults.{Rose}
 use Rattle.bi_log.specs.Lengths.{StayShort}
-use Rattle.disk_steps.specs.Steps.{Image, Run}
+use Rattle.log_meaning.specs.steps.Steps.{Image, Run}
 use Rattle.disk_database.specs.declared.refusals.CreateRefusal.{CreateRefusal}
 use Rattle.disk_database.specs.declared.refusals.CreateRefusal.TheVariants as create
 use Rattle.disk_database.specs.Answers.{IsDatabaseOf, IsNoDatabase}

@@ -1,6 +1,6 @@
 -- A disk that has a database of the schema is opened, unless it fails or memory is out.
 use Rattle.std.proofs.Common.{◌≡◌, ◌∙◌, Bool, refl, subst}
-use Rattle.fault_count.specs.Faults.{Rose}
+use Rattle.storage.specs.faults.Faults.{Rose}
 use Rattle.abl_values.specs.Schema.{SchemaData}
 use Rattle.abl_values.specs.Sound.{IsSound}
 use Rattle.schema_text.specs.Written.{IsHeld}

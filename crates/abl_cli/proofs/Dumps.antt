@@ -3,8 +3,8 @@ use Rattle.std.proofs.Common.{◌≡◌, ◌<◌, ◌+◌, ℕ, Bool, true, fals
 use Rattle.std.specs.Prelude.{IfErr, IsTrue, OnOk, not}
 use Rattle.std.specs.Result.{result_err}
 use Rattle.std.proofs.lemmas.List.{length-map}
-use Rattle.fault_count.specs.Faults.{Rose}
-use Rattle.abl_outside.specs.Out.{OutState}
+use Rattle.storage.specs.faults.Faults.{Rose}
+use Rattle.host_io.specs.Out.{OutState}
 use Rattle.abl_values.specs.Schema.{SchemaData, number_of_name, same_name, table_named, table_names}
 use Rattle.disk_database.specs.declared.refusals.DumpRefusal.{DumpRefusal}
 use Rattle.disk_database.specs.Answers.{HasText, IsDumped, IsNotDumped, is_disk, is_judged, is_output}

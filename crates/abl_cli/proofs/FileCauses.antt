@@ -2,9 +2,9 @@
 use Rattle.std.proofs.Common.{◌≡◌, inl, inr, ◌<◌, ℕ, List, [], ◌∷◌, ◌++◌, Some, None, refl, sym, ap, ◌∙◌, subst, arith, length}
 use Rattle.std.specs.Prelude.{IsTrue}
 use Rattle.abl_base.specs.declared.rule.Rule.{Rule}
-use Rattle.abl_outside.specs.Files.{FileState, IsLonger}
-use Rattle.abl_schema.specs.declared.violation.Violation.{Violation}
-use Rattle.abl_schema.specs.Rules.{violation_of}
+use Rattle.host_io.specs.Files.{FileState, IsLonger}
+use Rattle.schema_reader.specs.declared.violation.Violation.{Violation}
+use Rattle.schema_reader.specs.Rules.{violation_of}
 use Rattle.run_report.specs.declared.refusal.Refusal.{Refusal}
 use Rattle.run_report.specs.declared.refusal.Refusal.TheVariants.{File, TooLong, Schema, NoMemory}
 use Rattle.source_files.specs.declared.files.TheConstants.{MAX_FILE_BYTES}

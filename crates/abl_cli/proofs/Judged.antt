@@ -3,13 +3,13 @@ use Rattle.std.proofs.Common.{◌≡◌, inl, inr, ◌≤◌, ◌+◌, ℕ, Bool
 use Rattle.std.specs.Prelude.{IsTrue, if◌then◌else◌}
 use Rattle.source_files.specs.declared.files.ClientTexts.{ClientTexts}
 use Rattle.std.proofs.lemmas.List.{take-append-drop}
-use Rattle.fault_count.specs.Faults.{Rose}
-use Rattle.client_database.specs.declared.ends.ClientEnd.{ClientEnd}
+use Rattle.storage.specs.faults.Faults.{Rose}
+use Rattle.database_protocol.specs.declared.ends.ClientEnd.{ClientEnd}
 use Rattle.client_output.specs.declared.section.Section.{Section}
 use Rattle.run_report.specs.declared.refusal.Refusal.{Refusal}
 use Rattle.run_report.specs.declared.refusal.Refusal.TheVariants.{Usage, File, TooLong, Schema, NoTable, Source, NotCreated, AlreadyCreated, SchemaDiffers, Disk, Client, Output, NoMemory}
 use Rattle.run_report.specs.declared.ending.Report.{Report}
-use Rattle.abl_arguments.specs.CommandLine.{Bank, ClientFiles, Check, Dump, HaveForm, BeginForm, IsWrong, at_argument, missing, number_of}
+use Rattle.command_arguments.specs.CommandLine.{Bank, ClientFiles, Check, Dump, HaveForm, BeginForm, IsWrong, at_argument, missing, number_of}
 use Rattle.bank_run.specs.Texts.{bank_names}
 use Rattle.bank_run.specs.Result.{BankResult, BankPrevented, BankNotRun, BankRan, PreventsBank, bank_schema}
 use Rattle.disk_database.specs.declared.refusals.OpenRefusal.{OpenRefusal}
@@ -23,11 +23,11 @@ use Rattle.run_works.specs.Disks.{DiskState, opening_refusal}
 use Rattle.abl_cli.specs.Stored.{CreateResult, Made, NotMade, DumpResult, PreventsSchema, no_df, df_breaks, PreventsDump, no_schema, creation_refusal, dump_refusal, has_all_rows, has_whole_lines}
 use Rattle.abl_cli.proofs.Banks.{no_bank_output, no_bank_usage}
 use Rattle.abl_values.specs.Schema.{SchemaData}
-use Rattle.abl_arguments.specs.declared.parts.Mode.{Mode}
-use Rattle.abl_arguments.specs.declared.parts.Mode.TheVariants.{Quiet}
+use Rattle.command_arguments.specs.declared.parts.Mode.{Mode}
+use Rattle.command_arguments.specs.declared.parts.Mode.TheVariants.{Quiet}
 use Rattle.run_report.specs.Report.{status_of}
-use Rattle.abl_outside.specs.Out.{OutState}
-use Rattle.abl_outside.specs.Files.{FileState}
+use Rattle.host_io.specs.Out.{OutState}
+use Rattle.host_io.specs.Files.{FileState}
 use Rattle.abl_cli.specs.Check.{OneBreaks, this_breaks, later_breaks}
 use Rattle.source_files.specs.Files.{IsNotRead, OneIsNotRead, this_one, later_one}
 use Rattle.abl_cli.specs.Command.{Prevents, no_file, schema_breaks, source_breaks, no_named_input, PreventsCheck, no_schema_file, no_program, schema_is_broken, one_breaks, Cause, wrong_argument, prevented, check_prevented, create_prevented, dump_prevented, HasChecked, CommandResult, Refused, NotRun, Ran, Checked, Banked, Created, Dumped, bank_of, client_names, IsUsage, HasWholeText, of_run, of_bank, of_check, of_create, of_dump}

@@ -3,15 +3,15 @@ use Rattle.std.proofs.Common.{◌≡◌, ◌⊎◌, inl, inr, ◌≤◌, ℕ, su
 use Rattle.std.specs.List.{flat_map}
 use Rattle.std.specs.Prelude.{IsTrue, All}
 use Rattle.std.proofs.lemmas.List.Elements.{All-cons, All-nil}
-use Rattle.abl_schema.specs.Rules.{violation_of}
+use Rattle.schema_reader.specs.Rules.{violation_of}
 use Rattle.abl_values.specs.declared.schema.TableDef.{TableDef}
 use Rattle.abl_values.specs.Schema.{SchemaData}
-use Rattle.abl_outside.specs.Files.{FileState}
+use Rattle.host_io.specs.Files.{FileState}
 use Rattle.bound_tree.specs.Bound.{source_of}
 use Rattle.bound_tree.specs.Tree.{Source as Tree}
 use Rattle.block_code.specs.declared.code.Code.{Code}
-use Rattle.block_vm.specs.ClientView.{ClientView}
-use Rattle.abl_arguments.specs.CommandLine.{ClientFiles}
+use Rattle.client_core.specs.ClientView.{ClientView}
+use Rattle.command_arguments.specs.CommandLine.{ClientFiles}
 use Rattle.source_files.specs.declared.files.ClientTexts.{ClientTexts}
 use Rattle.source_files.specs.declared.files.TheConstants.{MAX_FILE_BYTES}
 use Rattle.run_report.specs.declared.refusal.Refusal.{Refusal}
@@ -19,9 +19,9 @@ use Rattle.run_report.specs.declared.refusal.Refusal.TheVariants.{NoMemory}
 use Rattle.source_files.specs.Compiled.{schema_in, BreaksSchema, OneSourceBreaks}
 use Rattle.source_files.specs.Files.{HasText, HaveTexts, HaveClients, OneIsNotRead, later_one, AreSame, client_files}
 use Rattle.abl_cli.specs.Command.{Texts, AreTrees, AreWorks, Prevents, no_file, schema_breaks, source_breaks, no_named_input, run_wants, named_inputs}
-use Rattle.served_works.specs.Works.{Work}
+use Rattle.client_threads.specs.served.Works.{Work}
 use Rattle.abl_cli.specs.Inside.{AreBegun, IsReady, inputs_of}
-use Rattle.served_works.specs.Served.{AreToDo}
+use Rattle.client_threads.specs.served.Served.{AreToDo}
 use Rattle.source_files.specs.Compiled.{HaveCodes}
 use Rattle.run_works.proofs.Runs.{as_many_clients}
 use Rattle.source_files.proofs.Causes.{still_have, still_one}

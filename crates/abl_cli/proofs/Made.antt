@@ -10,9 +10,9 @@ use Rattle.database_meaning.specs.declared.state.Key.{Key}
 use Rattle.database_meaning.specs.declared.state.StoredRow.{StoredRow}
 use Rattle.database_meaning.specs.Setting.{has_key, unique_keys}
 use Rattle.database_meaning.specs.Traces.{IsSoundContents, rows_of}
-use Rattle.disk_steps.specs.Steps.{Image}
-use Rattle.slot_contents.specs.Born.{IsBorn}
-use Rattle.slot_contents.specs.Contents.{new_contents}
+use Rattle.log_meaning.specs.steps.Steps.{Image}
+use Rattle.database_layout.specs.contents.Born.{IsBorn}
+use Rattle.database_layout.specs.contents.Contents.{new_contents}
 use Rattle.disk_database.specs.Images.{created}
 use Rattle.disk_database.proofs.Reopenings.{new_is}
 use Rattle.run_works.specs.Disks.{DiskState}

@@ -1,6 +1,6 @@
 -- Arguments name one command alone: the first one tells which.
 use Rattle.std.proofs.Common.{◌≡◌, ◌+◌, ◌*◌, ◌∙◌, ℕ, List, [], ap, sym, arith, length, get_or}
-use Rattle.abl_arguments.specs.CommandLine.{Bank, Check, Create, Dump, Run, arguments_of, bank_arguments, check_arguments, create_arguments, dump_arguments}
+use Rattle.command_arguments.specs.CommandLine.{Bank, Check, Create, Dump, Run, arguments_of, bank_arguments, check_arguments, create_arguments, dump_arguments}
 
 -- the length and the first letter of the first argument
 abbrev mark : List (List ℕ) → ℕ

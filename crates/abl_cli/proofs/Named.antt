@@ -3,8 +3,8 @@ use Rattle.std.proofs.Common.{◌≡◌, ℕ, suc, List, [], ◌∷◌, ◌++◌
 use Rattle.std.specs.Prelude.{All, map}
 use Rattle.std.proofs.lemmas.List.{map_push}
 use Rattle.std.proofs.lemmas.List.Elements.{All-head, All-tail}
-use Rattle.abl_arguments.specs.CommandLine.{ClientFiles, IsClientFiles, client_argument, client_in}
-use Rattle.abl_arguments.specs.declared.client.ClientArgument.{ClientArgument}
+use Rattle.command_arguments.specs.CommandLine.{ClientFiles, IsClientFiles, client_argument, client_in}
+use Rattle.command_arguments.specs.declared.client.ClientArgument.{ClientArgument}
 
 -- the first client, and the others
 pub record Parted (argument : List ℕ) (rest : List (List ℕ)) (cs : List ClientFiles) : Type 0 where

@@ -2,38 +2,38 @@
 use Rattle.std.proofs.Common.{◌≡◌, inl, inr, ◌+◌, ◌<◌, ℕ, Bool, true, false, if◌then◌else◌, List, [], ◌∷◌, ◌++◌, Option, Some, None, refl, sym, ap, ◌∙◌, subst, arith, length, get_or}
 use Rattle.std.specs.List.{flat_map}
 use Rattle.std.specs.Prelude.{IsTrue, map}
-use Rattle.fault_count.specs.Faults.{Rose}
+use Rattle.storage.specs.faults.Faults.{Rose}
 use Rattle.abl_base.specs.declared.rule.Rule.{Rule}
 use Rattle.abl_base.specs.declared.place.Place.{Place}
-use Rattle.abl_outside.specs.Files.{FileState}
-use Rattle.abl_outside.specs.Out.{OutState}
-use Rattle.abl_schema.specs.Rules.{violation_of}
+use Rattle.host_io.specs.Files.{FileState}
+use Rattle.host_io.specs.Out.{OutState}
+use Rattle.schema_reader.specs.Rules.{violation_of}
 use Rattle.abl_values.specs.Schema.{SchemaData}
 use Rattle.bound_tree.specs.Tree.{Source as Tree}
-use Rattle.client_database.specs.declared.ends.ClientEnd.{ClientEnd}
-use Rattle.abl_arguments.specs.CommandLine.{Run, ClientFiles, arguments_of, client_argument, mode_argument, IsRun}
-use Rattle.abl_arguments.specs.declared.parts.Mode.{Mode}
-use Rattle.abl_arguments.specs.declared.parts.Mode.TheVariants.{Trace, Quiet}
-use Rattle.abl_arguments.proofs.Clients.{same_clients}
+use Rattle.database_protocol.specs.declared.ends.ClientEnd.{ClientEnd}
+use Rattle.command_arguments.specs.CommandLine.{Run, ClientFiles, arguments_of, client_argument, mode_argument, IsRun}
+use Rattle.command_arguments.specs.declared.parts.Mode.{Mode}
+use Rattle.command_arguments.specs.declared.parts.Mode.TheVariants.{Trace, Quiet}
+use Rattle.command_arguments.proofs.Clients.{same_clients}
 use Rattle.abl_cli.proofs.Marks.{run_or_bank, run_or_check, run_or_create, run_or_dump}
 use Rattle.run_report.specs.declared.refusal.Refusal.{Refusal}
 use Rattle.run_report.specs.declared.refusal.Refusal.TheVariants.{File, TooLong, Schema, Source, NoMemory}
 use Rattle.run_report.specs.declared.ending.Report.{Report}
 use Rattle.source_files.specs.declared.files.TheConstants.{MAX_FILE_BYTES}
 use Rattle.source_files.specs.declared.files.ClientTexts.{ClientTexts}
-use Rattle.abl_source.specs.Sources.{BreaksRule, IsTreeOf}
+use Rattle.source_reader.specs.Sources.{BreaksRule, IsTreeOf}
 use Rattle.source_files.specs.Compiled.{schema_in, breaks_rule, source_wants, OneSourceBreaks, this_source, later_source}
 use Rattle.source_files.specs.Files.{HaveTexts, HaveClients, OneIsNotRead, client_files, input_file}
 use Rattle.abl_cli.specs.Command.{AreTrees, Texts, Prevents, no_file, schema_breaks, source_breaks, no_named_input, run_wants, AreWorks, named_inputs, run_files, client_names, wrong_argument, prevented, check_prevented, create_prevented, dump_prevented, CommandResult, Refused, NotRun, Ran, Checked, Banked, Created, Dumped, IsRefusal, IsInputThere, AreThere, ClientsThere, AllThere, AreSources, NamesRun}
 use Rattle.abl_cli.specs.Undisturbed.{RunEnd, IsDone, all_well, a_client_failed, memory_was_out, disk_failed, ended, not_opened}
-use Rattle.served_works.specs.Works.{Work}
+use Rattle.client_threads.specs.served.Works.{Work}
 use Rattle.run_works.specs.declared.outcome.Outcome.{Outcome as Result}
 use Rattle.run_works.specs.Disks.{DiskState}
 use Rattle.run_works.specs.Works.{HasRun}
 use Rattle.run_report.specs.Ending.{refusal_after, failure_refusal, first_failure, has_closed, one_lacks_memory, status_after}
 use Rattle.source_files.proofs.Causes.{input_texts}
 use Rattle.abl_cli.proofs.FileCauses.{wants, same_text, have_none, have_long, none_lacks, one_missing, one_long, same_violation, no_violation}
-use Rattle.abl_source.proofs.Violations.{one_rule, one_tree_of, trees_break_none}
+use Rattle.source_reader.proofs.Violations.{one_rule, one_tree_of, trees_break_none}
 use Rattle.abl_cli.proofs.Judged.{wrong_or_formed, rose_in_report}
 
 -- ---- arguments name one run

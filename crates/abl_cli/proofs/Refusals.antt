@@ -1,13 +1,13 @@
 -- What a refusal says of the disk; and that a creation harms no database.
 use Rattle.std.proofs.Common.{◌≡◌, ◌⊎◌, ⊎_elim, ◌∙◌, ℕ, Bool, true, false, List, Option, None, Some, if◌then◌else◌, refl, subst, sym}
 use Rattle.std.specs.Prelude.{IsTrue}
-use Rattle.abl_arguments.specs.CommandLine.{Create, create_arguments}
-use Rattle.abl_outside.specs.Files.{FileState}
-use Rattle.abl_outside.specs.Out.{OutState}
+use Rattle.command_arguments.specs.CommandLine.{Create, create_arguments}
+use Rattle.host_io.specs.Files.{FileState}
+use Rattle.host_io.specs.Out.{OutState}
 use Rattle.abl_values.specs.Schema.{SchemaData}
-use Rattle.bank_inputs.specs.declared.bank.Bank.{Bank as BankNumbers}
+use Rattle.bank_run.specs.declared.inputs.bank.Bank.{Bank as BankNumbers}
 use Rattle.bank_run.specs.Result.{BankNotRun, BankPrevented, BankRan, BankResult, PreventsBank, bank_wants, schema_breaks as bank_schema_breaks, source_breaks as bank_source_breaks}
-use Rattle.client_database.specs.declared.ends.ClientEnd.{ClientEnd}
+use Rattle.database_protocol.specs.declared.ends.ClientEnd.{ClientEnd}
 use Rattle.disk_database.specs.Answers.{IsNoDatabase, IsRefused as IsRefusedFor}
 use Rattle.disk_database.specs.declared.refusals.CreateRefusal.{CreateRefusal}
 use Rattle.disk_database.specs.declared.refusals.CreateRefusal.TheVariants as create

@@ -1,16 +1,16 @@
 -- What a run, a creation and a dump come to that nothing prevents.
 use Rattle.std.proofs.Common.{◌≡◌, ◌⊎◌, inl, inr, ◌∙◌, ℕ, List, Option, Some, None, ap, refl, subst, sym}
 use Rattle.std.specs.Prelude.{IsTrue}
-use Rattle.fault_count.specs.Faults.{Rose}
-use Rattle.abl_schema.proofs.ObservableSound.{files-sound}
-use Rattle.held_schemas.proofs.Held.{files-held}
-use Rattle.abl_schema.specs.Rules.{violation_of}
+use Rattle.storage.specs.faults.Faults.{Rose}
+use Rattle.schema_reader.proofs.ObservableSound.{files-sound}
+use Rattle.schema_text.proofs.HeldLemmas.Held.{files-held}
+use Rattle.schema_reader.specs.Rules.{violation_of}
 use Rattle.abl_values.specs.Schema.{SchemaData, table_named}
 use Rattle.abl_values.specs.Sound.{IsSound}
 use Rattle.schema_text.specs.Written.{IsHeld}
-use Rattle.abl_outside.specs.Files.{FileState}
-use Rattle.abl_outside.specs.Out.{OutState}
-use Rattle.abl_arguments.specs.CommandLine.{Create, Dump, create_arguments, dump_arguments}
+use Rattle.host_io.specs.Files.{FileState}
+use Rattle.host_io.specs.Out.{OutState}
+use Rattle.command_arguments.specs.CommandLine.{Create, Dump, create_arguments, dump_arguments}
 use Rattle.disk_database.specs.declared.refusals.OpenRefusal.TheVariants as opening
 use Rattle.disk_database.specs.declared.refusals.CreateRefusal.{CreateRefusal}
 use Rattle.disk_database.specs.declared.refusals.CreateRefusal.TheVariants as create

@@ -1,11 +1,11 @@
 -- A refused command writes nothing.
 use Rattle.std.proofs.Common.{◌≡◌, ◌∙◌, ℕ, Bool, true, false, List, Option, None, Some, if◌then◌else◌, refl, subst, sym}
-use Rattle.abl_outside.specs.Files.{FileState}
-use Rattle.abl_outside.specs.Out.{OutState}
+use Rattle.host_io.specs.Files.{FileState}
+use Rattle.host_io.specs.Out.{OutState}
 use Rattle.abl_values.specs.Schema.{SchemaData}
-use Rattle.bank_inputs.specs.declared.bank.Bank.{Bank as BankNumbers}
+use Rattle.bank_run.specs.declared.inputs.bank.Bank.{Bank as BankNumbers}
 use Rattle.bank_run.specs.Result.{BankNotRun, BankPrevented, BankRan, BankResult}
-use Rattle.client_database.specs.declared.ends.ClientEnd.{ClientEnd}
+use Rattle.database_protocol.specs.declared.ends.ClientEnd.{ClientEnd}
 use Rattle.disk_database.specs.Answers.{is_judgement}
 use Rattle.disk_database.specs.declared.refusals.CreateRefusal.{CreateRefusal}
 use Rattle.disk_database.specs.declared.refusals.CreateRefusal.TheVariants as create

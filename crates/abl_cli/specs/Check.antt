@@ -4,11 +4,11 @@ use Rattle.abl_base.specs.declared.rule.Rule.{Rule}
 use Rattle.abl_base.specs.declared.place.Place.{Place}
 use Rattle.abl_values.specs.Schema.{SchemaData}
 use Rattle.bound_tree.specs.Tree.{Source as Tree}
-use Rattle.block_listing.specs.Listing.{listing}
+use Rattle.source_reader.specs.listing.Listing.{listing}
 use Rattle.run_report.specs.declared.refusal.Refusal.{Refusal}
 use Rattle.run_report.specs.declared.refusal.Refusal.TheVariants.{Source, NoMemory}
 use Rattle.run_report.specs.Report.{part_of}
-use Rattle.abl_source.specs.Sources.{BreaksRule, IsTreeOf}
+use Rattle.source_reader.specs.Sources.{BreaksRule, IsTreeOf}
 
 -- the text breaks no rule over the schema, and these are the lines of its blocks
 pub record IsListing (schema : SchemaData) (text lines : List ℕ) : Type 0 where

@@ -1,7 +1,7 @@
 -- The files of a check, for the laws on it.
 use Rattle.std.specs.Prelude.{◌≡◌, ℕ, IsTrue, List, [], ◌∷◌}
-use Rattle.abl_outside.specs.Files.{FileState}
-use Rattle.abl_arguments.specs.CommandLine.{Check, IsCheck, check_arguments}
+use Rattle.host_io.specs.Files.{FileState}
+use Rattle.command_arguments.specs.CommandLine.{Check, IsCheck, check_arguments}
 use Rattle.abl_cli.specs.Command.{IsThere}
 
 -- the arguments name the check, and the files are observable and fail for a missing file alone

@@ -1,19 +1,19 @@
 -- The result of a command: it was refused by the first cause that prevented it, or it did its work on the disk.
 use Rattle.std.specs.Prelude.{◌≡◌, ◌⊎◌, ◌≤◌, ℕ, length, map, Bool, IsTrue, List, [], ◌∷◌, Option, Some, None}
 use Rattle.std.specs.List.{flat_map}
-use Rattle.abl_schema.specs.Rules.{violation_of}
-use Rattle.abl_outside.specs.declared.out.Stream.TheVariants.{Output as Standard}
-use Rattle.abl_outside.specs.Files.{FileState}
+use Rattle.schema_reader.specs.Rules.{violation_of}
+use Rattle.host_io.specs.declared.out.Stream.TheVariants.{Output as Standard}
+use Rattle.host_io.specs.Files.{FileState}
 use Rattle.bound_tree.specs.Tree.{Source as Tree}
-use Rattle.abl_source.specs.Sources.{IsTreeOf}
+use Rattle.source_reader.specs.Sources.{IsTreeOf}
 use Rattle.client_output.specs.declared.section.Section.{Section}
 use Rattle.run_report.specs.declared.refusal.Refusal.{Refusal}
 use Rattle.run_report.specs.declared.refusal.Refusal.TheVariants.{Usage, NoMemory}
 use Rattle.run_report.specs.declared.ending.Report.{Report}
 use Rattle.source_files.specs.declared.files.TheConstants.{MAX_FILE_BYTES}
 use Rattle.source_files.specs.declared.files.ClientTexts.{ClientTexts}
-use Rattle.abl_arguments.specs.CommandLine.{Run, ClientFiles, IsRun, arguments_of, Check, IsCheck, check_arguments, Bank, IsBank, bank_arguments, Create, IsCreate, create_arguments, Dump, IsDump, dump_arguments, IsWrong, number_of}
-use Rattle.bank_inputs.specs.declared.bank.Bank.{Bank as BankNumbers}
+use Rattle.command_arguments.specs.CommandLine.{Run, ClientFiles, IsRun, arguments_of, Check, IsCheck, check_arguments, Bank, IsBank, bank_arguments, Create, IsCreate, create_arguments, Dump, IsDump, dump_arguments, IsWrong, number_of}
+use Rattle.bank_run.specs.declared.inputs.bank.Bank.{Bank as BankNumbers}
 use Rattle.bank_run.specs.Texts.{bank_names}
 use Rattle.bank_run.specs.Result.{BankResult}
 use Rattle.source_files.specs.Files.{HasText, HaveClients, HaveTexts, IsNotRead, OneIsNotRead, client_files}
@@ -21,17 +21,17 @@ use Rattle.source_files.specs.Compiled.{BreaksSchema, OneSourceBreaks, schema_in
 use Rattle.run_report.specs.Ending.{IsRefused, WritesStatus, output_refusal, status_after}
 use Rattle.run_works.specs.declared.outcome.Outcome.{Outcome}
 use Rattle.run_works.specs.Disks.{DiskState}
-use Rattle.served_works.specs.Works.{Work}
+use Rattle.client_threads.specs.served.Works.{Work}
 use Rattle.run_works.specs.Works.{HasNotRun, HasRun}
 use Rattle.abl_cli.specs.Check.{HaveListings, OneBreaks, check_text}
 use Rattle.abl_cli.specs.Stored.{CreateResult, DumpResult, HasSchema, HasTable, PreventsDump, PreventsSchema}
 use Rattle.abl_values.specs.Schema.{SchemaData, primary_of}
-use Rattle.abl_rows.specs.declared.store.FoundRow.{FoundRow}
+use Rattle.row_store.specs.declared.store.FoundRow.{FoundRow}
 use Rattle.log_meaning.specs.Images.{Recovers}
-use Rattle.stored_rows.specs.Decoded.{decoded}
-use Rattle.table_dump.specs.Order.{AreAll, export_lines}
+use Rattle.slot_rows.specs.Decoded.{decoded}
+use Rattle.disk_database.specs.table.Order.{AreAll, export_lines}
 use Rattle.run_report.specs.Report.{reports, run_text}
-use Rattle.abl_outside.specs.Out.{OutState, Writes, appended}
+use Rattle.host_io.specs.Out.{OutState, Writes, appended}
 
 -- the files that a run reads before the rules are looked at, in order
 abbrev pub run_files : List ℕ → List ClientFiles → List (List ℕ)

@@ -1,19 +1,19 @@
 -- What holds of the clients of a run before they run.
 use Rattle.std.specs.Prelude.{◌≡◌, ℕ, List, [], ◌∷◌, None}
 use Rattle.std.specs.List.{flat_map}
-use Rattle.abl_schema.specs.Rules.{violation_of}
+use Rattle.schema_reader.specs.Rules.{violation_of}
 use Rattle.abl_values.specs.declared.schema.TableDef.{TableDef}
 use Rattle.abl_values.specs.Schema.{SchemaData}
-use Rattle.abl_outside.specs.Files.{FileState}
+use Rattle.host_io.specs.Files.{FileState}
 use Rattle.block_code.specs.declared.code.Code.{Code}
-use Rattle.block_vm.specs.ClientView.{ClientView}
+use Rattle.client_core.specs.ClientView.{ClientView}
 use Rattle.source_files.specs.declared.files.ClientTexts.{ClientTexts}
 use Rattle.source_files.specs.Files.{HaveTexts}
 use Rattle.source_files.specs.Compiled.{schema_in}
-use Rattle.served_works.specs.Works.{Work}
-use Rattle.served_works.specs.Served.{AreToDo, IsClientOf}
-use Rattle.abl_outside.specs.Out.{OutState}
-use Rattle.abl_arguments.specs.CommandLine.{Check, ClientFiles}
+use Rattle.client_threads.specs.served.Works.{Work}
+use Rattle.client_threads.specs.served.Served.{AreToDo, IsClientOf}
+use Rattle.host_io.specs.Out.{OutState}
+use Rattle.command_arguments.specs.CommandLine.{Check, ClientFiles}
 use Rattle.run_report.specs.declared.ending.Report.{Report}
 use Rattle.run_report.specs.declared.refusal.Refusal.{Refusal}
 use Rattle.run_report.specs.Ending.{IsRefused}

@@ -1,20 +1,20 @@
 -- The commands `create` and `dump`: what they read, what they do to the disk, and what they write.
 use Rattle.std.specs.Prelude.{◌≡◌, ◌≢◌, ◌⊎◌, ◌≤◌, length, Bool, true, false, not, IsTrue, List, ℕ, [], Option, Some, None}
-use Rattle.fault_count.specs.Faults.{Rose}
-use Rattle.abl_schema.specs.Rules.{violation_of}
+use Rattle.storage.specs.faults.Faults.{Rose}
+use Rattle.schema_reader.specs.Rules.{violation_of}
 use Rattle.abl_values.specs.Schema.{SchemaData, canonical_text, table_named}
-use Rattle.abl_outside.specs.Files.{FileState}
-use Rattle.abl_outside.specs.Out.{OutState}
-use Rattle.disk_steps.specs.Steps.{Image, Run}
-use Rattle.slot_contents.specs.Contents.{new_contents}
-use Rattle.slot_contents.specs.Born.{IsBorn}
-use Rattle.database_creation.specs.Created.{CreatesNew}
+use Rattle.host_io.specs.Files.{FileState}
+use Rattle.host_io.specs.Out.{OutState}
+use Rattle.log_meaning.specs.steps.Steps.{Image, Run}
+use Rattle.database_layout.specs.contents.Contents.{new_contents}
+use Rattle.database_layout.specs.contents.Born.{IsBorn}
+use Rattle.database_layout.specs.creation.Created.{CreatesNew}
 use Rattle.disk_database.specs.declared.refusals.CreateRefusal.{CreateRefusal}
 use Rattle.disk_database.specs.declared.refusals.CreateRefusal.TheVariants as create
 use Rattle.disk_database.specs.declared.refusals.DumpRefusal.{DumpRefusal}
 use Rattle.disk_database.specs.declared.refusals.DumpRefusal.TheVariants as dump
 use Rattle.disk_database.specs.Answers.{HasText as HasStoredText, IsDatabaseOf, IsDumped, IsNoDatabase, IsNotDumped, is_disk, is_judged, is_output}
-use Rattle.abl_arguments.specs.CommandLine.{Dump}
+use Rattle.command_arguments.specs.CommandLine.{Dump}
 use Rattle.run_report.specs.declared.ending.Report.{Report}
 use Rattle.run_report.specs.declared.refusal.Refusal.{Refusal}
 use Rattle.run_report.specs.declared.refusal.Refusal.TheVariants.{AlreadyCreated, Client, Disk, NoMemory, NoTable, NotCreated, Output, SchemaDiffers}

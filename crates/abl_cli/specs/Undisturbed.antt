@@ -1,10 +1,10 @@
 -- What commands come to that nothing prevents, over a disk that has a database of their schema.
 use Rattle.std.specs.Prelude.{◌≡◌, ℕ, true, IsTrue, List, Some}
 use Rattle.abl_values.specs.Schema.{SchemaData}
-use Rattle.abl_outside.specs.Files.{FileState}
+use Rattle.host_io.specs.Files.{FileState}
 use Rattle.database_meaning.specs.declared.contents.Contents.{Contents}
 use Rattle.database_meaning.specs.Traces.{IsSoundContents}
-use Rattle.abl_arguments.specs.CommandLine.{Create, IsCreate, create_arguments, Dump, IsDump, dump_arguments}
+use Rattle.command_arguments.specs.CommandLine.{Create, IsCreate, create_arguments, Dump, IsDump, dump_arguments}
 use Rattle.run_report.specs.Ending.{has_closed}
 use Rattle.run_report.specs.Report.{status_of}
 use Rattle.run_report.specs.declared.ending.Report.{Report}

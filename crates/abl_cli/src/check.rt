@@ -1,26 +1,26 @@
 //! The command `check`: it lists the blocks of sources, with the buffers scoped to each.
 
 ghost use Rattle.std.specs.Prelude.{◌≡◌, ◌≤◌, ◌⊎◌, All, IfErr, IfOk, None, OnOk, is_ok, length};
-ghost use Rattle.abl_outside.specs.declared.out.Stream.{Stream};
-ghost use Rattle.abl_outside.specs.Out.{Writes};
-ghost use Rattle.abl_schema.specs.Rules.{violation_of};
+ghost use Rattle.host_io.specs.declared.out.Stream.{Stream};
+ghost use Rattle.host_io.specs.Out.{Writes};
+ghost use Rattle.schema_reader.specs.Rules.{violation_of};
 ghost use Rattle.abl_cli.specs.Check.{BreaksProgram, HaveListings, IsListing, OneBreaks, check_text};
-ghost use Rattle.abl_arguments.specs.CommandLine.{check_of};
+ghost use Rattle.command_arguments.specs.CommandLine.{check_of};
 ghost use Rattle.abl_cli.specs.Command.{AreListed, HasChecked, PreventsCheck};
 ghost use Rattle.abl_cli.specs.Inside.{CheckResult};
 ghost use Rattle.source_files.specs.Compiled.{BreaksSchema, schema_in};
 
-use abl_arguments::{Arg, CheckArguments};
 use abl_base::Bytes;
-use abl_outside::{Files, Out, OutFailed};
-use abl_source::{SourceFault, read_source};
 use abl_values::Schema;
-use block_listing::listing;
-use client_database::Trace;
+use command_arguments::{Arg, CheckArguments};
+use database_protocol::Trace;
+use host_io::{Files, Out, OutFailed};
 use run_report::{
     Ends, Refusal, Report, line_end, output_refusal, refused, status_of, write_part, write_refusal,
 };
 use source_files::{MAX_FILE_BYTES, read, read_named, schema_of};
+use source_reader::listing::listing;
+use source_reader::{SourceFault, read_source};
 use std::alloc::Global;
 
 /// Lists the blocks of the sources that the arguments name. It reads no input and opens no database.

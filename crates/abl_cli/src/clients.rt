@@ -1,10 +1,10 @@
 //! The clients that the arguments of a run name.
 
 ghost use Rattle.std.specs.Prelude.{◌≡◌, ◌++◌, All, IfOk, List, OnOk, map};
-ghost use Rattle.abl_arguments.specs.CommandLine.{ClientFiles, IsClientFiles, client_argument, client_in};
+ghost use Rattle.command_arguments.specs.CommandLine.{ClientFiles, IsClientFiles, client_argument, client_in};
 
-use abl_arguments::{Arg, ClientArgument, client_of};
 use abl_base::Bytes;
+use command_arguments::{Arg, ClientArgument, client_of};
 use std::alloc::{AllocError, Global};
 
 /// The clients that these arguments name, in order.

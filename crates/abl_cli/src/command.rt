@@ -1,8 +1,8 @@
 //! One command, from the arguments to the report.
 
 ghost use Rattle.std.specs.Prelude.{ℕ};
-ghost use Rattle.abl_outside.specs.Files.{FileState};
-ghost use Rattle.abl_arguments.specs.CommandLine.{Names, NamesBank, NamesCheck};
+ghost use Rattle.host_io.specs.Files.{FileState};
+ghost use Rattle.command_arguments.specs.CommandLine.{Names, NamesBank, NamesCheck};
 ghost use Rattle.run_works.specs.Disks.{KeepsLogShort, state_of};
 ghost use Rattle.abl_cli.specs.Command.{CommandResult};
 ghost use Rattle.abl_cli.specs.Stored.{WritesNothingIfRefused};
@@ -12,16 +12,16 @@ use crate::clients::{clients_of, names_of};
 use crate::creating::create_schema;
 use crate::dumping::dump_table;
 use crate::load::{Loaded, load};
-use abl_arguments::{Arg, BankArguments, CheckArguments, Command, RunArguments, read_command};
-use abl_outside::{Files, Gate, Out};
-use abl_storage::Disk;
-use bank_inputs::Bank;
+use bank_run::inputs::Bank;
 use bank_run::run_bank;
+use command_arguments::{Arg, BankArguments, CheckArguments, Command, RunArguments, read_command};
+use host_io::{Files, Gate, Out};
 use run_report::{Refusal, ReportForm, refused};
 use run_works::{Outcome, execute};
 use std::alloc::Global;
 use std::sync::Wait;
 use std::thread::Threads;
+use storage::Disk;
 
 /// Does what the arguments say with the database on the disk, and hands the disk back in every case.
 /// `create` makes the database of a schema file. `run` reads the schema file, the sources and the

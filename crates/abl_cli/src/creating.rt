@@ -1,21 +1,21 @@
 //! The command `create`: it makes the database of a schema file.
 
 ghost use Rattle.std.specs.Prelude.{◌≡◌, IfErr, IfOk};
-ghost use Rattle.abl_arguments.specs.CommandLine.{NamesCreate};
+ghost use Rattle.command_arguments.specs.CommandLine.{NamesCreate};
 ghost use Rattle.run_works.specs.Disks.{KeepsLogShort, state_of};
 ghost use Rattle.abl_cli.specs.Command.{CommandResult};
 ghost use Rattle.abl_cli.specs.Stored.{CreateResult, HasSchema, PreventsSchema, creation_refusal};
 
-use abl_arguments::{Arg, CreateArguments};
-use abl_outside::{Files, Out};
-use abl_storage::Disk;
 use abl_values::Schema;
-use client_database::Trace;
+use command_arguments::{Arg, CreateArguments};
+use database_protocol::Trace;
 use disk_database::{CreateRefusal, create};
+use host_io::{Files, Out};
 use run_report::{Ends, Refusal, Report, refused};
 use run_works::Outcome;
 use source_files::{read, schema_of};
 use std::alloc::Global;
+use storage::Disk;
 
 /// Makes an empty database with the schema that the arguments name, where the disk holds none of
 /// whatever schema. It writes no report.

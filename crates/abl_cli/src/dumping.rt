@@ -1,22 +1,22 @@
 //! The command `dump`: it writes the committed rows of a table.
 
 ghost use Rattle.std.specs.Prelude.{◌≡◌, ◌<◌, IfErr, IfOk, length};
-ghost use Rattle.abl_arguments.specs.CommandLine.{NamesDump, dump_of};
+ghost use Rattle.command_arguments.specs.CommandLine.{NamesDump, dump_of};
 ghost use Rattle.run_works.specs.Disks.{KeepsLogShort, state_of};
 ghost use Rattle.abl_cli.specs.Command.{CommandResult};
 ghost use Rattle.abl_cli.specs.Stored.{DumpResult, HasTable, PreventsDump, dump_refusal};
 
-use abl_arguments::{Arg, DumpArguments};
 use abl_base::Bytes;
-use abl_outside::{Files, Out};
-use abl_storage::Disk;
 use abl_values::Schema;
-use client_database::Trace;
+use command_arguments::{Arg, DumpArguments};
+use database_protocol::Trace;
 use disk_database::DumpRefusal;
+use host_io::{Files, Out};
 use run_report::{Ends, Refusal, Report, refused, status_of, write_refusal};
 use run_works::{Outcome, dump_rows, opening_refusal};
 use source_files::{read, schema_of};
 use std::alloc::Global;
+use storage::Disk;
 
 /// A table of a schema. The store and the machine of a database each have a schema of their own, which
 /// is one schema.

@@ -1,35 +1,35 @@
 //! What follows from what a command did. Each law is what its function ensures.
 
 ghost use Rattle.std.specs.Prelude.{◌≡◌, ◌<◌, ◌⊎◌, ◌∷◌, ◌++◌, ℕ, IsTrue, List, None, Some, length};
-ghost use Rattle.fault_count.specs.Faults.{Rose};
+ghost use Rattle.storage.specs.faults.Faults.{Rose};
 ghost use Rattle.bound_tree.specs.Tree.{Source as Tree};
 ghost use Rattle.abl_base.specs.declared.rule.Rule.{Rule as TheRule};
 ghost use Rattle.abl_base.specs.declared.place.Place.{Place as ThePlace};
-ghost use Rattle.abl_schema.specs.Rules.{violation_of};
+ghost use Rattle.schema_reader.specs.Rules.{violation_of};
 ghost use Rattle.run_report.specs.declared.refusal.Refusal.{Refusal};
 ghost use Rattle.run_report.specs.declared.refusal.Refusal.TheVariants.{Usage, File, TooLong, Schema, Source, Output};
 ghost use Rattle.run_works.specs.declared.outcome.Outcome.{Outcome};
 ghost use Rattle.run_works.specs.Disks.{IsUntouched, state_of};
 ghost use Rattle.source_files.specs.declared.files.TheConstants.{MAX_FILE_BYTES as MOST};
-ghost use Rattle.abl_outside.specs.Out.{appended};
-ghost use Rattle.abl_outside.specs.declared.out.Stream.TheVariants.{Output as Standard};
-ghost use Rattle.abl_source.specs.Sources.{BreaksRule};
-ghost use Rattle.abl_arguments.specs.CommandLine.{Bank, Check, Create, Dump, Run, HaveForm, IsBank, IsWrong, bank_arguments, create_arguments};
+ghost use Rattle.host_io.specs.Out.{appended};
+ghost use Rattle.host_io.specs.declared.out.Stream.TheVariants.{Output as Standard};
+ghost use Rattle.source_reader.specs.Sources.{BreaksRule};
+ghost use Rattle.command_arguments.specs.CommandLine.{Bank, Check, Create, Dump, Run, HaveForm, IsBank, IsWrong, bank_arguments, create_arguments};
 ghost use Rattle.abl_values.specs.Schema.{SchemaData, table_named};
-ghost use Rattle.bank_inputs.specs.declared.sources.TheConstants.{BANK_SCHEMA};
+ghost use Rattle.bank_run.specs.declared.inputs.sources.TheConstants.{BANK_SCHEMA};
 ghost use Rattle.bank_run.specs.Result.{bank_schema};
 ghost use Rattle.bank_run.specs.Texts.{bank_texts};
 ghost use Rattle.disk_database.specs.Answers.{IsDatabaseOf, IsNoDatabase};
 ghost use Rattle.abl_cli.specs.Check.{HaveListings, check_text};
-ghost use Rattle.abl_outside.specs.Out.{OutState};
-ghost use Rattle.abl_outside.specs.Files.{FileState};
+ghost use Rattle.host_io.specs.Out.{OutState};
+ghost use Rattle.host_io.specs.Files.{FileState};
 ghost use Rattle.abl_cli.specs.Command.{AllThere, AreSources, AreThere, AreTrees, bank_of, CommandResult, HasWholeText, IsRefusal, IsThere, IsUsage, NamesRun, named_inputs, run_files};
 ghost use Rattle.source_files.specs.Compiled.{schema_in};
 ghost use Rattle.abl_cli.specs.Stored.{SaysOfDisk, WritesNothingIfRefused};
 ghost use Rattle.abl_cli.specs.Undisturbed.{HasDatabase, IsDone, NamesCreation, NamesTable, RunEnd};
 ghost use Rattle.abl_cli.specs.CheckFiles.{AreThereWith, NamesSources, check_files};
 
-use abl_storage::Disk;
+use storage::Disk;
 
 /// The refusal is Usage, with the number of the wrong argument, exactly where the arguments have no
 /// form.

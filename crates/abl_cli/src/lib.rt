@@ -10,9 +10,9 @@ mod dumping;
 pub mod laws;
 mod load;
 
-pub use abl_arguments::{Arg, Mode};
-pub use abl_source::{SourceFault, read_syntax};
 pub use command::run_abl;
+pub use command_arguments::{Arg, Mode};
 pub use run_report::{Ends, Refusal, Report};
 pub use run_works::Outcome;
 pub use source_files::{MAX_FILE_BYTES, compile_source};
+pub use source_reader::{SourceFault, read_syntax};

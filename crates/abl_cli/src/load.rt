@@ -1,21 +1,21 @@
 //! From the arguments of a run to its clients, ready to run.
 
 ghost use Rattle.std.specs.Prelude.{◌≡◌, ◌≤◌, ◌⊎◌, ◌++◌, ◌∷◌, [], List, IfErr, IfOk, OnOk, length, map};
-ghost use Rattle.abl_arguments.specs.CommandLine.{client_in};
+ghost use Rattle.command_arguments.specs.CommandLine.{client_in};
 ghost use Rattle.run_report.specs.declared.refusal.Refusal.TheVariants.{NoMemory};
 ghost use Rattle.source_files.specs.Files.{AreSame, OneIsNotRead};
 ghost use Rattle.source_files.specs.Compiled.{schema_in};
 ghost use Rattle.abl_cli.specs.Command.{Prevents};
 ghost use Rattle.abl_cli.specs.Inside.{AreBegun, IsBegun, IsReady, inputs_of};
 
-use abl_arguments::ClientArgument;
 use abl_base::Bytes;
-use abl_outside::Files;
 use abl_values::Schema;
 use block_code::Code;
-use block_vm::Client;
+use client_core::Client;
+use client_threads::served::client_to_run;
+use command_arguments::ClientArgument;
+use host_io::Files;
 use run_report::Refusal;
-use served_works::client_to_run;
 use source_files::{ClientTexts, Compiled, compiled_in, read, read_clients, read_named, schema_of};
 use std::alloc::Global;
 

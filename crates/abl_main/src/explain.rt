@@ -1,6 +1,6 @@
 //! What the program says about itself, without a command.
 
-use abl_help::{names, place_of, summaries, texts};
+use command_help::{names, place_of, summaries, texts};
 use std::io;
 
 /// The line on standard error where standard output does not take the text.

@@ -9,12 +9,12 @@ mod real_files;
 mod real_out;
 
 use abl_cli::run_abl;
-use abl_help::HELP;
-use abl_outside::OpenGate;
 use arguments::{arguments, database_in};
+use command_help::HELP;
 use database_files::explain_files;
 use disk_files::DiskFiles;
 use explain::{explain, list_pages, print};
+use host_io::OpenGate;
 use real_files::RealFiles;
 use real_out::RealOut;
 use std::io;

@@ -3,7 +3,7 @@
 ghost use Rattle.std.specs.Prelude.{◌≡◌, ◌≤◌, ◌<◌, length, IfOk};
 
 use abl_base::Bytes;
-use abl_outside::{FileFault, Files};
+use host_io::{FileFault, Files};
 use std::alloc::Global;
 use std::fs;
 use std::io::Read;

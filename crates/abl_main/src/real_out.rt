@@ -1,6 +1,6 @@
 //! The streams of the machine. What is written to them is not observable in proofs.
 
-use abl_outside::{Out, OutFailed, Stream};
+use host_io::{Out, OutFailed, Stream};
 
 /// Standard output and standard error.
 #[derive(Drop)]

@@ -5,21 +5,21 @@ use Rattle.std.proofs.lemmas.List.Elements.{All-cons, All-nil, All-push}
 use Rattle.abl_values.specs.Schema.{SchemaData}
 use Rattle.bound_tree.specs.Bound.{source_of}
 use Rattle.block_code.specs.declared.code.Code.{Code}
-use Rattle.block_vm.specs.ClientView.{ClientView}
-use Rattle.bank_inputs.specs.declared.bank.Bank.{Bank}
+use Rattle.client_core.specs.ClientView.{ClientView}
+use Rattle.bank_run.specs.declared.inputs.bank.Bank.{Bank}
 use Rattle.source_files.specs.declared.files.ClientTexts.{ClientTexts}
 use Rattle.source_files.specs.declared.files.TheConstants.{MAX_FILE_BYTES}
 use Rattle.source_files.specs.Compiled.{BreaksSchema, HaveCodes, OneSourceBreaks}
-use Rattle.served_works.specs.Works.{Work}
-use Rattle.served_works.specs.Served.{AreToDo}
+use Rattle.client_threads.specs.served.Works.{Work}
+use Rattle.client_threads.specs.served.Served.{AreToDo}
 use Rattle.bank_run.specs.Inside.{AreClientsOf}
 use Rattle.bank_run.specs.Result.{AreTextWorks, PreventsBank, bank_schema, bank_wants, schema_breaks, source_breaks}
 use Rattle.run_report.specs.declared.refusal.Refusal.{Refusal}
 use Rattle.run_report.specs.declared.refusal.Refusal.TheVariants.{NoMemory}
-use Rattle.abl_schema.specs.Rules.{violation_of}
+use Rattle.schema_reader.specs.Rules.{violation_of}
 use Rattle.bank_run.specs.Texts.{bank_texts, transfer_texts, with_input}
-use Rattle.bank_inputs.specs.declared.sources.TheConstants.{BANK_SCHEMA, SETUP_SOURCE, TOTAL_SOURCE, TRANSFER_SOURCE}
-use Rattle.bank_inputs.specs.Bank.{client_input, setup_input}
+use Rattle.bank_run.specs.declared.inputs.sources.TheConstants.{BANK_SCHEMA, SETUP_SOURCE, TOTAL_SOURCE, TRANSFER_SOURCE}
+use Rattle.bank_run.specs.inputs.Bank.{client_input, setup_input}
 
 -- the works of the clients
 pub record Begun (schema : SchemaData) (units : ℕ) (ts : List ClientTexts) (tasks : List ClientView) : Type 0 where

@@ -1,3 +1,4 @@
+pub mod InputsLemmas
 pub mod Begun
 pub mod Lists
 pub mod Outcomes

@@ -1,8 +1,8 @@
 -- The clients that make transfers, one after the other.
 use Rattle.std.proofs.Common.{◌≡◌, ◌+◌, ℕ, List, [], ◌∷◌, ◌++◌, sym, ap, ◌∙◌, add-one}
-use Rattle.bank_inputs.specs.declared.bank.Bank.{Bank}
-use Rattle.bank_inputs.specs.declared.sources.TheConstants.{TRANSFER_SOURCE}
-use Rattle.bank_inputs.specs.Bank.{client_input}
+use Rattle.bank_run.specs.declared.inputs.bank.Bank.{Bank}
+use Rattle.bank_run.specs.declared.inputs.sources.TheConstants.{TRANSFER_SOURCE}
+use Rattle.bank_run.specs.inputs.Bank.{client_input}
 use Rattle.source_files.specs.declared.files.ClientTexts.{ClientTexts}
 use Rattle.bank_run.specs.Texts.{client_name, transfer_names, transfer_texts, with_input}
 

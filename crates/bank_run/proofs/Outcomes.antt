@@ -3,19 +3,19 @@ use Rattle.std.proofs.Common.{◌≡◌, ◌+◌, inl, inr, ℕ, List, [], ◌�
 use Rattle.std.specs.Prelude.{map}
 use Rattle.block_meaning.specs.Meaning.{run}
 use Rattle.block_meaning.specs.Program.{Program}
-use Rattle.block_vm.specs.ClientView.{ClientView}
-use Rattle.client_database.specs.declared.ends.ClientEnd.{ClientEnd}
-use Rattle.client_database.specs.declared.event.Event.{Event}
-use Rattle.abl_outside.specs.Out.{OutState}
+use Rattle.client_core.specs.ClientView.{ClientView}
+use Rattle.database_protocol.specs.declared.ends.ClientEnd.{ClientEnd}
+use Rattle.database_protocol.specs.declared.event.Event.{Event}
+use Rattle.host_io.specs.Out.{OutState}
 use Rattle.run_report.specs.declared.ending.Report.{Report}
 use Rattle.run_report.specs.declared.refusal.Refusal.TheVariants.{NoMemory}
 use Rattle.run_report.specs.Ending.{IsRefused}
 use Rattle.client_output.specs.declared.section.Section.{Section}
 use Rattle.database_meaning.specs.Setting.{Setting}
-use Rattle.served_works.specs.declared.clients.EndedClient.{EndedClient}
-use Rattle.served_works.specs.ClientRun.{own_events}
-use Rattle.served_works.specs.Works.{IsProgram, Work}
-use Rattle.served_works.specs.Served.{AreReported, AreToDo, HasEndedOrNot, HaveEndedOrNot, HaveSections, IsToDo, end_or_none}
+use Rattle.client_threads.specs.declared.served.clients.EndedClient.{EndedClient}
+use Rattle.client_threads.specs.served.ClientRun.{own_events}
+use Rattle.client_threads.specs.served.Works.{IsProgram, Work}
+use Rattle.client_threads.specs.served.Served.{AreReported, AreToDo, HasEndedOrNot, HaveEndedOrNot, HaveSections, IsToDo, end_or_none}
 use Rattle.run_works.proofs.Runs.{client_outcome}
 use Rattle.bank_run.specs.Phases.{Did, DidInPhases, NotBegun, PhaseOutcome}
 

@@ -3,11 +3,11 @@ use Rattle.std.specs.Prelude.{◌≡◌, ℕ, List, [], ◌∷◌}
 use Rattle.abl_values.specs.declared.schema.TableDef.{TableDef}
 use Rattle.abl_values.specs.Schema.{SchemaData}
 use Rattle.block_code.specs.declared.code.Code.{Code}
-use Rattle.block_vm.specs.ClientView.{ClientView}
-use Rattle.bank_inputs.specs.declared.bank.Bank.{Bank}
+use Rattle.client_core.specs.ClientView.{ClientView}
+use Rattle.bank_run.specs.declared.inputs.bank.Bank.{Bank}
 use Rattle.source_files.specs.declared.files.ClientTexts.{ClientTexts}
-use Rattle.served_works.specs.Works.{Work}
-use Rattle.served_works.specs.Served.{AreToDo, IsClientOf}
+use Rattle.client_threads.specs.served.Works.{Work}
+use Rattle.client_threads.specs.served.Served.{AreToDo, IsClientOf}
 use Rattle.bank_run.specs.declared.bank.TheConstants.{BANK_UNITS}
 use Rattle.bank_run.specs.Texts.{bank_texts}
 use Rattle.bank_run.specs.Result.{AreTextWorks, bank_schema}

@@ -1,3 +1,4 @@
+pub mod inputs
 pub mod Texts
 pub mod Phases
 pub mod Result

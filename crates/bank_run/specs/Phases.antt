@@ -1,23 +1,23 @@
 -- Clients that run in three phases over one database.
 use Rattle.std.specs.Prelude.{◌≡◌, ◌+◌, ℕ, List, [], ◌∷◌}
 use Rattle.abl_values.specs.Schema.{SchemaData}
-use Rattle.abl_outside.specs.Out.{OutState}
+use Rattle.host_io.specs.Out.{OutState}
 use Rattle.block_meaning.specs.Program.{Program}
 use Rattle.block_meaning.specs.Meaning.{run}
 use Rattle.block_meaning.specs.State.{Progress}
-use Rattle.client_database.specs.declared.answer.Answer.{Answer}
-use Rattle.client_database.specs.declared.ends.ClientEnd.{ClientEnd}
-use Rattle.client_database.specs.declared.ends.ClientEnd.TheVariants.{NoMemory}
-use Rattle.client_database.specs.declared.event.Event.{Event}
+use Rattle.database_protocol.specs.declared.answer.Answer.{Answer}
+use Rattle.database_protocol.specs.declared.ends.ClientEnd.{ClientEnd}
+use Rattle.database_protocol.specs.declared.ends.ClientEnd.TheVariants.{NoMemory}
+use Rattle.database_protocol.specs.declared.event.Event.{Event}
 use Rattle.client_output.specs.declared.section.Section.{Section}
 use Rattle.database_meaning.specs.Setting.{Setting}
-use Rattle.block_clients.specs.Phases.{AreThreePhases}
-use Rattle.abl_arguments.specs.declared.parts.Mode.{Mode}
+use Rattle.client_threads.specs.clients.Phases.{AreThreePhases}
+use Rattle.command_arguments.specs.declared.parts.Mode.{Mode}
 use Rattle.run_report.specs.declared.ending.Report.{Report}
 use Rattle.run_report.specs.Ending.{IsReported}
-use Rattle.served_works.specs.ClientRun.{ClientOutcome, own_events}
+use Rattle.client_threads.specs.served.ClientRun.{ClientOutcome, own_events}
 use Rattle.run_works.specs.Disks.{DiskState, IsDurable, ReadsAsDatabase}
-use Rattle.served_works.specs.Works.{IsProgram, Work}
+use Rattle.client_threads.specs.served.Works.{IsProgram, Work}
 
 -- What a client of a phase did over a database of this setting: as its source means under the answers to its own events. Or there was no
 -- memory to begin the phase, and the client has requested nothing and written nothing

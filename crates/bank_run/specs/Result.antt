@@ -1,11 +1,11 @@
 -- The result of a bank: it was refused, or its three phases ran.
 use Rattle.std.specs.Prelude.{◌≡◌, List, [], ◌∷◌}
 use Rattle.abl_values.specs.Schema.{SchemaData}
-use Rattle.abl_outside.specs.Out.{OutState}
-use Rattle.abl_arguments.specs.declared.parts.Mode.TheVariants.{Quiet}
-use Rattle.abl_source.specs.Sources.{IsTreeOf}
-use Rattle.bank_inputs.specs.declared.bank.Bank.{Bank}
-use Rattle.bank_inputs.specs.declared.sources.TheConstants.{BANK_SCHEMA}
+use Rattle.host_io.specs.Out.{OutState}
+use Rattle.command_arguments.specs.declared.parts.Mode.TheVariants.{Quiet}
+use Rattle.source_reader.specs.Sources.{IsTreeOf}
+use Rattle.bank_run.specs.declared.inputs.bank.Bank.{Bank}
+use Rattle.bank_run.specs.declared.inputs.sources.TheConstants.{BANK_SCHEMA}
 use Rattle.run_report.specs.declared.refusal.Refusal.{Refusal}
 use Rattle.run_report.specs.declared.refusal.Refusal.TheVariants.{NoMemory}
 use Rattle.run_report.specs.Ending.{IsRefused}
@@ -13,7 +13,7 @@ use Rattle.source_files.specs.declared.files.ClientTexts.{ClientTexts}
 use Rattle.source_files.specs.Compiled.{BreaksSchema, OneSourceBreaks, schema_in}
 use Rattle.run_works.specs.declared.outcome.Outcome.{Outcome}
 use Rattle.run_works.specs.Disks.{DiskState}
-use Rattle.served_works.specs.Works.{Work}
+use Rattle.client_threads.specs.served.Works.{Work}
 use Rattle.run_works.specs.Works.{HasNotRun}
 use Rattle.bank_run.specs.declared.bank.TheConstants.{BANK_UNITS}
 use Rattle.bank_run.specs.Texts.{bank_names, bank_texts}

@@ -1,8 +1,8 @@
 -- The clients of a bank: their names, sources and inputs, in order.
 use Rattle.std.specs.Prelude.{◌+◌, ◌≤◌, ◌<◌, ℕ, zero, suc, List, [], ◌∷◌, ◌++◌, codes, decimal}
-use Rattle.bank_inputs.specs.declared.bank.Bank.{Bank}
-use Rattle.bank_inputs.specs.declared.sources.TheConstants.{SETUP_SOURCE, TOTAL_SOURCE, TRANSFER_SOURCE}
-use Rattle.bank_inputs.specs.Bank.{client_input, setup_input}
+use Rattle.bank_run.specs.declared.inputs.bank.Bank.{Bank}
+use Rattle.bank_run.specs.declared.inputs.sources.TheConstants.{SETUP_SOURCE, TOTAL_SOURCE, TRANSFER_SOURCE}
+use Rattle.bank_run.specs.inputs.Bank.{client_input, setup_input}
 use Rattle.source_files.specs.declared.files.ClientTexts.{ClientTexts}
 
 -- each number of the bank is within its bounds

@@ -2,30 +2,30 @@
 
 ghost use Rattle.std.specs.Prelude.{◌≡◌, ◌++◌, ◌+◌, ◌≤◌, ◌⊎◌, [], ℕ, List, IfErr, IfOk, OnOk, length, vec_capacity};
 ghost use Rattle.run_works.specs.Disks.{KeepsLogShort, state_of};
-ghost use Rattle.served_works.specs.Served.{AreToDo, IsClientOf};
-ghost use Rattle.served_works.specs.Works.{Work};
+ghost use Rattle.client_threads.specs.served.Served.{AreToDo, IsClientOf};
+ghost use Rattle.client_threads.specs.served.Works.{Work};
 ghost use Rattle.run_works.specs.Works.{HasNotRun};
 ghost use Rattle.bank_run.specs.Inside.{AreClientsOf, IsBankReady};
 ghost use Rattle.bank_run.specs.Phases.{HasRunPhases};
 ghost use Rattle.bank_run.specs.Result.{BankResult, PreventsBank, bank_schema};
 ghost use Rattle.bank_run.specs.Texts.{IsBank};
 
+use crate::inputs::{BANK_SCHEMA, Bank};
 use crate::texts::{names_of, texts_of};
-use abl_arguments::Mode;
-use abl_outside::{Gate, Out};
-use abl_storage::Disk;
 use abl_values::Schema;
-use bank_inputs::{BANK_SCHEMA, Bank};
 use block_code::Code;
-use block_vm::Client;
-use client_database::ClientEnd;
+use client_core::Client;
+use client_threads::served::client_to_run;
+use command_arguments::Mode;
+use database_protocol::ClientEnd;
+use host_io::{Gate, Out};
 use run_report::{Refusal, ReportForm, refused};
 use run_works::{NotRun, Outcome, Ran, report, run_in_phases};
-use served_works::client_to_run;
 use source_files::{ClientTexts, Compiled, compiled_in, schema_of};
 use std::alloc::{AllocError, Global};
 use std::sync::Wait;
 use std::thread::Threads;
+use storage::Disk;
 
 /// How many units each client may spend.
 pub const BANK_UNITS: u64 = 100_000_000;

@@ -3,9 +3,9 @@
 ghost use Rattle.std.specs.Prelude.{◌≡◌, ◌++◌, ◌<◌, ◌≤◌, IfOk};
 ghost use Rattle.bank_run.specs.Texts.{IsBank, bank_names, bank_texts, client_name};
 
+use crate::inputs::transfer::write_number;
+use crate::inputs::{Bank, SETUP_SOURCE, TOTAL_SOURCE, TRANSFER_SOURCE, client_input, setup_input};
 use abl_base::Bytes;
-use bank_inputs::transfer::write_number;
-use bank_inputs::{Bank, SETUP_SOURCE, TOTAL_SOURCE, TRANSFER_SOURCE, client_input, setup_input};
 use source_files::ClientTexts;
 use std::alloc::{AllocError, Global};
 

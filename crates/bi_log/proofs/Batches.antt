@@ -1,9 +1,9 @@
 -- A batch after a gate.
 use Rattle.std.proofs.Common.{◌≡◌, ◌⊎◌, inl, inr, ℕ, ◌+◌, List, [], ◌∷◌, length, get_or, sym, ◌∙◌, ap, arith, length-append}
 use Rattle.std.specs.Prelude.{All}
-use Rattle.abl_storage.specs.Disk.{Torn}
-use Rattle.disk_steps.specs.Steps.{Has}
-use Rattle.disk_steps.proofs.Writes.{torn_keeps_below, has_torn}
+use Rattle.storage.specs.Disk.{Torn}
+use Rattle.log_meaning.specs.steps.Steps.{Has}
+use Rattle.log_meaning.proofs.StepsLemmas.Writes.{torn_keeps_below, has_torn}
 use Rattle.log_meaning.specs.declared.note.Note.{Note}
 use Rattle.log_meaning.specs.Bytes.{batch_bytes, log_bytes, after_gate, IsBatch}
 use Rattle.log_meaning.specs.Images.{IsOpened}

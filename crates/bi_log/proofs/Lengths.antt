@@ -1,9 +1,9 @@
 -- How long the areas of the log get.
 use Rattle.std.proofs.Common.{◌≡◌, inl, inr, ⊎_elim, ℕ, ◌+◌, ◌<◌, ◌≤◌, max, length, sym, ap, subst, arith}
 use Rattle.std.proofs.lemmas.Bool.{cases_lt, cases_eq}
-use Rattle.abl_storage.specs.Disk.{TornIn, Others}
-use Rattle.disk_steps.specs.Steps.{Image, Run}
-use Rattle.disk_steps.proofs.Runs.{joined, wider, started}
+use Rattle.storage.specs.Disk.{TornIn, Others}
+use Rattle.log_meaning.specs.steps.Steps.{Image, Run}
+use Rattle.log_meaning.proofs.StepsLemmas.Runs.{joined, wider, started}
 use Rattle.bi_log.specs.Lengths.{WithinLog, IsShort, StayShort}
 
 -- ---- steps

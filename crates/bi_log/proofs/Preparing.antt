@@ -5,9 +5,9 @@ use Rattle.std.specs.List.{flat_map}
 use Rattle.std.proofs.lemmas.List.{append-nil, get_or-drop}
 use Rattle.std.proofs.lemmas.List.Elements.{All-nil, All-push}
 use Rattle.std.proofs.lemmas.Bool.{cases_eq, cases_lt}
-use Rattle.abl_storage.specs.Disk.{Reads, Torn}
-use Rattle.disk_steps.specs.Steps.{Image, Has}
-use Rattle.disk_steps.proofs.Writes.{below_same, below_twice, reads-head, reads-tail, reads-both, reads-one, reads-same}
+use Rattle.storage.specs.Disk.{Reads, Torn}
+use Rattle.log_meaning.specs.steps.Steps.{Image, Has}
+use Rattle.log_meaning.proofs.StepsLemmas.Writes.{below_same, below_twice, reads-head, reads-tail, reads-both, reads-one, reads-same}
 use Rattle.log_meaning.specs.declared.note.Note.{Note}
 use Rattle.log_meaning.specs.Bytes.{after_gate, batch_bytes, header_bytes, log_bytes, IsBatch}
 use Rattle.log_meaning.proofs.Areas.{log-push, long_log, same_header, torn_gate}

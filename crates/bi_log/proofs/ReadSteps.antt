@@ -5,8 +5,8 @@ use Rattle.std.specs.List.{flat_map}
 use Rattle.std.proofs.lemmas.List.{append-nil, ext_get_or, length-take, get_or-take, get_or-drop}
 use Rattle.std.proofs.lemmas.List.Concat.{flat_map-append}
 use Rattle.std.proofs.lemmas.List.Elements.{All-head, All-tail, All-push, All-nil}
-use Rattle.abl_storage.specs.Disk.{Reads}
-use Rattle.disk_steps.proofs.Writes.{reads-head, reads-tail, reads-both}
+use Rattle.storage.specs.Disk.{Reads}
+use Rattle.log_meaning.proofs.StepsLemmas.Writes.{reads-head, reads-tail, reads-both}
 use Rattle.log_meaning.specs.declared.note.Note.{Note}
 use Rattle.log_meaning.specs.Bytes.{four, note_bytes, batch_bytes, header_bytes, log_bytes, IsNote, IsBatch}
 use Rattle.log_meaning.specs.Images.{HoldsLog}

@@ -1,6 +1,6 @@
 -- Notes that are carried into a new generation before it is opened.
 use Rattle.std.specs.Prelude.{◌≡◌, ℕ, List, ◌++◌}
-use Rattle.disk_steps.specs.Steps.{Image}
+use Rattle.log_meaning.specs.steps.Steps.{Image}
 use Rattle.log_meaning.specs.declared.note.Note.{Note}
 use Rattle.log_meaning.specs.LogState.{notes_in}
 use Rattle.bi_log.specs.declared.note_buffer.NoteBuffer.{NoteBuffer}

@@ -1,7 +1,7 @@
 -- The steps to a new generation, in the area that is not in use.
 use Rattle.std.specs.Prelude.{◌≡◌, ◌≢◌, ◌⊎◌, ℕ, ◌≤◌, List, ◌∷◌, length, drop, get_or}
-use Rattle.abl_storage.specs.Disk.{Others}
-use Rattle.disk_steps.specs.Steps.{Image, SameBelow}
+use Rattle.storage.specs.Disk.{Others}
+use Rattle.log_meaning.specs.steps.Steps.{Image, SameBelow}
 use Rattle.log_meaning.specs.Images.{IsOpened}
 use Rattle.bi_log.specs.Appending.{Held, Holds, RestsAt}
 

@@ -1,6 +1,6 @@
 -- How long the areas of the log get.
 use Rattle.std.specs.Prelude.{◌≢◌, ℕ, ◌≤◌, max, length}
-use Rattle.disk_steps.specs.Steps.{Image}
+use Rattle.log_meaning.specs.steps.Steps.{Image}
 
 -- no area of the log gets longer than this number of bytes, but for one that was longer
 abbrev pub WithinLog : ℕ → Image → Image → Type 0

@@ -1,7 +1,7 @@
 -- What any bytes mean as a log, and how far they have been read.
 use Rattle.std.specs.Prelude.{◌≡◌, ◌⊎◌, ℕ, ◌+◌, ◌<◌, ◌≤◌, ◌^◌, List, [], ◌∷◌, length, take, All}
 use Rattle.std.specs.List.{flat_map}
-use Rattle.abl_storage.specs.Disk.{Reads}
+use Rattle.storage.specs.Disk.{Reads}
 use Rattle.log_meaning.specs.declared.note.Note.{Note}
 use Rattle.log_meaning.specs.Bytes.{four, note_bytes, log_bytes, IsNote, IsBatch}
 use Rattle.log_meaning.specs.Images.{IsOpened, HoldsLog}

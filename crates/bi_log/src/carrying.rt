@@ -1,18 +1,18 @@
 //! Notes carried into a new generation before it is opened.
 
 ghost use Rattle.std.specs.Prelude.{◌≡◌, ◌+◌, ◌*◌, ◌<◌, ◌≤◌, ◌^◌, [], ℕ, List, length, IsTrue, IfOk, OnOk, is_ok};
-ghost use Rattle.abl_storage.specs.Disk.{Others, HasCause};
-ghost use Rattle.disk_steps.specs.Steps.{Image, Run};
+ghost use Rattle.storage.specs.Disk.{Others, HasCause};
+ghost use Rattle.log_meaning.specs.steps.Steps.{Image, Run};
 ghost use Rattle.log_meaning.specs.declared.note.Note.{Note as LogNote};
 ghost use Rattle.bi_log.specs.Buffer.{content};
 ghost use Rattle.bi_log.specs.Generations.{IsClosed, AfterGate};
 ghost use Rattle.bi_log.specs.Carrying.{Carries};
 ghost use Rattle.bi_log.specs.Lengths.{WithinLog};
 
-use crate::buffer::MAX_BATCH_BYTES;
+use crate::buffer::{MAX_BATCH_BYTES, MAX_NOTE_BYTES};
 use crate::generation::carry;
 use crate::note_buffer::NoteBuffer;
-use abl_storage::{Disk, DiskFailed};
+use storage::{Disk, DiskFailed};
 
 /// Carries the notes of the buffer, if it has any, as one batch. Returns the place of the next
 /// gate.
@@ -69,7 +69,7 @@ pub fn make_room<D: Disk>(
     ensures seen { IsTrue (D.observable disk.old) → Others area (D.seen disk.old) (D.seen disk.new) }
     ensures cause { HasCause (D.failures disk.old) (D.failures disk.new) (is_ok result) }
 {
-    if buffer.len() + 525 > MAX_BATCH_BYTES {
+    if buffer.len() + MAX_NOTE_BYTES > MAX_BATCH_BYTES {
         return carry_buffer(disk, area, gate, buffer);
     }
     Ok(gate)

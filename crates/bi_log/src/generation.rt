@@ -1,8 +1,8 @@
 //! A new generation of the log, in the area that is not in use.
 
 ghost use Rattle.std.specs.Prelude.{◌≡◌, ◌≢◌, ◌⊎◌, true, false, get_or, IsTrue, IfOk, ◌+◌, ◌-◌, ◌<◌, ◌≤◌, ◌^◌, ◌++◌, ◌∷◌, [], ℕ, List, length, OnOk, is_ok};
-ghost use Rattle.abl_storage.specs.Disk.{Stays, Others, HasCause};
-ghost use Rattle.disk_steps.specs.Steps.{Image, Run};
+ghost use Rattle.storage.specs.Disk.{Stays, Others, HasCause};
+ghost use Rattle.log_meaning.specs.steps.Steps.{Image, Run};
 ghost use Rattle.log_meaning.specs.declared.note.Note.{Note as LogNote};
 ghost use Rattle.log_meaning.specs.Bytes.{after_gate, IsBatch};
 ghost use Rattle.bi_log.specs.Appending.{Held, with_batch, fresh, RestsAt};
@@ -10,8 +10,8 @@ ghost use Rattle.bi_log.specs.Generations.{Closes, IsClosed, AfterGate, IsPrepar
 ghost use Rattle.bi_log.specs.Lengths.{WithinLog};
 
 use crate::header::new_header;
-use abl_storage::{Disk, DiskFailed};
-use disk_steps::write_through;
+use log_meaning::steps::write_through;
+use storage::{Disk, DiskFailed};
 
 /// Whether the gate of the area reads 1 or the area is empty.
 fn is_open_or_empty<D: Disk>(disk: &mut D, area: u8) -> Result<bool, DiskFailed>

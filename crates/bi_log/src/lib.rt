@@ -2,12 +2,12 @@
 //! batches after gates, and an area of any bytes is read note by note. Each call says what it
 //! leaves of every image, at each of its moments and where a disk call fails
 //! (`specs/Appending.antt`, `specs/Generations.antt`), and what it read of an area
-//! (`specs/Reading.antt`). It depends on `disk_steps` and `log_meaning`.
+//! (`specs/Reading.antt`). It depends on `log_meaning`.
 #![tactic(auto)]
 
 ghost use Rattle.std.specs.Prelude.{◌≡◌, ◌⊎◌, ◌+◌, ◌<◌, ◌≤◌, ◌^◌, ◌++◌, ◌∷◌, [], ℕ, List, length, IsTrue, OnOk, is_ok};
-ghost use Rattle.abl_storage.specs.Disk.{Others, HasCause};
-ghost use Rattle.disk_steps.specs.Steps.{Image, Run, Any};
+ghost use Rattle.storage.specs.Disk.{Others, HasCause};
+ghost use Rattle.log_meaning.specs.steps.Steps.{Image, Run, Any};
 ghost use Rattle.log_meaning.specs.declared.note.Note.{Note as LogNote};
 ghost use Rattle.bi_log.specs.Appending.{Held, with_batch, RestsAt, Appends, IsToBe};
 ghost use Rattle.bi_log.specs.Lengths.{WithinLog};
@@ -21,10 +21,10 @@ pub mod note_buffer;
 pub mod reader;
 pub mod reading;
 
-use abl_storage::{Disk, DiskFailed};
-use disk_steps::write_through;
 pub use log::Log;
+use log_meaning::steps::write_through;
 pub use note_buffer::NoteBuffer;
+use storage::{Disk, DiskFailed};
 
 /// Writes a batch and the next closed gate after the closed gate, and opens it. Its clauses hold
 /// for every log that the area holds and every batch that these bytes are.

@@ -1,8 +1,8 @@
 //! The log: its area, and the notes that are in no batch yet.
 
 ghost use Rattle.std.specs.Prelude.{◌≡◌, ◌≢◌, ◌↔◌, ◌+◌, ◌<◌, ◌≤◌, ◌^◌, ◌++◌, ◌∷◌, [], List, length, IsTrue, IfOk, OnOk, is_ok};
-ghost use Rattle.abl_storage.specs.Disk.{Others, HasCause};
-ghost use Rattle.disk_steps.specs.Steps.{Run, Any};
+ghost use Rattle.storage.specs.Disk.{Others, HasCause};
+ghost use Rattle.log_meaning.specs.steps.Steps.{Run, Any};
 ghost use Rattle.log_meaning.specs.declared.note.Note.{Note as LogNote};
 ghost use Rattle.log_meaning.specs.declared.note.Note.TheVariants.{Commit as Committed};
 ghost use Rattle.log_meaning.specs.Bytes.{IsNote};
@@ -11,12 +11,12 @@ ghost use Rattle.bi_log.specs.Buffer.{content};
 ghost use Rattle.bi_log.specs.Logs.{HasNotes, Keeps};
 ghost use Rattle.bi_log.specs.Lengths.{WithinLog};
 
-use crate::buffer::MAX_BATCH_BYTES;
+use crate::buffer::{MAX_BATCH_BYTES, MAX_NOTE_BYTES};
 use crate::note_buffer::NoteBuffer;
 use crate::settle;
-use abl_storage::{Disk, DiskFailed};
 use log_meaning::Note;
 use std::alloc::{AllocError, Global};
+use storage::{Disk, DiskFailed};
 
 /// The log of a disk, while notes are appended: its area, the place of its next gate, the notes that
 /// are in no batch yet, and how many notes were appended and how many of them are in open batches.
@@ -58,7 +58,7 @@ impl Log {
     pub fn is_full(&self) -> bool
         ensures { IsTrue result ↔ (1048576 < length (content self.now.buffer) + 525) }
     {
-        self.buffer.len() + 525 > MAX_BATCH_BYTES
+        self.buffer.len() + MAX_NOTE_BYTES > MAX_BATCH_BYTES
     }
 
     /// Whether the buffer has no note.

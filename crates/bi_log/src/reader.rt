@@ -1,7 +1,7 @@
 //! The notes of a log, read one after the other from an area that may hold any bytes.
 
 ghost use Rattle.std.specs.Prelude.{◌≡◌, ◌≢◌, ◌+◌, ◌<◌, ◌≤◌, ◌^◌, ◌↔◌, ℕ, List, Option, length, IsTrue, IfOk, IfSome, IfNone, OnOk, is_ok};
-ghost use Rattle.abl_storage.specs.Disk.{Stays, HasCause};
+ghost use Rattle.storage.specs.Disk.{Stays, HasCause};
 ghost use Rattle.log_meaning.specs.declared.note.Note.{Note as LogNote};
 ghost use Rattle.log_meaning.specs.Bytes.{note_bytes, IsNote};
 ghost use Rattle.bi_log.specs.Appending.{Held};
@@ -10,8 +10,8 @@ ghost use Rattle.bi_log.specs.Outcomes.{GateAnswer, IsFewBytes, NoteAnswer, Head
 
 use crate::header::{Header, header_of};
 use crate::reading::{batch_length, first_note};
-use abl_storage::{Disk, DiskFailed};
 use log_meaning::Note;
+use storage::{Disk, DiskFailed};
 
 /// What is read at a gate.
 #[derive(Clone, Copy)]

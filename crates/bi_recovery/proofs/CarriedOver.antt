@@ -1,11 +1,11 @@
 -- A generation that carries slots recovers to what the old one did.
 use Rattle.std.proofs.Common.{◌≡◌, inl, inr, ⊎_elim, ℕ, ◌+◌, ◌-◌, ◌<◌, ◌≤◌, true, List, [], refl, sym, ◌∙◌, ap, subst, arith}
 use Rattle.std.proofs.lemmas.Bool.{cases_Bool, cases_lt}
-use Rattle.abl_storage.specs.Disk.{Others}
-use Rattle.abl_storage.specs.declared.slots.Undo.{Undo}
-use Rattle.abl_storage.specs.Slots.{wrote, undone}
-use Rattle.disk_steps.specs.Steps.{Image, Run}
-use Rattle.disk_steps.proofs.Runs.{traced}
+use Rattle.storage.specs.Disk.{Others}
+use Rattle.storage.specs.declared.slots.Undo.{Undo}
+use Rattle.storage.specs.Slots.{wrote, undone}
+use Rattle.log_meaning.specs.steps.Steps.{Image, Run}
+use Rattle.log_meaning.proofs.StepsLemmas.Runs.{traced}
 use Rattle.log_meaning.specs.declared.note.Note.{Note}
 use Rattle.log_meaning.specs.Images.{IsOpened, slot_of}
 use Rattle.log_meaning.specs.Recovered.{changes_of, recovered}

@@ -5,10 +5,10 @@ use Rattle.std.proofs.lemmas.List.Concat.{flat_map-append}
 use Rattle.std.proofs.lemmas.List.Elements.{All-nil, All-push}
 use Rattle.std.proofs.lemmas.Bool.{cases_eq, cases_lt, or_parts, eq-eqb, true≢false}
 use Rattle.std.specs.List.{flat_map}
-use Rattle.abl_storage.specs.Disk.{Reads, Stays}
-use Rattle.abl_storage.specs.declared.slots.Undo.{Undo}
-use Rattle.abl_storage.specs.Slots.{wrote, undone}
-use Rattle.disk_steps.specs.Steps.{Image}
+use Rattle.storage.specs.Disk.{Reads, Stays}
+use Rattle.storage.specs.declared.slots.Undo.{Undo}
+use Rattle.storage.specs.Slots.{wrote, undone}
+use Rattle.log_meaning.specs.steps.Steps.{Image}
 use Rattle.log_meaning.specs.declared.note.Change.{Change}
 use Rattle.log_meaning.specs.declared.note.Note.{Note}
 use Rattle.log_meaning.specs.Bytes.{note_bytes, IsNote}

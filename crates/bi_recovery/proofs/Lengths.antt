@@ -1,8 +1,8 @@
 -- How long recovery makes the areas of the log.
 use Rattle.std.proofs.Common.{ℕ, ◌≤◌, Bool}
-use Rattle.abl_storage.specs.Disk.{Stays}
-use Rattle.disk_steps.specs.Steps.{Image, Run}
-use Rattle.disk_steps.proofs.Runs.{stayed}
+use Rattle.storage.specs.Disk.{Stays}
+use Rattle.log_meaning.specs.steps.Steps.{Image, Run}
+use Rattle.log_meaning.proofs.StepsLemmas.Runs.{stayed}
 use Rattle.bi_log.specs.Lengths.{WithinLog}
 use Rattle.bi_log.proofs.Lengths.{run_twice}
 

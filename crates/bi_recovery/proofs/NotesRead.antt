@@ -5,7 +5,7 @@ use Rattle.std.proofs.lemmas.List.{append-nil}
 use Rattle.std.proofs.lemmas.List.Elements.{All-nil}
 use Rattle.std.proofs.lemmas.List.Concat.{flat_map-append}
 use Rattle.std.proofs.lemmas.Bool.{cases_lt}
-use Rattle.abl_storage.specs.Disk.{Reads}
+use Rattle.storage.specs.Disk.{Reads}
 use Rattle.log_meaning.specs.declared.note.Note.{Note}
 use Rattle.log_meaning.specs.Bytes.{note_bytes, IsBatch}
 use Rattle.log_meaning.specs.Images.{IsOpened, HoldsLog}

@@ -1,10 +1,10 @@
 -- What the parts of recovery do to the images.
 use Rattle.std.proofs.Common.{◌≡◌, ◌≢◌, ⊎_elim, ℕ, ◌-◌, ◌*◌, ◌/◌, ◌<◌, ◌≤◌, true, List, [], length, Bool, IsTrue, sym, ◌∙◌, ap, subst, arith}
-use Rattle.abl_storage.specs.Disk.{Stays}
-use Rattle.abl_storage.specs.declared.slots.Undo.{Undo}
-use Rattle.abl_storage.specs.Slots.{wrote, undone}
-use Rattle.disk_steps.specs.Steps.{Image, Run, Any}
-use Rattle.disk_steps.proofs.Runs.{stayed}
+use Rattle.storage.specs.Disk.{Stays}
+use Rattle.storage.specs.declared.slots.Undo.{Undo}
+use Rattle.storage.specs.Slots.{wrote, undone}
+use Rattle.log_meaning.specs.steps.Steps.{Image, Run, Any}
+use Rattle.log_meaning.proofs.StepsLemmas.Runs.{stayed}
 use Rattle.log_meaning.specs.declared.note.Note.{Note}
 use Rattle.log_meaning.specs.Images.{HoldsLog, IsNewest, IsOpened, Recovers, slot_of}
 use Rattle.log_meaning.specs.Recovered.{changes_of, recovered}

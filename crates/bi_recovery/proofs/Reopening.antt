@@ -1,8 +1,8 @@
 -- What recovery does to the images.
 use Rattle.std.proofs.Common.{◌≡◌, ◌≢◌, ◌⊎◌, inl, inr, ⊎_elim, ℕ, ◌+◌, ◌-◌, ◌*◌, ◌<◌, ◌≤◌, List, [], length, get_or, refl, sym, ◌∙◌, ap, subst, arith}
-use Rattle.abl_storage.specs.Disk.{Others}
-use Rattle.disk_steps.specs.Steps.{Image, Run}
-use Rattle.disk_steps.proofs.Runs.{joined, wider, holds, traced}
+use Rattle.storage.specs.Disk.{Others}
+use Rattle.log_meaning.specs.steps.Steps.{Image, Run}
+use Rattle.log_meaning.proofs.StepsLemmas.Runs.{joined, wider, holds, traced}
 use Rattle.log_meaning.specs.declared.note.Note.{Note}
 use Rattle.log_meaning.specs.Recovered.{changes_of, is_committed, recovered}
 use Rattle.log_meaning.specs.Images.{IsOpened, Recovers, slot_of}
@@ -12,8 +12,8 @@ use Rattle.bi_log.specs.Appending.{Holds, fresh}
 use Rattle.bi_log.specs.Generations.{Closes, IsClosed, AfterGate, Opens}
 use Rattle.log_meaning.proofs.Notes.{given-below}
 use Rattle.log_meaning.proofs.Filling.{writes_agree}
-use Rattle.abl_storage.specs.declared.slots.Undo.{Undo}
-use Rattle.abl_storage.specs.Slots.{undone}
+use Rattle.storage.specs.declared.slots.Undo.{Undo}
+use Rattle.storage.specs.Slots.{undone}
 use Rattle.bi_recovery.specs.Reopening.{StepsTo, SameRecovery, Gives}
 
 -- ---- the steps of a new generation

@@ -1,6 +1,6 @@
 -- Why a database was not opened.
 use Rattle.std.specs.Prelude.{ℕ, ◌≤◌, Result, IsErrOf}
-use Rattle.fault_count.specs.Faults.{Rose}
+use Rattle.storage.specs.faults.Faults.{Rose}
 use Rattle.bi_recovery.specs.declared.open_fault.OpenFault.{OpenFault}
 use Rattle.bi_recovery.specs.declared.open_fault.OpenFault.TheVariants.{Disk}
 

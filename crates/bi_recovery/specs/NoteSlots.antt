@@ -3,8 +3,8 @@ use Rattle.std.specs.Prelude.{◌≡◌, ◌≢◌, ℕ, Bool, true, List, [], �
 use Rattle.std.specs.List.Sorted.{IsStrictlyIncreasing}
 use Rattle.std.specs.BTreeMap.{BTreeMap, get}
 use Rattle.std.specs.Ordering.{nat_cmp}
-use Rattle.abl_storage.specs.declared.slots.Undo.{Undo}
-use Rattle.abl_storage.specs.Slots.{wrote, undone}
+use Rattle.storage.specs.declared.slots.Undo.{Undo}
+use Rattle.storage.specs.Slots.{wrote, undone}
 use Rattle.log_meaning.specs.declared.note.Change.{Change}
 use Rattle.log_meaning.specs.declared.note.Note.{Note}
 use Rattle.log_meaning.specs.Recovered.{changes_of, given, recovered}

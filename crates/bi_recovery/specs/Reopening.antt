@@ -1,9 +1,9 @@
 -- What `recover` does to an image.
 use Rattle.std.specs.Prelude.{◌≡◌, ◌⊎◌, ℕ, ◌*◌, ◌<◌, Bool, true, List}
-use Rattle.abl_storage.specs.Disk.{Others}
-use Rattle.abl_storage.specs.declared.slots.Undo.{Undo}
-use Rattle.abl_storage.specs.Slots.{wrote, undone}
-use Rattle.disk_steps.specs.Steps.{Image}
+use Rattle.storage.specs.Disk.{Others}
+use Rattle.storage.specs.declared.slots.Undo.{Undo}
+use Rattle.storage.specs.Slots.{wrote, undone}
+use Rattle.log_meaning.specs.steps.Steps.{Image}
 use Rattle.log_meaning.specs.declared.note.Note.{Note}
 use Rattle.log_meaning.specs.Recovered.{changes_of, given, recovered}
 use Rattle.log_meaning.specs.LogState.{notes_in, MayWrite, LogState, HasGate, IsFilled}

@@ -1,9 +1,9 @@
 //! A new generation that carries slots.
 
 ghost use Rattle.std.specs.Prelude.{◌≡◌, ◌<◌, ◌≤◌, ◌^◌, ℕ, List, IsTrue, IfOk, IsErrOf};
-ghost use Rattle.abl_storage.specs.Disk.{Others};
-ghost use Rattle.abl_storage.specs.Slots.{undone};
-ghost use Rattle.disk_steps.specs.Steps.{Image, Run};
+ghost use Rattle.storage.specs.Disk.{Others};
+ghost use Rattle.storage.specs.Slots.{undone};
+ghost use Rattle.log_meaning.specs.steps.Steps.{Image, Run};
 ghost use Rattle.log_meaning.specs.Images.{slot_of};
 ghost use Rattle.bi_log.specs.Lengths.{WithinLog};
 ghost use Rattle.bi_recovery.specs.NoteSlots.{IsAscending};
@@ -12,9 +12,9 @@ ghost use Rattle.bi_recovery.specs.Causes.{HasOpenCause};
 
 use crate::OpenFault;
 use crate::carried_slots::carry_slots;
-use abl_storage::{Disk, Undo};
 use bi_log::generation::{close_area, open_area, write_header};
 use std::alloc::Global;
+use storage::{Disk, Undo};
 
 /// Opens a generation in an area of the log that is not in use. It carries the first `count` slots,
 /// each as a note of the bytes that it recovers to, before and after. Returns the place of its next

@@ -1,8 +1,8 @@
 //! Recovery where a slot past the end of area 0 has a note and one before it has none.
 
 ghost use Rattle.std.specs.Prelude.{◌≡◌, ◌+◌, ◌-◌, ◌*◌, ◌<◌, ◌≤◌, ◌^◌, ℕ, List, true, IsTrue, IfOk, IfSome, IsErrOf};
-ghost use Rattle.abl_storage.specs.Slots.{wrote, undone};
-ghost use Rattle.disk_steps.specs.Steps.{Image, Run, Any};
+ghost use Rattle.storage.specs.Slots.{wrote, undone};
+ghost use Rattle.log_meaning.specs.steps.Steps.{Image, Run, Any};
 ghost use Rattle.log_meaning.specs.declared.note.Note.{Note as LogNote};
 ghost use Rattle.log_meaning.specs.Images.{slot_of};
 ghost use Rattle.log_meaning.specs.Recovered.{recovered};
@@ -14,8 +14,8 @@ ghost use Rattle.bi_recovery.specs.Causes.{HasOpenCause};
 
 use crate::OpenFault;
 use crate::carried_generation::carried_generation;
-use abl_storage::{Disk, Undo};
 use std::alloc::Global;
+use storage::{Disk, Undo};
 
 /// The most slots that a new generation carries over a gap: their notes stay below the most bytes of
 /// an area of the log, 167,772,160 (this project's choice).

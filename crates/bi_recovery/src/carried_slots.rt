@@ -1,9 +1,9 @@
 //! Slots carried into a new generation, as notes of the bytes that they recover to.
 
 ghost use Rattle.std.specs.Prelude.{◌≡◌, ◌+◌, ◌-◌, ◌*◌, ◌<◌, ◌≤◌, ◌^◌, ℕ, List, length, true, false, IsTrue, IfOk, IfSome, IfNone, OnOk, IsErrOf, is_ok};
-ghost use Rattle.abl_storage.specs.Disk.{Stays, Others, HasCause};
-ghost use Rattle.abl_storage.specs.Slots.{wrote, undone};
-ghost use Rattle.disk_steps.specs.Steps.{Image, Run};
+ghost use Rattle.storage.specs.Disk.{Stays, Others, HasCause};
+ghost use Rattle.storage.specs.Slots.{wrote, undone};
+ghost use Rattle.log_meaning.specs.steps.Steps.{Image, Run};
 ghost use Rattle.log_meaning.specs.Images.{slot_of};
 ghost use Rattle.bi_log.specs.Appending.{fresh};
 ghost use Rattle.bi_log.specs.Generations.{IsClosed, AfterGate, IsPrepared};
@@ -13,11 +13,11 @@ ghost use Rattle.bi_recovery.specs.Carried.{stills, IsCarried};
 ghost use Rattle.bi_recovery.specs.Causes.{HasOpenCause};
 
 use crate::OpenFault;
-use abl_storage::{Disk, DiskFailed, Undo};
 use bi_log::NoteBuffer;
 use bi_log::carrying::{carry_buffer, make_room};
 use log_meaning::{Change, Note};
 use std::alloc::Global;
+use storage::{Disk, DiskFailed, Undo};
 
 /// The bytes of the entry of the slot, if it has one.
 pub fn entry_bytes(slots: &[Undo], slot: u32) -> Option<[u8; 256]>

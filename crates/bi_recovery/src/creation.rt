@@ -1,9 +1,9 @@
 //! A new database.
 
 ghost use Rattle.std.specs.Prelude.{◌≡◌, ◌⊎◌, ◌-◌, ◌<◌, ◌≤◌, ◌^◌, ℕ, List, [], true, replicate, IsTrue, IfOk, OnOk, is_ok};
-ghost use Rattle.abl_storage.specs.Disk.{Stays, Others, HasCause};
-ghost use Rattle.abl_storage.specs.Slots.{wrote, undone};
-ghost use Rattle.disk_steps.specs.Steps.{Image, Run};
+ghost use Rattle.storage.specs.Disk.{Stays, Others, HasCause};
+ghost use Rattle.storage.specs.Slots.{wrote, undone};
+ghost use Rattle.log_meaning.specs.steps.Steps.{Image, Run};
 ghost use Rattle.log_meaning.specs.Images.{IsOpened, slot_of};
 ghost use Rattle.log_meaning.specs.LogState.{LogState};
 ghost use Rattle.bi_log.specs.Generations.{IsClosed};
@@ -11,9 +11,9 @@ ghost use Rattle.bi_log.specs.Lengths.{WithinLog};
 ghost use Rattle.bi_recovery.specs.Creating.{Back, Creates, zeros};
 
 use crate::slots_written::{put_back, sync_all, write_slot};
-use abl_storage::{Disk, DiskFailed, Undo};
 use bi_log::generation::{close_area, open_area, write_header};
 use bi_log::reader::find;
+use storage::{Disk, DiskFailed, Undo};
 
 /// The area whose log is not the disk's.
 fn older_area<D: Disk>(disk: &mut D) -> Result<u8, DiskFailed>

@@ -1,9 +1,9 @@
 //! Whether slots have a gap past the end of area 0.
 
 ghost use Rattle.std.specs.Prelude.{◌≡◌, ◌<◌, ◌≤◌, ℕ, true};
-ghost use Rattle.abl_storage.specs.Slots.{wrote};
+ghost use Rattle.storage.specs.Slots.{wrote};
 
-use abl_storage::Undo;
+use storage::Undo;
 
 /// Whether each slot from `extent` up to any of these is one of these. It is one pass over them:
 /// where the slots do not ascend, it may miss that they have no gap.

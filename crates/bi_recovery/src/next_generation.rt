@@ -1,14 +1,14 @@
 //! A new generation that carries nothing.
 
 ghost use Rattle.std.specs.Prelude.{◌≡◌, ◌<◌, ◌^◌, ℕ, List, IsTrue, OnOk, is_ok};
-ghost use Rattle.abl_storage.specs.Disk.{Others, HasCause};
-ghost use Rattle.disk_steps.specs.Steps.{Image, Run};
+ghost use Rattle.storage.specs.Disk.{Others, HasCause};
+ghost use Rattle.log_meaning.specs.steps.Steps.{Image, Run};
 ghost use Rattle.bi_log.specs.Appending.{fresh, RestsAt};
 ghost use Rattle.bi_log.specs.Lengths.{WithinLog};
 ghost use Rattle.bi_recovery.specs.Reopening.{StepsTo};
 
-use abl_storage::{Disk, DiskFailed};
 use bi_log::generation::{close_area, open_area, write_header};
+use storage::{Disk, DiskFailed};
 
 /// Opens a generation without notes in an area of the log that is not in use.
 pub fn next_generation<D: Disk>(disk: &mut D, area: u8, generation: u64) -> Result<(), DiskFailed>

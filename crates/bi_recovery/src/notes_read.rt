@@ -1,17 +1,17 @@
 //! All notes of a log, read from an area that may hold any bytes.
 
 ghost use Rattle.std.specs.Prelude.{◌≡◌, ◌+◌, ◌<◌, ◌≤◌, ◌^◌, ℕ, List, length, IsTrue, IfOk, IfSome, IsErrOf, All};
-ghost use Rattle.abl_storage.specs.Disk.{Stays};
+ghost use Rattle.storage.specs.Disk.{Stays};
 ghost use Rattle.log_meaning.specs.Bytes.{note_bytes, IsNote};
 ghost use Rattle.log_meaning.specs.Images.{IsOpened};
 ghost use Rattle.bi_recovery.specs.ReadNotes.{ReadAnswer};
 ghost use Rattle.bi_recovery.specs.Causes.{HasOpenCause};
 
 use crate::OpenFault;
-use abl_storage::Disk;
 use bi_log::reader::{AtGate, look_at_gate, note_at};
 use log_meaning::Note;
 use std::alloc::Global;
+use storage::Disk;
 
 /// How many bytes the note has.
 pub fn note_len(note: &Note) -> u32

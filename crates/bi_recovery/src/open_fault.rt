@@ -3,8 +3,8 @@
 ghost use Rattle.std.specs.Prelude.{◌≡◌};
 ghost use Rattle.bi_recovery.specs.declared.open_fault.OpenFault.TheVariants.{Disk, NoMemory};
 
-use abl_storage::DiskFailed;
 use std::alloc::{AllocError, AllocFailed};
+use storage::DiskFailed;
 
 /// Why a database was not opened.
 #[derive(Clone, Copy, Debug, PartialEq, Eq)]

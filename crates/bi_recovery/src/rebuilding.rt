@@ -1,9 +1,9 @@
 //! The slots of a log put back into area 0, and a new generation over them.
 
 ghost use Rattle.std.specs.Prelude.{◌≡◌, ◌+◌, ◌-◌, ◌*◌, ◌<◌, ◌≤◌, ◌^◌, ℕ, List, [], true, IsTrue, OnOk, is_ok};
-ghost use Rattle.abl_storage.specs.Slots.{wrote, undone};
-ghost use Rattle.abl_storage.specs.Disk.{HasCause};
-ghost use Rattle.disk_steps.specs.Steps.{Image, Run, Any};
+ghost use Rattle.storage.specs.Slots.{wrote, undone};
+ghost use Rattle.storage.specs.Disk.{HasCause};
+ghost use Rattle.log_meaning.specs.steps.Steps.{Image, Run, Any};
 ghost use Rattle.log_meaning.specs.declared.note.Note.{Note as LogNote};
 ghost use Rattle.log_meaning.specs.Images.{slot_of};
 ghost use Rattle.log_meaning.specs.LogState.{MayWrite, LogState};
@@ -13,7 +13,7 @@ ghost use Rattle.bi_recovery.specs.Reopening.{SameAreas, SameRecovery, Gives};
 
 use crate::next_generation::next_generation;
 use crate::slots_written::put_back;
-use abl_storage::{Disk, DiskFailed, Undo};
+use storage::{Disk, DiskFailed, Undo};
 
 /// Puts the slots that the notes of the log in this area give into area 0, and opens a generation
 /// without notes in the other area. What it promises holds for every log as which the images stand,

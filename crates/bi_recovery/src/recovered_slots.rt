@@ -10,10 +10,10 @@ ghost use Rattle.log_meaning.specs.declared.note.Note.{Note as LogNote};
 ghost use Rattle.log_meaning.specs.Recovered.{is_committed};
 ghost use Rattle.bi_recovery.specs.NoteSlots.{AreRecovered, HasBytes, undo_of};
 
-use abl_storage::Undo;
 use log_meaning::Note;
 use std::alloc::{AllocError, Global};
 use std::collections::{BTreeMap, BTreeSet};
+use storage::Undo;
 
 /// Adds the number of the transaction that the note commits, if it commits one.
 fn add_number(numbers: &mut BTreeSet<u64>, note: &Note) -> Result<(), AllocError>

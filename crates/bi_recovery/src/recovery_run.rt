@@ -1,7 +1,7 @@
 //! Recovery.
 
 ghost use Rattle.std.specs.Prelude.{◌≡◌, ◌+◌, ◌-◌, ◌*◌, ◌<◌, ◌≤◌, ◌^◌, ℕ, List, All, IsTrue, IfOk, IsErrOf};
-ghost use Rattle.disk_steps.specs.Steps.{Image, Run};
+ghost use Rattle.log_meaning.specs.steps.Steps.{Image, Run};
 ghost use Rattle.log_meaning.specs.Bytes.{IsNote};
 ghost use Rattle.log_meaning.specs.Images.{IsNewest, IsOpened, Recovers};
 ghost use Rattle.bi_log.specs.Lengths.{WithinLog};
@@ -15,10 +15,10 @@ use crate::notes_read::read_notes;
 use crate::rebuilding::rebuild;
 use crate::recovered_slots::recovered_slots;
 use crate::slots_written::sync_all;
-use abl_storage::Disk;
 use bi_log::reader::find;
 use log_meaning::Note;
 use std::alloc::Global;
+use storage::Disk;
 
 /// The log of a database that was opened: its area, its generation, the number of slots that area 0
 /// had, and the place of its next gate.

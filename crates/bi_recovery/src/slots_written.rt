@@ -1,15 +1,15 @@
 //! Slots written to area 0.
 
 ghost use Rattle.std.specs.Prelude.{◌≡◌, ◌*◌, ◌<◌, ◌≤◌, ◌^◌, ℕ, List, length, true, IsTrue, OnOk, is_ok};
-ghost use Rattle.abl_storage.specs.Disk.{Others, HasCause};
-ghost use Rattle.abl_storage.specs.Slots.{put, wrote, undone};
-ghost use Rattle.disk_steps.specs.Steps.{Image, Run};
+ghost use Rattle.storage.specs.Disk.{Others, HasCause};
+ghost use Rattle.storage.specs.Slots.{put, wrote, undone};
+ghost use Rattle.log_meaning.specs.steps.Steps.{Image, Run};
 ghost use Rattle.log_meaning.specs.declared.note.Note.{Note as LogNote};
 ghost use Rattle.log_meaning.specs.Images.{slot_of};
 ghost use Rattle.log_meaning.specs.LogState.{MayWrite, WritesNoted};
 ghost use Rattle.bi_recovery.specs.Reopening.{SameAreas};
 
-use abl_storage::{Disk, DiskFailed, Undo};
+use storage::{Disk, DiskFailed, Undo};
 
 /// Writes the slot to area 0. What it promises of the images holds for every log whose notes allow
 /// the write.

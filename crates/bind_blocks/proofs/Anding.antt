@@ -12,16 +12,16 @@ use Rattle.std.specs.declared.alloc.Global.{Global}
 use Rattle.abl_base.specs.declared.place.Place.{Place}
 use Rattle.bound_tree.specs.declared.expression.Binary.{Binary}
 use Rattle.bound_tree.specs.Tree.{Expr}
-use Rattle.abl_syntax.specs.declared.name.Named.{Named}
-use Rattle.abl_syntax.specs.declared.expression.Operator.{Operator}
-use Rattle.abl_syntax.specs.declared.expression.Operator.TheVariants as op
-use Rattle.abl_syntax.specs.declared.expression.Link.{Link}
-use Rattle.abl_syntax.specs.declared.expression.Expression.{Expression as TypedExpression}
-use Rattle.abl_syntax.specs.declared.expression.Expression.TheViews as view
-use Rattle.abl_syntax.proofs.Chains.{chain_is}
-use Rattle.abl_syntax.specs.Syntax as s
-use Rattle.abl_syntax.specs.Syntax.{Expression}
-use Rattle.abl_syntax.specs.Typed.{expression_of, joined, linked_of}
+use Rattle.syntax_tree.specs.declared.name.Named.{Named}
+use Rattle.syntax_tree.specs.declared.expression.Operator.{Operator}
+use Rattle.syntax_tree.specs.declared.expression.Operator.TheVariants as op
+use Rattle.syntax_tree.specs.declared.expression.Link.{Link}
+use Rattle.syntax_tree.specs.declared.expression.Expression.{Expression as TypedExpression}
+use Rattle.syntax_tree.specs.declared.expression.Expression.TheViews as view
+use Rattle.syntax_tree.proofs.Chains.{chain_is}
+use Rattle.syntax_tree.specs.Syntax as s
+use Rattle.syntax_tree.specs.Syntax.{Expression}
+use Rattle.syntax_tree.specs.Typed.{expression_of, joined, linked_of}
 use Rattle.bind_names.specs.declared.names.NamedBuffer.{NamedBuffer}
 use Rattle.bind_names.specs.Names.{Scene, buffer_number, meaning, or_else}
 use Rattle.bind_blocks.specs.Records.{and_parts, first_said, is_equal_sign, is_field, said_of}

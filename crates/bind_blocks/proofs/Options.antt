@@ -1,8 +1,8 @@
 -- The options of a record phrase, one after the other.
 use Rattle.std.proofs.Common.{◌≡◌, ◌<◌, ◌+◌, ℕ, List, [], ◌∷◌, ◌++◌, length, drop, get_or, map, Option, None, refl, ap, sym, ◌∙◌, append_assoc, append-nil}
-use Rattle.abl_syntax.specs.Syntax.{Expression, RecordOption}
-use Rattle.abl_syntax.specs.Typed.{record_option_of}
-use Rattle.abl_syntax.specs.declared.record.RecordOption.{RecordOption as TypedRecordOption}
+use Rattle.syntax_tree.specs.Syntax.{Expression, RecordOption}
+use Rattle.syntax_tree.specs.Typed.{record_option_of}
+use Rattle.syntax_tree.specs.declared.record.RecordOption.{RecordOption as TypedRecordOption}
 use Rattle.bind_names.specs.declared.names.NamedBuffer.{NamedBuffer}
 use Rattle.bind_names.specs.declared.notes.Notes.{Notes}
 use Rattle.bind_names.specs.Judged.{Judged, first_of, made}

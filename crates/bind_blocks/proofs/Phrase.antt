@@ -1,8 +1,8 @@
 -- The phrases of a header, one after the other.
 use Rattle.std.proofs.Common.{◌≡◌, ◌<◌, ◌+◌, ℕ, List, [], ◌∷◌, ◌++◌, length, drop, get_or, map, Option, Some, None, refl, sym, ◌∙◌, append_assoc, append-nil}
-use Rattle.abl_syntax.specs.Syntax as s
-use Rattle.abl_syntax.specs.Typed.{phrase_of}
-use Rattle.abl_syntax.specs.declared.block.Phrase.{Phrase as TypedPhrase}
+use Rattle.syntax_tree.specs.Syntax as s
+use Rattle.syntax_tree.specs.Typed.{phrase_of}
+use Rattle.syntax_tree.specs.declared.block.Phrase.{Phrase as TypedPhrase}
 use Rattle.bind_names.specs.declared.notes.Notes.{Notes}
 use Rattle.bind_names.specs.Judged.{first_of, made, made_of}
 use Rattle.bind_names.specs.Names.{Scene, or_else}

@@ -1,8 +1,8 @@
 -- The buffers after DO FOR and REPEAT FOR, one after the other.
 use Rattle.std.proofs.Common.{◌≡◌, ◌<◌, ◌+◌, ℕ, true, List, [], ◌∷◌, ◌++◌, length, drop, get_or, Option, None, refl, sym, ◌∙◌, append_assoc, append-nil}
-use Rattle.abl_syntax.specs.Syntax.{Plainly}
-use Rattle.abl_syntax.specs.declared.name.Word.{Word}
-use Rattle.abl_syntax.specs.declared.word.BlockWord.{BlockWord}
+use Rattle.syntax_tree.specs.Syntax.{Plainly}
+use Rattle.syntax_tree.specs.declared.name.Word.{Word}
+use Rattle.syntax_tree.specs.declared.word.BlockWord.{BlockWord}
 use Rattle.bind_names.specs.declared.names.NamedBuffer.{NamedBuffer}
 use Rattle.bind_names.specs.declared.names.NamingKind.TheVariants as naming_kind
 use Rattle.bind_names.specs.declared.notes.Notes.{Notes}

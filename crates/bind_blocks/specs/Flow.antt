@@ -3,9 +3,9 @@ use Rattle.std.specs.Prelude.{ℕ, Bool, true, false, Option, Some, None}
 use Rattle.abl_base.specs.declared.value.Kind.TheVariants.{Character}
 use Rattle.bound_tree.specs.Tree as b
 use Rattle.bound_tree.specs.Tree.{Expr, Stmt}
-use Rattle.abl_syntax.specs.Syntax as s
-use Rattle.abl_syntax.specs.declared.name.Word.{Word}
-use Rattle.abl_syntax.specs.Syntax.{Expression}
+use Rattle.syntax_tree.specs.Syntax as s
+use Rattle.syntax_tree.specs.declared.name.Word.{Word}
+use Rattle.syntax_tree.specs.Syntax.{Expression}
 use Rattle.bind_names.specs.Judged.{Judged, fine, made}
 use Rattle.bind_names.specs.Names.{Scene}
 use Rattle.bind_expressions.specs.Expressions.{value_for}

@@ -9,10 +9,10 @@ use Rattle.bound_tree.specs.declared.block.BlockKind.TheVariants as block_kind
 use Rattle.bound_tree.specs.declared.expression.Variable.{Variable}
 use Rattle.bound_tree.specs.Tree as b
 use Rattle.bound_tree.specs.Tree.{Expr}
-use Rattle.abl_syntax.specs.Syntax as s
-use Rattle.abl_syntax.specs.declared.name.Word.{Word}
-use Rattle.abl_syntax.specs.Syntax.{named_at}
-use Rattle.abl_syntax.specs.declared.word.BlockWord.TheVariants as word
+use Rattle.syntax_tree.specs.Syntax as s
+use Rattle.syntax_tree.specs.declared.name.Word.{Word}
+use Rattle.syntax_tree.specs.Syntax.{named_at}
+use Rattle.syntax_tree.specs.declared.word.BlockWord.TheVariants as word
 use Rattle.bind_names.specs.declared.names.NamingKind.TheVariants as naming_kind
 use Rattle.bind_names.specs.Judged.{Judged, unless, fine, broken, made, made_of, breaking, naming}
 use Rattle.bind_names.specs.Sorts.{is_whole_kind}

@@ -1,7 +1,7 @@
 -- Blocks that are named, by the words of rules U, which are judged apart.
 use Rattle.std.specs.Prelude.{ℕ, Bool, false, ◌==◌, if◌then◌else◌, List, [], ◌∷◌, Option, Some, None}
 use Rattle.abl_values.specs.Schema.{same_name}
-use Rattle.abl_syntax.specs.declared.name.Word.{Word}
+use Rattle.syntax_tree.specs.declared.name.Word.{Word}
 use Rattle.bind_names.specs.declared.names.Around.{Around}
 
 abbrev pub is_labelled : List ℕ → Around → Bool

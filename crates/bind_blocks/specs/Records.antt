@@ -16,11 +16,11 @@ use Rattle.bound_tree.specs.declared.statement.FindWord.{FindWord}
 use Rattle.bound_tree.specs.declared.statement.FindWord.TheVariants as find_word
 use Rattle.bound_tree.specs.Tree as b
 use Rattle.bound_tree.specs.Tree.{Expr, Stmt}
-use Rattle.abl_syntax.specs.Syntax as s
-use Rattle.abl_syntax.specs.declared.name.Word.{Word}
-use Rattle.abl_syntax.specs.Syntax.{Expression}
-use Rattle.abl_syntax.specs.declared.word.FindWhich.{FindWhich}
-use Rattle.abl_syntax.specs.declared.word.FindWhich.TheVariants as which
+use Rattle.syntax_tree.specs.Syntax as s
+use Rattle.syntax_tree.specs.declared.name.Word.{Word}
+use Rattle.syntax_tree.specs.Syntax.{Expression}
+use Rattle.syntax_tree.specs.declared.word.FindWhich.{FindWhich}
+use Rattle.syntax_tree.specs.declared.word.FindWhich.TheVariants as which
 use Rattle.bind_names.specs.declared.names.NamedBuffer.{NamedBuffer}
 use Rattle.bind_names.specs.declared.names.NamingKind.TheVariants as naming_kind
 use Rattle.bind_names.specs.Judged.{Judged, unless, fine, made, made_of, breaking}

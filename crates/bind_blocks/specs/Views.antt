@@ -10,11 +10,11 @@ use Rattle.bound_tree.specs.declared.statement.FindWord.{FindWord}
 use Rattle.bound_tree.specs.Bound.{action_of, maybe_expr_of, on_of, reading_of}
 use Rattle.bound_tree.specs.Tree as b
 use Rattle.bound_tree.specs.Tree.{Expr, Stmt}
-use Rattle.abl_syntax.specs.declared.name.Named.{Named}
-use Rattle.abl_syntax.specs.declared.name.Word.{Word}
-use Rattle.abl_syntax.specs.Syntax as s
-use Rattle.abl_syntax.specs.Syntax.{Expression}
-use Rattle.abl_syntax.specs.Typed.{expression_of}
+use Rattle.syntax_tree.specs.declared.name.Named.{Named}
+use Rattle.syntax_tree.specs.declared.name.Word.{Word}
+use Rattle.syntax_tree.specs.Syntax as s
+use Rattle.syntax_tree.specs.Syntax.{Expression}
+use Rattle.syntax_tree.specs.Typed.{expression_of}
 use Rattle.bind_names.specs.declared.names.Around.{Around}
 use Rattle.bind_names.specs.declared.names.NamedBuffer.{NamedBuffer}
 use Rattle.bind_names.specs.Judged.{Judged, breaking, fine, made, unless}

@@ -6,21 +6,21 @@ ghost use Rattle.std.specs.Prelude.{◌≡◌, [], IfOk, map, slice_index_or, un
 ghost use Rattle.abl_base.specs.declared.value.Kind.TheVariants.{Character};
 ghost use Rattle.abl_values.specs.Schema.{no_field, same_name};
 ghost use Rattle.bound_tree.specs.Bound.{bracket_value_of, maybe_expr_of};
-ghost use Rattle.abl_syntax.specs.Syntax.{Expression as SyntaxExpression};
-ghost use Rattle.abl_syntax.specs.Typed.{expression_of, joined, linked_of};
+ghost use Rattle.syntax_tree.specs.Syntax.{Expression as SyntaxExpression};
+ghost use Rattle.syntax_tree.specs.Typed.{expression_of, joined, linked_of};
 ghost use Rattle.bind_names.specs.Names.{buffer_number, meaning, or_else};
 ghost use Rattle.bind_names.specs.Views.{buffer_of, meaning_of, scene_of};
 ghost use Rattle.bind_blocks.specs.Records.{and_parts, bracket_of, first_said, is_equal_sign, is_field};
 ghost use Rattle.bind_blocks.specs.Views.{lone_name, name_in, said_by};
 
 use abl_base::{Items, Kind};
-use abl_syntax::{Expression, Link, Named, Operator};
 use abl_values::{FieldDef, KeyPart, same_name};
 use bind_expressions::expressions::expression;
 use bind_names::meaning::{Buffer, Meaning, buffer_number, named_meaning};
 use bind_names::{BindFault, Naming, Notes, Scene};
 use bound_tree::{Binary, BracketValue, Expr};
 use std::alloc::Global;
+use syntax_tree::{Expression, Link, Named, Operator};
 
 /// What an expression before an operator is.
 #[derive(Clone, Copy)]
@@ -145,7 +145,7 @@ fn left_of(e: &Expression) -> Left<'_>
 
 /// The value that the first of the AND parts of an expression says the field is equal to.
 #[cycle(parts)]
-#[tactic(auto, using(abl_syntax::proofs::Chains::chain_is))]
+#[tactic(auto, using(syntax_tree::proofs::Chains::chain_is))]
 fn first_said(
     alloc: Global,
     scene: &Scene<'_>,

@@ -2,8 +2,8 @@
 
 ghost use Rattle.std.specs.Prelude.{◌≡◌, IfOk};
 ghost use Rattle.bound_tree.specs.Bound.{expr_of, maybe_expr_of, to_of};
-ghost use Rattle.abl_syntax.specs.Syntax.{named_at};
-ghost use Rattle.abl_syntax.specs.Typed.{counting_of, expression_of, maybe_counting_of, maybe_expression_of};
+ghost use Rattle.syntax_tree.specs.Syntax.{named_at};
+ghost use Rattle.syntax_tree.specs.Typed.{counting_of, expression_of, maybe_counting_of, maybe_expression_of};
 ghost use Rattle.bind_names.specs.Names.{meaning};
 ghost use Rattle.bind_names.specs.Sorts.{is_whole_kind};
 ghost use Rattle.bind_names.specs.Views.{IsJudged, meaning_of, scene_of};
@@ -13,13 +13,13 @@ ghost use Rattle.bind_expressions.specs.Views.{typed_of};
 ghost use Rattle.bind_blocks.specs.Headers.{counter_of, counting, counts, to_phrase};
 
 use abl_base::{Kind, Place, Rule};
-use abl_syntax::{Counting, Expression, Named};
 use bind_expressions::Typed;
 use bind_expressions::expressions::expression;
 use bind_names::meaning::{Meaning, named_meaning, names_it};
 use bind_names::{BindFault, NamingKind, Notes, Scene};
 use bound_tree::{Expr, ToPhrase, Variable};
 use std::alloc::Global;
+use syntax_tree::{Counting, Expression, Named};
 
 /// A number: Y5 where the value is none.
 #[tactic(auto, using(bind_names::proofs::Joined::first_of_append))]

@@ -2,8 +2,8 @@
 
 ghost use Rattle.std.specs.Option.{option_map};
 ghost use Rattle.std.specs.Prelude.{◌≡◌, IfOk, OnOk};
-ghost use Rattle.abl_syntax.specs.Syntax.{Head as TheHead};
-ghost use Rattle.abl_syntax.specs.Typed.{head_of};
+ghost use Rattle.syntax_tree.specs.Syntax.{Head as TheHead};
+ghost use Rattle.syntax_tree.specs.Typed.{head_of};
 ghost use Rattle.bind_names.specs.Names.{Scene as TheScene};
 ghost use Rattle.bind_names.specs.Views.{scene_of};
 ghost use Rattle.bind_expressions.specs.Parts.{scene_after};
@@ -12,10 +12,10 @@ ghost use Rattle.bind_blocks.specs.Headers.{can_be_undone, inside, iterates};
 use crate::openings::{is_for, is_repeat};
 use crate::phrases::{has_undo, has_while};
 use abl_base::{Bytes, Items};
-use abl_syntax::{Head, Word};
 use bind_names::{Around, BindFault, Scene};
 use std::alloc::Global;
 use std::mem;
+use syntax_tree::{Head, Word};
 
 /// REPEAT, FOR, and DO with TO or WHILE.
 fn iterates(head: &Head) -> bool

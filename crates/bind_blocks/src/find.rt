@@ -2,17 +2,17 @@
 
 ghost use Rattle.std.specs.Prelude.{◌≡◌, IfOk, map};
 ghost use Rattle.bound_tree.specs.Bound.{stmt_of};
-ghost use Rattle.abl_syntax.specs.Typed.{record_option_of};
+ghost use Rattle.syntax_tree.specs.Typed.{record_option_of};
 ghost use Rattle.bind_names.specs.Views.{IsJudged, scene_of};
 ghost use Rattle.bind_expressions.specs.Parts.{does};
 ghost use Rattle.bind_blocks.specs.Records.{find, find_word_of};
 ghost use Rattle.bind_blocks.specs.Views.{find_stmt, selection_of};
 
 use crate::records::{Selection, looked_for};
-use abl_syntax::{FindWhich, RecordOption, Word};
 use bind_names::{BindFault, NamingKind, Notes, Scene};
 use bound_tree::{FindWord, Stmt};
 use std::alloc::Global;
+use syntax_tree::{FindWhich, RecordOption, Word};
 
 /// The word after FIND; none for CURRENT.
 fn find_word_of(which: FindWhich) -> Option<FindWord>

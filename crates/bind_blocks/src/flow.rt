@@ -3,7 +3,7 @@
 
 ghost use Rattle.std.specs.Prelude.{◌≡◌, IfOk, Some};
 ghost use Rattle.abl_base.specs.declared.value.Kind.TheVariants.{Character};
-ghost use Rattle.abl_syntax.specs.Typed.{action_of, expression_of, maybe_action_of, maybe_boxed_action_of, maybe_boxed_of, maybe_expression_of};
+ghost use Rattle.syntax_tree.specs.Typed.{action_of, expression_of, maybe_action_of, maybe_boxed_action_of, maybe_boxed_of, maybe_expression_of};
 ghost use Rattle.bound_tree.specs.Bound.{action_of as bound_action_of, maybe_expr_of, stmt_of};
 ghost use Rattle.bind_names.specs.declared.notes.Notes.{Notes as TheNotes};
 ghost use Rattle.bind_names.specs.Views.{IsJudged, scene_of};
@@ -14,12 +14,12 @@ ghost use Rattle.bind_blocks.specs.Flow.{action, leave_block, next_block, return
 
 use crate::named::{Sought, block_named, first_block};
 use abl_base::{Kind, Rule};
-use abl_syntax::{Action, Expression, Word};
 use bind_expressions::Typed;
 use bind_expressions::expressions::expression;
 use bind_names::{BindFault, Notes, Scene};
 use bound_tree::{Action as BoundAction, Expr, Stmt};
 use std::alloc::Global;
+use syntax_tree::{Action, Expression, Word};
 
 /// A text: Y5 where the value is none.
 #[tactic(auto, using(bind_names::proofs::Joined::first_of_append))]

@@ -3,7 +3,7 @@
 ghost use Rattle.std.specs.List.{list_any};
 ghost use Rattle.std.specs.Prelude.{◌≡◌, IfOk, map};
 ghost use Rattle.bound_tree.specs.Bound.{fetch_of, header_of, to_of};
-ghost use Rattle.abl_syntax.specs.Typed.{head_of, opening_of, phrase_of};
+ghost use Rattle.syntax_tree.specs.Typed.{head_of, opening_of, phrase_of};
 ghost use Rattle.bind_names.specs.Views.{IsJudged, scene_of};
 ghost use Rattle.bind_blocks.specs.Headers.{block_kind_of, head, header, is_transaction};
 ghost use Rattle.bind_blocks.specs.Views.{phrases_of};
@@ -11,10 +11,10 @@ ghost use Rattle.bind_blocks.specs.Views.{phrases_of};
 use crate::counters::counts;
 use crate::openings::{kind_of, opening};
 use crate::phrases::{Phrases, all_phrases, has_transaction};
-use abl_syntax::Head;
 use bind_names::{BindFault, Notes, Scene};
 use bound_tree::{Fetch, Flags, Header, ToPhrase};
 use std::alloc::Global;
+use syntax_tree::Head;
 
 /// The header with these parts.
 fn header_with(

@@ -4,9 +4,9 @@ ghost use Rattle.std.specs.Prelude.{◌≡◌};
 ghost use Rattle.bind_blocks.specs.Named.{block_named, first_block};
 ghost use Rattle.bind_blocks.specs.Views.{sought_test};
 
-use abl_syntax::Word;
 use abl_values::same_name;
 use bind_names::Around;
+use syntax_tree::Word;
 
 /// The blocks that are looked for.
 #[derive(Clone, Copy)]

@@ -2,17 +2,17 @@
 
 ghost use Rattle.std.specs.Prelude.{◌≡◌, IfOk, map};
 ghost use Rattle.bound_tree.specs.Bound.{fetch_of};
-ghost use Rattle.abl_syntax.specs.Syntax.{ForRecords, Plainly};
-ghost use Rattle.abl_syntax.specs.Typed.{opening_of, record_option_of};
+ghost use Rattle.syntax_tree.specs.Syntax.{ForRecords, Plainly};
+ghost use Rattle.syntax_tree.specs.Typed.{opening_of, record_option_of};
 ghost use Rattle.bind_names.specs.Views.{IsJudged, scene_of};
 ghost use Rattle.bind_blocks.specs.Headers.{block_kind_of, is_for, is_repeat, opening};
 
 use crate::records::looked_for;
-use abl_syntax::{BlockWord, Opening, RecordOption, Word};
 use bind_names::meaning::wanted_buffer;
 use bind_names::{BindFault, NamingKind, Notes, Scene};
 use bound_tree::{BlockKind, Fetch, FetchWord};
 use std::alloc::Global;
+use syntax_tree::{BlockWord, Opening, RecordOption, Word};
 
 /// The buffers after DO FOR and REPEAT FOR, which a header has no record phrase for.
 fn strong(

@@ -3,7 +3,7 @@
 ghost use Rattle.std.specs.List.{list_any};
 ghost use Rattle.std.specs.Prelude.{◌≡◌, IfOk, Some, map, not};
 ghost use Rattle.bound_tree.specs.Bound.{expr_of, maybe_expr_of, on_of};
-ghost use Rattle.abl_syntax.specs.Typed.{maybe_action_of, phrase_of};
+ghost use Rattle.syntax_tree.specs.Typed.{maybe_action_of, phrase_of};
 ghost use Rattle.bind_names.specs.Judged.{made};
 ghost use Rattle.bind_names.specs.Names.{or_else};
 ghost use Rattle.bind_names.specs.Views.{IsJudged, scene_of};
@@ -12,11 +12,11 @@ ghost use Rattle.bind_blocks.specs.Views.{firsts, on_phrase_of, phrase, phrases_
 
 use crate::flow::action;
 use crate::named::{Sought, block_named};
-use abl_syntax::{Action, Phrase, Word};
 use bind_expressions::expressions::condition;
 use bind_names::{BindFault, Notes, Scene};
 use bound_tree::{Expr, OnPhrase};
 use std::alloc::Global;
+use syntax_tree::{Action, Phrase, Word};
 
 /// The phrases that take effect: the first of each kind.
 #[derive(Drop)]

@@ -3,8 +3,8 @@
 
 ghost use Rattle.std.specs.Prelude.{◌≡◌, IfOk, None, Option, map, true};
 ghost use Rattle.bound_tree.specs.Bound.{bracket_value_of, reading_of};
-ghost use Rattle.abl_syntax.specs.Syntax.{Expression as TheExpression};
-ghost use Rattle.abl_syntax.specs.Typed.{record_option_of};
+ghost use Rattle.syntax_tree.specs.Syntax.{Expression as TheExpression};
+ghost use Rattle.syntax_tree.specs.Typed.{record_option_of};
 ghost use Rattle.bind_names.specs.Judged.{made};
 ghost use Rattle.bind_names.specs.Names.{buffer, number_of};
 ghost use Rattle.bind_names.specs.Views.{IsJudged, maybe_buffer_of, scene_of};
@@ -13,12 +13,12 @@ ghost use Rattle.bind_blocks.specs.Views.{asked_of, found_of, maybe_test_of, sel
 
 use crate::brackets::values_of;
 use abl_base::Rule;
-use abl_syntax::{Expression, RecordOption, Word};
 use bind_expressions::expressions::condition;
 use bind_names::meaning::{Buffer, buffer_number, number_named, wanted_buffer};
 use bind_names::{BindFault, NamingKind, Notes, Scene};
 use bound_tree::{BracketValue, Expr, LockWanted, Reading};
 use std::alloc::Global;
+use syntax_tree::{Expression, RecordOption, Word};
 
 /// The expression after WHERE, where there is one.
 #[derive(Clone, Copy)]

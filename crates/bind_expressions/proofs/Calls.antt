@@ -4,10 +4,10 @@ use Rattle.std.specs.Prelude.{◌&&◌, ◌==◌, not, if◌then◌else◌, nat_
 use Rattle.abl_base.specs.declared.place.Place.{Place}
 use Rattle.abl_base.specs.declared.rule.Rule.TheVariants.{Y7}
 use Rattle.bound_tree.specs.Tree.{Expr}
-use Rattle.abl_syntax.specs.Syntax.{starts_at}
-use Rattle.abl_syntax.specs.Typed.{arguments_of, expression_of}
-use Rattle.abl_syntax.specs.declared.word.Function.{Function}
-use Rattle.abl_syntax.specs.declared.expression.Expression.{Expression as TypedExpression}
+use Rattle.syntax_tree.specs.Syntax.{starts_at}
+use Rattle.syntax_tree.specs.Typed.{arguments_of, expression_of}
+use Rattle.syntax_tree.specs.declared.word.Function.{Function}
+use Rattle.syntax_tree.specs.declared.expression.Expression.{Expression as TypedExpression}
 use Rattle.bind_names.specs.declared.notes.Notes.{Notes}
 use Rattle.bind_names.specs.declared.sort.Sort.TheVariants.{Of, Broken}
 use Rattle.bind_names.specs.Judged.{Judged, first_of, unless}

@@ -9,8 +9,8 @@ use Rattle.bound_tree.specs.declared.expression.Ternary.TheVariants as three
 use Rattle.bound_tree.specs.declared.expression.Unary.TheVariants as one
 use Rattle.bound_tree.specs.Tree as b
 use Rattle.bound_tree.specs.Tree.{Expr}
-use Rattle.abl_syntax.specs.declared.word.Function.{Function}
-use Rattle.abl_syntax.specs.declared.word.Function.TheVariants as f
+use Rattle.syntax_tree.specs.declared.word.Function.{Function}
+use Rattle.syntax_tree.specs.declared.word.Function.TheVariants as f
 use Rattle.bind_names.specs.declared.sort.Sort.{Sort}
 use Rattle.bind_names.specs.declared.sort.Sort.TheVariants.{Of, Broken}
 use Rattle.bind_names.specs.Sorts.{fewest, is_broken, kind_of_function, may_be_converted, may_be_date, may_be_text, may_be_whole, most, result_sort, sort_or_broken, takes}

@@ -7,16 +7,16 @@ use Rattle.bound_tree.specs.Bound as b
 use Rattle.bound_tree.specs.Tree.{Expr}
 use Rattle.bound_tree.specs.declared.expression.Link.{Link as BoundLink}
 use Rattle.bound_tree.proofs.Chains.{chain_of-snoc}
-use Rattle.abl_syntax.specs.Syntax.{Expression, Call}
-use Rattle.abl_syntax.specs.Typed.{arguments_of, expression_of, joined, linked_of}
-use Rattle.abl_syntax.specs.declared.expression.Operator.{Operator}
-use Rattle.abl_syntax.specs.declared.expression.Operator.TheVariants as op
-use Rattle.abl_syntax.specs.declared.expression.Link.{Link}
-use Rattle.abl_syntax.specs.declared.expression.Expression.{Expression as TypedExpression}
-use Rattle.abl_syntax.specs.declared.expression.Expression.TheVariants as t
-use Rattle.abl_syntax.specs.declared.expression.Expression.TheViews as view
-use Rattle.abl_syntax.specs.declared.word.Function.{Function}
-use Rattle.abl_syntax.proofs.Chains.{call_is, chain_is}
+use Rattle.syntax_tree.specs.Syntax.{Expression, Call}
+use Rattle.syntax_tree.specs.Typed.{arguments_of, expression_of, joined, linked_of}
+use Rattle.syntax_tree.specs.declared.expression.Operator.{Operator}
+use Rattle.syntax_tree.specs.declared.expression.Operator.TheVariants as op
+use Rattle.syntax_tree.specs.declared.expression.Link.{Link}
+use Rattle.syntax_tree.specs.declared.expression.Expression.{Expression as TypedExpression}
+use Rattle.syntax_tree.specs.declared.expression.Expression.TheVariants as t
+use Rattle.syntax_tree.specs.declared.expression.Expression.TheViews as view
+use Rattle.syntax_tree.specs.declared.word.Function.{Function}
+use Rattle.syntax_tree.proofs.Chains.{call_is, chain_is}
 use Rattle.std.specs.Prelude.{Box, Vec}
 use Rattle.std.specs.declared.alloc.Global.{Global}
 use Rattle.bind_names.specs.declared.notes.Notes.{Notes}

@@ -5,9 +5,9 @@ use Rattle.abl_base.specs.declared.place.Place.{Place}
 use Rattle.abl_base.specs.declared.value.Kind.TheVariants as kind
 use Rattle.bound_tree.specs.Tree as b
 use Rattle.bound_tree.specs.Tree.{Expr}
-use Rattle.abl_syntax.specs.Syntax as s
-use Rattle.abl_syntax.specs.Syntax.{Expression, Arguments, named_at, starts_at}
-use Rattle.abl_syntax.specs.declared.word.Function.{Function}
+use Rattle.syntax_tree.specs.Syntax as s
+use Rattle.syntax_tree.specs.Syntax.{Expression, Arguments, named_at, starts_at}
+use Rattle.syntax_tree.specs.declared.word.Function.{Function}
 use Rattle.bind_names.specs.declared.names.NamedBuffer.{NamedBuffer}
 use Rattle.bind_names.specs.declared.names.NamingKind.TheVariants.{Free}
 use Rattle.bind_names.specs.declared.sort.Sort.{Sort}

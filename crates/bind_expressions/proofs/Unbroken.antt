@@ -14,12 +14,12 @@ use Rattle.bound_tree.specs.declared.expression.Binary.{Binary}
 use Rattle.bound_tree.specs.declared.expression.Binary.TheVariants as two
 use Rattle.bound_tree.specs.Tree.{Expr}
 use Rattle.bound_tree.specs.Tree as b
-use Rattle.abl_syntax.specs.Syntax as s
-use Rattle.abl_syntax.specs.Syntax.{Expression, Arguments, named_at, starts_at}
-use Rattle.abl_syntax.specs.declared.word.Function.{Function}
-use Rattle.abl_syntax.specs.declared.name.Named.{Named}
-use Rattle.abl_syntax.specs.declared.name.Named.TheVariants.{Plain, Qualified}
-use Rattle.abl_syntax.specs.declared.name.Word.{Word}
+use Rattle.syntax_tree.specs.Syntax as s
+use Rattle.syntax_tree.specs.Syntax.{Expression, Arguments, named_at, starts_at}
+use Rattle.syntax_tree.specs.declared.word.Function.{Function}
+use Rattle.syntax_tree.specs.declared.name.Named.{Named}
+use Rattle.syntax_tree.specs.declared.name.Named.TheVariants.{Plain, Qualified}
+use Rattle.syntax_tree.specs.declared.name.Word.{Word}
 use Rattle.bind_names.specs.declared.names.NamedBuffer.{NamedBuffer}
 use Rattle.bind_names.specs.declared.names.NamedVariable.{NamedVariable}
 use Rattle.bind_names.specs.declared.names.NamingKind.TheVariants.{Free}

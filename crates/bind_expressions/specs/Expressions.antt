@@ -11,11 +11,11 @@ use Rattle.bound_tree.specs.declared.expression.Binary.TheVariants as two
 use Rattle.bound_tree.specs.declared.expression.Ternary.TheVariants as three
 use Rattle.bound_tree.specs.Tree as b
 use Rattle.bound_tree.specs.Tree.{Expr}
-use Rattle.abl_syntax.specs.Syntax as s
-use Rattle.abl_syntax.specs.declared.name.Word.{Word}
-use Rattle.abl_syntax.specs.Syntax.{Expression, Arguments, NoMore, More, named_at, starts_at}
-use Rattle.abl_syntax.specs.declared.word.Function.{Function}
-use Rattle.abl_syntax.specs.declared.word.Function.TheVariants as f
+use Rattle.syntax_tree.specs.Syntax as s
+use Rattle.syntax_tree.specs.declared.name.Word.{Word}
+use Rattle.syntax_tree.specs.Syntax.{Expression, Arguments, NoMore, More, named_at, starts_at}
+use Rattle.syntax_tree.specs.declared.word.Function.{Function}
+use Rattle.syntax_tree.specs.declared.word.Function.TheVariants as f
 use Rattle.bind_names.specs.declared.names.NamedBuffer.{NamedBuffer}
 use Rattle.bind_names.specs.declared.names.NamingKind.TheVariants.{Free}
 use Rattle.bind_names.specs.declared.sort.Sort.{Sort}

@@ -7,10 +7,10 @@ use Rattle.bound_tree.specs.declared.expression.Operator.{Operator as BoundOpera
 use Rattle.bound_tree.specs.declared.expression.Operator.TheVariants as bound
 use Rattle.bound_tree.specs.Bound.{expr_of, maybe_expr_of}
 use Rattle.bound_tree.specs.Tree.{Expr, IsAvailable, IsLocked}
-use Rattle.abl_syntax.specs.declared.expression.Operator.{Operator}
-use Rattle.abl_syntax.specs.declared.expression.Operator.TheVariants as operator
-use Rattle.abl_syntax.specs.declared.name.Word.{Word}
-use Rattle.abl_syntax.specs.declared.word.Function.{Function}
+use Rattle.syntax_tree.specs.declared.expression.Operator.{Operator}
+use Rattle.syntax_tree.specs.declared.expression.Operator.TheVariants as operator
+use Rattle.syntax_tree.specs.declared.name.Word.{Word}
+use Rattle.syntax_tree.specs.declared.word.Function.{Function}
 use Rattle.bind_names.specs.declared.notes.Notes.{Notes}
 use Rattle.bind_expressions.specs.declared.typed.Typed.{Typed as TypedExpr}
 use Rattle.bind_names.specs.declared.sort.Sort.{Sort}

@@ -8,10 +8,10 @@ ghost use Rattle.bind_expressions.specs.Expressions.{call, comma, missing, nth, 
 ghost use Rattle.bind_expressions.specs.Views.{IsHolding};
 
 use abl_base::{Items, Value};
-use abl_syntax::Function;
 use bind_names::BindFault;
 use bound_tree::{Binary, Expr as BoundExpr, Link, Operator, Ternary, Unary};
 use std::alloc::Global;
+use syntax_tree::Function;
 
 /// The first three arguments, which are the most that a function takes, and the number of all.
 #[derive(Drop)]

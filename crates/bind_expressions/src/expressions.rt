@@ -2,9 +2,9 @@
 
 ghost use Rattle.std.specs.Prelude.{◌≡◌, IfOk, List};
 ghost use Rattle.bound_tree.specs.Tree.{Expr as BoundExpr};
-ghost use Rattle.abl_syntax.specs.Syntax.{Expression as SyntaxExpression};
+ghost use Rattle.syntax_tree.specs.Syntax.{Expression as SyntaxExpression};
 ghost use Rattle.bind_names.specs.declared.notes.Notes.{Notes as TheNotes};
-ghost use Rattle.abl_syntax.specs.Typed.{arguments_of, expression_of, linked_of};
+ghost use Rattle.syntax_tree.specs.Typed.{arguments_of, expression_of, linked_of};
 ghost use Rattle.bind_names.specs.Views.{IsJudged, scene_of};
 ghost use Rattle.bind_expressions.specs.Expressions.{arguments, called, condition, expression};
 ghost use Rattle.bind_expressions.specs.Views.{IsCalled, IsHolding, typed_of};
@@ -15,15 +15,15 @@ use crate::named::{BufferTest, buffer_test, named_value};
 use crate::operators::{bound_operator, chosen, joined_sort, minus, not, plus};
 use crate::typed::Typed;
 use abl_base::{Kind, Place, Rule};
-use abl_syntax::{Expression, Function, Link};
 use bind_names::functions::fewest;
 use bind_names::{BindFault, Notes, Scene, Sort};
 use bound_tree::Expr;
 use std::alloc::Global;
+use syntax_tree::{Expression, Function, Link};
 
 /// What an expression is bound to.
 #[cycle(expressions)]
-#[tactic(auto, using(bind_names::proofs::Joined::first_of_append, abl_syntax::proofs::Chains::chain_is, abl_syntax::proofs::Chains::call_is))]
+#[tactic(auto, using(bind_names::proofs::Joined::first_of_append, syntax_tree::proofs::Chains::chain_is, syntax_tree::proofs::Chains::call_is))]
 pub fn expression(
     alloc: Global,
     scene: &Scene<'_>,

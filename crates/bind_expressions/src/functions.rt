@@ -10,11 +10,11 @@ ghost use Rattle.bind_expressions.specs.Views.{IsMade, text_breaks, text_of, typ
 
 use crate::typed::Typed;
 use abl_base::{Kind, Place, Rule};
-use abl_syntax::{Function, Word};
 use bind_names::functions::{fewest, kind_of_function, mask_fits, most, takes};
 use bind_names::{BindFault, Notes, Sort};
 use bound_tree::{Expr, Unary};
 use std::alloc::Global;
+use syntax_tree::{Function, Word};
 
 /// CHARACTER where the argument is good, and else broken.
 fn text_sort(good: bool) -> Sort

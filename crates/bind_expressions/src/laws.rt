@@ -3,7 +3,7 @@
 ghost use Rattle.std.specs.Prelude.{◌≡◌, List, [], None, false};
 ghost use Rattle.bind_names.specs.declared.violation.Violation.{Violation};
 ghost use Rattle.bind_names.specs.Judged.{first};
-ghost use Rattle.abl_syntax.specs.Syntax.{Expression};
+ghost use Rattle.syntax_tree.specs.Syntax.{Expression};
 ghost use Rattle.bind_names.specs.Names.{Scene};
 ghost use Rattle.bind_expressions.specs.Expressions.{expression};
 ghost use Rattle.bind_expressions.specs.WellKinded.{IsWellKinded, sort_of};

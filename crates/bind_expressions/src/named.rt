@@ -1,7 +1,7 @@
 //! Names as values, and the tests of a buffer.
 
 ghost use Rattle.std.specs.Prelude.{◌≡◌, IfOk, false};
-ghost use Rattle.abl_syntax.specs.Syntax.{named_at};
+ghost use Rattle.syntax_tree.specs.Syntax.{named_at};
 ghost use Rattle.bind_names.specs.declared.names.NamingKind.TheVariants.{Free};
 ghost use Rattle.bind_names.specs.Names.{buffer, meaning};
 ghost use Rattle.bind_names.specs.Views.{IsJudged, meaning_of, scene_of};
@@ -10,11 +10,11 @@ ghost use Rattle.bind_expressions.specs.Views.{test_expr, typed_of};
 
 use crate::typed::Typed;
 use abl_base::{Kind, Place, Rule};
-use abl_syntax::{Named, Word};
 use bind_names::meaning::{Meaning, buffer_number, named_meaning, names_it, wanted_buffer};
 use bind_names::{BindFault, NamingKind, Notes, Scene, Sort};
 use bound_tree::Expr;
 use std::alloc::Global;
+use syntax_tree::{Named, Word};
 
 /// The value that a name means: Y8 for a buffer.
 fn value_of(

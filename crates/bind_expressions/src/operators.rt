@@ -13,11 +13,11 @@ ghost use Rattle.bind_expressions.specs.Views.{IsChosen, IsSigned, bound_operato
 
 use crate::typed::Typed;
 use abl_base::{Kind, Place, Rule};
-use abl_syntax::Operator;
 use bind_names::sort::{both_logical, branch_sort, if_sort, result_sort, sort_or_broken};
 use bind_names::{BindFault, Notes, Sort};
 use bound_tree::{Expr, Unary};
 use std::alloc::Global;
+use syntax_tree::Operator;
 
 /// A LOGICAL, and broken where the operand is.
 fn logical_unless_broken(x: Sort) -> Sort

@@ -7,9 +7,9 @@ use Rattle.abl_base.specs.declared.rule.Rule.TheVariants.{Y1, Y2, Y8, Y9}
 use Rattle.abl_base.specs.declared.value.Kind.{Kind}
 use Rattle.abl_values.specs.Schema.{SchemaData, same_name, number_of_name, table_named, field_named, fields_of, name_of, no_field}
 use Rattle.bound_tree.specs.declared.expression.Variable.{Variable}
-use Rattle.abl_syntax.specs.declared.name.Named.{Named}
-use Rattle.abl_syntax.specs.declared.name.Named.TheVariants.{Plain, Qualified}
-use Rattle.abl_syntax.specs.declared.name.Word.{Word}
+use Rattle.syntax_tree.specs.declared.name.Named.{Named}
+use Rattle.syntax_tree.specs.declared.name.Named.TheVariants.{Plain, Qualified}
+use Rattle.syntax_tree.specs.declared.name.Word.{Word}
 use Rattle.bind_names.specs.declared.names.NamedVariable.{NamedVariable}
 use Rattle.bind_names.specs.declared.names.NamedBuffer.{NamedBuffer}
 use Rattle.bind_names.specs.declared.names.NamedStream.{NamedStream}

@@ -7,8 +7,8 @@ use Rattle.abl_base.specs.declared.value.Value.TheVariants as value
 use Rattle.abl_values.specs.Masks.{mask_is_for}
 use Rattle.bound_tree.specs.declared.expression.Binary.{Binary}
 use Rattle.bound_tree.specs.declared.expression.Binary.TheVariants as two
-use Rattle.abl_syntax.specs.declared.word.Function.{Function}
-use Rattle.abl_syntax.specs.declared.word.Function.TheVariants as f
+use Rattle.syntax_tree.specs.declared.word.Function.{Function}
+use Rattle.syntax_tree.specs.declared.word.Function.TheVariants as f
 use Rattle.bind_names.specs.declared.sort.Sort.{Sort}
 use Rattle.bind_names.specs.declared.sort.Sort.TheVariants.{Of, Unknown, Broken}
 

@@ -6,7 +6,7 @@ ghost use Rattle.bind_names.specs.Sorts.{fewest, is_any_mask, kind_of_function, 
 
 use crate::sort::Sort;
 use abl_base::Kind;
-use abl_syntax::Function;
+use syntax_tree::Function;
 
 /// The fewest arguments that it takes.
 pub fn fewest(function: Function) -> usize

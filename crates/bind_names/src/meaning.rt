@@ -6,7 +6,7 @@ ghost use Rattle.abl_values.specs.Schema.{field_named, fields_of, no_field, numb
 ghost use Rattle.bind_names.specs.declared.names.NamingKind.TheVariants.{Free};
 ghost use Rattle.bind_names.specs.Judged.{Judged, broken, fine, naming};
 ghost use Rattle.bind_names.specs.Names.{buffer, buffer_named, buffer_number, buffer_or_field, defined_buffer, field_among, field_as, field_of, from_outside, has_field, meaning, names_it, plain, qualified, stream_named, the_field, variable_named, with_field};
-ghost use Rattle.abl_syntax.specs.declared.name.Named.TheVariants.{Plain, Qualified};
+ghost use Rattle.syntax_tree.specs.declared.name.Named.TheVariants.{Plain, Qualified};
 ghost use Rattle.bind_names.specs.Views.{IsHaving, IsJudged, buffer_of, maybe_buffer_of, maybe_meaning_of, meaning_of, scene_of, variable_meaning};
 
 use crate::among::{Having, with_field};
@@ -16,10 +16,10 @@ use crate::names::{Defined, Known, NamedBuffer, Naming, NamingKind};
 use crate::notes::Notes;
 use crate::scene::Scene;
 use abl_base::{Items, Kind, Place, Rule};
-use abl_syntax::{Named, Word};
 use abl_values::{FieldDef, HasName, Schema, same_name};
 use bound_tree::Variable;
 use std::alloc::Global;
+use syntax_tree::{Named, Word};
 
 /// A buffer: its name as its definition or the schema spells it, and its table.
 #[derive(Clone, Copy)]

@@ -2,9 +2,9 @@
 
 use crate::listed::Listed;
 use abl_base::{Bytes, Items, Kind, Place, Row};
-use abl_syntax::Direction;
 use abl_values::HasName;
 use bound_tree::Variable;
+use syntax_tree::Direction;
 
 /// A variable or parameter that is defined, with the mask that PUT shows it under.
 #[derive(Drop)]

@@ -8,16 +8,16 @@ use Rattle.abl_values.specs.declared.schema.FieldDef.{FieldDef}
 use Rattle.bound_tree.specs.Tree.{Expr, Export, ExportRecord, Stmt}
 use Rattle.bound_tree.specs.declared.statement.Target.{Target}
 use Rattle.bound_tree.specs.declared.statement.Target.TheVariants as target
-use Rattle.abl_syntax.specs.Syntax as s
-use Rattle.abl_syntax.specs.Syntax.{Expression, named_at, starts_at}
-use Rattle.abl_syntax.specs.Typed.{expression_of, joined, linked_of}
-use Rattle.abl_syntax.specs.declared.expression.Expression.{Expression as TypedExpression}
-use Rattle.abl_syntax.specs.declared.expression.Expression.TheViews as view
-use Rattle.abl_syntax.specs.declared.expression.Link.{Link}
-use Rattle.abl_syntax.specs.declared.expression.Operator.{Operator}
-use Rattle.abl_syntax.specs.declared.expression.Operator.TheVariants as op
-use Rattle.abl_syntax.specs.declared.name.Named.{Named}
-use Rattle.abl_syntax.proofs.Chains.{chain_is}
+use Rattle.syntax_tree.specs.Syntax as s
+use Rattle.syntax_tree.specs.Syntax.{Expression, named_at, starts_at}
+use Rattle.syntax_tree.specs.Typed.{expression_of, joined, linked_of}
+use Rattle.syntax_tree.specs.declared.expression.Expression.{Expression as TypedExpression}
+use Rattle.syntax_tree.specs.declared.expression.Expression.TheViews as view
+use Rattle.syntax_tree.specs.declared.expression.Link.{Link}
+use Rattle.syntax_tree.specs.declared.expression.Operator.{Operator}
+use Rattle.syntax_tree.specs.declared.expression.Operator.TheVariants as op
+use Rattle.syntax_tree.specs.declared.name.Named.{Named}
+use Rattle.syntax_tree.proofs.Chains.{chain_is}
 use Rattle.bind_names.specs.declared.names.NamedBuffer.{NamedBuffer}
 use Rattle.bind_names.specs.declared.names.Naming.{Naming}
 use Rattle.bind_names.specs.declared.names.NamingKind.TheVariants.{Free}

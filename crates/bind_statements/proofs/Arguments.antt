@@ -5,12 +5,12 @@ use Rattle.std.specs.Prelude.{nat_le, slice_get}
 use Rattle.std.specs.Option.{option_map}
 use Rattle.abl_base.specs.declared.place.Place.{Place}
 use Rattle.abl_base.specs.declared.rule.Rule.TheVariants.{Y1, Y7}
-use Rattle.abl_syntax.specs.Syntax as s
-use Rattle.abl_syntax.specs.Typed.{argument_of}
-use Rattle.abl_syntax.specs.declared.name.Named.TheVariants.{Plain}
-use Rattle.abl_syntax.specs.declared.name.Word.{Word}
-use Rattle.abl_syntax.specs.declared.statement.Argument.{Argument as TypedArgument}
-use Rattle.abl_syntax.specs.declared.word.Direction.{Direction}
+use Rattle.syntax_tree.specs.Syntax as s
+use Rattle.syntax_tree.specs.Typed.{argument_of}
+use Rattle.syntax_tree.specs.declared.name.Named.TheVariants.{Plain}
+use Rattle.syntax_tree.specs.declared.name.Word.{Word}
+use Rattle.syntax_tree.specs.declared.statement.Argument.{Argument as TypedArgument}
+use Rattle.syntax_tree.specs.declared.word.Direction.{Direction}
 use Rattle.bound_tree.specs.Tree as b
 use Rattle.bound_tree.specs.Tree.{Argument}
 use Rattle.bound_tree.specs.declared.expression.Variable.{Variable}

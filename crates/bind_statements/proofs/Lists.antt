@@ -2,14 +2,14 @@
 use Rattle.std.proofs.Common.{◌≡◌, ◌<◌, ◌+◌, ℕ, suc, List, [], ◌∷◌, ◌++◌, length, drop, get_or, map, refl, ap, sym, ◌∙◌, add-one, drop-cons, append_assoc, append-nil}
 use Rattle.abl_base.specs.declared.value.Kind.{Kind}
 use Rattle.bound_tree.specs.Tree.{Assignment}
-use Rattle.abl_syntax.specs.declared.statement.Pair.{Pair as TypedPair}
-use Rattle.abl_syntax.specs.declared.definition.VariableOption.{VariableOption}
-use Rattle.abl_syntax.specs.Typed.{pair_of}
+use Rattle.syntax_tree.specs.declared.statement.Pair.{Pair as TypedPair}
+use Rattle.syntax_tree.specs.declared.definition.VariableOption.{VariableOption}
+use Rattle.syntax_tree.specs.Typed.{pair_of}
 use Rattle.bind_statements.specs.declared.definitions.Options.{Options}
 use Rattle.bind_names.specs.declared.notes.Notes.{Notes}
 use Rattle.bind_names.specs.Judged.{Judged, first_of}
 use Rattle.bind_names.specs.Names.{Scene}
-use Rattle.abl_syntax.specs.Syntax.{Expression}
+use Rattle.syntax_tree.specs.Syntax.{Expression}
 use Rattle.bind_expressions.specs.Expressions.{Typed, expression}
 use Rattle.bind_statements.specs.Views.{expr_in}
 use Rattle.bind_expressions.specs.Parts.{listed}

@@ -3,7 +3,7 @@ use Rattle.std.proofs.Common.{◌≡◌, ℕ, Option, Some, None, refl}
 use Rattle.std.specs.Option.{option_map}
 use Rattle.abl_base.specs.declared.place.Place.{Place}
 use Rattle.abl_base.specs.declared.rule.Rule.TheVariants.{Y1}
-use Rattle.abl_syntax.specs.declared.name.Word.{Word}
+use Rattle.syntax_tree.specs.declared.name.Word.{Word}
 use Rattle.bind_names.specs.declared.names.NamedStream.{NamedStream}
 use Rattle.bind_names.specs.Judged.{Judged, broken, fine}
 use Rattle.bind_names.specs.Names.{Scene, stream_named}

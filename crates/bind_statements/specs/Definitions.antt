@@ -12,10 +12,10 @@ use Rattle.abl_values.specs.Masks.{mask_is_for}
 use Rattle.abl_values.specs.Schema.{number_of_name, table_named}
 use Rattle.bound_tree.specs.declared.expression.Variable.{Variable}
 use Rattle.bound_tree.specs.Tree.{Nothing}
-use Rattle.abl_syntax.specs.Syntax as s
-use Rattle.abl_syntax.specs.declared.name.Word.{Word}
-use Rattle.abl_syntax.specs.declared.definition.VariableOption.{VariableOption}
-use Rattle.abl_syntax.specs.declared.definition.VariableOption.TheVariants as opt
+use Rattle.syntax_tree.specs.Syntax as s
+use Rattle.syntax_tree.specs.declared.name.Word.{Word}
+use Rattle.syntax_tree.specs.declared.definition.VariableOption.{VariableOption}
+use Rattle.syntax_tree.specs.declared.definition.VariableOption.TheVariants as opt
 use Rattle.bind_names.specs.declared.names.NamedBuffer.{NamedBuffer}
 use Rattle.bind_names.specs.declared.names.NamingKind.TheVariants as naming_kind
 use Rattle.bind_names.specs.declared.violation.Violation.{Violation}

@@ -6,12 +6,12 @@ use Rattle.abl_base.specs.declared.value.Kind.{Kind}
 use Rattle.abl_values.specs.Schema.{number_of_name}
 use Rattle.bound_tree.specs.declared.expression.Variable.{Variable}
 use Rattle.bound_tree.specs.Tree as b
-use Rattle.abl_syntax.specs.Syntax as s
-use Rattle.abl_syntax.specs.declared.name.Named.TheVariants as spelled
-use Rattle.abl_syntax.specs.declared.name.Word.{Word}
-use Rattle.abl_syntax.specs.Syntax.{starts_at}
-use Rattle.abl_syntax.specs.declared.word.Direction.{Direction}
-use Rattle.abl_syntax.specs.declared.word.Direction.TheVariants as direction
+use Rattle.syntax_tree.specs.Syntax as s
+use Rattle.syntax_tree.specs.declared.name.Named.TheVariants as spelled
+use Rattle.syntax_tree.specs.declared.name.Word.{Word}
+use Rattle.syntax_tree.specs.Syntax.{starts_at}
+use Rattle.syntax_tree.specs.declared.word.Direction.{Direction}
+use Rattle.syntax_tree.specs.declared.word.Direction.TheVariants as direction
 use Rattle.bind_names.specs.declared.names.NamedVariable.{NamedVariable}
 use Rattle.bind_names.specs.declared.sort.Sort.{Sort}
 use Rattle.bind_names.specs.Judged.{Judged, at, unless, fine, made, made_of, breaking}

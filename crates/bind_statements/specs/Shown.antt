@@ -3,9 +3,9 @@ use Rattle.std.specs.Prelude.{ℕ, Bool, true, false, ◌&&◌, nat_le, if◌the
 use Rattle.abl_base.specs.declared.rule.Rule.TheVariants.{Y7, Y12}
 use Rattle.abl_base.specs.declared.value.Kind.TheVariants.{Character}
 use Rattle.bound_tree.specs.Tree as b
-use Rattle.abl_syntax.specs.Syntax as s
-use Rattle.abl_syntax.specs.declared.name.Word.{Word}
-use Rattle.abl_syntax.specs.Syntax.{Expression}
+use Rattle.syntax_tree.specs.Syntax as s
+use Rattle.syntax_tree.specs.declared.name.Word.{Word}
+use Rattle.syntax_tree.specs.Syntax.{Expression}
 use Rattle.bind_names.specs.declared.sort.Sort.{Sort}
 use Rattle.bind_names.specs.Judged.{Judged, unless, fine, made, made_of, breaking}
 use Rattle.bind_names.specs.Sorts.{kind_in, mask_fits}

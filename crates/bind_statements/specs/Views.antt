@@ -2,8 +2,8 @@
 use Rattle.std.specs.Prelude.{◌≡◌, ℕ, Bool, true, List, [], ◌∷◌, ◌++◌, Option, Some, None, slice_index_or}
 use Rattle.abl_base.specs.declared.rule.Rule.TheVariants.{Y7}
 use Rattle.abl_base.specs.declared.place.Place.{Place}
-use Rattle.abl_syntax.specs.Syntax as s
-use Rattle.abl_syntax.specs.declared.name.Named.{Named}
+use Rattle.syntax_tree.specs.Syntax as s
+use Rattle.syntax_tree.specs.declared.name.Named.{Named}
 use Rattle.bound_tree.specs.declared.expression.Variable.{Variable}
 use Rattle.bound_tree.specs.declared.statement.Argument.{Argument as SourceArgument}
 use Rattle.bound_tree.specs.declared.statement.Assignment.{Assignment as SourceAssignment}

@@ -5,7 +5,7 @@ ghost use Rattle.std.specs.Prelude.{◌≡◌, ◌++◌, IfOk, OnOk, map};
 ghost use Rattle.abl_values.specs.Schema.{number_of_name};
 ghost use Rattle.bound_tree.specs.Bound.{assignment_of, right_of, stmt_of};
 ghost use Rattle.bound_tree.specs.Tree.{Assign};
-ghost use Rattle.abl_syntax.specs.Typed.{expression_of, pair_of, right_side_of};
+ghost use Rattle.syntax_tree.specs.Typed.{expression_of, pair_of, right_side_of};
 ghost use Rattle.bind_names.specs.Views.{IsJudged, scene_of};
 ghost use Rattle.bind_expressions.specs.Expressions.{expression, value_for};
 ghost use Rattle.bind_expressions.specs.Views.{typed_of};
@@ -15,7 +15,6 @@ ghost use Rattle.bind_statements.specs.Views.{assignments_of};
 
 use crate::targets::{target, target_kind};
 use abl_base::{Kind, Place, Rule};
-use abl_syntax::{Expression, Pair, RightSide, Word};
 use bind_expressions::Typed;
 use bind_expressions::expressions::expression;
 use bind_names::meaning::number_named;
@@ -23,6 +22,7 @@ use bind_names::sort::is_number_kind;
 use bind_names::{BindFault, Notes, Scene};
 use bound_tree::{Assignment, Right, Stmt};
 use std::alloc::Global;
+use syntax_tree::{Expression, Pair, RightSide, Word};
 
 /// A value for a target of the kind: Y5 where it does not fit.
 #[tactic(auto, using(bind_names::proofs::Joined::first_of_append))]

@@ -11,11 +11,11 @@ ghost use Rattle.bind_expressions.specs.Parts.{does};
 ghost use Rattle.bind_statements.specs.Assignments.{record_statement};
 ghost use Rattle.bind_statements.specs.Views.{touch_stmt};
 
-use abl_syntax::Word;
 use bind_names::meaning::{buffer_number, wanted_buffer};
 use bind_names::{BindFault, NamingKind, Notes, Scene};
 use bound_tree::Stmt;
 use std::alloc::Global;
+use syntax_tree::Word;
 
 /// CREATE, DELETE or RELEASE.
 #[derive(Clone, Copy, PartialEq, Eq)]

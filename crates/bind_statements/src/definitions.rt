@@ -5,15 +5,14 @@ ghost use Rattle.std.specs.Prelude.{◌≡◌, ◌&&◌, ◌||◌, ◌++◌, ◌
 ghost use Rattle.abl_values.specs.Fit.{default_initial, fitted};
 ghost use Rattle.abl_values.specs.Schema.{table_named};
 ghost use Rattle.abl_base.specs.declared.rule.Rule.TheVariants.{Y11, Y3};
-ghost use Rattle.abl_syntax.specs.Syntax.{Buffer as TheBuffer, Stream as TheStream};
-ghost use Rattle.abl_syntax.specs.Typed.{definition_of};
+ghost use Rattle.syntax_tree.specs.Syntax.{Buffer as TheBuffer, Stream as TheStream};
+ghost use Rattle.syntax_tree.specs.Typed.{definition_of};
 ghost use Rattle.bind_names.specs.Judged.{Judged, breaking, first_of, is_before, unless};
 ghost use Rattle.bind_statements.specs.Definitions.{buffer_for, default_mask, define, initial_value, is_past, is_taken, may_have_parameters, no_options, option, options, variable, with_buffer, with_initial, with_mask, with_variable};
 ghost use Rattle.bind_expressions.specs.Parts.{IsAfter, nothing_done};
 ghost use Rattle.bind_names.specs.Views.{IsJudged, scene_of};
 
 use abl_base::{Bytes, Items, Kind, Place, Row, Rule, Value};
-use abl_syntax::{Definition, VariableOption, Word};
 use abl_values::{ArithFault, fit, mask_fits};
 use bind_names::meaning::{Buffer, names_it};
 use bind_names::{
@@ -22,6 +21,7 @@ use bind_names::{
 };
 use bound_tree::Variable;
 use std::alloc::Global;
+use syntax_tree::{Definition, VariableOption, Word};
 
 /// The options of a variable, the first of each.
 #[derive(Drop)]

@@ -1,8 +1,8 @@
 //! RUN of an internal procedure, with its arguments.
 
 ghost use Rattle.std.specs.Prelude.{◌≡◌, ◌<◌, ◌+◌, ◌++◌, ◌∷◌, [], Bool, IfOk, None, OnOk, Some, length, map, slice_get};
-ghost use Rattle.abl_syntax.specs.Syntax.{Input as TheInput};
-ghost use Rattle.abl_syntax.specs.Typed.{argument_of as syntax_argument_of, expression_of};
+ghost use Rattle.syntax_tree.specs.Syntax.{Input as TheInput};
+ghost use Rattle.syntax_tree.specs.Typed.{argument_of as syntax_argument_of, expression_of};
 ghost use Rattle.bound_tree.specs.Bound.{argument_of, expr_of, stmt_of};
 ghost use Rattle.bound_tree.specs.Tree.{Argument as BoundArgument, In, Run};
 ghost use Rattle.bound_tree.specs.declared.expression.Variable.{Variable as TheVariable};
@@ -14,7 +14,6 @@ ghost use Rattle.bind_statements.specs.Runs.{argument_at, good_direction, good_k
 ghost use Rattle.bind_statements.specs.Views.{formals_of, run_arguments_of, too_many, variables_of, walk};
 
 use abl_base::{Kind, Place, Rule};
-use abl_syntax::{Argument, Direction, Expression, Word};
 use bind_expressions::expressions::expression;
 use bind_names::known::variable_of;
 use bind_names::meaning::{number_named, plain_meaning};
@@ -22,6 +21,7 @@ use bind_names::sort::same_kind;
 use bind_names::{BindFault, Formal, Notes, Scene, Sort};
 use bound_tree::{Argument as BoundArg, Expr, Stmt, Variable};
 use std::alloc::Global;
+use syntax_tree::{Argument, Direction, Expression, Word};
 
 fn same_direction(a: Direction, b: Direction) -> bool
     ensures { result ≡ same_direction a b }

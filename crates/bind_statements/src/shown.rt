@@ -2,8 +2,8 @@
 
 ghost use Rattle.std.specs.Prelude.{◌≡◌, ◌≤◌, IfOk, MatchOption, None, Some, if◌then◌else◌, map, true, unwrap_or};
 ghost use Rattle.abl_base.specs.declared.value.Kind.TheVariants.{Character};
-ghost use Rattle.abl_syntax.specs.Syntax.{Shows as TheShows};
-ghost use Rattle.abl_syntax.specs.Typed.{count_of, expression_of, put_item_of};
+ghost use Rattle.syntax_tree.specs.Syntax.{Shows as TheShows};
+ghost use Rattle.syntax_tree.specs.Typed.{count_of, expression_of, put_item_of};
 ghost use Rattle.bound_tree.specs.Bound.{expr_of, item_of, stmt_of};
 ghost use Rattle.bound_tree.specs.Tree.{Message, PutItems};
 ghost use Rattle.bind_names.specs.Names.{meaning};
@@ -17,16 +17,16 @@ ghost use Rattle.bind_statements.specs.Views.{expr_in, name_in};
 use crate::definitions::default_mask;
 use crate::streams::stream;
 use abl_base::{Bytes, Items, Kind, Rule};
-use abl_syntax::{Count, Expression, Named, PutItem, Word};
 use bind_expressions::expressions::expression;
 use bind_names::functions::mask_fits;
 use bind_names::meaning::{Meaning, named_meaning};
 use bind_names::{BindFault, Notes, Scene, Sort};
 use bound_tree::{Expr, PutItem as BoundItem, Stmt};
 use std::alloc::Global;
+use syntax_tree::{Count, Expression, Named, PutItem, Word};
 
 /// The name that an expression is, where it is a name alone.
-#[tactic(auto, using(abl_syntax::proofs::Chains::chain_is, abl_syntax::proofs::Chains::call_is, crate::proofs::Alone::chain_has_no_name, crate::proofs::Alone::first_of_chain))]
+#[tactic(auto, using(syntax_tree::proofs::Chains::chain_is, syntax_tree::proofs::Chains::call_is, crate::proofs::Alone::chain_has_no_name, crate::proofs::Alone::first_of_chain))]
 pub fn name_in(e: &Expression) -> Option<&Named>
     ensures { MatchOption result (name_in (expression_of e.now) ≡ None) (λ n. name_in (expression_of e.now) ≡ Some n.now) }
 {

@@ -10,11 +10,11 @@ ghost use Rattle.bind_statements.specs.Streams.{file_number, input, input_from, 
 ghost use Rattle.bind_expressions.specs.Parts.{IsAfter, does, done_with};
 
 use abl_base::{Bytes, Items, Rule};
-use abl_syntax::Word;
 use abl_values::same_bytes;
 use bind_names::known::stream_number;
 use bind_names::{BindFault, Notes, Scene};
 use bound_tree::Stmt;
+use syntax_tree::Word;
 
 /// The number of a stream, 0 for the unnamed one: Y1 where there is none of the name.
 #[tactic(auto, using(crate::proofs::Numbered::stream_is))]

@@ -1,18 +1,18 @@
 //! Targets: what a statement may assign to.
 
 ghost use Rattle.std.specs.Prelude.{◌≡◌, IfOk};
-ghost use Rattle.abl_syntax.specs.Syntax.{named_at};
+ghost use Rattle.syntax_tree.specs.Syntax.{named_at};
 ghost use Rattle.bind_names.specs.Names.{meaning};
 ghost use Rattle.bind_names.specs.Views.{IsJudged, meaning_of, scene_of};
 ghost use Rattle.bind_expressions.specs.Expressions.{of_meaning};
 ghost use Rattle.bind_statements.specs.Assignments.{target_kind, target_of, the_target};
 
 use abl_base::{Kind, Place, Rule};
-use abl_syntax::Named;
 use bind_names::meaning::{Meaning, named_meaning, names_it};
 use bind_names::{BindFault, NamingKind, Notes, Scene};
 use bound_tree::Target;
 use std::alloc::Global;
+use syntax_tree::Named;
 
 /// The target that a name means: Y8 for a buffer.
 fn target_of(

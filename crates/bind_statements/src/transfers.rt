@@ -3,7 +3,7 @@
 ghost use Rattle.std.specs.Option.{option_map};
 ghost use Rattle.std.specs.Prelude.{◌≡◌, ◌≤◌, IfOk, length, MatchOption, None, Some, map};
 ghost use Rattle.abl_base.specs.declared.limits.TheConstants.{MAX_FIELDS};
-ghost use Rattle.abl_syntax.specs.Typed.{expression_of};
+ghost use Rattle.syntax_tree.specs.Typed.{expression_of};
 ghost use Rattle.abl_values.specs.Schema.{fields_of};
 ghost use Rattle.bound_tree.specs.Bound.{expr_of, stmt_of};
 ghost use Rattle.bound_tree.specs.Tree.{Export};
@@ -18,13 +18,13 @@ use crate::shown::{expressions, name_in};
 use crate::streams::stream;
 use crate::targets::target;
 use abl_base::Place;
-use abl_syntax::{Expression, Named, Word};
 use abl_values::{FieldDef, Schema};
 use bind_names::known::variable_of;
 use bind_names::meaning::{Buffer, buffer_named, buffer_number, names_it};
 use bind_names::{BindFault, NamingKind, Notes, Scene};
 use bound_tree::{Expr, Stmt, Target};
 use std::alloc::Global;
+use syntax_tree::{Expression, Named, Word};
 
 /// The buffer that a name alone names, unless it is a variable.
 fn lone_buffer<'a>(scene: &'a Scene<'_>, name: &Named) -> Option<Buffer<'a>>

@@ -16,10 +16,10 @@ use Rattle.bound_tree.specs.declared.statement.Stmt.TheViews as view
 use Rattle.bound_tree.specs.declared.statement.Stmt.TheViews.{the_lemmas}
 use Rattle.bound_tree.specs.Tree.{Expr, Header, Stmt, Inner, Choose, Body, Then}
 use Rattle.bound_tree.specs.Bound.{expr_of, header_of, stmt_of, body_of, row_of}
-use Rattle.block_flat.specs.Code.{before, IsSimple}
-use Rattle.block_flat.specs.Code as flat
-use Rattle.block_flat.specs.Written.{tree_at, NamesBelow, DenotesNext}
-use Rattle.block_flat.proofs.Written.{opens_next, tests_next, plain_next}
+use Rattle.flat_machine.specs.Code.{before, IsSimple}
+use Rattle.flat_machine.specs.Code as flat
+use Rattle.flat_machine.specs.Written.{tree_at, NamesBelow, DenotesNext}
+use Rattle.flat_machine.proofs.Written.{opens_next, tests_next, plain_next}
 use Rattle.block_code.specs.declared.code.Instr.{Instr}
 use Rattle.block_code.specs.declared.code.Instr.TheVariants as instr
 use Rattle.block_code.specs.Code.{instr_of, is_simple}

@@ -2,9 +2,9 @@
 use Rattle.std.proofs.Common.{◌≡◌, ℕ, ◌<◌, List, [], ◌∷◌, ◌++◌, length, refl, sym, ap, ◌∙◌, subst, arith, append_assoc, append-nil, length-append}
 use Rattle.std.proofs.lemmas.List.{get_or_append_left, get_or_at, map-append, length-map}
 use Rattle.bound_tree.specs.Tree.{Body, Nothing, Then}
-use Rattle.block_flat.specs.Code.{before}
-use Rattle.block_flat.specs.Written.{tree_at, NamesBelow, Encodes, DenotesNext}
-use Rattle.block_flat.proofs.Written.{one_more}
+use Rattle.flat_machine.specs.Code.{before}
+use Rattle.flat_machine.specs.Written.{tree_at, NamesBelow, Encodes, DenotesNext}
+use Rattle.flat_machine.proofs.Written.{one_more}
 use Rattle.block_code.specs.declared.code.Instr.{Instr}
 use Rattle.block_code.specs.Code.{instr_of, instrs_of}
 use Rattle.block_code.specs.Emitted.{HasEnd, Grown, GrownTo, Emitted}

@@ -7,9 +7,9 @@ use Rattle.bound_tree.specs.declared.procedure.Procedure.{Procedure}
 use Rattle.bound_tree.specs.Tree.{Body, Nothing, Then, Inner}
 use Rattle.bound_tree.specs.Bound.{header_of, body_of, procedure_of}
 use Rattle.block_meaning.specs.Program.{no_procedure}
-use Rattle.block_flat.specs.Code as flat
-use Rattle.block_flat.specs.Written.{instr_at, tree_at, NamesBelow, Encodes, DenotesNext}
-use Rattle.block_flat.proofs.Written.{one_more, ends_next, opens_next, all_stand}
+use Rattle.flat_machine.specs.Code as flat
+use Rattle.flat_machine.specs.Written.{instr_at, tree_at, NamesBelow, Encodes, DenotesNext}
+use Rattle.flat_machine.proofs.Written.{one_more, ends_next, opens_next, all_stand}
 use Rattle.block_code.specs.declared.code.Instr.{Instr}
 use Rattle.block_code.specs.declared.code.Instr.TheVariants as instr
 use Rattle.block_code.specs.declared.code.ProcedureCode.{ProcedureCode}

@@ -7,8 +7,8 @@ use Rattle.bound_tree.specs.declared.statement.Stmt.TheVariants as stmt
 use Rattle.bound_tree.specs.declared.procedure.Bound.{Bound}
 use Rattle.bound_tree.specs.declared.procedure.Procedure.{Procedure}
 use Rattle.block_meaning.specs.Program.{Program, no_header}
-use Rattle.block_flat.specs.Code as flat
-use Rattle.block_flat.specs.Written.{instr_at, tree_at}
+use Rattle.flat_machine.specs.Code as flat
+use Rattle.flat_machine.specs.Written.{instr_at, tree_at}
 use Rattle.block_code.specs.declared.code.Instr.{Instr}
 use Rattle.block_code.specs.declared.code.Instr.TheVariants as instr
 use Rattle.block_code.specs.declared.code.ProcedureCode.{ProcedureCode}

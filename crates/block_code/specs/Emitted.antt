@@ -4,8 +4,8 @@ use Rattle.bound_tree.specs.Tree.{Body, Nothing, Then}
 use Rattle.bound_tree.specs.Bound.{stmt_of, body_of}
 use Rattle.bound_tree.specs.declared.statement.Stmt.{Stmt}
 use Rattle.bound_tree.specs.declared.procedure.Procedure.{Procedure}
-use Rattle.block_flat.specs.Code.{before}
-use Rattle.block_flat.specs.Written.{Encodes, tree_at}
+use Rattle.flat_machine.specs.Code.{before}
+use Rattle.flat_machine.specs.Written.{Encodes, tree_at}
 use Rattle.block_code.specs.declared.code.Instr.{Instr}
 use Rattle.block_code.specs.declared.code.ProcedureCode.{ProcedureCode}
 use Rattle.block_code.specs.Code.{instrs_of, IsProcedure, AreProcedures}

@@ -1,9 +1,9 @@
 -- A part of a run continues: its units never grow, what is written only grows, each operation costs a unit, and with
 -- more answers it does the same and then more.
 use Rattle.std.proofs.Common.{◌≡◌, refl, sym, ap, ◌∙◌, subst, ℕ, zero, suc, ◌+◌, ◌≤◌, ◌<◌, List, [], ◌∷◌, ◌++◌, Bool, true, false, append_assoc, append-nil, arith}
-use Rattle.client_database.specs.declared.operation.Op.{Op}
-use Rattle.client_database.specs.declared.answer.Answer.{Answer}
-use Rattle.client_database.specs.declared.answer.Answer.TheVariants as answer
+use Rattle.database_protocol.specs.declared.operation.Op.{Op}
+use Rattle.database_protocol.specs.declared.answer.Answer.{Answer}
+use Rattle.database_protocol.specs.declared.answer.Answer.TheVariants as answer
 use Rattle.block_meaning.specs.declared.wants.Piece.{Piece}
 use Rattle.block_meaning.specs.State.{State, Completion, Normal, Progress, Outcome, Done, Suspended, Continuation, completes, if_else, update_then, costs_unit_of, costs_unit, awaits, asks, if_normal, and_then, Completed, immediately}
 use Rattle.block_meaning.specs.GivesUp.{Begins, IsAsked, is_blocked, units_used_if, units_used}

@@ -3,19 +3,19 @@ use Rattle.std.proofs.Common.{Bool, List, None, Option, Some, [], false, length,
 use Rattle.std.specs.Prelude.{ℤ}
 use Rattle.abl_base.specs.declared.limits.TheConstants.{MAX_ROW_BYTES}
 use Rattle.abl_base.specs.declared.row.RowId.{RowId}
-use Rattle.client_database.specs.declared.row_order.Cursor.{Cursor}
+use Rattle.database_protocol.specs.declared.row_order.Cursor.{Cursor}
 use Rattle.abl_base.specs.declared.value.Value.{Value}
 use Rattle.abl_base.specs.declared.value.Value.TheVariants.{Int64}
 use Rattle.abl_base.specs.declared.value.Kind.{Kind}
 use Rattle.abl_values.specs.Rows.{bytes_of_row}
-use Rattle.client_database.specs.declared.operation.Op.TheVariants as op
-use Rattle.client_database.specs.declared.answer.Answer.{Answer}
+use Rattle.database_protocol.specs.declared.operation.Op.TheVariants as op
+use Rattle.database_protocol.specs.declared.answer.Answer.{Answer}
 use Rattle.bound_tree.specs.declared.block.LockWanted.{LockWanted}
 use Rattle.bound_tree.specs.declared.block.LockWanted.TheVariants as wanted
 use Rattle.bound_tree.specs.declared.statement.Target.{Target}
 use Rattle.bound_tree.specs.declared.statement.Target.TheVariants as target
 use Rattle.bound_tree.specs.Tree.{Assignment, CurrentOf, Expr, Fetch, Given, NextOf, Reading, Right, ValueOf}
-use Rattle.abl_expr.specs.Operators.{holds}
+use Rattle.expression_meaning.specs.Operators.{holds}
 use Rattle.block_meaning.specs.Program.{Program, table_at}
 use Rattle.block_meaning.specs.Lines.{Complaint, IsLocked, IsMandatory, IsReadNoLock, MoreThanOne, NoRecordFound, NoRecordIn, OutOfRange, RecordIsGone, RecordTooLong}
 use Rattle.block_meaning.specs.State.{Content, Outcome, Empty, EndKeys, Exclusive, Faults, Found, Held, NotFound, Lost, NoLock, Completed, Continuation, Pending, Raises, Normal, Record, Share, State, Stops, Turn, Undoes, Completion, and_then, asks, immediately, update_then, completes, has_fault, if_else}
@@ -29,7 +29,7 @@ use Rattle.block_meaning.proofs.Continues.{Continues, Handles, continues_first, 
 use Rattle.block_meaning.proofs.Parts.{enters_in_continues, is_only_continues, releases_continues, takes_again_continues, takes_as_continues, takes_continues}
 use Rattle.block_meaning.proofs.Part_changes.{assigns_each_continues, assigns_one_continues, locks_all_continues, locks_content_continues, or_as_before_continues, settles_continues, upgrades_continues}
 use Rattle.block_meaning.proofs.Levels.{FollowsTo, IsFamily, IsNeutral, IsStop, Legal, Levels, LevelsIn, Over, in_asks, in_at, in_first, in_then, in_where, legal_handled, over_at_once, steady_part}
-use Rattle.client_database.specs.declared.operation.Op.{Op}
+use Rattle.database_protocol.specs.declared.operation.Op.{Op}
 
 -- completions that leave the levels unchanged, and stops
 abbrev pub Calm : ℕ → ℕ → Completion → State → Type 0

@@ -3,8 +3,8 @@ use Rattle.std.proofs.Common.{◌≡◌, refl, sym, subst, ℕ, ◌+◌, ◌-◌
 use Rattle.abl_base.specs.declared.row.RowId.{RowId}
 use Rattle.abl_base.specs.declared.value.Value.{Value}
 use Rattle.abl_values.specs.Rows.{bytes_of_row}
-use Rattle.client_database.specs.declared.operation.Op.TheVariants as op
-use Rattle.client_database.specs.declared.answer.Answer.{Answer}
+use Rattle.database_protocol.specs.declared.operation.Op.TheVariants as op
+use Rattle.database_protocol.specs.declared.answer.Answer.{Answer}
 use Rattle.block_meaning.specs.Program.{Program, table_at}
 use Rattle.block_meaning.specs.Lines.{Complaint, IsMandatory, RecordTooLong}
 use Rattle.block_meaning.specs.State.{State, Copy, Content, Empty, Record, Pending, Exclusive, Completion, Normal, Faults, Stops, Continuation, completes, if_else, update_then, asks, and_then, if_normal, has_fault}

@@ -1,11 +1,11 @@
 -- A part of a run requests Leave and Back of open levels only. Its completion determines how many levels are open after it.
 use Rattle.std.proofs.Common.{◌≡◌, refl, sym, ap, ◌∙◌, subst, ℕ, zero, suc, ◌+◌, ◌≤◌, List, [], ◌∷◌, ◌++◌, Bool, true, false, Option, Some, None}
 use Rattle.std.proofs.Math.Path.{fun_ext}
-use Rattle.client_database.specs.declared.operation.Op.{Op}
-use Rattle.client_database.specs.declared.answer.Answer.{Answer}
-use Rattle.client_database.specs.declared.answer.Answer.TheVariants as answer
-use Rattle.client_database.specs.declared.next_step.NextStep.{NextStep}
-use Rattle.client_database.specs.declared.next_step.NextStep.TheVariants.{Ask, Ended}
+use Rattle.database_protocol.specs.declared.operation.Op.{Op}
+use Rattle.database_protocol.specs.declared.answer.Answer.{Answer}
+use Rattle.database_protocol.specs.declared.answer.Answer.TheVariants as answer
+use Rattle.database_protocol.specs.declared.next_step.NextStep.{NextStep}
+use Rattle.database_protocol.specs.declared.next_step.NextStep.TheVariants.{Ask, Ended}
 use Rattle.block_meaning.specs.State.{State, Copy, Completion, Normal, Undoes, Raises, EndKeys, Stops, Outcome, Done, Suspended, Continuation, completes, if_else, update_then, costs_unit_of, costs_unit, awaits, asks, if_normal, and_then, Completed, immediately}
 use Rattle.block_meaning.specs.GivesUp.{is_blocked}
 use Rattle.block_meaning.specs.Levels.{CanAsk, levels_after}

@@ -3,8 +3,8 @@ use Rattle.std.proofs.Common.{◌≡◌, refl, sym, ap, subst, ℕ, zero, suc, �
 use Rattle.std.specs.Prelude.{slice_index_or, slice_set}
 use Rattle.std.proofs.lemmas.Bool.Decides.{eqb_tells}
 use Rattle.abl_base.specs.declared.value.Value.{Value}
-use Rattle.client_database.specs.declared.operation.Op.TheVariants as op
-use Rattle.client_database.specs.declared.answer.Answer.{Answer}
+use Rattle.database_protocol.specs.declared.operation.Op.TheVariants as op
+use Rattle.database_protocol.specs.declared.answer.Answer.{Answer}
 use Rattle.block_meaning.specs.State.{State, CallFrame, Buffer, Saved, Copy, Content, Empty, Record, Pending, NoLock, Share, Exclusive, Normal, Outcome, Done, Suspended, Continuation, completes, if_else, update_then, asks, and_then}
 use Rattle.block_meaning.specs.Frames.{no_frame, no_buffer, emptied, all_emptied, contents_restored, frames_restored, put_back}
 use Rattle.block_meaning.specs.Views.{values_in}

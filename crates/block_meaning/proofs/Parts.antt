@@ -2,17 +2,17 @@
 use Rattle.std.proofs.Common.{◌≡◌, refl, ℕ, zero, suc, ◌==◌, nat_lt, List, [], ◌∷◌, ◌++◌, map, length, Bool, true, false, not, ◌&&◌, Option, Some, None}
 use Rattle.abl_base.specs.declared.limits.TheConstants.{MAX_ROW_BYTES}
 use Rattle.abl_base.specs.declared.row.RowId.{RowId}
-use Rattle.client_database.specs.declared.row_order.Cursor.{Cursor}
+use Rattle.database_protocol.specs.declared.row_order.Cursor.{Cursor}
 use Rattle.abl_base.specs.declared.value.Value.{Value}
 use Rattle.abl_values.specs.Rows.{bytes_of_row}
-use Rattle.client_database.specs.declared.operation.Op.TheVariants as op
-use Rattle.client_database.specs.declared.answer.Answer.{Answer}
+use Rattle.database_protocol.specs.declared.operation.Op.TheVariants as op
+use Rattle.database_protocol.specs.declared.answer.Answer.{Answer}
 use Rattle.bound_tree.specs.declared.block.LockWanted.{LockWanted}
 use Rattle.bound_tree.specs.declared.block.LockWanted.TheVariants as wanted
 use Rattle.bound_tree.specs.declared.statement.FindWord.{FindWord}
 use Rattle.bound_tree.specs.declared.statement.FindWord.TheVariants as find
 use Rattle.bound_tree.specs.Tree.{Expr, Reading, Fetch}
-use Rattle.abl_expr.specs.Operators.{holds}
+use Rattle.expression_meaning.specs.Operators.{holds}
 use Rattle.block_meaning.specs.Program.{Program, table_at}
 use Rattle.block_meaning.specs.Lines.{Complaint, IsMandatory, RecordTooLong, NoRecordFound, MoreThanOne, IsLocked, NoRecordIn}
 use Rattle.block_meaning.specs.State.{State, Content, Empty, Record, Pending, Held, NoLock, Exclusive, Turn, Completion, Normal, Faults, EndKeys, Found, Lost, NotFound, Continuation, completes, if_else, update_then, asks, and_then, has_fault, nothing_passed}

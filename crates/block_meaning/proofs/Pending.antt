@@ -6,7 +6,7 @@ use Rattle.std.proofs.Math.ListN.{get_or-map}
 use Rattle.std.proofs.lemmas.Bool.Decides.{eqb_tells}
 use Rattle.std.proofs.lemmas.Bool.{eq-eqb}
 use Rattle.abl_base.specs.declared.value.Value.{Value}
-use Rattle.client_database.specs.declared.answer.Answer.{Answer}
+use Rattle.database_protocol.specs.declared.answer.Answer.{Answer}
 use Rattle.block_meaning.specs.State.{State, CallFrame, Buffer, Saved, Copy, Content, Empty, Record, Pending, Normal, Done}
 use Rattle.block_meaning.specs.Frames.{no_frame, no_buffer, own_frame, with_own, emptied, all_emptied, content_restored, contents_restored, frames_restored, is_in}
 use Rattle.block_meaning.specs.Buffers.{Place, frame_out, as_share, buffer_shared, frame_shared, shared, left_if, is_left_out}

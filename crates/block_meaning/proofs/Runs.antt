@@ -1,10 +1,10 @@
 -- The whole run continues.
 use Rattle.std.proofs.Common.{◌≡◌, refl, sym, ap, ◌∙◌, subst, ℕ, ◌≤◌, List, [], ◌∷◌, ◌++◌, append_assoc, append-nil, false, arith}
-use Rattle.client_database.specs.declared.operation.Op.{Op}
-use Rattle.client_database.specs.declared.answer.Answer.{Answer}
-use Rattle.client_database.specs.declared.ends.ClientEnd.{ClientEnd}
+use Rattle.database_protocol.specs.declared.operation.Op.{Op}
+use Rattle.database_protocol.specs.declared.answer.Answer.{Answer}
+use Rattle.database_protocol.specs.declared.ends.ClientEnd.{ClientEnd}
 use Rattle.block_meaning.specs.declared.wants.Piece.{Piece}
-use Rattle.client_database.specs.declared.next_step.NextStep.TheVariants.{Ask, Ended}
+use Rattle.database_protocol.specs.declared.next_step.NextStep.TheVariants.{Ask, Ended}
 use Rattle.block_meaning.specs.Program.{Program, procedure_at}
 use Rattle.block_meaning.specs.State.{State, Completion, Progress, Outcome, Done, Suspended, Continuation}
 use Rattle.block_meaning.specs.Blocks.{block}

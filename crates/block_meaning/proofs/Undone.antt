@@ -3,10 +3,10 @@ use Rattle.std.proofs.Common.{◌≡◌, refl, ap, ◌∙◌, subst, ℕ, zero, 
 use Rattle.std.proofs.Math.Seq.{map-set_same}
 use Rattle.abl_base.specs.declared.row.RowId.{RowId}
 use Rattle.abl_base.specs.declared.value.Value.{Value}
-use Rattle.client_database.specs.declared.operation.Op.{Op}
-use Rattle.client_database.specs.declared.operation.Op.TheVariants as op
-use Rattle.client_database.specs.declared.answer.Answer.{Answer}
-use Rattle.client_database.specs.declared.answer.Answer.TheVariants as answer
+use Rattle.database_protocol.specs.declared.operation.Op.{Op}
+use Rattle.database_protocol.specs.declared.operation.Op.TheVariants as op
+use Rattle.database_protocol.specs.declared.answer.Answer.{Answer}
+use Rattle.database_protocol.specs.declared.answer.Answer.TheVariants as answer
 use Rattle.block_meaning.specs.State.{State, CallFrame, Buffer, Saved, Copy, Content, Empty, Record, Pending, Held, Completion, Normal, Outcome, Done, Suspended, Continuation, completes, if_else, update_then, costs_unit_of, awaits, asks, if_normal, and_then}
 use Rattle.block_meaning.specs.Frames.{no_frame, own_frame, with_own, emptied, all_emptied, frames_restored, put_back}
 use Rattle.block_meaning.specs.Views.{values_in}

@@ -4,13 +4,13 @@ use Rattle.std.specs.Prelude.{pos}
 use Rattle.abl_base.specs.declared.limits.TheConstants.{MAX_OUTPUT_BYTES}
 use Rattle.abl_base.specs.declared.value.Value.{Value}
 use Rattle.abl_base.specs.declared.value.Value.TheVariants.{Int64}
-use Rattle.client_database.specs.declared.operation.Op.TheVariants as op
-use Rattle.client_database.specs.declared.answer.Answer.{Answer}
+use Rattle.database_protocol.specs.declared.operation.Op.TheVariants as op
+use Rattle.database_protocol.specs.declared.answer.Answer.{Answer}
 use Rattle.bound_tree.specs.declared.expression.Variable.{Variable}
 use Rattle.bound_tree.specs.declared.statement.Target.{Target}
 use Rattle.bound_tree.specs.Tree.{Expr, Header, ToPhrase, Fetch, Action, ThenRetry, ThenLeave, ThenNext, ThenReturn, ThenError, OnPhrase, Procedure, Argument, In, Out, InOut, Stmt, Inner, Choose, Assign, Find, FindCurrent, Create, Remove, Release, UndoBlock, LeaveBlock, NextBlock, Return, ReturnError, Stop, Run, Import, Export, ExportRecord, PutItems, Message, OutputTo, OutputClose, InputFrom, InputClose, Body, Nothing, Then}
-use Rattle.abl_expr.specs.Operators.{holds}
-use Rattle.text_forms.specs.TextForms.{Imported, AtInputEnd, BadElement, Elements}
+use Rattle.expression_meaning.specs.Operators.{holds}
+use Rattle.abl_base.specs.text_forms.TextForms.{Imported, AtInputEnd, BadElement, Elements}
 use Rattle.block_meaning.specs.declared.wants.Piece.{Piece}
 use Rattle.block_meaning.specs.declared.wants.Piece.TheVariants.{Wrote, Opened}
 use Rattle.block_meaning.specs.Program.{Program, procedure_at}

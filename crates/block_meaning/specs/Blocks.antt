@@ -5,11 +5,11 @@ use Rattle.abl_base.specs.declared.value.Value.{Value}
 use Rattle.abl_base.specs.declared.value.Value.TheVariants.{Text, Int, Int64, Dec, Logical, Date, Unknown}
 use Rattle.abl_values.specs.Arithmetic.{sum_of}
 use Rattle.abl_values.specs.Texts.{plain_text}
-use Rattle.client_database.specs.declared.operation.Op.TheVariants as op
+use Rattle.database_protocol.specs.declared.operation.Op.TheVariants as op
 use Rattle.bound_tree.specs.declared.block.BlockKind.{BlockKind}
 use Rattle.bound_tree.specs.declared.block.BlockKind.TheVariants as kind
 use Rattle.bound_tree.specs.Tree.{Expr, Header, ToPhrase, Fetch, Action, ThenRetry, ThenLeave, ThenNext, ThenReturn, ThenError, OnPhrase}
-use Rattle.abl_expr.specs.Operators.{holds, at_most, at_least}
+use Rattle.expression_meaning.specs.Operators.{holds, at_most, at_least}
 use Rattle.block_meaning.specs.declared.wants.Piece.{Piece}
 use Rattle.block_meaning.specs.declared.wants.Piece.TheVariants.{Wrote}
 use Rattle.block_meaning.specs.Program.{Program}

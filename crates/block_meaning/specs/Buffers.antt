@@ -5,9 +5,9 @@ use Rattle.abl_base.specs.declared.row.RowId.{RowId}
 use Rattle.abl_values.specs.declared.schema.FieldDef.{FieldDef}
 use Rattle.abl_base.specs.declared.value.Value.{Value}
 use Rattle.abl_values.specs.Rows.{bytes_of_row}
-use Rattle.client_database.specs.declared.operation.Op.TheVariants as op
-use Rattle.client_database.specs.declared.answer.Answer.{Answer}
-use Rattle.abl_expr.specs.Operators.{is_unknown}
+use Rattle.database_protocol.specs.declared.operation.Op.TheVariants as op
+use Rattle.database_protocol.specs.declared.answer.Answer.{Answer}
+use Rattle.expression_meaning.specs.Operators.{is_unknown}
 use Rattle.block_meaning.specs.Program.{Program, table_at}
 use Rattle.block_meaning.specs.Lines.{Complaint, IsMandatory, RecordTooLong}
 use Rattle.block_meaning.specs.State.{State, CallFrame, Buffer, Content, Empty, Record, Pending, Held, Share, Exclusive, Normal, Faults, Done, Continuation, completes, if_else, update_then, asks, and_then, has_fault}

@@ -1,8 +1,8 @@
 -- The faults of statements, and the line about each.
 use Rattle.std.specs.Prelude.{ℕ, List, [], ◌∷◌, ◌++◌, codes}
 use Rattle.std.specs.Fmt.{decimal}
-use Rattle.abl_expr.specs.declared.fault.RunFault.{RunFault}
-use Rattle.abl_expr.specs.declared.fault.RunFault.TheVariants as fault
+use Rattle.expression_meaning.specs.declared.fault.RunFault.{RunFault}
+use Rattle.expression_meaning.specs.declared.fault.RunFault.TheVariants as fault
 use Rattle.block_meaning.specs.Program.{Program, table_name, field_name, index_name, buffer_name}
 
 -- what a line `** TEXT` reports. Buffers are those of the running procedure

@@ -3,18 +3,18 @@ use Rattle.std.specs.Prelude.{ℕ, zero, suc, ◌+◌, List, [], ◌∷◌, ◌+
 use Rattle.abl_base.specs.declared.value.Value.{Value}
 use Rattle.abl_base.specs.declared.value.Value.TheVariants.{Unknown}
 use Rattle.abl_base.specs.declared.value.Kind.{Kind}
-use Rattle.client_database.specs.declared.operation.Op.{Op}
-use Rattle.client_database.specs.declared.operation.Op.TheVariants as op
-use Rattle.client_database.specs.declared.answer.Answer.{Answer}
+use Rattle.database_protocol.specs.declared.operation.Op.{Op}
+use Rattle.database_protocol.specs.declared.operation.Op.TheVariants as op
+use Rattle.database_protocol.specs.declared.answer.Answer.{Answer}
 use Rattle.bound_tree.specs.declared.expression.Variable.{Variable}
 use Rattle.bound_tree.specs.declared.procedure.BufferDef.{BufferDef}
 use Rattle.bound_tree.specs.Tree.{Procedure, Argument, In, Out, InOut, ThenError, Stmt, Inner, Choose, Assign, Find, FindCurrent, Create, Remove, Release, UndoBlock, LeaveBlock, NextBlock, Return, ReturnError, Stop, Run, Import, Export, ExportRecord, PutItems, Message, OutputTo, OutputClose, InputFrom, InputClose, Body, Nothing, Then}
-use Rattle.abl_expr.specs.Operators.{holds}
-use Rattle.client_database.specs.declared.ends.StopWhy.TheVariants as why
-use Rattle.client_database.specs.declared.ends.ClientEnd.{ClientEnd}
-use Rattle.client_database.specs.declared.ends.ClientEnd.TheVariants as client
-use Rattle.client_database.specs.declared.next_step.NextStep.{NextStep}
-use Rattle.client_database.specs.declared.next_step.NextStep.TheVariants.{Ask, Ended}
+use Rattle.expression_meaning.specs.Operators.{holds}
+use Rattle.database_protocol.specs.declared.ends.StopWhy.TheVariants as why
+use Rattle.database_protocol.specs.declared.ends.ClientEnd.{ClientEnd}
+use Rattle.database_protocol.specs.declared.ends.ClientEnd.TheVariants as client
+use Rattle.database_protocol.specs.declared.next_step.NextStep.{NextStep}
+use Rattle.database_protocol.specs.declared.next_step.NextStep.TheVariants.{Ask, Ended}
 use Rattle.block_meaning.specs.Program.{Program, procedure_at}
 use Rattle.block_meaning.specs.State.{State, CallFrame, Buffer, Empty, nothing_passed, Completion, Normal, Leaves, Nexts, Undoes, Faults, Raises, EndKeys, Returns, Stops, Progress, Outcome, Done, Suspended, Continuation, completes, if_else, update_then, costs_unit, and_then}
 use Rattle.block_meaning.specs.Frames.{own_frame, value_of, assigned, value_in, set_in, content_of}

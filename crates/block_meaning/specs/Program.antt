@@ -5,7 +5,7 @@ use Rattle.abl_values.specs.Schema.{no_table}
 use Rattle.bound_tree.specs.declared.block.BlockKind.TheVariants as block
 use Rattle.bound_tree.specs.declared.procedure.BufferDef.{BufferDef}
 use Rattle.bound_tree.specs.Tree.{Source, Procedure, Header, Nothing}
-use Rattle.text_forms.specs.TextForms.{TextForms}
+use Rattle.abl_base.specs.text_forms.TextForms.{TextForms}
 pub use Rattle.abl_values.specs.Schema.{no_field, no_index}
 
 -- the program of a client

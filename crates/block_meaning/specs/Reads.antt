@@ -1,12 +1,12 @@
 -- Reading a record: the bracket, Next, WHERE, Lock, Get, and WHERE again.
 use Rattle.std.specs.Prelude.{ℕ, zero, suc, ◌==◌, if◌then◌else◌, List, [], ◌∷◌, map, Bool, true, false, Option, Some, None, Result, Ok, Err}
 use Rattle.abl_base.specs.declared.row.RowId.{RowId}
-use Rattle.client_database.specs.declared.row_order.Cursor.{Cursor}
+use Rattle.database_protocol.specs.declared.row_order.Cursor.{Cursor}
 use Rattle.abl_base.specs.declared.value.Value.{Value}
 use Rattle.abl_values.specs.declared.arithmetic.ArithFault.{ArithFault}
 use Rattle.abl_values.specs.Fit.{fitted}
-use Rattle.client_database.specs.declared.operation.Op.TheVariants as op
-use Rattle.client_database.specs.declared.answer.Answer.{Answer}
+use Rattle.database_protocol.specs.declared.operation.Op.TheVariants as op
+use Rattle.database_protocol.specs.declared.answer.Answer.{Answer}
 use Rattle.bound_tree.specs.declared.block.LockWanted.{LockWanted}
 use Rattle.bound_tree.specs.declared.block.LockWanted.TheVariants as wanted
 use Rattle.bound_tree.specs.declared.block.FetchWord.{FetchWord}
@@ -14,7 +14,7 @@ use Rattle.bound_tree.specs.declared.block.FetchWord.TheVariants as fetch
 use Rattle.bound_tree.specs.declared.statement.FindWord.{FindWord}
 use Rattle.bound_tree.specs.declared.statement.FindWord.TheVariants as find
 use Rattle.bound_tree.specs.Tree.{Expr, BracketValue, Reading, Fetch}
-use Rattle.abl_expr.specs.Operators.{equals, holds}
+use Rattle.expression_meaning.specs.Operators.{equals, holds}
 use Rattle.block_meaning.specs.Program.{Program}
 use Rattle.block_meaning.specs.Lines.{NoRecordFound, MoreThanOne, IsLocked, NoRecordIn}
 use Rattle.block_meaning.specs.State.{State, Spot, Content, Empty, Record, Pending, Held, NoLock, Share, Exclusive, Turn, Completion, Normal, EndKeys, Stops, Found, Lost, NotFound, Outcome, Done, Suspended, Continuation, completes, if_else, update_then, asks, and_then, has_fault, nothing_passed, out_of_units}

@@ -5,7 +5,7 @@ use Rattle.abl_base.specs.declared.value.Kind.{Kind}
 use Rattle.bound_tree.specs.declared.statement.Target.{Target}
 use Rattle.bound_tree.specs.declared.statement.Target.TheVariants as target
 use Rattle.bound_tree.specs.Tree.{Given, Assignment}
-use Rattle.text_forms.specs.TextForms.{Imported, AtInputEnd, BadElement, Elements}
+use Rattle.abl_base.specs.text_forms.TextForms.{Imported, AtInputEnd, BadElement, Elements}
 use Rattle.block_meaning.specs.declared.wants.Piece.TheVariants.{Wrote, Opened}
 use Rattle.block_meaning.specs.Program.{Program}
 use Rattle.block_meaning.specs.Lines.{BadField, NoRecordIn}

@@ -7,9 +7,9 @@ use Rattle.abl_values.specs.declared.arithmetic.ArithFault.{ArithFault}
 use Rattle.abl_values.specs.Fit.{fitted}
 use Rattle.abl_values.specs.Texts.{plain_text, export_text}
 use Rattle.bound_tree.specs.Tree.{Expr, Item, Shows, Skips, Spaces}
-use Rattle.abl_expr.specs.Env.{Env}
-use Rattle.abl_expr.specs.Operators.{Given}
-use Rattle.abl_expr.specs.Evaluate.{evaluate}
+use Rattle.expression_meaning.specs.Env.{Env}
+use Rattle.expression_meaning.specs.Operators.{Given}
+use Rattle.expression_meaning.specs.Evaluate.{evaluate}
 use Rattle.block_meaning.specs.Program.{Program}
 use Rattle.block_meaning.specs.Lines.{Complaint, OutOfRange, complaint_of}
 use Rattle.block_meaning.specs.State.{State, Content, Empty, Record, Pending, Continuation, Done, Faults}

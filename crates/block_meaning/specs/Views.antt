@@ -1,10 +1,10 @@
 -- What an answer carries. An answer that does not fit its operation never comes: these functions give it the simplest reading.
 use Rattle.std.specs.Prelude.{ℕ, Bool, true, false, List, Option, Some, None, ℤ}
 use Rattle.abl_base.specs.declared.row.RowId.{RowId}
-use Rattle.client_database.specs.declared.row_order.Cursor.{Cursor}
+use Rattle.database_protocol.specs.declared.row_order.Cursor.{Cursor}
 use Rattle.abl_base.specs.declared.value.Value.{Value}
-use Rattle.client_database.specs.declared.answer.Answer.{Answer}
-use Rattle.client_database.specs.declared.answer.Answer.TheVariants as answer
+use Rattle.database_protocol.specs.declared.answer.Answer.{Answer}
+use Rattle.database_protocol.specs.declared.answer.Answer.TheVariants as answer
 use Rattle.block_meaning.specs.Lines.{Complaint, IsDuplicate, KeyIsTooLong, DatabaseFull, RecordIsGone}
 
 -- a record that a search found

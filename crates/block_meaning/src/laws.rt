@@ -3,10 +3,10 @@
 
 ghost use Rattle.std.specs.Prelude.{◌≡◌, ◌<◌, ◌≤◌, ℕ, List, ◌++◌, Bool, false, Some, length};
 ghost use Rattle.abl_base.specs.declared.value.Value.{Value};
-ghost use Rattle.client_database.specs.declared.answer.Answer.{Answer};
-ghost use Rattle.client_database.specs.declared.operation.Op.{Op};
+ghost use Rattle.database_protocol.specs.declared.answer.Answer.{Answer};
+ghost use Rattle.database_protocol.specs.declared.operation.Op.{Op};
 ghost use Rattle.bound_tree.specs.Tree.{Stmt};
-ghost use Rattle.client_database.specs.declared.ends.ClientEnd.{ClientEnd};
+ghost use Rattle.database_protocol.specs.declared.ends.ClientEnd.{ClientEnd};
 ghost use Rattle.block_meaning.specs.Program.{Program};
 ghost use Rattle.block_meaning.specs.State.{State, Completion, Normal, Done, Copy, Pending};
 ghost use Rattle.block_meaning.specs.Buffers.{Place, frame_out, is_left_out};
@@ -16,7 +16,7 @@ ghost use Rattle.block_meaning.specs.GivesUp.{Begins, units_used};
 ghost use Rattle.block_meaning.specs.Levels.{CanAskAll, asked_once};
 ghost use Rattle.block_meaning.specs.Undone.{undoable_of, saved_variables, saved_content, content_in, IsOlder, LeftAlone};
 
-use client_database::NextStep;
+use database_protocol::NextStep;
 
 /// With more answers, a client has written the same pieces and then more.
 pub fn written_only_grows()

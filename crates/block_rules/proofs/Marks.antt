@@ -5,9 +5,9 @@ use Rattle.std.proofs.Math.Seq.{drop-cons, take-suc}
 use Rattle.abl_base.specs.declared.place.Place.{Place}
 use Rattle.abl_base.specs.declared.rule.Rule.TheVariants.{U6}
 use Rattle.bind_names.specs.Judged.{at}
-use Rattle.abl_syntax.specs.declared.block.Phrase.{Phrase}
-use Rattle.abl_syntax.specs.declared.record.RecordOption.{RecordOption}
-use Rattle.abl_syntax.specs.Typed.{phrase_of, record_option_of}
+use Rattle.syntax_tree.specs.declared.block.Phrase.{Phrase}
+use Rattle.syntax_tree.specs.declared.record.RecordOption.{RecordOption}
+use Rattle.syntax_tree.specs.Typed.{phrase_of, record_option_of}
 use Rattle.block_rules.specs.Options.{Marked, is_one_of, of_option, of_phrase, repeats, repeats_after}
 use Rattle.block_rules.specs.Classes.{classes, mark_of_option, mark_of_phrase}
 

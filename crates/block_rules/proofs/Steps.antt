@@ -6,13 +6,13 @@ use Rattle.std.proofs.Math.Seq.{drop-cons}
 use Rattle.bind_names.specs.declared.violation.Violation.{Violation}
 use Rattle.bind_names.specs.Judged.{first_of}
 use Rattle.bind_names.proofs.Joined.{first_of_append}
-use Rattle.abl_syntax.specs.declared.block.Head.{Head as TypedHead}
-use Rattle.abl_syntax.specs.declared.program.Item.{Item}
-use Rattle.abl_syntax.specs.declared.statement.Statement.{Statement}
-use Rattle.abl_syntax.specs.declared.statement.Statement.TheViews as view
-use Rattle.abl_syntax.specs.Syntax.{Head}
-use Rattle.abl_syntax.specs.Typed.{head_of, item_of, statement_of, statements_of}
-use Rattle.abl_syntax.proofs.Bodies.{block_is}
+use Rattle.syntax_tree.specs.declared.block.Head.{Head as TypedHead}
+use Rattle.syntax_tree.specs.declared.program.Item.{Item}
+use Rattle.syntax_tree.specs.declared.statement.Statement.{Statement}
+use Rattle.syntax_tree.specs.declared.statement.Statement.TheViews as view
+use Rattle.syntax_tree.specs.Syntax.{Head}
+use Rattle.syntax_tree.specs.Typed.{head_of, item_of, statement_of, statements_of}
+use Rattle.syntax_tree.proofs.Bodies.{block_is}
 use Rattle.block_rules.specs.Rules.{head_breaks, item_breaks, program_breaks, statement_breaks, statements_break}
 
 here : {A : Type 0} (xs : List A) (i : ℕ) (x : A) → i < length xs → x ≡ get_or xs i x → drop i xs ≡ x ∷ drop (i + 1) xs

@@ -5,9 +5,9 @@ use Rattle.std.specs.Prelude.{Bool, true, false, not, ◌||◌, if◌then◌else
 use Rattle.std.specs.Option.{is_some}
 use Rattle.std.specs.List.{list_any}
 use Rattle.abl_values.specs.Schema.{same_name}
-use Rattle.abl_syntax.specs.declared.name.Word.{Word}
-use Rattle.abl_syntax.specs.declared.word.BlockWord.TheVariants as word
-use Rattle.abl_syntax.specs.Syntax.{Phrase, While, Opening, Plainly, Head}
+use Rattle.syntax_tree.specs.declared.name.Word.{Word}
+use Rattle.syntax_tree.specs.declared.word.BlockWord.TheVariants as word
+use Rattle.syntax_tree.specs.Syntax.{Phrase, While, Opening, Plainly, Head}
 
 abbrev pub is_while : Phrase → Bool
 is_while (While at e) = true

@@ -1,8 +1,8 @@
 -- Phrases and options by class and place, as the code asks for them.
 use Rattle.std.specs.Prelude.{ℕ, List, map}
-use Rattle.abl_syntax.specs.declared.block.Phrase.{Phrase}
-use Rattle.abl_syntax.specs.declared.record.RecordOption.{RecordOption}
-use Rattle.abl_syntax.specs.Typed.{phrase_of, record_option_of}
+use Rattle.syntax_tree.specs.declared.block.Phrase.{Phrase}
+use Rattle.syntax_tree.specs.declared.record.RecordOption.{RecordOption}
+use Rattle.syntax_tree.specs.Typed.{phrase_of, record_option_of}
 use Rattle.block_rules.specs.Options.{Marked, of_phrase, of_option}
 
 abbrev pub mark_of_phrase : Phrase → Marked

@@ -5,11 +5,11 @@ use Rattle.abl_base.specs.declared.rule.Rule.{Rule}
 use Rattle.abl_base.specs.declared.rule.Rule.TheVariants.{U1, U2, U3, U4, U5, U6, U7}
 use Rattle.bind_names.specs.declared.violation.Violation.{Violation}
 use Rattle.bound_tree.specs.declared.block.LockWanted.TheVariants as lock
-use Rattle.abl_syntax.specs.declared.name.Word.{Word}
-use Rattle.abl_syntax.specs.declared.word.BlockWord.{BlockWord}
-use Rattle.abl_syntax.specs.declared.word.BlockWord.TheVariants.{Do, Repeat}
-use Rattle.abl_syntax.specs.declared.word.FindWhich.TheVariants as which
-use Rattle.abl_syntax.specs.Syntax.{Phrase, Transaction, OnError, Lock, UseIndex, Plainly, Head, Leave, Next, RetryIt, Statement, Block, Find, Undo, NextBlock, Statements, Nothing, Then, Alone}
+use Rattle.syntax_tree.specs.declared.name.Word.{Word}
+use Rattle.syntax_tree.specs.declared.word.BlockWord.{BlockWord}
+use Rattle.syntax_tree.specs.declared.word.BlockWord.TheVariants.{Do, Repeat}
+use Rattle.syntax_tree.specs.declared.word.FindWhich.TheVariants as which
+use Rattle.syntax_tree.specs.Syntax.{Phrase, Transaction, OnError, Lock, UseIndex, Plainly, Head, Leave, Next, RetryIt, Statement, Block, Find, Undo, NextBlock, Statements, Nothing, Then, Alone}
 use Rattle.block_rules.specs.Rules.{first_broken}
 
 -- a place in the first line

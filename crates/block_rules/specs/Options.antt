@@ -5,9 +5,9 @@ use Rattle.abl_base.specs.declared.place.Place.{Place}
 use Rattle.abl_base.specs.declared.rule.Rule.TheVariants.{U6}
 use Rattle.bind_names.specs.declared.violation.Violation.{Violation}
 use Rattle.bind_names.specs.Judged.{at}
-use Rattle.abl_syntax.specs.declared.definition.VariableOption.{VariableOption}
-use Rattle.abl_syntax.specs.declared.definition.VariableOption.TheVariants as option
-use Rattle.abl_syntax.specs.Syntax.{Phrase, While, Transaction, OnError, OnEndkey, RecordOption, Where, UseIndex, Lock, NoWait, NoError}
+use Rattle.syntax_tree.specs.declared.definition.VariableOption.{VariableOption}
+use Rattle.syntax_tree.specs.declared.definition.VariableOption.TheVariants as option
+use Rattle.syntax_tree.specs.Syntax.{Phrase, While, Transaction, OnError, OnEndkey, RecordOption, Where, UseIndex, Lock, NoWait, NoError}
 
 -- a phrase or option: which one it is, by a number, and the place of its first word. All lock options are one
 pub record Marked : Type 0 where

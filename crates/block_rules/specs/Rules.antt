@@ -4,10 +4,10 @@ use Rattle.abl_base.specs.declared.place.Place.{Place}
 use Rattle.abl_base.specs.declared.rule.Rule.TheVariants.{U1, U2, U3, U4, U5, U6, U7}
 use Rattle.bind_names.specs.declared.violation.Violation.{Violation}
 use Rattle.bind_names.specs.Judged.{at, first, unless}
-use Rattle.abl_syntax.specs.declared.name.Word.{Word}
-use Rattle.abl_syntax.specs.declared.word.FindWhich.{FindWhich}
-use Rattle.abl_syntax.specs.declared.word.FindWhich.TheVariants as which
-use Rattle.abl_syntax.specs.Syntax.{Phrase, OnError, OnEndkey, RecordOption, Where, UseIndex, Opening, ForRecords, Head, Action, Leave, Next, RetryIt, Return, Definition, Variable, Parameter, Statement, Block, Choose, Define, Find, Undo, LeaveBlock, NextBlock, Statements, Nothing, Then, Item, Procedure, Alone, Program}
+use Rattle.syntax_tree.specs.declared.name.Word.{Word}
+use Rattle.syntax_tree.specs.declared.word.FindWhich.{FindWhich}
+use Rattle.syntax_tree.specs.declared.word.FindWhich.TheVariants as which
+use Rattle.syntax_tree.specs.Syntax.{Phrase, OnError, OnEndkey, RecordOption, Where, UseIndex, Opening, ForRecords, Head, Action, Leave, Next, RetryIt, Return, Definition, Variable, Parameter, Statement, Block, Choose, Define, Find, Undo, LeaveBlock, NextBlock, Statements, Nothing, Then, Item, Procedure, Alone, Program}
 use Rattle.block_rules.specs.Blocks.{first_has_undo, first_is_called, first_iterates, from_label, from_undo, is_inner, one_iterates}
 use Rattle.block_rules.specs.Options.{of_option, of_phrase, of_variable_option, repeats}
 

@@ -2,7 +2,7 @@
 
 ghost use Rattle.std.specs.Prelude.{◌≡◌};
 ghost use Rattle.bind_names.specs.Judged.{first_of};
-ghost use Rattle.abl_syntax.specs.Typed.{action_of, maybe_action_of, maybe_boxed_action_of};
+ghost use Rattle.syntax_tree.specs.Typed.{action_of, maybe_action_of, maybe_boxed_action_of};
 ghost use Rattle.block_rules.specs.Around.{heads_of};
 ghost use Rattle.block_rules.specs.Rules.{action_breaks, inside_breaks, leave_breaks, leaves_break, next_breaks, nexts_break, retry_breaks, target_breaks, undo_breaks, undone_by};
 ghost use Rattle.abl_base.specs.declared.place.Place.{Place as ThePlace};
@@ -13,8 +13,8 @@ use crate::around::{
 };
 use crate::violations::{broken, unless};
 use abl_base::{Place, Rule};
-use abl_syntax::{Action, Word};
 use bind_names::Violation;
+use syntax_tree::{Action, Word};
 
 /// LEAVE, with its label if it has one.
 pub fn leaves_break(around: &Around, label: &Option<Word>, first: &mut Option<Violation>)

@@ -1,12 +1,12 @@
 //! The blocks around a place.
 
 ghost use Rattle.std.specs.Prelude.{◌≡◌, map};
-ghost use Rattle.abl_syntax.specs.Typed.{head_of, opening_of, phrase_of};
+ghost use Rattle.syntax_tree.specs.Typed.{head_of, opening_of, phrase_of};
 ghost use Rattle.block_rules.specs.Blocks.{first_has_undo, first_is_called, first_iterates, from_label, from_undo, has_undo, has_undo_phrase, has_while, is_called, is_do, is_inner, is_while, iterates, one_iterates};
 ghost use Rattle.block_rules.specs.Around.{heads_of};
 
-use abl_syntax::{BlockWord, Head, Opening, Phrase, Word};
 use abl_values::same_name;
+use syntax_tree::{BlockWord, Head, Opening, Phrase, Word};
 
 /// The block that a place is in, with the blocks around it.
 #[derive(Drop)]

@@ -2,7 +2,7 @@
 
 ghost use Rattle.std.specs.Prelude.{◌≡◌, map};
 ghost use Rattle.bind_names.specs.Judged.{first_of};
-ghost use Rattle.abl_syntax.specs.Typed.{head_of, opening_of, phrase_of};
+ghost use Rattle.syntax_tree.specs.Typed.{head_of, opening_of, phrase_of};
 ghost use Rattle.block_rules.specs.Around.{heads_of};
 ghost use Rattle.block_rules.specs.Rules.{head_breaks, label_breaks, opening_breaks, phrase_breaks, phrases_break};
 
@@ -11,8 +11,8 @@ use crate::around::{Around, from_label, is_inner};
 use crate::options::{repeated_options, repeated_phrases};
 use crate::violations::unless;
 use abl_base::Rule;
-use abl_syntax::{Head, Opening, Phrase, Word};
 use bind_names::Violation;
+use syntax_tree::{Head, Opening, Phrase, Word};
 
 /// The header of a block.
 #[tactic(auto, using(bind_names::proofs::Joined::first_of_append, crate::proofs::Marks::marks_of_phrases))]

@@ -3,15 +3,15 @@
 
 ghost use Rattle.std.specs.Prelude.{◌≡◌, map};
 ghost use Rattle.bind_names.specs.Judged.{first_of};
-ghost use Rattle.abl_syntax.specs.Typed.{record_option_of};
+ghost use Rattle.syntax_tree.specs.Typed.{record_option_of};
 ghost use Rattle.block_rules.specs.Classes.{classes, mark_of_option, mark_of_phrase};
 ghost use Rattle.block_rules.specs.Options.{is_one_of, of_variable_option, repeats};
 ghost use Rattle.block_rules.specs.Rules.{current_breaks};
 
 use crate::violations::broken;
 use abl_base::{Place, Rule};
-use abl_syntax::{Phrase, RecordOption, VariableOption};
 use bind_names::Violation;
+use syntax_tree::{Phrase, RecordOption, VariableOption};
 
 /// A phrase or option: which one it is, by a number, and the place of its first word.
 #[derive(Clone, Copy)]

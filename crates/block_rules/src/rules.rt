@@ -2,7 +2,7 @@
 
 ghost use Rattle.std.specs.Prelude.{◌≡◌, map, [], None};
 ghost use Rattle.bind_names.specs.Judged.{first_of};
-ghost use Rattle.abl_syntax.specs.Typed.{definition_of, item_of, program_of, record_option_of, statement_of, statements_of};
+ghost use Rattle.syntax_tree.specs.Typed.{definition_of, item_of, program_of, record_option_of, statement_of, statements_of};
 ghost use Rattle.block_rules.specs.Around.{heads_of};
 ghost use Rattle.block_rules.specs.Rules.{definition_breaks, find_breaks, first_broken, item_breaks, program_breaks, statement_breaks, statements_break};
 
@@ -10,8 +10,8 @@ use crate::actions::{leaves_break, nexts_break, undo_breaks};
 use crate::around::Around;
 use crate::headers::head_breaks;
 use crate::options::{current_breaks, repeated_options, repeated_variable_options};
-use abl_syntax::{Definition, FindWhich, Item, Program, RecordOption, Statement};
 use bind_names::Violation;
+use syntax_tree::{Definition, FindWhich, Item, Program, RecordOption, Statement};
 
 /// The first rule U that the source breaks, and where; none exactly where it breaks none. It takes
 /// no memory.
@@ -56,7 +56,7 @@ fn statements_break(body: &[Statement], around: &Around, first: &mut Option<Viol
 
 /// A statement, in the innermost block of `around`.
 #[cycle(rules)]
-#[tactic(auto, using(bind_names::proofs::Joined::first_of_append, abl_syntax::proofs::Bodies::block_is, abl_syntax::proofs::Bodies::if_is))]
+#[tactic(auto, using(bind_names::proofs::Joined::first_of_append, syntax_tree::proofs::Bodies::block_is, syntax_tree::proofs::Bodies::if_is))]
 fn statement_breaks(statement: &Statement, around: &Around, first: &mut Option<Violation>)
     ensures { first.new ≡ first_of first.old (statement_breaks (heads_of around.now) (statement_of statement.now)) }
 {

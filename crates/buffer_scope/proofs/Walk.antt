@@ -3,12 +3,12 @@ use Rattle.std.proofs.Common.{◌≡◌, ℕ, suc, ◌+◌, ◌<◌, List, ◌�
 use Rattle.std.specs.Prelude.{map, Bool, Box, Vec}
 use Rattle.std.specs.declared.alloc.Global.{Global}
 use Rattle.std.proofs.Math.Seq.{drop-cons}
-use Rattle.abl_syntax.specs.declared.block.Head.{Head}
-use Rattle.abl_syntax.specs.declared.program.Item.{Item}
-use Rattle.abl_syntax.specs.declared.statement.Statement.{Statement}
-use Rattle.abl_syntax.specs.declared.statement.Statement.TheViews as view
-use Rattle.abl_syntax.specs.Typed.{item_of, opening_of, statement_of, statements_of}
-use Rattle.abl_syntax.proofs.Bodies.{block_is}
+use Rattle.syntax_tree.specs.declared.block.Head.{Head}
+use Rattle.syntax_tree.specs.declared.program.Item.{Item}
+use Rattle.syntax_tree.specs.declared.statement.Statement.{Statement}
+use Rattle.syntax_tree.specs.declared.statement.Statement.TheViews as view
+use Rattle.syntax_tree.specs.Typed.{item_of, opening_of, statement_of, statements_of}
+use Rattle.syntax_tree.proofs.Bodies.{block_is}
 use Rattle.buffer_scope.specs.Blocks.{Placed, may_scope, one_more, through, through_all, through_item, through_items}
 
 pub here : {A : Type 0} (xs : List A) (i : ℕ) (x : A) → i < length xs → x ≡ get_or xs i x → drop i xs ≡ x ∷ drop (i + 1) xs

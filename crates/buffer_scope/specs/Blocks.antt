@@ -2,8 +2,8 @@
 -- them; that of the external procedure is 0.
 use Rattle.std.specs.Prelude.{ℕ, Bool, true, false, List, [], ◌∷◌, ◌++◌, length, Option, Some, None, slice_get}
 use Rattle.abl_base.specs.declared.place.Place.{Place}
-use Rattle.abl_syntax.specs.declared.word.BlockWord.TheVariants as word
-use Rattle.abl_syntax.specs.Syntax.{Opening, Plainly, Statement, Block, Choose, Statements, Nothing, Then, Item, Procedure, Alone, Program}
+use Rattle.syntax_tree.specs.declared.word.BlockWord.TheVariants as word
+use Rattle.syntax_tree.specs.Syntax.{Opening, Plainly, Statement, Block, Choose, Statements, Nothing, Then, Item, Procedure, Alone, Program}
 
 -- a block: its first keyword, whether the free scope of a buffer may be it, and the numbers of the blocks that hold what is in it, itself the first and
 -- its procedure's the last

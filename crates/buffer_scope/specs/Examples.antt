@@ -5,10 +5,10 @@ use Rattle.abl_base.specs.declared.place.Place.{Place}
 use Rattle.abl_base.specs.declared.rule.Rule.{Rule}
 use Rattle.abl_base.specs.declared.rule.Rule.TheVariants.{S1, S2, S3, S4}
 use Rattle.bind_names.specs.declared.violation.Violation.{Violation}
-use Rattle.abl_syntax.specs.declared.name.Word.{Word}
-use Rattle.abl_syntax.specs.declared.word.BlockWord.TheVariants as word
-use Rattle.abl_syntax.specs.Syntax.{Opening, Plainly, ForRecords, Head, Statement, Block, Stop, Statements, Alone, Item, Program}
-use Rattle.abl_syntax.specs.Syntax as s
+use Rattle.syntax_tree.specs.declared.name.Word.{Word}
+use Rattle.syntax_tree.specs.declared.word.BlockWord.TheVariants as word
+use Rattle.syntax_tree.specs.Syntax.{Opening, Plainly, ForRecords, Head, Statement, Block, Stop, Statements, Alone, Item, Program}
+use Rattle.syntax_tree.specs.Syntax as s
 use Rattle.bound_tree.specs.declared.block.BlockKind.TheVariants as kind
 use Rattle.bound_tree.specs.declared.block.FetchWord.TheVariants as fetch
 use Rattle.bound_tree.specs.declared.procedure.Reference.{Reference}

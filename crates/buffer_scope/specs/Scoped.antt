@@ -1,7 +1,7 @@
 -- The source with the buffers scoped to each block.
 use Rattle.std.specs.Prelude.{ℕ, ◌+◌, if◌then◌else◌, List, [], ◌∷◌, ◌++◌, map, Option}
 use Rattle.bind_names.specs.declared.violation.Violation.{Violation}
-use Rattle.abl_syntax.specs.Syntax.{Program}
+use Rattle.syntax_tree.specs.Syntax.{Program}
 use Rattle.bound_tree.specs.declared.procedure.BufferDef.{BufferDef}
 use Rattle.bound_tree.specs.declared.procedure.Reference.{Reference}
 use Rattle.bound_tree.specs.Tree.{Header, Stmt, Inner, Choose, Body, Nothing, Then, Procedure, Source}

@@ -2,13 +2,13 @@
 
 ghost use Rattle.std.specs.Prelude.{◌≡◌, ◌∷◌, IfOk, OnOk, length, map};
 ghost use Rattle.abl_base.specs.declared.place.Place.{Place as ThePlace};
-ghost use Rattle.abl_syntax.specs.Typed.{item_of, opening_of, program_of, statement_of, statements_of};
+ghost use Rattle.syntax_tree.specs.Typed.{item_of, opening_of, program_of, statement_of, statements_of};
 ghost use Rattle.buffer_scope.specs.Blocks.{blocks_of, may_scope, one_more, through, through_all, through_item, through_items};
 ghost use Rattle.buffer_scope.specs.Views.{all_of};
 
 use abl_base::Place;
-use abl_syntax::{BlockWord, Item, Opening, Program, Statement};
 use std::alloc::{AllocError, Global};
+use syntax_tree::{BlockWord, Item, Opening, Program, Statement};
 
 /// A block of a source.
 #[derive(Drop)]
@@ -107,7 +107,7 @@ fn through_all(
 
 /// A statement in the blocks `outer`.
 #[cycle(walk)]
-#[tactic(auto, using(abl_syntax::proofs::Bodies::block_is, abl_syntax::proofs::Bodies::if_is))]
+#[tactic(auto, using(syntax_tree::proofs::Bodies::block_is, syntax_tree::proofs::Bodies::if_is))]
 fn through(
     alloc: Global,
     blocks: &mut Vec<Block>,

@@ -1,7 +1,7 @@
 //! The source with the buffers scoped to each block.
 
 ghost use Rattle.std.specs.Prelude.{◌≡◌, ℕ, IfOk, OnOk, Err, None, Some, map};
-ghost use Rattle.abl_syntax.specs.Typed.{program_of};
+ghost use Rattle.syntax_tree.specs.Typed.{program_of};
 ghost use Rattle.bind_names.specs.declared.violation.Violation.{Violation as TheViolation};
 ghost use Rattle.bound_tree.specs.Bound.{body_of, header_of, procedure_of, source_of, stmt_of};
 ghost use Rattle.buffer_scope.specs.Blocks.{blocks_of};
@@ -14,10 +14,10 @@ ghost use Rattle.buffer_scope.specs.Views.{all_of, found_of};
 use crate::blocks::{Block, blocks_of};
 use crate::buffer::{BufferScopes, is_scope, references_to, scopes_of};
 use crate::rules::buffer_breaks;
-use abl_syntax::Program;
 use bind_names::Violation;
 use bound_tree::{Bound, Expr, Header, Procedure, Reference, Stmt};
 use std::alloc::{AllocError, Global};
+use syntax_tree::Program;
 
 /// Why the buffers of a source have no scopes.
 #[derive(Clone, Copy, PartialEq, Eq)]

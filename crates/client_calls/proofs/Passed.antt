@@ -4,8 +4,8 @@ use Rattle.std.specs.Prelude.{map, slice_index_or}
 use Rattle.std.proofs.lemmas.Bool.{cases_lt}
 use Rattle.std.proofs.lemmas.List.{length-append, map-append}
 use Rattle.abl_base.specs.declared.value.Value.{Value}
-use Rattle.abl_eval.specs.declared.fault.EvalFault.{EvalFault}
-use Rattle.abl_eval.specs.declared.fault.EvalFault.TheVariants.{Fault, NoMemory}
+use Rattle.evaluator.specs.declared.fault.EvalFault.{EvalFault}
+use Rattle.evaluator.specs.declared.fault.EvalFault.TheVariants.{Fault, NoMemory}
 use Rattle.bound_tree.specs.Tree.{Argument, In, Out, InOut}
 use Rattle.bound_tree.specs.Bound.{argument_of}
 use Rattle.bound_tree.specs.declared.statement.Argument.{Argument as SourceArgument}

@@ -10,8 +10,8 @@ use Rattle.block_meaning.specs.State.{State, Copy}
 use Rattle.block_meaning.specs.Frames.{own_frame}
 use Rattle.block_meaning.specs.Meaning.{cleared, copied_out, without_frame, opened_frame, argument_values, new_buffer}
 use Rattle.block_meaning.proofs.Continues.{begins_itself}
-use Rattle.block_flat.specs.Flat as flat
-use Rattle.block_flat.proofs.Machine.{step_means}
+use Rattle.flat_machine.specs.Flat as flat
+use Rattle.flat_machine.proofs.Machine.{step_means}
 use Rattle.client_memory.specs.Memory.{Remembered, IsOuter, ended, begun}
 use Rattle.client_output.proofs.Unchanged.{written_same}
 use Rattle.client_machine.specs.declared.machine.Machine.{Machine}

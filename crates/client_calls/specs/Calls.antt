@@ -1,8 +1,8 @@
 -- What RUN passes to a procedure, the frame of the procedure, and what it gives back.
 use Rattle.std.specs.Prelude.{◌≡◌, ℕ, ◌-◌, List, [], ◌∷◌, Bool, true, false, Option, Some, None, Result, Ok, Err, length, map}
 use Rattle.abl_base.specs.declared.value.Value.{Value}
-use Rattle.abl_eval.specs.declared.fault.EvalFault.{EvalFault}
-use Rattle.abl_eval.specs.declared.fault.EvalFault.TheVariants.{Fault, NoMemory}
+use Rattle.evaluator.specs.declared.fault.EvalFault.{EvalFault}
+use Rattle.evaluator.specs.declared.fault.EvalFault.TheVariants.{Fault, NoMemory}
 use Rattle.bound_tree.specs.Tree.{Argument, In, Out, InOut}
 use Rattle.bound_tree.specs.declared.expression.Variable.{Variable}
 use Rattle.block_meaning.specs.Lines.{complaint_of}

@@ -1,12 +1,12 @@
 -- A RUN in the code: what it passes, what begins, and what it gives back.
 use Rattle.std.specs.Prelude.{◌≡◌, ℕ, List, Bool, Some, Result, slice_get}
 use Rattle.abl_base.specs.declared.value.Value.{Value}
-use Rattle.abl_eval.specs.declared.fault.EvalFault.{EvalFault}
+use Rattle.evaluator.specs.declared.fault.EvalFault.{EvalFault}
 use Rattle.bound_tree.specs.Tree.{Run}
 use Rattle.block_meaning.specs.Program.{Program, procedure_at}
 use Rattle.block_meaning.specs.State.{State}
 use Rattle.block_meaning.specs.Meaning.{argument_values}
-use Rattle.block_flat.specs.Flat as flat
+use Rattle.flat_machine.specs.Flat as flat
 use Rattle.client_memory.specs.Memory.{Remembered, IsOuter, ended}
 use Rattle.client_values.specs.Reads.{Reads}
 use Rattle.client_values.specs.Variables.{state_with}

@@ -4,8 +4,8 @@ use Rattle.block_meaning.specs.Program.{Program, procedure_at}
 use Rattle.block_meaning.specs.State.{State}
 use Rattle.block_meaning.specs.Values.{EvaluatedAll}
 use Rattle.block_meaning.specs.Meaning.{argument_values}
-use Rattle.block_flat.specs.Flat as flat
-use Rattle.block_flat.specs.Steps.{given_all_step}
+use Rattle.flat_machine.specs.Flat as flat
+use Rattle.flat_machine.specs.Steps.{given_all_step}
 use Rattle.block_code.specs.declared.code.Instr.{Instr}
 use Rattle.client_machine.specs.declared.machine.Machine.{Machine}
 use Rattle.client_machine.specs.Config.{instr_at, run_arguments, run_procedure, AreEven}

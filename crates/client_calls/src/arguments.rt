@@ -11,11 +11,11 @@ ghost use Rattle.client_values.specs.Variables.{state_with};
 ghost use Rattle.client_calls.specs.Calls.{EvaluatesAll};
 
 use abl_base::{Row, Value};
-use abl_eval::EvalFault;
 use bound_tree::{Argument, Variable};
 use client_memory::Memory;
 use client_values::fitted::fitted;
 use client_values::value::{Status, value_of};
+use evaluator::EvalFault;
 use std::alloc::Global;
 
 /// The value that an argument passes to the parameter, made to fit its kind; OUTPUT passes none, and

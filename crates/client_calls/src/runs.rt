@@ -9,11 +9,11 @@ use crate::arguments::argument_values;
 use crate::frame::open_frame;
 use crate::outputs::close_frame;
 use abl_base::Row;
-use abl_eval::EvalFault;
 use block_code::{Code, Instr, ProcedureCode};
 use bound_tree::{Argument, Stmt};
 use client_memory::memory::Memory;
 use client_values::value::Status;
+use evaluator::EvalFault;
 use std::alloc::{AllocError, Global};
 
 /// The RUN at a place: where the code continues, and whether it has NO-ERROR.

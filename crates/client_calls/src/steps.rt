@@ -4,7 +4,7 @@
 ghost use Rattle.std.specs.Prelude.{◌≡◌, ℕ, List, IfOk, OnOk, OnErr, false, true, reverse};
 ghost use Rattle.block_meaning.specs.State.{State, Copy};
 ghost use Rattle.block_meaning.specs.Values.{EvaluatedAll};
-ghost use Rattle.block_flat.specs.Flat as flat;
+ghost use Rattle.flat_machine.specs.Flat as flat;
 ghost use Rattle.block_code.specs.declared.code.Instr.{Instr};
 ghost use Rattle.client_output.specs.Written.{IsUnchanged};
 ghost use Rattle.client_machine.specs.declared.mode.Completion.{Completion};
@@ -18,11 +18,11 @@ ghost use Rattle.client_calls.specs.Steps.{status_after, values_step, EvaluatesR
 
 use crate::runs::{RunAt, begin_procedure, end_procedure, run_at, values_at};
 use abl_base::Row;
-use abl_eval::EvalFault;
-use client_database::StopWhy;
 use client_machine::machine::Machine;
 use client_machine::mode::{Completion, LineFault, Mode, StackEntry, Task};
 use client_values::value::Status;
+use database_protocol::StopWhy;
+use evaluator::EvalFault;
 use std::alloc::AllocError;
 
 /// Executes the RUN at the place: ERROR-STATUS:ERROR is cleared under NO-ERROR, the arguments are

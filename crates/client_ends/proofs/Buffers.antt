@@ -2,13 +2,13 @@
 use Rattle.std.proofs.Common.{◌≡◌, ℕ, List, [], ◌∷◌, Bool, true, false, Option, Some, None, length, refl, ap, ◌∙◌}
 use Rattle.std.specs.Prelude.{◌==◌, not, ◌&&◌}
 use Rattle.abl_base.specs.declared.row.RowId.{RowId}
-use Rattle.client_database.specs.declared.operation.Op.TheVariants as op
+use Rattle.database_protocol.specs.declared.operation.Op.TheVariants as op
 use Rattle.block_meaning.specs.State.{State, Buffer, Content, Empty, Normal}
 use Rattle.block_meaning.specs.Frames as meant
 use Rattle.block_meaning.specs.Frames.{content_of, emptied, locked_row}
 use Rattle.block_meaning.specs.Buffers.{Place, own, buffer_in, holding_in, is_row_in}
-use Rattle.block_flat.specs.Config.{Config, StackEntry, Unwind, WasDropped}
-use Rattle.block_flat.specs.Steps.{ask, config, config_if, drop_step}
+use Rattle.flat_machine.specs.Config.{Config, StackEntry, Unwind, WasDropped}
+use Rattle.flat_machine.specs.Steps.{ask, config, config_if, drop_step}
 use Rattle.client_memory.specs.Buffers.{changed_in, rows_kept, with_content}
 use Rattle.client_memory.specs.Memory.{Remembered, buffer_at, holding}
 use Rattle.client_memory.proofs.FramesOut.{buffer_is, changed_is, own_buffer_is, own_changed_is, rows_are}

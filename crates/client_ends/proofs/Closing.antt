@@ -1,10 +1,10 @@
 -- The closing of an iteration.
 use Rattle.std.proofs.Common.{◌≡◌, ℕ, zero, suc, ◌+◌, ◌-◌, List, [], ◌∷◌, Option, Some, None, Bool, true, false, refl, sym, ap, ◌∙◌, subst, arith}
 use Rattle.std.specs.Prelude.{reverse, slice_index_or}
-use Rattle.client_database.specs.declared.operation.Op.{Op}
-use Rattle.client_database.specs.declared.operation.Op.TheVariants as op
-use Rattle.client_database.specs.declared.answer.Answer.{Answer}
-use Rattle.client_database.specs.declared.answer.Answer.TheVariants as answer
+use Rattle.database_protocol.specs.declared.operation.Op.{Op}
+use Rattle.database_protocol.specs.declared.operation.Op.TheVariants as op
+use Rattle.database_protocol.specs.declared.answer.Answer.{Answer}
+use Rattle.database_protocol.specs.declared.answer.Answer.TheVariants as answer
 use Rattle.bound_tree.specs.Tree.{Body, Header}
 use Rattle.block_meaning.specs.declared.wants.Piece.{Piece}
 use Rattle.block_meaning.specs.Program.{Program}
@@ -12,8 +12,8 @@ use Rattle.block_meaning.specs.Lines.{Complaint}
 use Rattle.block_meaning.specs.State.{State, Copy, Completion, Normal, Again, Leaves, Nexts, Undoes, Faults, Raises, EndKeys, Returns, Stops, Found, Lost, NotFound, Completed, Done, nothing_passed, completes, awaits, costs_unit_of, and_then, written_if}
 use Rattle.block_meaning.specs.Buffers.{keep_of, was_left}
 use Rattle.block_meaning.specs.Blocks.{Iteration, after_iteration, after_closing, complained, line_piece, ends, error_comes}
-use Rattle.block_flat.specs.Flat as flat
-use Rattle.block_flat.specs.Flat.{means, config, after_stack}
+use Rattle.flat_machine.specs.Flat as flat
+use Rattle.flat_machine.specs.Flat.{means, config, after_stack}
 use Rattle.client_memory.specs.Memory.{Remembered}
 use Rattle.client_machine.specs.Config.{no_copy}
 use Rattle.client_machine.specs.Order.{nesting_of, HaveDepths, IsOwn}

@@ -3,8 +3,8 @@ use Rattle.std.proofs.Common.{◌≡◌, ℕ, List, ap, sym, ◌∙◌}
 use Rattle.block_meaning.specs.Program.{Program}
 use Rattle.block_meaning.specs.State.{State, Buffer}
 use Rattle.block_meaning.specs.Buffers.{Place, buffer_in}
-use Rattle.block_flat.specs.Config.{StackEntry}
-use Rattle.block_flat.specs.Steps.{enter_step, update_step}
+use Rattle.flat_machine.specs.Config.{StackEntry}
+use Rattle.flat_machine.specs.Steps.{enter_step, update_step}
 use Rattle.client_memory.specs.Memory.{Remembered, buffer_at}
 use Rattle.client_machine.specs.Config.{state_of, AreEven}
 use Rattle.client_ends.specs.declared.insertion.Insertion.{Insertion}

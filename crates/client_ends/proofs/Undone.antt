@@ -7,9 +7,9 @@ use Rattle.block_meaning.specs.Program.{Program}
 use Rattle.block_meaning.specs.State.{State, Copy}
 use Rattle.block_meaning.specs.Frames.{put_back}
 use Rattle.block_meaning.specs.Buffers.{Place, all_places}
-use Rattle.block_flat.specs.Flat as flat
-use Rattle.block_flat.specs.Flat.{means, config}
-use Rattle.block_flat.proofs.Machine.{step_means}
+use Rattle.flat_machine.specs.Flat as flat
+use Rattle.flat_machine.specs.Flat.{means, config}
+use Rattle.flat_machine.proofs.Machine.{step_means}
 use Rattle.client_memory.specs.declared.buffer.Place.{Place as PlaceRs}
 use Rattle.client_memory.specs.Buffers.{denoted_place, places_in}
 use Rattle.client_memory.specs.Memory.{Remembered, left_to, restored, last_copy, made_before, IsWhole}

@@ -1,13 +1,13 @@
 -- What becomes of the record in a buffer that is entered.
 use Rattle.std.specs.Prelude.{◌≡◌, ℕ, List}
 use Rattle.abl_base.specs.declared.value.Value.{Value}
-use Rattle.client_database.specs.declared.operation.Op.TheVariants as op
+use Rattle.database_protocol.specs.declared.operation.Op.TheVariants as op
 use Rattle.block_meaning.specs.Program.{Program, table_at}
 use Rattle.block_meaning.specs.State.{State, Buffer, Normal}
 use Rattle.block_meaning.specs.Buffers.{Place, missing_field}
-use Rattle.block_flat.specs.Config.{Config, StackEntry, Unwind, WasInserted}
-use Rattle.block_flat.specs.Steps.{ask, config, fault, enter_step, insert_unless}
-use Rattle.complaint_lines.specs.Complaints.{complaint_in}
+use Rattle.flat_machine.specs.Config.{Config, StackEntry, Unwind, WasInserted}
+use Rattle.flat_machine.specs.Steps.{ask, config, fault, enter_step, insert_unless}
+use Rattle.record_rules.specs.lines.Complaints.{complaint_in}
 use Rattle.client_ends.specs.declared.insertion.Insertion.{Insertion}
 use Rattle.client_ends.specs.declared.insertion.Insertion.TheVariants as insertion
 

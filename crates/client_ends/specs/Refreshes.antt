@@ -1,10 +1,10 @@
 -- What becomes of the record in a buffer after an UNDO.
 use Rattle.std.specs.Prelude.{◌≡◌, ℕ, List}
-use Rattle.client_database.specs.declared.operation.Op.TheVariants as op
+use Rattle.database_protocol.specs.declared.operation.Op.TheVariants as op
 use Rattle.block_meaning.specs.State.{State, Buffer, Empty, Normal}
 use Rattle.block_meaning.specs.Buffers.{Place, holding_in}
-use Rattle.block_flat.specs.Config.{Config, StackEntry, Unwind, WasGot}
-use Rattle.block_flat.specs.Steps.{ask, config, update_step}
+use Rattle.flat_machine.specs.Config.{Config, StackEntry, Unwind, WasGot}
+use Rattle.flat_machine.specs.Steps.{ask, config, update_step}
 use Rattle.client_memory.specs.Buffers.{denoted_held}
 use Rattle.client_ends.specs.declared.refresh.Refresh.{Refresh}
 use Rattle.client_ends.specs.declared.refresh.Refresh.TheVariants as refresh

@@ -3,7 +3,7 @@
 ghost use Rattle.std.specs.Prelude.{◌≡◌, IfOk, OnOk, OnErr};
 ghost use Rattle.block_meaning.specs.Views.{values_in};
 ghost use Rattle.block_meaning.specs.Buffers.{got_content};
-ghost use Rattle.client_database.specs.declared.answer.Answer.{Answer};
+ghost use Rattle.database_protocol.specs.declared.answer.Answer.{Answer};
 ghost use Rattle.client_memory.specs.Buffers.{denoted_content, denoted_held};
 ghost use Rattle.client_machine.specs.declared.answers.AnswerClass.{AnswerClass};
 ghost use Rattle.client_machine.specs.AnswerClass.{IsOfAnswerClass, KeepsAnswer};
@@ -13,12 +13,12 @@ ghost use Rattle.client_machine.specs.declared.mode.ends.EndAnswer.{EndAnswer};
 ghost use Rattle.client_output.specs.Written.{IsUnchanged};
 
 use abl_base::{Items, Row, RowId};
-use client_database::{Answer, Op};
 use client_machine::machine::Machine;
 use client_machine::mode::ends::{BufferList, EndTask};
 use client_machine::mode::{Completion, LineFault, Mode, Task};
 use client_memory::buffer::Held;
 use client_memory::{Content, Place};
+use database_protocol::{Answer, Op};
 use record_rules::{inserted_row, refusal_in, values_in};
 use std::alloc::{AllocError, Global};
 

@@ -16,12 +16,12 @@ use crate::enters::place_at;
 use crate::lists::{buffers_in, copy_list};
 use crate::refresh::{Refresh, refresh_of};
 use abl_base::Items;
-use client_database::Op;
 use client_machine::machine::Machine;
 use client_machine::mode::ends::{BufferList, EndAnswer, EndTask};
 use client_machine::mode::{Completion, Mode, OnAnswer, StackEntry, Task};
 use client_memory::rows::is_in;
 use client_memory::{Content, Memory, Place};
+use database_protocol::Op;
 use std::alloc::AllocError;
 
 /// Goes back to a level, if there is one.

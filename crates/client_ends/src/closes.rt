@@ -15,12 +15,12 @@ ghost use Rattle.client_machine.specs.Step.{KeepsEntry, KeepsTask};
 ghost use Rattle.client_output.specs.Written.{IsUnchanged};
 
 use crate::lists::{buffers_in, own_places, scoped_at};
-use client_database::{Op, RowIds, StopWhy};
 use client_machine::machine::Machine;
 use client_machine::mode::ends::{BufferList, EndEntry, EndTask};
 use client_machine::mode::{
     Completion, IterationData, LineFault, Mode, OnAnswer, StackEntry, Task, TurnData,
 };
+use database_protocol::{Op, RowIds, StopWhy};
 use std::alloc::AllocError;
 
 /// Closes an iteration of the block at the place: inserts the pending records of its buffers, releases

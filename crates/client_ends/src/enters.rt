@@ -12,11 +12,11 @@ ghost use Rattle.client_ends.specs.Insertions.{EntersAs};
 
 use crate::insertion::{Insertion, insertion_of};
 use abl_base::Items;
-use client_database::Op;
 use client_machine::machine::Machine;
 use client_machine::mode::ends::{EndAnswer, EndTask};
 use client_machine::mode::{Completion, LineFault, Mode, OnAnswer, StackEntry, Task};
 use client_memory::Place;
+use database_protocol::Op;
 use std::alloc::AllocError;
 
 /// Inserts the record in the buffer at the place, if it is pending.

@@ -9,7 +9,7 @@ ghost use Rattle.client_ends.specs.Insertions.{EntersAs, InsertsAs};
 use abl_base::{Row, copy_row};
 use abl_values::Schema;
 use client_memory::{Buffer, Content};
-use complaint_lines::Complaint;
+use record_rules::lines::Complaint;
 use record_rules::unstorable;
 use std::alloc::AllocError;
 

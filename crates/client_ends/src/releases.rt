@@ -14,11 +14,11 @@ ghost use Rattle.client_ends.specs.Drops.{dropped_row};
 
 use crate::lists::scoped_at;
 use abl_base::RowId;
-use client_database::Op;
 use client_machine::machine::Machine;
 use client_machine::mode::ends::{EndAnswer, EndTask};
 use client_machine::mode::{Completion, Mode, OnAnswer, StackEntry, Task};
 use client_memory::{Content, Memory, Place};
+use database_protocol::Op;
 use record_rules::is_row_in;
 use std::alloc::AllocError;
 

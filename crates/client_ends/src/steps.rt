@@ -13,11 +13,11 @@ use crate::backs::{empty_all, go_back, restore, update_from, update_one};
 use crate::closes::{Closing, close, close_undone, closed, closing_of, leave_if, leave_now};
 use crate::enters::{enter_from, enter_one, enter_rest};
 use crate::releases::{drop_record, release_from};
-use client_database::{Answer, Op};
 use client_machine::answers::{AnswerClass, answer_class};
 use client_machine::machine::Machine;
 use client_machine::mode::ends::{EndAnswer, EndEntry, EndTask};
 use client_machine::mode::{Completion, OnAnswer};
+use database_protocol::{Answer, Op};
 use std::alloc::AllocError;
 
 /// Executes a task. Out of memory is the only error.

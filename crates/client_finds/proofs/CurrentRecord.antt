@@ -6,9 +6,9 @@ use Rattle.block_meaning.specs.Lines.{NoRecordIn}
 use Rattle.block_meaning.specs.Program.{Program}
 use Rattle.block_meaning.specs.State as state
 use Rattle.block_meaning.specs.State.{State}
-use Rattle.block_flat.specs.Flat as flat
-use Rattle.client_reads.specs.Steps.{CurrentGoes}
-use Rattle.client_reads.specs.declared.buffers.Current.TheVariants as current
+use Rattle.flat_machine.specs.Flat as flat
+use Rattle.buffer_steps.specs.reads.Steps.{CurrentGoes}
+use Rattle.buffer_steps.specs.declared.reads.buffers.Current.TheVariants as current
 use Rattle.client_machine.specs.declared.machine.Machine.{Machine}
 use Rattle.client_machine.specs.declared.mode.Task.TheVariants as task
 use Rattle.client_machine.specs.declared.mode.reads.ReadTask.TheVariants as read_task

@@ -1,8 +1,8 @@
 -- FIND, and the record of a FOR.
 use Rattle.std.proofs.Common.{◌≡◌, ◌-◌, Bool, false, true, ℕ, List, [], ◌∷◌, Option, Some, None, refl, sym, ap, ◌∙◌, subst, arith}
 use Rattle.std.specs.Prelude.{length, reverse}
-use Rattle.client_database.specs.declared.answer.Answer.{Answer}
-use Rattle.client_database.specs.declared.row_order.Cursor.{Cursor}
+use Rattle.database_protocol.specs.declared.answer.Answer.{Answer}
+use Rattle.database_protocol.specs.declared.row_order.Cursor.{Cursor}
 use Rattle.bound_tree.specs.declared.statement.FindWord.{FindWord}
 use Rattle.bound_tree.specs.Tree.{Body, Fetch}
 use Rattle.block_meaning.specs.Buffers.{own}
@@ -11,9 +11,9 @@ use Rattle.block_meaning.specs.Program.{Program}
 use Rattle.block_meaning.specs.State as state
 use Rattle.block_meaning.specs.State.{State, Copy}
 use Rattle.block_meaning.proofs.Continues.{begins_itself}
-use Rattle.block_flat.specs.Flat as flat
-use Rattle.block_flat.specs.Flat.{IsCodeOf}
-use Rattle.block_flat.proofs.Machine.{step_means}
+use Rattle.flat_machine.specs.Flat as flat
+use Rattle.flat_machine.specs.Flat.{IsCodeOf}
+use Rattle.flat_machine.proofs.Machine.{step_means}
 use Rattle.block_code.specs.declared.code.Instr.{Instr}
 use Rattle.client_memory.specs.Frames.{state_with}
 use Rattle.client_output.proofs.Unchanged.{written_same}

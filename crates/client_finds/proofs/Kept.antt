@@ -1,16 +1,16 @@
 -- What the parts of a step keep, from one to the next.
 use Rattle.std.proofs.Common.{◌≡◌, ◌⊎◌, inl, inr, Bool, ℕ, List, [], ◌∷◌, ◌++◌, None, length, refl, sym, ap, ◌∙◌, subst}
 use Rattle.std.specs.Prelude.{Err, Ok, OnOk, Result, map, reverse}
-use Rattle.client_database.specs.declared.answer.Answer.{Answer}
-use Rattle.client_database.specs.declared.operation.Op.{Op}
+use Rattle.database_protocol.specs.declared.answer.Answer.{Answer}
+use Rattle.database_protocol.specs.declared.operation.Op.{Op}
 use Rattle.bound_tree.specs.Tree.{Body}
 use Rattle.block_meaning.specs.Lines.{Complaint}
 use Rattle.block_meaning.specs.Program.{Program}
 use Rattle.block_meaning.specs.State.{State, Copy}
 use Rattle.block_meaning.proofs.Continues.{begins_itself}
-use Rattle.block_flat.specs.Flat as flat
-use Rattle.block_flat.specs.Flat.{IsCodeOf}
-use Rattle.block_flat.proofs.Machine.{step_means, answered_means}
+use Rattle.flat_machine.specs.Flat as flat
+use Rattle.flat_machine.specs.Flat.{IsCodeOf}
+use Rattle.flat_machine.proofs.Machine.{step_means, answered_means}
 use Rattle.client_memory.specs.Memory.{Remembered}
 use Rattle.client_memory.specs.Frames.{state_with}
 use Rattle.client_output.proofs.Unchanged.{written_same}
@@ -23,7 +23,7 @@ use Rattle.client_machine.specs.declared.mode.Mode.TheVariants as mode
 use Rattle.client_machine.specs.declared.mode.OnAnswer.{OnAnswer}
 use Rattle.client_machine.specs.declared.mode.OnAnswer.TheVariants as on_answer
 use Rattle.client_machine.specs.declared.mode.reads.ReadAnswer.{ReadAnswer}
-use Rattle.client_database.specs.declared.ends.StopWhy.TheVariants as why
+use Rattle.database_protocol.specs.declared.ends.StopWhy.TheVariants as why
 use Rattle.client_machine.specs.declared.mode.StackEntry.{StackEntry}
 use Rattle.client_machine.specs.declared.mode.Task.{Task}
 use Rattle.client_machine.specs.AnswerClass.{IsOfAnswerClass, KeepsAnswer}

@@ -1,22 +1,22 @@
 -- A search: the bracket, and Next.
 use Rattle.std.proofs.Common.{◌≡◌, Bool, false, true, ℕ, suc, List, ◌∷◌, Option, Some, None, refl, sym, ap, ◌∙◌, subst}
 use Rattle.abl_base.specs.declared.value.Value.{Value}
-use Rattle.abl_expr.specs.declared.fault.RunFault.{RunFault}
-use Rattle.client_database.specs.declared.operation.Op.{Op}
-use Rattle.client_database.specs.declared.operation.Op.TheVariants as op
-use Rattle.client_database.specs.declared.row_order.Cursor.{Cursor}
+use Rattle.expression_meaning.specs.declared.fault.RunFault.{RunFault}
+use Rattle.database_protocol.specs.declared.operation.Op.{Op}
+use Rattle.database_protocol.specs.declared.operation.Op.TheVariants as op
+use Rattle.database_protocol.specs.declared.row_order.Cursor.{Cursor}
 use Rattle.block_meaning.specs.Lines.{MoreThanOne, complaint_of}
 use Rattle.block_meaning.specs.Program.{Program}
 use Rattle.block_meaning.specs.State as state
 use Rattle.block_meaning.specs.State.{State}
 use Rattle.block_meaning.specs.Frames.{table_of}
 use Rattle.block_meaning.specs.Views.{FoundRow}
-use Rattle.block_flat.specs.Flat as flat
+use Rattle.flat_machine.specs.Flat as flat
 use Rattle.block_code.specs.declared.code.Instr.{Instr}
-use Rattle.abl_eval.specs.declared.fault.EvalFault.{EvalFault}
-use Rattle.reading_values.specs.Reading.{Brackets}
-use Rattle.client_reads.specs.Steps.{NextGoes, NextTested, SecondGoes, SecondTested}
-use Rattle.client_reads.specs.declared.search.NextTest.{NextTest}
+use Rattle.evaluator.specs.declared.fault.EvalFault.{EvalFault}
+use Rattle.record_rules.specs.readings.Reading.{Brackets}
+use Rattle.buffer_steps.specs.reads.Steps.{NextGoes, NextTested, SecondGoes, SecondTested}
+use Rattle.buffer_steps.specs.declared.reads.search.NextTest.{NextTest}
 use Rattle.client_machine.specs.declared.machine.Machine.{Machine}
 use Rattle.client_machine.specs.declared.mode.reads.SearchData.{SearchData}
 use Rattle.client_machine.specs.Config.{reading_at, search_of}
@@ -27,7 +27,7 @@ use Rattle.client_finds.specs.Stays.{ReadsIn, StaysIn, state_under}
 use Rattle.client_finds.specs.Steps.{instrs_in, KeepsExecuted}
 use Rattle.client_finds.proofs.Kept.{memory_goes, reads_now, rest_now, step_kept}
 use Rattle.std.specs.Prelude.{Ok, Err, Result}
-use Rattle.abl_eval.specs.declared.fault.EvalFault.TheVariants.{Fault}
+use Rattle.evaluator.specs.declared.fault.EvalFault.TheVariants.{Fault}
 
 -- the bracket has these values
 pub searched : (old mid new : Machine) (sd : SearchData) (from : Option Cursor) → mid ≡ old →

@@ -5,14 +5,14 @@ use Rattle.abl_base.specs.declared.row.RowId.{RowId}
 use Rattle.abl_base.specs.declared.value.Value.{Value}
 use Rattle.bound_tree.specs.declared.block.LockWanted.TheVariants as wanted
 use Rattle.bound_tree.specs.Tree.{Reading}
-use Rattle.client_database.specs.declared.row_order.Cursor.{Cursor}
+use Rattle.database_protocol.specs.declared.row_order.Cursor.{Cursor}
 use Rattle.block_meaning.specs.Program.{Program}
 use Rattle.block_meaning.specs.Reads.{Search}
 use Rattle.block_meaning.specs.State as state
 use Rattle.block_meaning.specs.State.{State}
-use Rattle.block_flat.specs.Flat as flat
+use Rattle.flat_machine.specs.Flat as flat
 use Rattle.block_code.specs.declared.code.Instr.{Instr}
-use Rattle.client_reads.proofs.Taken.{found_at_once}
+use Rattle.buffer_steps.proofs.ReadsLemmas.Taken.{found_at_once}
 use Rattle.client_machine.specs.declared.machine.Machine.{Machine}
 use Rattle.client_machine.specs.declared.mode.Completion.TheVariants as completion
 use Rattle.client_machine.specs.declared.mode.StackEntry.{StackEntry}

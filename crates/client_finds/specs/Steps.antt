@@ -1,6 +1,6 @@
 -- What the parts of a step keep.
 use Rattle.std.specs.Prelude.{List}
-use Rattle.block_flat.specs.Flat as flat
+use Rattle.flat_machine.specs.Flat as flat
 use Rattle.block_code.specs.declared.code.Instr.{Instr}
 use Rattle.client_machine.specs.declared.machine.Machine.{Machine}
 use Rattle.client_machine.specs.Machine.{stack_in}

@@ -12,10 +12,10 @@ use crate::locks::{was_granted, was_read};
 use crate::search::was_next;
 use crate::takes::was_second;
 use abl_base::{Row, RowId};
-use client_database::{Answer, Cursor, Op};
 use client_machine::machine::Machine;
 use client_machine::mode::reads::SearchData;
 use client_memory::Held;
+use database_protocol::{Answer, Cursor, Op};
 use record_rules::{found_in, grant_in, values_in};
 use std::alloc::AllocError;
 

@@ -4,8 +4,8 @@
 ghost use Rattle.std.specs.Prelude.{◌≡◌, OnOk, OnErr};
 ghost use Rattle.block_meaning.specs.Reads.{is_exclusive};
 ghost use Rattle.block_meaning.specs.Frames.{table_of};
-ghost use Rattle.block_flat.specs.Flat as flat;
-ghost use Rattle.client_database.specs.declared.operation.Op.{Op};
+ghost use Rattle.flat_machine.specs.Flat as flat;
+ghost use Rattle.database_protocol.specs.declared.operation.Op.{Op};
 ghost use Rattle.client_output.specs.Written.{IsUnchanged};
 ghost use Rattle.record_rules.specs.declared.answers.Grant.{Grant};
 ghost use Rattle.record_rules.specs.Answers.{grant_of};
@@ -24,12 +24,12 @@ use crate::places::{buffer_at, lock_at, waits_at};
 use crate::readings::{settle, show_current, start_current};
 use abl_base::{Row, RowId};
 use bound_tree::LockWanted;
+use buffer_steps::reads::Current;
 use client_machine::machine::Machine;
 use client_machine::mode::LineFault;
 use client_machine::mode::reads::ReadAnswer;
-use client_reads::Current;
-use complaint_lines::Complaint;
 use record_rules::Grant;
+use record_rules::lines::Complaint;
 use std::alloc::AllocError;
 
 /// The FIND CURRENT at the place: an empty buffer is a fault, and a record that is not inserted yet

@@ -4,8 +4,8 @@
 ghost use Rattle.std.specs.Prelude.{◌≡◌, ◌∷◌, OnOk, OnErr, Some, true, false};
 ghost use Rattle.block_meaning.specs.State as state;
 ghost use Rattle.block_meaning.specs.Reads.{is_forward};
-ghost use Rattle.block_flat.specs.Flat as flat;
-ghost use Rattle.client_database.specs.declared.row_order.Cursor.{Cursor};
+ghost use Rattle.flat_machine.specs.Flat as flat;
+ghost use Rattle.database_protocol.specs.declared.row_order.Cursor.{Cursor};
 ghost use Rattle.client_output.specs.Written.{IsUnchanged};
 ghost use Rattle.client_machine.specs.declared.mode.Completion.{Completion};
 ghost use Rattle.client_machine.specs.declared.mode.LineFault.{LineFault};
@@ -30,14 +30,14 @@ use crate::readings::{empty, unlock};
 use crate::search::search;
 use crate::takes::push_found;
 use bound_tree::FetchWord;
-use client_database::{Cursor, StopWhy};
+use buffer_steps::reads::{FetchStart, fetch_start};
 use client_machine::machine::Machine;
 use client_machine::mode::ends::{BufferList, EndTask};
 use client_machine::mode::reads::{ReadEntry, ReadTask};
 use client_machine::mode::{
     Completion, IterationData, LineFault, Mode, StackEntry, Task, TurnData,
 };
-use client_reads::{FetchStart, fetch_start};
+use database_protocol::{Cursor, StopWhy};
 use std::alloc::AllocError;
 
 /// The reading of the FOR at the place begins: LOCKED becomes no, a pending record is inserted, and

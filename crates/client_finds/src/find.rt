@@ -3,7 +3,7 @@
 ghost use Rattle.std.specs.Prelude.{◌≡◌, ◌∷◌, ℕ, List, IfSome, OnOk, OnErr, reverse};
 ghost use Rattle.block_meaning.specs.State.{State, Copy};
 ghost use Rattle.block_meaning.specs.Buffers.{own};
-ghost use Rattle.block_flat.specs.Flat as flat;
+ghost use Rattle.flat_machine.specs.Flat as flat;
 ghost use Rattle.block_code.specs.declared.code.Instr.{Instr};
 ghost use Rattle.client_output.specs.Written.{IsUnchanged};
 ghost use Rattle.client_machine.specs.declared.mode.Completion.{Completion};
@@ -28,7 +28,7 @@ use client_machine::mode::ends::{BufferList, EndTask};
 use client_machine::mode::reads::{ReadEntry, ReadTask};
 use client_machine::mode::{Completion, LineFault, Mode, PassedLevels, StackEntry, Task};
 use client_memory::Place;
-use complaint_lines::Complaint;
+use record_rules::lines::Complaint;
 use std::alloc::AllocError;
 
 /// The FIND at the place begins: LOCKED becomes no, a pending record is inserted, and the old record

@@ -2,7 +2,7 @@
 
 ghost use Rattle.std.specs.Prelude.{◌≡◌, ◌∷◌, OnOk, OnErr, Some, None, reverse};
 ghost use Rattle.block_meaning.specs.State as state;
-ghost use Rattle.block_flat.specs.Flat as flat;
+ghost use Rattle.flat_machine.specs.Flat as flat;
 ghost use Rattle.client_output.specs.Written.{IsUnchanged};
 ghost use Rattle.client_machine.specs.declared.mode.Completion.{Completion};
 ghost use Rattle.client_machine.specs.declared.mode.Mode.{Mode};
@@ -12,10 +12,10 @@ ghost use Rattle.client_machine.specs.Machine.{stack_in};
 ghost use Rattle.client_machine.specs.Order.{IsNotOnLevels};
 ghost use Rattle.client_finds.specs.Steps.{instrs_in};
 
-use client_database::{Cursor, Op, StopWhy};
 use client_machine::machine::Machine;
 use client_machine::mode::reads::ReadAnswer;
 use client_machine::mode::{Completion, LineFault, Mode, OnAnswer, StackEntry};
+use database_protocol::{Cursor, Op, StopWhy};
 use std::alloc::AllocError;
 
 /// Asks for an operation, which costs a unit, or stops the client. A reading asks for none on

@@ -5,9 +5,9 @@ ghost use Rattle.block_meaning.specs.Lines.{IsLocked};
 ghost use Rattle.block_meaning.specs.State as state;
 ghost use Rattle.block_meaning.specs.Frames.{table_of};
 ghost use Rattle.block_meaning.specs.Reads.{held_as, is_exclusive};
-ghost use Rattle.client_database.specs.declared.operation.Op.{Op};
+ghost use Rattle.database_protocol.specs.declared.operation.Op.{Op};
 ghost use Rattle.record_rules.specs.declared.answers.Grant.{Grant};
-ghost use Rattle.block_flat.specs.Flat as flat;
+ghost use Rattle.flat_machine.specs.Flat as flat;
 ghost use Rattle.client_memory.specs.Buffers.{denoted_held};
 ghost use Rattle.client_output.specs.Written.{IsUnchanged};
 ghost use Rattle.record_rules.specs.Answers.{grant_of};
@@ -21,14 +21,14 @@ use crate::ops::{get_op, lock_op};
 use crate::places::{buffer_at, lock_at};
 use crate::readings::{settle, show_again};
 use abl_base::{Row, RowId};
-use abl_eval::EvalFault;
 use bound_tree::LockWanted;
 use client_machine::machine::Machine;
 use client_machine::mode::LineFault;
 use client_machine::mode::reads::ReadAnswer;
 use client_memory::Held;
-use complaint_lines::Complaint;
+use evaluator::EvalFault;
 use record_rules::Grant;
+use record_rules::lines::Complaint;
 use std::alloc::AllocError;
 
 /// A record that passed WHERE is locked, where the reading wants a lock.

@@ -5,7 +5,7 @@ ghost use Rattle.block_meaning.specs.Program.{Program};
 ghost use Rattle.block_meaning.specs.State.{State};
 ghost use Rattle.block_meaning.specs.Frames.{table_of};
 ghost use Rattle.block_meaning.specs.Reads.{is_exclusive as is_exclusive_there};
-ghost use Rattle.client_database.specs.declared.operation.Op.{Op};
+ghost use Rattle.database_protocol.specs.declared.operation.Op.{Op};
 ghost use Rattle.client_machine.specs.Config.{reading_at as reading_there};
 ghost use Rattle.client_machine.specs.Order.{IsNotOnLevels};
 ghost use Rattle.client_finds.specs.Stays.{ReadsIn, state_under};
@@ -14,9 +14,9 @@ ghost use Rattle.client_finds.specs.Steps.{instrs_in};
 use crate::places::reading_at;
 use abl_base::{Row, RowId};
 use bound_tree::LockWanted;
-use client_database::{Cursor, Op};
 use client_machine::machine::Machine;
 use client_memory::Place;
+use database_protocol::{Cursor, Op};
 
 /// The number of the table of a buffer of the running procedure.
 fn table_in(machine: &Machine, buffer: u32) -> u16

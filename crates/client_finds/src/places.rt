@@ -2,7 +2,7 @@
 
 ghost use Rattle.std.specs.Prelude.{◌≡◌, ℕ, IfSome};
 ghost use Rattle.bound_tree.specs.Bound.{reading_of, fetch_of, stmt_of};
-ghost use Rattle.block_flat.specs.Flat as flat;
+ghost use Rattle.flat_machine.specs.Flat as flat;
 ghost use Rattle.client_machine.specs.Config.{instr_at, header_at, reading_at as reading_there, fetch_at as fetch_there};
 ghost use Rattle.client_machine.specs.Statements.{fetch_in, find_word_in, reading_in, wait_in};
 

@@ -1,4 +1,4 @@
-//! The steps of a reading on a machine: those of `client_reads` on the buffers of its running
+//! The steps of a reading on a machine: those of `buffer_steps::reads` on the buffers of its running
 //! procedure, for the reading at a place of the code. Where there is no reading, they answer that
 //! there is no memory.
 
@@ -7,24 +7,24 @@ ghost use Rattle.block_meaning.specs.Program.{Program};
 ghost use Rattle.block_meaning.specs.State.{State};
 ghost use Rattle.block_meaning.specs.Frames.{emptied, marked_locked, with_spot};
 ghost use Rattle.block_meaning.specs.Reads.{shows};
-ghost use Rattle.block_flat.specs.Flat as flat;
-ghost use Rattle.reading_values.specs.Reading.{Brackets};
+ghost use Rattle.flat_machine.specs.Flat as flat;
+ghost use Rattle.record_rules.specs.readings.Reading.{Brackets};
 ghost use Rattle.record_rules.specs.Answers.{found_row_in};
-ghost use Rattle.client_reads.specs.Steps.{CurrentGoes, CurrentRead, GrantGoes, NextGoes, ReadGoes, SecondGoes};
+ghost use Rattle.buffer_steps.specs.reads.Steps.{CurrentGoes, CurrentRead, GrantGoes, NextGoes, ReadGoes, SecondGoes};
 ghost use Rattle.client_machine.specs.Config.{reading_at as reading_there};
 ghost use Rattle.client_finds.specs.Stays.{ReadsIn, StaysIn, state_under};
 ghost use Rattle.client_finds.specs.Steps.{instrs_in};
 
 use crate::places::reading_at;
 use abl_base::{Row, RowId};
-use abl_eval::EvalFault;
 use bound_tree::{FindWord, LockWanted};
-use client_buffers::RunningBuffers;
-use client_machine::machine::Machine;
-use client_reads::{
+use buffer_steps::buffers::RunningBuffers;
+use buffer_steps::reads::{
     Current, FindStart, NextTest, RecordBuffers, begin_current, find_start, read_again,
     read_current, settle_grant, show_next, show_second,
 };
+use client_machine::machine::Machine;
+use evaluator::EvalFault;
 use record_rules::{FoundRow, Grant};
 use std::alloc::AllocError;
 

@@ -5,7 +5,7 @@ ghost use Rattle.std.specs.Prelude.{◌≡◌, ◌∷◌, List, OnOk, OnErr, Non
 ghost use Rattle.abl_base.specs.declared.value.Value.{Value};
 ghost use Rattle.block_meaning.specs.State as state;
 ghost use Rattle.block_meaning.specs.Frames.{with_spot};
-ghost use Rattle.block_flat.specs.Flat as flat;
+ghost use Rattle.flat_machine.specs.Flat as flat;
 ghost use Rattle.client_output.specs.Written.{IsUnchanged};
 ghost use Rattle.record_rules.specs.Answers.{found_if, found_row_in};
 ghost use Rattle.client_machine.specs.Config.{reading_at as reading_there, search_of};
@@ -19,11 +19,11 @@ use crate::places::buffer_at;
 use crate::readings::{bracket, clear_place, show_found};
 use crate::takes::{take_any, take_only};
 use abl_base::copy_row;
-use abl_eval::EvalFault;
-use client_database::Cursor;
 use client_machine::machine::Machine;
 use client_machine::mode::LineFault;
 use client_machine::mode::reads::{ReadAnswer, SearchData};
+use database_protocol::Cursor;
+use evaluator::EvalFault;
 use record_rules::FoundRow;
 use std::alloc::AllocError;
 

@@ -16,10 +16,10 @@ use crate::current::finds_current;
 use crate::fetch::{fetch_from, fetched_as, fetches};
 use crate::find::{find_as, finds, found_as, or_do, quiet};
 use crate::tasks::{looks, searches, takes_as};
-use client_database::{Answer, Op};
 use client_machine::machine::Machine;
 use client_machine::mode::Completion;
 use client_machine::mode::reads::{ReadAnswer, ReadEntry, ReadTask};
+use database_protocol::{Answer, Op};
 use std::alloc::AllocError;
 
 /// Executes a task of a reading. Out of memory is the only error; the output is then as before.

@@ -6,7 +6,7 @@ ghost use Rattle.abl_base.specs.declared.value.Value.{Value};
 ghost use Rattle.block_meaning.specs.Lines.{MoreThanOne};
 ghost use Rattle.block_meaning.specs.Reads.{shows};
 ghost use Rattle.block_meaning.specs.State as state;
-ghost use Rattle.block_flat.specs.Flat as flat;
+ghost use Rattle.flat_machine.specs.Flat as flat;
 ghost use Rattle.client_output.specs.Written.{IsUnchanged};
 ghost use Rattle.record_rules.specs.Answers.{found_if, found_row_in};
 ghost use Rattle.client_machine.specs.Config.{reading_at as reading_there, search_of};
@@ -25,14 +25,14 @@ use crate::ops::next_op;
 use crate::places::{buffer_at, lock_at};
 use crate::readings::{show, show_other};
 use abl_base::{Row, copy_row};
-use abl_eval::EvalFault;
 use bound_tree::LockWanted;
-use client_database::Cursor;
 use client_machine::machine::Machine;
 use client_machine::mode::reads::{ReadAnswer, ReadEntry, ReadTask, SearchData};
 use client_machine::mode::{Completion, LineFault, StackEntry, Task};
-use complaint_lines::Complaint;
+use database_protocol::Cursor;
+use evaluator::EvalFault;
 use record_rules::FoundRow;
+use record_rules::lines::Complaint;
 use std::alloc::AllocError;
 
 /// A match is taken, where any will do. Without a lock it is found at once.

@@ -9,9 +9,9 @@ ghost use Rattle.client_machine.specs.Step.{KeepsTask};
 use crate::locks::take_as;
 use crate::search::{look, search};
 use abl_base::RowId;
-use client_database::Cursor;
 use client_machine::machine::Machine;
 use client_machine::mode::reads::SearchData;
+use database_protocol::Cursor;
 use std::alloc::AllocError;
 
 /// The search goes on from `from`.

@@ -2,18 +2,18 @@
 use Rattle.std.proofs.Common.{◌≡◌, ℕ, zero, suc, ◌-◌, ◌<◌, ◌≤◌, List, [], ◌∷◌, ◌++◌, length, Some, refl, sym, ap, ◌∙◌, subst, arith, append-nil, append_assoc, take, drop}
 use Rattle.std.specs.Prelude.{reverse, slice_index_or}
 use Rattle.std.proofs.lemmas.List.{length-append, length-take-le, take-append-drop}
-use Rattle.client_database.specs.declared.answer.Answer.{Answer}
-use Rattle.client_database.specs.declared.operation.Op.{Op}
+use Rattle.database_protocol.specs.declared.answer.Answer.{Answer}
+use Rattle.database_protocol.specs.declared.operation.Op.{Op}
 use Rattle.bound_tree.specs.Tree.{Body}
 use Rattle.block_meaning.specs.Program.{Program}
 use Rattle.block_meaning.specs.State.{State, Copy, Completion, Normal, Again, Leaves, Nexts, Undoes, Faults, Raises, EndKeys, Returns, Stops, Found, Lost, NotFound, Outcome, Done, Suspended, completes, and_then}
 use Rattle.block_meaning.specs.Frames.{put_back}
 use Rattle.block_meaning.specs.Buffers.{all_places}
 use Rattle.block_meaning.proofs.Continues.{begins_itself}
-use Rattle.block_flat.specs.Flat as flat
-use Rattle.block_flat.specs.Flat.{means, config, after_stack}
-use Rattle.block_flat.proofs.Machine.{answered_means}
-use Rattle.block_flat.proofs.Fused.{after_back_at_once}
+use Rattle.flat_machine.specs.Flat as flat
+use Rattle.flat_machine.specs.Flat.{means, config, after_stack}
+use Rattle.flat_machine.proofs.Machine.{answered_means}
+use Rattle.flat_machine.proofs.Fused.{after_back_at_once}
 use Rattle.client_memory.specs.Memory.{Remembered, left_to, restored, restored_from, last_copy, contents_in, buffers_restored, HasAll, IsWhole, HasNoBuffers}
 use Rattle.client_memory.proofs.LevelFrames.{even_restored}
 use Rattle.client_memory.specs.Buffers as buffers

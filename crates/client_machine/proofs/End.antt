@@ -1,17 +1,17 @@
 -- The ends of iterations, where there are no buffers.
 use Rattle.std.proofs.Common.{◌≡◌, ℕ, zero, suc, List, [], ◌∷◌, ◌++◌, Option, Some, None, Bool, true, false, refl, sym, ap, ◌∙◌}
 use Rattle.std.specs.Prelude.{◌==◌, map}
-use Rattle.client_database.specs.declared.operation.Op.{Op}
-use Rattle.client_database.specs.declared.operation.Op.TheVariants as op
-use Rattle.client_database.specs.declared.answer.Answer.{Answer}
-use Rattle.client_database.specs.declared.answer.Answer.TheVariants as answer
+use Rattle.database_protocol.specs.declared.operation.Op.{Op}
+use Rattle.database_protocol.specs.declared.operation.Op.TheVariants as op
+use Rattle.database_protocol.specs.declared.answer.Answer.{Answer}
+use Rattle.database_protocol.specs.declared.answer.Answer.TheVariants as answer
 use Rattle.bound_tree.specs.Tree.{Body, Header}
 use Rattle.block_meaning.specs.Program.{Program}
 use Rattle.block_meaning.specs.State.{State, Copy, Passed, Turn, Continuation, Done, Normal, Completion, completes, if_else, awaits, costs_unit_of, and_then}
 use Rattle.block_meaning.specs.Buffers.{own, all_places, enters_places, keep_of, was_left, releases_all}
 use Rattle.block_meaning.specs.Blocks.{Iteration, first_of_two, passed_with, after_iteration, leaves_if, enters_rest, closing, after_closing, ended, ends_with}
-use Rattle.block_flat.specs.Flat as flat
-use Rattle.block_flat.specs.Flat.{means, config, after_stack}
+use Rattle.flat_machine.specs.Flat as flat
+use Rattle.flat_machine.specs.Flat.{means, config, after_stack}
 use Rattle.client_memory.specs.Memory.{Remembered, HasNoBuffers}
 use Rattle.block_code.specs.declared.code.Instr.{Instr}
 use Rattle.client_machine.specs.declared.mode.Completion.{Completion as MyWay}

@@ -5,8 +5,8 @@ use Rattle.block_code.specs.declared.code.Instr.{Instr}
 use Rattle.block_meaning.specs.Program.{Program}
 use Rattle.block_meaning.specs.State.{State, Copy}
 use Rattle.block_meaning.proofs.Continues.{begins_itself}
-use Rattle.block_flat.specs.Flat as flat
-use Rattle.block_flat.proofs.Machine.{step_means}
+use Rattle.flat_machine.specs.Flat as flat
+use Rattle.flat_machine.proofs.Machine.{step_means}
 use Rattle.client_output.proofs.Unchanged.{written_same}
 use Rattle.client_machine.specs.declared.machine.Machine.{Machine}
 use Rattle.client_machine.specs.declared.mode.Mode.{Mode}

@@ -9,11 +9,11 @@ use Rattle.block_meaning.specs.Lines.{line_of}
 use Rattle.block_meaning.specs.State.{State, Normal, Stops, Faults, Raises, nothing_passed, completed, wrote, written_if, bytes_in}
 use Rattle.block_meaning.specs.Frames.{own_frame}
 use Rattle.block_meaning.specs.Blocks.{complained}
-use Rattle.client_database.specs.declared.ends.StopWhy.TheVariants as why
-use Rattle.client_database.specs.declared.ends.ClientEnd.TheVariants as client
+use Rattle.database_protocol.specs.declared.ends.StopWhy.TheVariants as why
+use Rattle.database_protocol.specs.declared.ends.ClientEnd.TheVariants as client
 use Rattle.block_meaning.proofs.Continues.{begins_itself}
-use Rattle.block_flat.specs.Flat as flat
-use Rattle.block_flat.proofs.Machine.{step_means}
+use Rattle.flat_machine.specs.Flat as flat
+use Rattle.flat_machine.proofs.Machine.{step_means}
 use Rattle.client_output.specs.declared.output.Output.{Output}
 use Rattle.client_output.specs.Written.{HasWritten}
 use Rattle.client_output.proofs.Unchanged.{written_same}

@@ -5,7 +5,7 @@ use Rattle.block_meaning.specs.State as state
 use Rattle.block_meaning.specs.State.{State, Copy}
 use Rattle.block_meaning.specs.Buffers as buffers
 use Rattle.block_meaning.specs.Buffers.{keep_of}
-use Rattle.block_flat.specs.Flat as flat
+use Rattle.flat_machine.specs.Flat as flat
 use Rattle.client_memory.specs.Memory.{Remembered, without_last, left, HasNoBuffers}
 use Rattle.client_memory.proofs.LevelFrames.{left_is}
 use Rattle.client_memory.proofs.NoBuffers.{no_rows}

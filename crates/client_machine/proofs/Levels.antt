@@ -5,7 +5,7 @@ use Rattle.block_meaning.specs.State as state
 use Rattle.block_meaning.specs.State.{State, Copy}
 use Rattle.block_meaning.specs.Frames.{copy_of}
 use Rattle.block_meaning.specs.Blocks as blocks
-use Rattle.block_flat.specs.Flat as flat
+use Rattle.flat_machine.specs.Flat as flat
 use Rattle.bound_tree.specs.Tree.{Header}
 use Rattle.client_memory.specs.Memory.{Remembered, copy_now, entered}
 use Rattle.client_memory.proofs.LevelFrames.{copy_is}

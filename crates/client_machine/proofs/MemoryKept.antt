@@ -4,10 +4,10 @@ use Rattle.std.specs.Prelude.{reverse, Vec}
 use Rattle.std.specs.declared.alloc.Global.{Global}
 use Rattle.std.proofs.lemmas.List.{reverse-append}
 use Rattle.abl_base.specs.declared.value.Value.{Value}
-use Rattle.abl_expr.specs.declared.fault.RunFault.{RunFault}
-use Rattle.abl_expr.specs.Operators.{holds}
+use Rattle.expression_meaning.specs.declared.fault.RunFault.{RunFault}
+use Rattle.expression_meaning.specs.Operators.{holds}
 use Rattle.bound_tree.specs.Tree.{Body, Assignment}
-use Rattle.client_database.specs.declared.answer.Answer.{Answer}
+use Rattle.database_protocol.specs.declared.answer.Answer.{Answer}
 use Rattle.block_meaning.specs.Program.{Program}
 use Rattle.block_meaning.specs.Lines.{complaint_of}
 use Rattle.block_meaning.specs.State as state
@@ -16,10 +16,10 @@ use Rattle.block_meaning.specs.Changes.{assigns_each, buffers_in}
 use Rattle.block_meaning.specs.Values.{Evaluated, Gives, Fails}
 use Rattle.block_meaning.specs.Meaning.{handled}
 use Rattle.block_meaning.proofs.Continues.{begins_itself}
-use Rattle.block_flat.specs.Flat as flat
-use Rattle.block_flat.specs.Flat.{IsCodeOf}
-use Rattle.block_flat.proofs.Machine.{step_means}
-use Rattle.block_flat.proofs.Fused.{assigns_at_once}
+use Rattle.flat_machine.specs.Flat as flat
+use Rattle.flat_machine.specs.Flat.{IsCodeOf}
+use Rattle.flat_machine.proofs.Machine.{step_means}
+use Rattle.flat_machine.proofs.Fused.{assigns_at_once}
 use Rattle.client_memory.specs.Memory.{Remembered}
 use Rattle.client_values.specs.Reads.{Reads}
 use Rattle.client_values.specs.Variables.{HasSameShape, state_with}

@@ -12,12 +12,12 @@ use Rattle.client_machine.specs.declared.mode.ends.EndTask.{EndTask}
 use Rattle.client_machine.specs.declared.mode.ends.EndTask.TheVariants as end_task
 use Rattle.client_machine.specs.declared.mode.ends.EndEntry.TheVariants as end_entry
 use Rattle.client_machine.specs.declared.mode.reads.ReadEntry.TheVariants as read_entry
-use Rattle.client_database.specs.declared.operation.Op.{Op}
+use Rattle.database_protocol.specs.declared.operation.Op.{Op}
 use Rattle.client_machine.specs.Config.{IsBelow, CompletionBelow, EndTaskBelow, TaskBelow, AllBelow}
 use Rattle.client_machine.specs.declared.mode.OnAnswer.{OnAnswer}
 use Rattle.client_machine.specs.declared.mode.Mode.{Mode}
 use Rattle.client_machine.specs.declared.mode.Mode.TheVariants as mode
-use Rattle.client_database.specs.declared.ends.StopWhy.TheVariants as why
+use Rattle.database_protocol.specs.declared.ends.StopWhy.TheVariants as why
 use Rattle.client_machine.specs.Order.{Nesting, returned_in, outside, under, left_in, IsOwn, IsLast, outer_of, first_in, IsAboveClosing, EndFollows, Follows, InOrder, CanReach, Named, LeavesInOrder, CompletesInOrder, ClosesIteration, IsAskedFor, AskingInOrder, ModeInOrder, EndTaskInOrder, TaskInOrder}
 
 -- ---- outer levels

@@ -1,14 +1,14 @@
 -- ERROR and ENDKEY arrive at an iteration.
 use Rattle.std.proofs.Common.{◌≡◌, ℕ, List, ◌∷◌, length, Option, Some, None, Bool, true, false, refl, sym, ap, ◌∙◌, subst, arith}
 use Rattle.std.specs.Prelude.{◌==◌, reverse}
-use Rattle.client_database.specs.declared.answer.Answer.{Answer}
+use Rattle.database_protocol.specs.declared.answer.Answer.{Answer}
 use Rattle.bound_tree.specs.Tree.{Body, Header, Action, ThenLeave, OnPhrase}
 use Rattle.block_meaning.specs.Program.{Program}
 use Rattle.block_meaning.specs.State.{State, Passed, Continuation, Completion, Raises, EndKeys, Undoes, Done, if_else, completes, and_then}
 use Rattle.block_meaning.specs.Buffers.{releases_all}
 use Rattle.block_meaning.specs.Blocks.{Iteration, passed_with, passes, undo_comes, undone, error_comes, error_to, endkey_to, handles_endkey}
-use Rattle.block_flat.specs.Flat as flat
-use Rattle.block_flat.specs.Flat.{means, config, after_stack}
+use Rattle.flat_machine.specs.Flat as flat
+use Rattle.flat_machine.specs.Flat.{means, config, after_stack}
 use Rattle.client_machine.specs.declared.machine.Machine.{Machine}
 use Rattle.client_machine.specs.declared.mode.Completion.{Completion as MyCompletion}
 use Rattle.client_machine.specs.declared.mode.IterationData.{IterationData}

@@ -1,14 +1,14 @@
 -- The reading of a FOR, and how the statements on records begin.
 use Rattle.std.proofs.Common.{◌≡◌, ℕ, List, ◌∷◌, Bool, Option, Some, None, refl, ap, ◌∙◌}
-use Rattle.client_database.specs.declared.answer.Answer.{Answer}
+use Rattle.database_protocol.specs.declared.answer.Answer.{Answer}
 use Rattle.bound_tree.specs.Tree.{Body, Header, Fetch}
 use Rattle.block_meaning.specs.Program.{Program}
 use Rattle.block_meaning.specs.State.{State, Copy, Turn, Continuation, Completion, Normal, Again, Leaves, Nexts, Undoes, Faults, Raises, EndKeys, Returns, Stops, Found, Lost, NotFound, Outcome, Done, Suspended}
 use Rattle.block_meaning.specs.Reads.{fetches}
 use Rattle.block_meaning.specs.Meaning.{cleared}
 use Rattle.block_meaning.specs.Blocks.{begins_as, fetched, fetched_completion}
-use Rattle.block_flat.specs.Flat as flat
-use Rattle.block_flat.specs.Flat.{means, config, after_stack}
+use Rattle.flat_machine.specs.Flat as flat
+use Rattle.flat_machine.specs.Flat.{means, config, after_stack}
 use Rattle.block_code.specs.declared.code.Instr.{Instr}
 use Rattle.client_machine.specs.declared.mode.StackEntry.{StackEntry}
 use Rattle.client_machine.specs.declared.statements.RecordStmt.{RecordStmt}

@@ -1,16 +1,16 @@
 -- A step that sets RETURN-VALUE, and what follows an UNDO.
 use Rattle.std.proofs.Common.{◌≡◌, ℕ, List, [], ◌∷◌, Option, None, Bool, true, false, refl, sym, ap, ◌∙◌, subst}
 use Rattle.std.specs.Prelude.{◌==◌, reverse}
-use Rattle.client_database.specs.declared.answer.Answer.{Answer}
+use Rattle.database_protocol.specs.declared.answer.Answer.{Answer}
 use Rattle.bound_tree.specs.Tree.{Body, Header, Action, ThenRetry, ThenLeave, ThenNext, ThenReturn, ThenError}
 use Rattle.block_meaning.specs.Program.{Program}
 use Rattle.block_meaning.specs.State.{State, Copy, Passed, Continuation, Completion, Normal, Again, Leaves, Nexts, Undoes, Faults, Raises, EndKeys, Returns, Stops, Found, Lost, NotFound, Done, if_else, completes, and_then}
 use Rattle.block_meaning.specs.Buffers.{releases_all}
 use Rattle.block_meaning.specs.Blocks.{Iteration, after_iteration, acts, closes, instead_of_retry, iterates, next_turn, returns_with, passed_with, goes_back, undone, passes}
 use Rattle.block_meaning.proofs.Continues.{begins_itself}
-use Rattle.block_flat.specs.Flat as flat
-use Rattle.block_flat.specs.Flat.{IsCodeOf, means, config, after_stack}
-use Rattle.block_flat.proofs.Machine.{step_means}
+use Rattle.flat_machine.specs.Flat as flat
+use Rattle.flat_machine.specs.Flat.{IsCodeOf, means, config, after_stack}
+use Rattle.flat_machine.proofs.Machine.{step_means}
 use Rattle.client_output.proofs.Unchanged.{written_same}
 use Rattle.client_machine.specs.declared.machine.Machine.{Machine}
 use Rattle.client_machine.specs.declared.mode.Task.{Task}
@@ -18,7 +18,7 @@ use Rattle.client_machine.specs.declared.mode.Task.TheVariants as task
 use Rattle.client_machine.specs.declared.mode.Mode.{Mode}
 use Rattle.client_machine.specs.declared.mode.Mode.TheVariants as mode
 use Rattle.client_machine.specs.declared.mode.StackEntry.{StackEntry}
-use Rattle.abl_eval.specs.Forms.{AreForms}
+use Rattle.evaluator.specs.Forms.{AreForms}
 use Rattle.block_code.specs.declared.code.Instr.{Instr}
 use Rattle.client_machine.specs.declared.mode.AfterUndo.{AfterUndo}
 use Rattle.client_machine.specs.declared.mode.TurnData.{TurnData}

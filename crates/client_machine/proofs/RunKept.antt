@@ -1,17 +1,17 @@
 -- The invariant of a run is preserved from one mode to the next.
 use Rattle.std.proofs.Common.{◌≤◌, ◌<◌, length, ◌≡◌, ◌⊎◌, Bool, ℕ, List, [], ◌∷◌, ◌++◌, Some, sym, ap, ◌∙◌, subst}
 use Rattle.std.specs.Prelude.{Result, Ok, Err, OnOk, IfOk, IfSome, Option, None, reverse, slice_get}
-use Rattle.client_database.specs.declared.answer.Answer.{Answer}
-use Rattle.client_database.specs.declared.operation.Op.{Op}
-use Rattle.client_database.specs.declared.operation.Op.TheVariants as op
+use Rattle.database_protocol.specs.declared.answer.Answer.{Answer}
+use Rattle.database_protocol.specs.declared.operation.Op.{Op}
+use Rattle.database_protocol.specs.declared.operation.Op.TheVariants as op
 use Rattle.bound_tree.specs.Tree.{Body, Header}
-use Rattle.client_database.specs.declared.next_step.NextStep.TheVariants.{Ask}
+use Rattle.database_protocol.specs.declared.next_step.NextStep.TheVariants.{Ask}
 use Rattle.block_meaning.specs.State.{State, Copy, Progress, Turn, Done, and_then}
 use Rattle.block_meaning.specs.Program.{Program}
 use Rattle.block_meaning.specs.Meaning.{finished}
-use Rattle.block_flat.specs.Flat as flat
-use Rattle.block_flat.specs.Flat.{IsCodeOf}
-use Rattle.block_flat.proofs.Machine.{asks_means, step_means}
+use Rattle.flat_machine.specs.Flat as flat
+use Rattle.flat_machine.specs.Flat.{IsCodeOf}
+use Rattle.flat_machine.proofs.Machine.{asks_means, step_means}
 use Rattle.block_meaning.proofs.Continues.{begins_itself}
 use Rattle.std.proofs.lemmas.List.{reverse-append}
 use Rattle.client_machine.specs.declared.machine.Machine.{Machine}
@@ -20,7 +20,7 @@ use Rattle.client_machine.specs.declared.mode.Mode.TheVariants as mode
 use Rattle.client_machine.specs.declared.mode.Task.{Task}
 use Rattle.client_machine.specs.declared.mode.Completion.{Completion}
 use Rattle.client_machine.specs.declared.mode.Completion.TheVariants as completion
-use Rattle.client_database.specs.declared.ends.StopWhy.TheVariants as why
+use Rattle.database_protocol.specs.declared.ends.StopWhy.TheVariants as why
 use Rattle.client_machine.proofs.Orders.{ask_order}
 use Rattle.client_machine.proofs.Nestings.{level_count}
 use Rattle.block_meaning.specs.Blocks.{retry_in, closes, after_iteration}

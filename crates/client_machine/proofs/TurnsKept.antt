@@ -1,12 +1,12 @@
 -- The header of an iteration.
 use Rattle.std.proofs.Common.{◌≡◌, ℕ, List, Bool, true, false, length, Some, None, Ok, refl, sym, ap, ◌∙◌}
 use Rattle.std.specs.Prelude.{reverse}
-use Rattle.abl_expr.specs.declared.fault.RunFault.{RunFault}
+use Rattle.expression_meaning.specs.declared.fault.RunFault.{RunFault}
 use Rattle.block_meaning.specs.Program.{Program}
 use Rattle.block_meaning.specs.Lines.{complaint_of}
 use Rattle.block_meaning.specs.State.{State, Turn}
 use Rattle.block_meaning.specs.Blocks.{retry_in}
-use Rattle.block_flat.specs.Flat as flat
+use Rattle.flat_machine.specs.Flat as flat
 use Rattle.client_memory.specs.Memory.{Remembered}
 use Rattle.client_values.specs.Ends.{Judges}
 use Rattle.client_values.specs.Reads.{Reads}

@@ -2,10 +2,10 @@
 use Rattle.std.proofs.Common.{◌≡◌, ℕ, Bool, List, length, subst}
 use Rattle.std.specs.Prelude.{Result, Ok, Err, IfOk}
 use Rattle.abl_base.specs.declared.value.Value.{Value}
-use Rattle.abl_expr.specs.declared.fault.RunFault.{RunFault}
-use Rattle.abl_eval.specs.declared.fault.EvalFault.{EvalFault}
-use Rattle.abl_eval.specs.declared.fault.EvalFault.TheVariants.{Fault}
-use Rattle.abl_eval.specs.Forms.{AreForms}
+use Rattle.expression_meaning.specs.declared.fault.RunFault.{RunFault}
+use Rattle.evaluator.specs.declared.fault.EvalFault.{EvalFault}
+use Rattle.evaluator.specs.declared.fault.EvalFault.TheVariants.{Fault}
+use Rattle.evaluator.specs.Forms.{AreForms}
 use Rattle.bound_tree.specs.Tree.{Expr}
 use Rattle.block_meaning.specs.Program.{Program}
 use Rattle.block_meaning.specs.State.{State}

@@ -2,7 +2,7 @@
 use Rattle.std.specs.Prelude.{Option, Some, None, Bool, true, false}
 use Rattle.bound_tree.specs.Tree.{Expr, Header, Action, ThenRetry, ThenLeave, ThenReturn, OnPhrase, Stmt, UndoBlock, Return, ReturnError}
 use Rattle.block_meaning.specs.Blocks.{handles_endkey}
-use Rattle.block_flat.specs.Flat as flat
+use Rattle.flat_machine.specs.Flat as flat
 use Rattle.block_code.specs.Code.{header_in}
 use Rattle.client_machine.specs.declared.mode.ReturnSource.{ReturnSource}
 use Rattle.client_machine.specs.declared.mode.ReturnSource.TheVariants as source

@@ -1,12 +1,12 @@
 -- How a client treats an answer.
 use Rattle.std.specs.Prelude.{◌≡◌, ℕ, List, [], ◌∷◌}
-use Rattle.client_database.specs.declared.answer.Answer.{Answer}
-use Rattle.client_database.specs.declared.operation.Op.{Op}
+use Rattle.database_protocol.specs.declared.answer.Answer.{Answer}
+use Rattle.database_protocol.specs.declared.operation.Op.{Op}
 use Rattle.bound_tree.specs.Tree.{Body}
-use Rattle.client_database.specs.declared.ends.ClientEnd.TheVariants as client
+use Rattle.database_protocol.specs.declared.ends.ClientEnd.TheVariants as client
 use Rattle.block_meaning.specs.Program.{Program}
 use Rattle.block_meaning.specs.State.{State, Stops}
-use Rattle.block_flat.specs.Flat as flat
+use Rattle.flat_machine.specs.Flat as flat
 use Rattle.client_machine.specs.declared.machine.Machine.{Machine}
 use Rattle.client_machine.specs.declared.answers.AnswerClass.{AnswerClass as InstrClass}
 use Rattle.client_machine.specs.declared.answers.AnswerClass.TheVariants as answer_class

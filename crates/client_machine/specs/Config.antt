@@ -1,16 +1,16 @@
 -- What the fields of a machine denote.
 use Rattle.std.specs.Prelude.{ℕ, ◌-◌, ◌≤◌, ◌<◌, Bool, false, List, [], ◌∷◌, Option, Some, None, drop, map, reverse, length, slice_get, slice_index_or}
 use Rattle.bound_tree.specs.Tree.{Header, Action, Argument, Assignment, Fetch, Given, Reading, Run, ThenRetry, ThenLeave, ThenNext, ThenReturn, ThenError}
-use Rattle.client_database.specs.declared.ends.ClientEnd.TheVariants as client
+use Rattle.database_protocol.specs.declared.ends.ClientEnd.TheVariants as client
 use Rattle.block_meaning.specs.State as state
 use Rattle.block_meaning.specs.State.{State, CallFrame, Copy, Passed}
 use Rattle.block_meaning.specs.Blocks as blocks
 use Rattle.block_meaning.specs.Reads.{Search}
-use Rattle.block_flat.specs.Flat as flat
+use Rattle.flat_machine.specs.Flat as flat
 use Rattle.abl_base.specs.declared.value.Value.TheVariants.{Unknown}
-use Rattle.client_database.specs.declared.row_order.Cursor.{Cursor}
+use Rattle.database_protocol.specs.declared.row_order.Cursor.{Cursor}
 use Rattle.client_memory.specs.Buffers.{denoted_content, denoted_held, denoted_place}
-use Rattle.complaint_lines.specs.Complaints as complaints
+use Rattle.record_rules.specs.lines.Complaints as complaints
 use Rattle.client_memory.specs.Memory.{Remembered}
 pub use Rattle.client_values.specs.Variables.{frames_out, AreEven}
 use Rattle.block_code.specs.declared.code.Instr.{Instr}
@@ -59,7 +59,7 @@ use Rattle.client_machine.specs.declared.mode.changes.ChangeEntry.{ChangeEntry}
 use Rattle.client_machine.specs.declared.mode.changes.ChangeEntry.TheVariants as change_entry
 use Rattle.client_machine.specs.declared.mode.changes.ChangeAnswer.{ChangeAnswer}
 use Rattle.client_machine.specs.declared.mode.changes.ChangeAnswer.TheVariants as change_answer
-use Rattle.client_database.specs.declared.operation.Op.{Op}
+use Rattle.database_protocol.specs.declared.operation.Op.{Op}
 
 -- ---- code
 

@@ -1,8 +1,8 @@
 -- What the program of a client gives it: its procedures, whose code the machine has, its inputs, and the forms of values.
 use Rattle.std.specs.Prelude.{◌≡◌, ℕ, List, [], ◌∷◌}
 use Rattle.bound_tree.specs.Tree.{Procedure}
-use Rattle.abl_eval.specs.Forms.{AreForms}
-use Rattle.abl_format.specs.Imports.{line_at}
+use Rattle.evaluator.specs.Forms.{AreForms}
+use Rattle.value_formats.specs.Imports.{line_at}
 use Rattle.block_meaning.specs.Program.{Program}
 use Rattle.block_meaning.specs.State as state
 use Rattle.block_code.specs.declared.code.Instr.{Instr}

@@ -1,7 +1,7 @@
 -- How an instruction is executed.
 use Rattle.std.specs.Prelude.{◌≡◌}
 use Rattle.bound_tree.specs.Tree.{UndoBlock, LeaveBlock, NextBlock, Return, ReturnError, Stop, Assign}
-use Rattle.block_flat.specs.Flat as flat
+use Rattle.flat_machine.specs.Flat as flat
 use Rattle.client_machine.specs.declared.statements.InstrClass.{InstrClass}
 use Rattle.client_machine.specs.declared.statements.InstrClass.TheVariants as kind
 use Rattle.client_machine.specs.Actions.{action_in, returned_in}

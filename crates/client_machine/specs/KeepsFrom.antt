@@ -4,7 +4,7 @@ use Rattle.abl_base.specs.declared.value.Value.TheVariants.{Unknown}
 use Rattle.bound_tree.specs.Tree.{Body, Expr, Literal}
 use Rattle.block_meaning.specs.Program.{Program}
 use Rattle.block_meaning.specs.State.{State}
-use Rattle.block_flat.specs.Flat as flat
+use Rattle.flat_machine.specs.Flat as flat
 use Rattle.client_machine.specs.declared.machine.Machine.{Machine}
 use Rattle.client_machine.specs.declared.mode.Mode.{Mode}
 use Rattle.client_machine.specs.declared.mode.Mode.TheVariants as mode

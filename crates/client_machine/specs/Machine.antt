@@ -1,7 +1,7 @@
 -- The configuration that a machine denotes.
 use Rattle.std.specs.Prelude.{List, reverse}
 use Rattle.block_meaning.specs.State.{State}
-use Rattle.block_flat.specs.Flat.{Config, StackEntry, config}
+use Rattle.flat_machine.specs.Flat.{Config, StackEntry, config}
 use Rattle.client_machine.specs.declared.machine.Machine.{Machine}
 use Rattle.client_machine.specs.Config.{mode_of, stack_of, state_of}
 

@@ -1,8 +1,8 @@
 -- The levels that a mode and the stack name, each once: the innermost first, and each in the procedure in which it began.
 use Rattle.std.specs.Prelude.{◌≡◌, ℕ, ◌+◌, ◌-◌, ◌<◌, ◌≤◌, List, [], ◌∷◌, Option, Some, None, length, map, take, slice_index_or}
 use Rattle.block_meaning.specs.State.{Copy}
-use Rattle.client_database.specs.declared.operation.Op.{Op}
-use Rattle.client_database.specs.declared.operation.Op.TheVariants as op
+use Rattle.database_protocol.specs.declared.operation.Op.{Op}
+use Rattle.database_protocol.specs.declared.operation.Op.TheVariants as op
 use Rattle.client_memory.specs.Memory.{Remembered}
 use Rattle.client_machine.specs.declared.mode.Completion.{Completion}
 use Rattle.client_machine.specs.declared.mode.Completion.TheVariants as completion

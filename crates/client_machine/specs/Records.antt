@@ -1,7 +1,7 @@
 -- How the statements on records begin.
 use Rattle.std.specs.Prelude.{ℕ, Bool, List, ◌∷◌, Option, Some, None}
 use Rattle.bound_tree.specs.Tree.{Stmt, Assign, Find, FindCurrent, Create, Remove, Release}
-use Rattle.block_flat.specs.Flat as flat
+use Rattle.flat_machine.specs.Flat as flat
 use Rattle.client_machine.specs.Statements.{reading_in, find_word_in, wait_in, pairs_in}
 use Rattle.client_machine.specs.declared.statements.RecordStmt.{RecordStmt}
 use Rattle.client_machine.specs.declared.statements.RecordStmt.TheVariants as record_stmt

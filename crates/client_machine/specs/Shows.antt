@@ -1,8 +1,8 @@
 -- What a machine asks for.
 use Rattle.std.specs.Prelude.{◌≡◌, List, [], ◌∷◌}
-use Rattle.client_database.specs.declared.operation.Op.TheVariants.{End}
-use Rattle.client_database.specs.declared.next_step.NextStep.{NextStep}
-use Rattle.client_database.specs.declared.next_step.NextStep.TheVariants.{Ask}
+use Rattle.database_protocol.specs.declared.operation.Op.TheVariants.{End}
+use Rattle.database_protocol.specs.declared.next_step.NextStep.{NextStep}
+use Rattle.database_protocol.specs.declared.next_step.NextStep.TheVariants.{Ask}
 use Rattle.client_machine.specs.declared.mode.StackEntry.{StackEntry}
 use Rattle.client_machine.specs.declared.mode.Mode.{Mode}
 use Rattle.client_machine.specs.declared.mode.Mode.TheVariants as mode

@@ -1,18 +1,18 @@
 -- What each step and each answer keeps.
 use Rattle.std.specs.Prelude.{◌≡◌, ◌<◌, ◌≤◌, length, ℕ, Bool, List, [], ◌∷◌, ◌++◌, Option, reverse, map}
-use Rattle.client_database.specs.declared.answer.Answer.{Answer}
-use Rattle.client_database.specs.declared.operation.Op.TheVariants as op
+use Rattle.database_protocol.specs.declared.answer.Answer.{Answer}
+use Rattle.database_protocol.specs.declared.operation.Op.TheVariants as op
 use Rattle.bound_tree.specs.Tree.{Body}
 use Rattle.block_meaning.specs.declared.wants.Piece.{Piece}
-use Rattle.client_database.specs.declared.next_step.NextStep.{NextStep}
-use Rattle.client_database.specs.declared.next_step.NextStep.TheVariants as next_step
+use Rattle.database_protocol.specs.declared.next_step.NextStep.{NextStep}
+use Rattle.database_protocol.specs.declared.next_step.NextStep.TheVariants as next_step
 use Rattle.block_meaning.specs.State.{State, nothing_passed}
 use Rattle.block_meaning.specs.State as state
 use Rattle.block_meaning.specs.Blocks.{complained}
 use Rattle.block_meaning.specs.Program.{Program}
 use Rattle.block_meaning.specs.Meaning.{finished}
 use Rattle.block_meaning.specs.GivesUp.{Begins}
-use Rattle.block_flat.specs.Flat.{Code, Config, IsCodeOf, config, errs_step, Completes, Execute, Unwind, means}
+use Rattle.flat_machine.specs.Flat.{Code, Config, IsCodeOf, config, errs_step, Completes, Execute, Unwind, means}
 use Rattle.client_output.specs.Written.{HasWritten}
 use Rattle.block_code.specs.Code.{place_of}
 use Rattle.client_machine.specs.declared.machine.Machine.{Machine}

@@ -2,18 +2,18 @@
 //! an action names the place of its instruction, and where it stands there.
 
 ghost use Rattle.std.specs.Prelude.{Bool, Option, ◌≡◌, [], ℕ, List, None, Some, OnOk, OnErr, IfOk, MatchOption, true};
-ghost use Rattle.client_database.specs.declared.answer.Answer.{Answer};
+ghost use Rattle.database_protocol.specs.declared.answer.Answer.{Answer};
 ghost use Rattle.block_meaning.specs.State.{State, Copy, Done};
 ghost use Rattle.block_meaning.specs.Program.{Program};
 ghost use Rattle.block_meaning.specs.Blocks.{acts, instead_of_retry, text_to_return};
 ghost use Rattle.bound_tree.specs.Bound.{action_of, expr_of, on_of};
-ghost use Rattle.abl_eval.specs.Forms.{AreForms};
+ghost use Rattle.evaluator.specs.Forms.{AreForms};
 ghost use Rattle.block_code.specs.declared.code.Instr.{Instr};
 ghost use Rattle.block_code.specs.Code.{instr_of};
 ghost use Rattle.client_output.specs.Written.{IsUnchanged};
 ghost use Rattle.client_machine.specs.Actions.{value_in, value_on, returned_in, action_in};
 ghost use Rattle.client_machine.specs.Undone.{after_action};
-ghost use Rattle.block_flat.specs.Flat as flat;
+ghost use Rattle.flat_machine.specs.Flat as flat;
 ghost use Rattle.client_machine.specs.Order.{ClosesIteration, InOrder, ModeInOrder, Nesting, first_in};
 ghost use Rattle.client_machine.specs.Config.{completion_of, turn_of, iteration_without, mode_of, after_undo_of, instr_at, header_at, AreEven};
 ghost use Rattle.client_machine.specs.Machine.{state_in};
@@ -29,11 +29,11 @@ use crate::machine::Machine;
 use crate::mode::ends::EndTask;
 use crate::mode::{AfterUndo, Completion, Mode, ReturnSource, Task, TurnData};
 use abl_base::Bytes;
-use abl_eval::EvalFault;
-use abl_masks::plain;
 use block_code::Instr;
 use bound_tree::{Action, Expr, OnPhrase, Stmt};
+use evaluator::EvalFault;
 use std::alloc::AllocError;
+use value_masks::plain;
 
 /// The block that a condition undoes, and what happens then.
 #[derive(Clone, Copy, Debug)]

@@ -1,9 +1,9 @@
 //! What follows an answer.
 
 ghost use Rattle.std.specs.Prelude.{None, OnOk, OnErr};
-ghost use Rattle.client_database.specs.declared.answer.Answer.{Answer};
-ghost use Rattle.client_database.specs.declared.operation.Op.{Op};
-ghost use Rattle.block_flat.specs.Flat as flat;
+ghost use Rattle.database_protocol.specs.declared.answer.Answer.{Answer};
+ghost use Rattle.database_protocol.specs.declared.operation.Op.{Op};
+ghost use Rattle.flat_machine.specs.Flat as flat;
 ghost use Rattle.block_meaning.specs.State.{Copy, Done};
 ghost use Rattle.client_output.specs.Written.{IsUnchanged};
 ghost use Rattle.client_machine.specs.AnswerClass.{IsOfAnswerClass, KeepsAnswer};
@@ -17,7 +17,7 @@ use crate::machine::Machine;
 use crate::mode::ends::{BufferList, EndTask};
 use crate::mode::{Completion, Mode, OnAnswer, Task, TurnData};
 use abl_base::Value;
-use client_database::{Answer, Op, StopWhy};
+use database_protocol::{Answer, Op, StopWhy};
 use std::alloc::{AllocError, Global};
 
 /// How a client treats an answer.

@@ -2,9 +2,9 @@
 //! complete at once, and push nothing unless one fails.
 
 ghost use Rattle.std.specs.Prelude.{◌≡◌, ℕ, List, ◌∷◌, ◌++◌, [], OnOk, OnErr, Some};
-ghost use Rattle.block_flat.specs.Flat as flat;
+ghost use Rattle.flat_machine.specs.Flat as flat;
 ghost use Rattle.bound_tree.specs.Tree.{Assign};
-ghost use Rattle.client_database.specs.declared.answer.Answer.{Answer};
+ghost use Rattle.database_protocol.specs.declared.answer.Answer.{Answer};
 ghost use Rattle.block_meaning.specs.Changes.{assigns_each, buffers_in};
 ghost use Rattle.block_meaning.specs.Program.{Program};
 ghost use Rattle.block_meaning.specs.State.{State};
@@ -24,12 +24,12 @@ ghost use Rattle.client_machine.specs.declared.mode.Task.{Task};
 
 use crate::machine::Machine;
 use crate::mode::{Mode, StackEntry, Task};
-use abl_eval::EvalFault;
-use abl_expr::RunFault;
 use block_code::Instr;
 use bound_tree::Stmt;
 use client_values::assign::{are_variables, assign_pairs};
 use client_values::value::Status;
+use evaluator::EvalFault;
+use expression_meaning::RunFault;
 use std::alloc::AllocError;
 
 impl Machine {

@@ -1,8 +1,8 @@
 //! IF (OpenEdge ABL Reference, IF statement), and the fault of a statement.
 
 ghost use Rattle.std.specs.Prelude.{◌≡◌, ℕ, List, ◌∷◌, ◌++◌, [], OnOk, OnErr, Some};
-ghost use Rattle.abl_expr.specs.Operators.{holds as holds_here};
-ghost use Rattle.block_flat.specs.Flat as flat;
+ghost use Rattle.expression_meaning.specs.Operators.{holds as holds_here};
+ghost use Rattle.flat_machine.specs.Flat as flat;
 ghost use Rattle.block_meaning.specs.Program.{Program};
 ghost use Rattle.block_meaning.specs.State.{State};
 ghost use Rattle.block_meaning.specs.Values.{value_now};
@@ -23,10 +23,10 @@ ghost use Rattle.client_machine.specs.declared.mode.Task.{Task};
 use crate::machine::Machine;
 use crate::mode::{Completion, LineFault, Mode, StackEntry, Task};
 use abl_base::Value;
-use abl_eval::{EvalFault, holds};
-use abl_expr::RunFault;
 use block_code::Instr;
 use client_values::value::{Status, value_of};
+use evaluator::{EvalFault, holds};
+use expression_meaning::RunFault;
 use std::alloc::AllocError;
 
 impl Machine {

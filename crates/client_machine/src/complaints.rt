@@ -5,7 +5,7 @@ ghost use Rattle.block_meaning.specs.Lines.{line_of};
 ghost use Rattle.block_meaning.specs.Program.{Program, procedure_at};
 ghost use Rattle.block_meaning.specs.State.{State};
 ghost use Rattle.block_meaning.specs.Frames.{own_frame};
-ghost use Rattle.complaint_lines.specs.Complaints as complaints;
+ghost use Rattle.record_rules.specs.lines.Complaints as complaints;
 ghost use Rattle.client_output.specs.Written.{IsUnchanged};
 ghost use Rattle.client_machine.specs.declared.mode.Completion.{Completion};
 ghost use Rattle.client_machine.specs.declared.mode.StackEntry.{StackEntry};
@@ -22,8 +22,8 @@ use crate::machine::Machine;
 use crate::mode::ends::BufferList;
 use crate::mode::{Completion, LineFault, Mode, PassedLevels};
 use block_code::{Code, ProcedureCode};
-use client_database::StopWhy;
-use complaint_lines::{Complaint, complaint_about, complaint_line};
+use database_protocol::StopWhy;
+use record_rules::lines::{Complaint, complaint_about, complaint_line};
 use std::alloc::AllocError;
 
 impl Machine {

@@ -1,5 +1,5 @@
 //! The machine that runs flat code: its fields, its steps by subject, and what follows an answer.
-//! It depends on `block_code` for what it runs and on `block_flat` for what a step is. A layer above
+//! It depends on `block_code` for what it runs and on `flat_machine` for what a step is. A layer above
 //! may rely on `specs/Step.antt`: each step, and each answer, keeps the rest of the run.
 #![tactic(auto)]
 

@@ -3,7 +3,7 @@
 
 ghost use Rattle.std.specs.Prelude.{◌≡◌, ℕ, List, Option, None, Some, OnOk, OnErr, false};
 ghost use Rattle.bound_tree.specs.Tree.{Header};
-ghost use Rattle.block_flat.specs.Flat as flat;
+ghost use Rattle.flat_machine.specs.Flat as flat;
 ghost use Rattle.block_meaning.specs.Program.{Program};
 ghost use Rattle.block_meaning.specs.State.{State, Turn};
 ghost use Rattle.client_output.specs.Written.{IsUnchanged};
@@ -23,11 +23,11 @@ ghost use Rattle.client_machine.specs.declared.mode.Task.{Task};
 use crate::machine::Machine;
 use crate::mode::{Completion, LineFault, Mode, Task, TurnData};
 use abl_base::Value;
-use abl_eval::EvalFault;
-use abl_expr::RunFault;
 use block_code::Instr;
 use client_values::loops::{LoopValues, iteration_begins, loop_values};
 use client_values::value::Status;
+use evaluator::EvalFault;
+use expression_meaning::RunFault;
 use std::alloc::AllocError;
 
 impl Machine {

@@ -6,19 +6,19 @@ ghost use Rattle.block_meaning.specs.Frames.{put_back};
 ghost use Rattle.client_memory.specs.Memory.{IsWhole, last_copy, left, entered as enters};
 ghost use Rattle.block_code.specs.declared.code.Instr.{Instr};
 ghost use Rattle.block_meaning.specs.Blocks.{enters_at as enters_here};
-ghost use Rattle.block_flat.specs.Flat as flat;
-ghost use Rattle.client_database.specs.declared.operation.Op.{Op};
-ghost use Rattle.client_database.specs.declared.answer.Answer.{Answer};
+ghost use Rattle.flat_machine.specs.Flat as flat;
+ghost use Rattle.database_protocol.specs.declared.operation.Op.{Op};
+ghost use Rattle.database_protocol.specs.declared.answer.Answer.{Answer};
 ghost use Rattle.block_meaning.specs.Program.{Program};
 ghost use Rattle.block_meaning.specs.Lines.{complaint_of};
 ghost use Rattle.block_meaning.specs.Values.{value_now, Gives, Fails};
 ghost use Rattle.bound_tree.specs.Bound.{expr_of};
-ghost use Rattle.abl_expr.specs.declared.fault.RunFault.{RunFault};
-ghost use Rattle.abl_eval.specs.Forms.{AreForms};
+ghost use Rattle.expression_meaning.specs.declared.fault.RunFault.{RunFault};
+ghost use Rattle.evaluator.specs.Forms.{AreForms};
 ghost use Rattle.client_machine.specs.declared.mode.Task.{Task};
 ghost use Rattle.client_machine.specs.declared.mode.Mode.{Mode};
 ghost use Rattle.client_machine.specs.declared.mode.Completion.{Completion};
-ghost use Rattle.client_database.specs.declared.ends.StopWhy.{StopWhy};
+ghost use Rattle.database_protocol.specs.declared.ends.StopWhy.{StopWhy};
 ghost use Rattle.client_machine.specs.declared.mode.OnAnswer.{OnAnswer};
 ghost use Rattle.client_machine.specs.declared.mode.StackEntry.{StackEntry};
 ghost use Rattle.client_machine.specs.Order.{CanReach, CompletesInOrder, InOrder, ModeInOrder, Nesting, first_in};
@@ -29,13 +29,13 @@ ghost use Rattle.client_machine.specs.Machine.{config_of, stack_in, state_in};
 use crate::inputs::{Inputs, Stream};
 use crate::mode::{Completion, Mode, OnAnswer, StackEntry, Task, TurnData};
 use abl_base::{Bytes, Value};
-use abl_eval::EvalFault;
 use block_code::{Code, Instr};
 use bound_tree::Expr;
-use client_database::Op;
 use client_memory::Memory;
 use client_output::Output;
 use client_values::value::{Status, value_of};
+use database_protocol::Op;
+use evaluator::EvalFault;
 use std::alloc::{AllocError, Global};
 use std::mem;
 
@@ -94,7 +94,7 @@ impl Machine {
                 true
             }
             None => {
-                self.set_mode(Mode::Unwind(Completion::Stops(client_database::StopWhy::Budget)));
+                self.set_mode(Mode::Unwind(Completion::Stops(database_protocol::StopWhy::Budget)));
                 false
             }
         }
@@ -146,7 +146,7 @@ impl Machine {
     {
         match fuel.checked_sub(1) {
             None => self.set_mode(Mode::Unwind(Completion::Stops(
-                client_database::StopWhy::Budget,
+                database_protocol::StopWhy::Budget,
             ))),
             Some(fuel) => {
                 self.stack.push(StackEntry::AndAgain {
@@ -178,7 +178,7 @@ impl Machine {
                 self.set_mode(Mode::Await { op, on_answer });
             }
             None => self.set_mode(Mode::Unwind(Completion::Stops(
-                client_database::StopWhy::Budget,
+                database_protocol::StopWhy::Budget,
             ))),
         }
     }

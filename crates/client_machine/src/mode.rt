@@ -9,10 +9,10 @@ use crate::mode::changes::{ChangeAnswer, ChangeEntry, ChangeTask};
 use crate::mode::ends::{BufferList, EndAnswer, EndEntry, EndTask};
 use crate::mode::reads::{ReadAnswer, ReadEntry, ReadTask};
 use abl_base::{Row, Value};
-use abl_expr::RunFault;
 use block_meaning::StopWhy;
-use client_database::{Cursor, Op};
-use complaint_lines::Complaint;
+use database_protocol::{Cursor, Op};
+use expression_meaning::RunFault;
+use record_rules::lines::Complaint;
 
 /// The data with which an iteration, or a retry of one, begins.
 #[derive(Drop)]

@@ -3,7 +3,7 @@
 //! layers above.
 
 ghost use Rattle.std.specs.Prelude.{◌≡◌, ◌∷◌, OnOk, OnErr, reverse};
-ghost use Rattle.block_flat.specs.Flat as flat;
+ghost use Rattle.flat_machine.specs.Flat as flat;
 ghost use Rattle.client_output.specs.Written.{IsUnchanged};
 ghost use Rattle.client_machine.specs.Config.{instr_at, task_of, stack_of};
 ghost use Rattle.client_machine.specs.KeepsFrom.{KeepsFrom};

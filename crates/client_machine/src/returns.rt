@@ -4,8 +4,8 @@ ghost use Rattle.std.specs.Prelude.{◌≡◌, ◌∷◌, ℕ, List, None, OnOk,
 ghost use Rattle.block_meaning.specs.State.{State};
 ghost use Rattle.block_meaning.specs.Program.{Program};
 ghost use Rattle.block_meaning.specs.Blocks.{returns_with};
-ghost use Rattle.block_flat.specs.Flat as flat;
-ghost use Rattle.abl_eval.specs.Forms.{AreForms};
+ghost use Rattle.flat_machine.specs.Flat as flat;
+ghost use Rattle.evaluator.specs.Forms.{AreForms};
 ghost use Rattle.client_output.specs.Written.{IsUnchanged};
 ghost use Rattle.client_machine.specs.Actions.{returned_in};
 ghost use Rattle.client_machine.specs.Order.{Nesting, InOrder, first_in, ModeInOrder};

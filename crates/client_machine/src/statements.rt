@@ -1,18 +1,18 @@
 //! The instructions of a body.
 
 ghost use Rattle.std.specs.Prelude.{Bool, Option, ◌≡◌, ◌⊎◌, ◌∷◌, [], ℕ, List, None, Some, OnOk, OnErr, IfSome, true, false, reverse};
-ghost use Rattle.client_database.specs.declared.answer.Answer.{Answer};
-ghost use Rattle.client_database.specs.declared.operation.Op.{Op};
-ghost use Rattle.client_database.specs.declared.next_step.NextStep.{NextStep};
+ghost use Rattle.database_protocol.specs.declared.answer.Answer.{Answer};
+ghost use Rattle.database_protocol.specs.declared.operation.Op.{Op};
+ghost use Rattle.database_protocol.specs.declared.next_step.NextStep.{NextStep};
 ghost use Rattle.bound_tree.specs.Tree.{Assign, Body};
 ghost use Rattle.bound_tree.specs.Tree.{Assignment as AssignmentMeant};
 ghost use Rattle.bound_tree.specs.Bound.{stmt_of};
 ghost use Rattle.block_meaning.specs.State.{State};
 ghost use Rattle.block_meaning.specs.Program.{Program};
 ghost use Rattle.block_meaning.specs.Meaning.{finished};
-ghost use Rattle.block_flat.specs.Flat.{means};
-ghost use Rattle.block_flat.specs.Works.{IsRunning};
-ghost use Rattle.block_flat.specs.Flat as flat;
+ghost use Rattle.flat_machine.specs.Flat.{means};
+ghost use Rattle.flat_machine.specs.Works.{IsRunning};
+ghost use Rattle.flat_machine.specs.Flat as flat;
 ghost use Rattle.block_meaning.specs.State.{Copy, Done};
 ghost use Rattle.block_meaning.specs.Blocks.{own_or_outer, after_iteration, iterates, acts, instead_of_retry};
 ghost use Rattle.bound_tree.specs.Bound.{action_of};
@@ -39,7 +39,7 @@ use crate::mode::{
 use abl_base::{Bytes, Value};
 use block_code::Instr;
 use bound_tree::{Action, Assignment, BlockKind, Right, Stmt, Target};
-use client_database::{Answer, ClientEnd, NextStep, Op, RowIds, StopWhy};
+use database_protocol::{Answer, ClientEnd, NextStep, Op, RowIds, StopWhy};
 use std::alloc::{AllocError, Global};
 use std::mem;
 

@@ -9,7 +9,7 @@ ghost use Rattle.block_meaning.specs.Buffers.{as_share};
 ghost use Rattle.client_memory.specs.Buffers.{denoted_content, denoted_held, held_shared, is_pending as is_pending_here};
 
 use abl_base::{Items, Row, RowId, Value, copy_row};
-use client_database::Cursor;
+use database_protocol::Cursor;
 use std::alloc::AllocError;
 
 /// The lock under which a buffer holds its row.

@@ -21,7 +21,7 @@ use crate::rows::kept_rows;
 use crate::slots::Slots;
 use abl_base::{Items, Value};
 use bound_tree::Variable;
-use client_database::RowIds;
+use database_protocol::RowIds;
 use std::alloc::{AllocError, Global};
 use std::marker::Model;
 

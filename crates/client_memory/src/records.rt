@@ -10,7 +10,7 @@ ghost use Rattle.client_memory.specs.Savepoints.{contents_with, counts_of};
 use crate::buffer::{Buffer, Content, Place, Spot};
 use crate::buffers::{Buffers, SavedContents};
 use abl_base::RowId;
-use client_database::RowIds;
+use database_protocol::RowIds;
 use std::alloc::{AllocError, Global};
 
 /// The index of a procedure, where it is the `out`-th outward from the running one of `count`.

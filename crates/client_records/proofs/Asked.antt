@@ -2,19 +2,19 @@
 use Rattle.std.proofs.Common.{◌≡◌, ℕ, Bool, true, false, List, [], Option, Some, None, ap, subst}
 use Rattle.abl_base.specs.declared.row.RowId.{RowId}
 use Rattle.abl_base.specs.declared.value.Value.{Value}
-use Rattle.client_database.specs.declared.operation.Op.{Op}
-use Rattle.client_database.specs.declared.operation.Op.TheVariants as op
+use Rattle.database_protocol.specs.declared.operation.Op.{Op}
+use Rattle.database_protocol.specs.declared.operation.Op.TheVariants as op
 use Rattle.block_meaning.specs.Changes.{all_begun}
 use Rattle.block_meaning.specs.Lines.{Complaint}
 use Rattle.block_meaning.specs.Program.{Program, table_at}
 use Rattle.block_meaning.specs.State as state
 use Rattle.block_meaning.specs.State.{State, Content, Empty, Record, Pending, Held, NoLock, Share, Exclusive}
 use Rattle.block_meaning.specs.Buffers.{missing_field}
-use Rattle.block_flat.specs.Flat as flat
+use Rattle.flat_machine.specs.Flat as flat
 use Rattle.block_meaning.specs.Frames.{content_of, table_of}
-use Rattle.client_changes.specs.Steps.{SettleGoes}
-use Rattle.client_changes.specs.declared.stores.StoreStep.{StoreStep}
-use Rattle.client_changes.specs.declared.stores.StoreStep.TheVariants as store
+use Rattle.buffer_steps.specs.changes.Steps.{SettleGoes}
+use Rattle.buffer_steps.specs.declared.changes.stores.StoreStep.{StoreStep}
+use Rattle.buffer_steps.specs.declared.changes.stores.StoreStep.TheVariants as store
 use Rattle.client_machine.specs.Order.{IsNotOnLevels}
 use Rattle.client_memory.specs.Memory.{Remembered}
 use Rattle.client_records.specs.Locks.{StoresRow}

@@ -2,9 +2,9 @@
 use Rattle.std.proofs.Common.{◌≡◌, ℕ, Bool, List, [], ◌∷◌, Some, ap, ◌∙◌}
 use Rattle.std.specs.Prelude.{Ok, Err}
 use Rattle.abl_base.specs.declared.value.Value.{Value}
-use Rattle.abl_eval.specs.declared.fault.EvalFault.{EvalFault}
-use Rattle.abl_eval.specs.declared.fault.EvalFault.TheVariants.{Fault, NoMemory}
-use Rattle.abl_expr.specs.declared.fault.RunFault.{RunFault}
+use Rattle.evaluator.specs.declared.fault.EvalFault.{EvalFault}
+use Rattle.evaluator.specs.declared.fault.EvalFault.TheVariants.{Fault, NoMemory}
+use Rattle.expression_meaning.specs.declared.fault.RunFault.{RunFault}
 use Rattle.bound_tree.specs.declared.statement.Target.{Target}
 use Rattle.bound_tree.specs.Tree.{Body, Expr, Right, ValueOf, Given, Assignment}
 use Rattle.block_meaning.specs.Changes.{stored, stored_if}
@@ -13,11 +13,11 @@ use Rattle.block_meaning.specs.Program.{Program}
 use Rattle.block_meaning.specs.State as state
 use Rattle.block_meaning.specs.State.{State, Completed}
 use Rattle.block_meaning.specs.Values.{Evaluated, value_now}
-use Rattle.client_database.specs.declared.answer.Answer.{Answer}
+use Rattle.database_protocol.specs.declared.answer.Answer.{Answer}
 use Rattle.client_values.specs.Ends.{Evaluates}
-use Rattle.block_flat.specs.Flat as flat
-use Rattle.block_flat.specs.Flat.{Code, IsCodeOf}
-use Rattle.block_flat.proofs.Machine.{step_means}
+use Rattle.flat_machine.specs.Flat as flat
+use Rattle.flat_machine.specs.Flat.{Code, IsCodeOf}
+use Rattle.flat_machine.proofs.Machine.{step_means}
 use Rattle.client_records.specs.declared.rights.RightSide.{RightSide}
 use Rattle.client_records.specs.declared.rights.RightSide.TheVariants as right
 use Rattle.client_records.specs.Rights.{IsRightSide, right_step}

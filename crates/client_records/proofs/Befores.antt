@@ -7,8 +7,8 @@ use Rattle.block_meaning.specs.Program.{Program}
 use Rattle.block_meaning.specs.State as state
 use Rattle.block_meaning.specs.State.{State}
 use Rattle.block_meaning.proofs.Continues.{begins_itself}
-use Rattle.block_flat.specs.Flat as flat
-use Rattle.block_flat.proofs.Machine.{step_means}
+use Rattle.flat_machine.specs.Flat as flat
+use Rattle.flat_machine.proofs.Machine.{step_means}
 use Rattle.client_output.proofs.Unchanged.{written_same}
 use Rattle.client_memory.specs.Buffers.{denoted_content}
 use Rattle.client_memory.specs.declared.buffer.Content.{Content as ContentRs}

@@ -7,9 +7,9 @@ use Rattle.block_meaning.specs.Program.{Program, table_at}
 use Rattle.block_meaning.specs.State as state
 use Rattle.block_meaning.specs.State.{State, Copy, Pending}
 use Rattle.block_meaning.proofs.Continues.{begins_itself}
-use Rattle.block_flat.specs.Flat as flat
-use Rattle.block_flat.proofs.Machine.{step_means}
-use Rattle.client_changes.specs.Buffers.{HasTables}
+use Rattle.flat_machine.specs.Flat as flat
+use Rattle.flat_machine.proofs.Machine.{step_means}
+use Rattle.buffer_steps.specs.changes.Buffers.{HasTables}
 use Rattle.client_output.proofs.Unchanged.{written_same}
 use Rattle.client_machine.specs.declared.machine.Machine.{Machine}
 use Rattle.client_machine.specs.declared.mode.Mode.TheVariants as mode

@@ -2,16 +2,16 @@
 use Rattle.std.proofs.Common.{◌≡◌, ◌⊎◌, inl, inr, ℕ, length, List, None, refl, sym, ap, ◌∙◌, subst}
 use Rattle.std.specs.Prelude.{Result, Ok, Err, OnOk, Vec, map, reverse}
 use Rattle.std.specs.declared.alloc.Global.{Global}
-use Rattle.client_database.specs.declared.answer.Answer.{Answer}
-use Rattle.client_database.specs.declared.operation.Op.{Op}
-use Rattle.client_database.specs.declared.ends.StopWhy.TheVariants as why
+use Rattle.database_protocol.specs.declared.answer.Answer.{Answer}
+use Rattle.database_protocol.specs.declared.operation.Op.{Op}
+use Rattle.database_protocol.specs.declared.ends.StopWhy.TheVariants as why
 use Rattle.bound_tree.specs.Tree.{Body}
 use Rattle.block_meaning.specs.Program.{Program}
 use Rattle.block_meaning.specs.State.{State, Copy}
 use Rattle.block_meaning.proofs.Continues.{begins_itself}
-use Rattle.block_flat.specs.Flat as flat
-use Rattle.block_flat.specs.Flat.{IsCodeOf}
-use Rattle.block_flat.proofs.Machine.{answered_means, step_means}
+use Rattle.flat_machine.specs.Flat as flat
+use Rattle.flat_machine.specs.Flat.{IsCodeOf}
+use Rattle.flat_machine.proofs.Machine.{answered_means, step_means}
 use Rattle.client_memory.specs.Memory.{Remembered}
 use Rattle.client_output.proofs.Unchanged.{written_same}
 use Rattle.client_machine.specs.declared.machine.Machine.{Machine}
@@ -159,7 +159,7 @@ task_from t from old new same kept = λ tree p rest is f.
     let k = kept tree p rest is g in
     record { rest = k.rest; code = k.code; fits = k.fits; more = k.more; has = k.has; same = λ ans. same tree p rest is g ans ∙ k.same ans }
 
--- one step of the machine of block_flat
+-- one step of the machine of flat_machine
 pub task_step_from : (t : ChangeTask) (from : Program → State → flat.Config) (old new : Machine) →
     ((p : Program) (s : State) → flat.task_step (code_in old) p (change_task_of old.code.instrs.items t) (stack_in old) s ≡ from p s) →
     KeepsFrom from old new → KeepsTask (task.Change t) old new

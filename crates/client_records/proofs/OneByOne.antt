@@ -1,13 +1,13 @@
 -- An assignment statement stores its buffers one by one: an entry for each of them does what the lists of buffers and contents do.
 use Rattle.std.proofs.Common.{◌≡◌, refl, sym, ap, ◌∙◌, ℕ, List, [], ◌∷◌, Bool}
-use Rattle.client_database.specs.declared.answer.Answer.{Answer}
+use Rattle.database_protocol.specs.declared.answer.Answer.{Answer}
 use Rattle.bound_tree.specs.Tree.{Body, Assignment}
 use Rattle.block_meaning.specs.Program.{Program}
 use Rattle.block_meaning.specs.State.{State, Completion, Normal, Again, Leaves, Nexts, Undoes, Faults, Raises, EndKeys, Returns, Stops, Found, Lost, NotFound, Outcome, Continuation, Done, Suspended, and_then, if_normal}
 use Rattle.block_meaning.specs.Frames.{content_of, table_of}
 use Rattle.block_meaning.specs.Changes.{assigns_each, locks_content, locks_all, settles, settles_all, or_as_before, buffers_in}
-use Rattle.block_flat.specs.Flat as flat
-use Rattle.block_flat.specs.Flat.{means, after_stack, config, or_contents_back}
+use Rattle.flat_machine.specs.Flat as flat
+use Rattle.flat_machine.specs.Flat.{means, after_stack, config, or_contents_back}
 use Rattle.client_records.specs.Entries.{lock_entries, store_entries}
 
 -- ---- one part after another

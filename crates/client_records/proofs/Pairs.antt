@@ -6,7 +6,7 @@ use Rattle.bound_tree.specs.Bound.{stmt_of}
 use Rattle.bound_tree.specs.declared.statement.Assignment.{Assignment}
 use Rattle.bound_tree.specs.declared.statement.Stmt.{Stmt}
 use Rattle.bound_tree.specs.declared.statement.Stmt.TheVariants as stmt
-use Rattle.block_flat.specs.Flat as flat
+use Rattle.flat_machine.specs.Flat as flat
 use Rattle.client_machine.specs.Statements.{pairs_in}
 
 -- there are none in another statement

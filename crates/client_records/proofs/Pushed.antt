@@ -4,12 +4,12 @@ use Rattle.std.specs.Prelude.{Vec, reverse}
 use Rattle.std.specs.declared.alloc.Global.{Global}
 use Rattle.std.proofs.lemmas.List.{reverse-append}
 use Rattle.bound_tree.specs.Tree.{Body}
-use Rattle.client_database.specs.declared.answer.Answer.{Answer}
+use Rattle.database_protocol.specs.declared.answer.Answer.{Answer}
 use Rattle.block_meaning.specs.Program.{Program}
 use Rattle.block_meaning.specs.Frames.{content_of}
 use Rattle.block_meaning.specs.State.{Buffer, Content, Copy, State}
-use Rattle.block_flat.specs.Flat as flat
-use Rattle.block_flat.specs.Flat.{IsCodeOf}
+use Rattle.flat_machine.specs.Flat as flat
+use Rattle.flat_machine.specs.Flat.{IsCodeOf}
 use Rattle.block_code.specs.declared.code.Code.{Code}
 use Rattle.client_machine.specs.declared.machine.Machine.{Machine}
 use Rattle.client_machine.specs.declared.mode.Mode.{Mode}

@@ -4,7 +4,7 @@ use Rattle.block_meaning.specs.State.{Content}
 use Rattle.block_meaning.specs.Changes.{once}
 use Rattle.block_meaning.specs.Frames.{is_in}
 use Rattle.block_meaning.specs.Buffers.{own}
-use Rattle.block_flat.specs.Flat as flat
+use Rattle.flat_machine.specs.Flat as flat
 use Rattle.client_memory.specs.Memory.{Remembered, buffer_at}
 
 -- each buffer is locked for the change, in order

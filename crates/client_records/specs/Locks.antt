@@ -3,9 +3,9 @@ use Rattle.std.specs.Prelude.{◌≡◌, ℕ, List}
 use Rattle.block_meaning.specs.Frames.{content_of, table_of}
 use Rattle.block_meaning.specs.Lines.{IsReadNoLock}
 use Rattle.block_meaning.specs.State.{State, Normal}
-use Rattle.block_flat.specs.Flat as flat
-use Rattle.client_changes.specs.declared.stores.StoreStep.{StoreStep}
-use Rattle.client_changes.specs.declared.stores.StoreStep.TheVariants as store
+use Rattle.flat_machine.specs.Flat as flat
+use Rattle.buffer_steps.specs.declared.changes.stores.StoreStep.{StoreStep}
+use Rattle.buffer_steps.specs.declared.changes.stores.StoreStep.TheVariants as store
 use Rattle.client_machine.specs.Order.{IsNotOnLevels}
 use Rattle.client_records.specs.declared.memory.LockStep.{LockStep}
 use Rattle.client_records.specs.declared.memory.LockStep.TheVariants as lock

@@ -1,7 +1,7 @@
 -- The right sides of assignments, evaluated.
 use Rattle.std.specs.Prelude.{◌≡◌, ℕ, Bool, List, [], ◌∷◌, Option, Some, None, Result, Ok, Err, drop}
-use Rattle.abl_eval.specs.declared.fault.EvalFault.{EvalFault}
-use Rattle.abl_eval.specs.declared.fault.EvalFault.TheVariants.{Fault, NoMemory}
+use Rattle.evaluator.specs.declared.fault.EvalFault.{EvalFault}
+use Rattle.evaluator.specs.declared.fault.EvalFault.TheVariants.{Fault, NoMemory}
 use Rattle.bound_tree.specs.declared.statement.Target.{Target}
 use Rattle.bound_tree.specs.Tree.{Expr, Right, ValueOf, NextOf, CurrentOf, Assignment}
 use Rattle.block_meaning.specs.Changes.{stored}
@@ -9,8 +9,8 @@ use Rattle.block_meaning.specs.Lines.{complaint_of}
 use Rattle.block_meaning.specs.Program.{Program}
 use Rattle.block_meaning.specs.State.{State}
 use Rattle.block_meaning.specs.Values.{value_now, Gives, Fails}
-use Rattle.block_flat.specs.Flat as flat
-use Rattle.client_database.specs.declared.operation.Op.TheVariants as op
+use Rattle.flat_machine.specs.Flat as flat
+use Rattle.database_protocol.specs.declared.operation.Op.TheVariants as op
 use Rattle.client_records.specs.declared.rights.RightSide.{RightSide}
 use Rattle.client_records.specs.declared.rights.RightSide.TheVariants as right
 use Rattle.client_records.specs.declared.rights.NextAssignment.{NextAssignment}

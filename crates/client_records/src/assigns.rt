@@ -6,8 +6,8 @@ ghost use Rattle.std.specs.Prelude.{◌≡◌, ◌∷◌, ℤ, MatchOption, None
 ghost use Rattle.abl_base.specs.declared.value.Value.{Value};
 ghost use Rattle.block_meaning.specs.Changes.{stored};
 ghost use Rattle.block_meaning.specs.Views.{number_in};
-ghost use Rattle.block_flat.specs.Flat as flat;
-ghost use Rattle.client_database.specs.declared.operation.Op.{Op};
+ghost use Rattle.flat_machine.specs.Flat as flat;
+ghost use Rattle.database_protocol.specs.declared.operation.Op.{Op};
 ghost use Rattle.client_machine.specs.AnswerClass.{IsOfAnswerClass, KeepsAnswer};
 ghost use Rattle.client_machine.specs.Config.{assignments_of};
 ghost use Rattle.client_machine.specs.KeepsFrom.{KeepsFrom};
@@ -29,13 +29,13 @@ use crate::memory::assign;
 use crate::rights::{NextAssignment, RightSide, next_assignment};
 use crate::targets::changed_buffers;
 use abl_base::Value;
-use abl_eval::EvalFault;
 use bound_tree::Target;
-use client_database::{Answer, Op};
 use client_machine::machine::Machine;
 use client_machine::mode::changes::{AssignmentList, ChangeAnswer, ChangeTask, GivenValue};
 use client_machine::mode::{LineFault, Mode, OnAnswer, StackEntry, Task};
-use complaint_lines::Complaint;
+use database_protocol::{Answer, Op};
+use evaluator::EvalFault;
+use record_rules::lines::Complaint;
 use record_rules::sequence_value;
 use std::alloc::AllocError;
 

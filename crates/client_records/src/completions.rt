@@ -7,7 +7,7 @@ ghost use Rattle.client_machine.specs.declared.mode.Mode.{Mode};
 
 use client_machine::machine::Machine;
 use client_machine::mode::{Completion, LineFault, Mode};
-use complaint_lines::Complaint;
+use record_rules::lines::Complaint;
 
 /// The step completes normally.
 pub(crate) fn complete(machine: &mut Machine)

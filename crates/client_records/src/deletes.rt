@@ -14,14 +14,14 @@ use crate::completions::{complain, complete};
 use crate::locks::lock;
 use crate::memory::{begin_delete, hold};
 use abl_base::RowId;
-use client_changes::DeleteStep;
-use client_database::{Answer, Op};
+use buffer_steps::changes::DeleteStep;
 use client_machine::machine::Machine;
 use client_machine::mode::changes::{ChangeAnswer, ChangeTask};
 use client_machine::mode::{OnAnswer, StackEntry, Task};
 use client_memory::Content;
-use complaint_lines::Complaint;
+use database_protocol::{Answer, Op};
 use record_rules::is_gone;
+use record_rules::lines::Complaint;
 use std::alloc::AllocError;
 
 /// DELETE: an empty buffer is a fault, a pending record is dropped, and a row is locked exclusively

@@ -1,5 +1,5 @@
 //! The statements that change records and sequences: assignments, CREATE and DELETE, as tasks of the
-//! client's machine. It depends on `client_changes` for what each step does to a buffer, and on
+//! client's machine. It depends on `buffer_steps::changes` for what each step does to a buffer, and on
 //! `client_machine` for the machine. A layer above may rely on the one contract of its three calls,
 //! `execute`, `unwind_to` and `answer`: each keeps the rest of the run (`specs/Step.antt` of
 //! `client_machine`). Out of memory is the only error, and leaves the output as it was.

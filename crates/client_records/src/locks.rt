@@ -2,7 +2,7 @@
 
 ghost use Rattle.std.specs.Prelude.{◌≡◌, OnErr, OnOk};
 ghost use Rattle.block_meaning.specs.Frames.{content_of, table_of};
-ghost use Rattle.block_flat.specs.Flat as flat;
+ghost use Rattle.flat_machine.specs.Flat as flat;
 ghost use Rattle.client_machine.specs.AnswerClass.{IsOfAnswerClass, KeepsAnswer};
 ghost use Rattle.client_machine.specs.KeepsFrom.{KeepsFrom};
 ghost use Rattle.client_machine.specs.Machine.{stack_in};
@@ -17,13 +17,13 @@ ghost use Rattle.client_output.specs.Written.{IsUnchanged};
 use crate::completions::{complain, complete};
 use crate::memory::{LockStep, hold, lock_step};
 use abl_base::{Row, RowId};
-use client_database::{Answer, Op};
 use client_machine::machine::Machine;
 use client_machine::mode::OnAnswer;
 use client_machine::mode::changes::ChangeAnswer;
 use client_memory::{Content, Held};
-use complaint_lines::Complaint;
+use database_protocol::{Answer, Op};
 use record_rules::is_gone;
+use record_rules::lines::Complaint;
 use std::alloc::AllocError;
 
 /// The lock of a changed buffer, as a task.

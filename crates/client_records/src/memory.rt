@@ -8,8 +8,8 @@ ghost use Rattle.block_meaning.specs.Changes.{as_before, initial_values, stored}
 ghost use Rattle.block_meaning.specs.Frames.{content_of, holding, table_of};
 ghost use Rattle.block_meaning.specs.Program.{Program, table_at};
 ghost use Rattle.block_meaning.specs.State.{Pending, Record, State, Held as HeldMeant};
-ghost use Rattle.client_changes.specs.Buffers.{Fits, HasTables, state_of};
-ghost use Rattle.client_changes.specs.Steps.{DeleteGoes, SettleGoes};
+ghost use Rattle.buffer_steps.specs.changes.Buffers.{Fits, HasTables, state_of};
+ghost use Rattle.buffer_steps.specs.changes.Steps.{DeleteGoes, SettleGoes};
 ghost use Rattle.client_machine.specs.Machine.{state_in};
 ghost use Rattle.client_memory.specs.Buffers.{denoted_content};
 ghost use Rattle.client_values.specs.Ends.{Assigns};
@@ -17,14 +17,14 @@ ghost use Rattle.client_records.specs.Locks.{LockIs, StoresRow};
 ghost use Rattle.client_records.specs.Reads.{ReadsOf};
 
 use abl_base::{Items, Row, RowId, Value, copy_row};
-use abl_eval::EvalFault;
 use bound_tree::Target;
-use client_buffers::RunningBuffers;
-use client_changes::{ChangeLock, DeleteStep, StoreStep};
-use client_database::Op;
+use buffer_steps::buffers::RunningBuffers;
+use buffer_steps::changes::{ChangeLock, DeleteStep, StoreStep};
 use client_machine::machine::Machine;
 use client_memory::Content;
 use client_values::assign::assign_value;
+use database_protocol::Op;
+use evaluator::EvalFault;
 use std::alloc::{AllocError, Global};
 
 /// The lock before a change, with what the buffer holds where it is asked for.
@@ -68,7 +68,7 @@ pub(crate) fn lock_step(machine: &mut Machine, buffer: u32) -> Result<LockStep, 
 fn locked(alloc: Global, buffers: &RunningBuffers<'_>, buffer: u32) -> Result<LockStep, AllocError>
     ensures { IfOk result (λ step. (p : Program) (rest : State) → Fits p rest buffers.now → LockIs step buffer (state_of rest buffers.now)) }
 {
-    match client_changes::lock_for_change(buffers, buffer) {
+    match buffer_steps::changes::lock_for_change(buffers, buffer) {
         ChangeLock::Enough => Ok(LockStep::Enough),
         ChangeLock::ReadNoLock => Ok(LockStep::ReadNoLock),
         ChangeLock::Asks(op, row) => {
@@ -110,7 +110,7 @@ pub(crate) fn store_step(machine: &mut Machine, buffer: u32) -> Result<StoreStep
     ensures goes { IfOk result (λ step. (p : Program) (rest : State) → HasTables p machine.old.inputs.schema → ReadsOf p rest machine.old → SettleGoes step p buffer (state_in rest machine.old)) }
     ensures stores { IfOk result (λ step. (p : Program) (rest : State) → HasTables p machine.old.inputs.schema → ReadsOf p rest machine.old → StoresRow step) }
 {
-    client_changes::settle(
+    buffer_steps::changes::settle(
         &RunningBuffers {
             memory: &mut machine.memory,
             procedures: machine.procedures.as_slice(),
@@ -230,7 +230,7 @@ pub(crate) fn begin_delete(machine: &mut Machine, buffer: u32) -> DeleteStep
         error: machine.status,
         returned: machine.returned.as_slice(),
     };
-    client_changes::begin_delete(&mut buffers, buffer)
+    buffer_steps::changes::begin_delete(&mut buffers, buffer)
 }
 
 /// The buffer holds a new pending record. `made` is the number of this CREATE. Out of memory is the
@@ -247,7 +247,7 @@ pub(crate) fn new_record(machine: &mut Machine, buffer: u32, made: u64) -> Resul
         error: machine.status,
         returned: machine.returned.as_slice(),
     };
-    client_changes::new_record(
+    buffer_steps::changes::new_record(
         machine.alloc,
         &mut buffers,
         &machine.inputs.schema,
@@ -278,7 +278,14 @@ pub(crate) fn assign(machine: &mut Machine, target: Target, value: Value) -> Res
                 error: machine.status,
                 returned: machine.returned.as_slice(),
             };
-            client_changes::set_field(machine.alloc, &mut buffers, buffer, field, kind, value)
+            buffer_steps::changes::set_field(
+                machine.alloc,
+                &mut buffers,
+                buffer,
+                field,
+                kind,
+                value,
+            )
         }
     }
 }

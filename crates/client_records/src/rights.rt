@@ -1,7 +1,7 @@
 //! The right sides of assignments.
 
 ghost use Rattle.std.specs.Prelude.{◌≡◌, ℕ, map};
-ghost use Rattle.block_flat.specs.Flat as flat;
+ghost use Rattle.flat_machine.specs.Flat as flat;
 ghost use Rattle.block_meaning.specs.Program.{Program};
 ghost use Rattle.block_meaning.specs.State.{State};
 ghost use Rattle.bound_tree.specs.Bound.{assignment_of, right_of, stmt_of};
@@ -12,11 +12,11 @@ ghost use Rattle.client_records.specs.Reads.{ReadsOf};
 ghost use Rattle.client_records.specs.Rights.{IsNext, IsRightSide};
 
 use abl_base::Value;
-use abl_eval::EvalFault;
 use block_code::{Code, Instr};
 use bound_tree::{Assignment, Right, Stmt, Target};
 use client_machine::machine::Machine;
 use client_values::value::{Status, value_of};
+use evaluator::EvalFault;
 
 /// A right side: the value of an expression, or a sequence whose value is asked for.
 #[derive(Drop)]

@@ -15,11 +15,11 @@ use crate::creates::{begun, creates};
 use crate::deletes::{deletes, deletes_row, was_deleted};
 use crate::locks::{locks_one, was_upgraded};
 use crate::stores::{as_before, settles_one, was_put};
-use client_database::{Answer, Op};
 use client_machine::machine::Machine;
 use client_machine::mode::Completion;
 use client_machine::mode::changes::{ChangeAnswer, ChangeEntry, ChangeTask};
 use client_memory::Content;
+use database_protocol::{Answer, Op};
 use std::alloc::AllocError;
 
 /// Executes a task of a change. Out of memory is the only error.

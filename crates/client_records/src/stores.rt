@@ -19,13 +19,13 @@ ghost use Rattle.client_output.specs.Written.{IsUnchanged};
 
 use crate::completions::{complain, complete};
 use crate::memory::{restore, store_step, table};
-use client_changes::StoreStep;
-use client_database::{Answer, Op};
+use buffer_steps::changes::StoreStep;
 use client_machine::machine::Machine;
 use client_machine::mode::changes::ChangeAnswer;
 use client_machine::mode::ends::EndTask;
 use client_machine::mode::{Completion, LineFault, Mode, OnAnswer, Task};
 use client_memory::{Content, Place};
+use database_protocol::{Answer, Op};
 use record_rules::refusal_in;
 use std::alloc::AllocError;
 

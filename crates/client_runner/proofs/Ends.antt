@@ -1,8 +1,8 @@
 -- A task at the end of the run.
 use Rattle.std.proofs.Common.{◌≡◌, ℕ, List, Option, Some, None, IsSomeAnd, sym, ap, ◌∙◌, subst}
-use Rattle.client_database.specs.declared.event.Event.{Event}
-use Rattle.client_database.specs.declared.operation.Op.{Op}
-use Rattle.client_database.specs.declared.next_step.NextStep.{NextStep}
+use Rattle.database_protocol.specs.declared.event.Event.{Event}
+use Rattle.database_protocol.specs.declared.operation.Op.{Op}
+use Rattle.database_protocol.specs.declared.next_step.NextStep.{NextStep}
 use Rattle.database_meaning.specs.Setting.{Setting}
 use Rattle.turn_lock.specs.declared.view.Key.{Key}
 use Rattle.turn_lock.specs.Shared.{Lock, IsMadeOf}

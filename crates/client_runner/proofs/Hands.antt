@@ -4,7 +4,7 @@ use Rattle.std.specs.Prelude.{slice_index_or}
 use Rattle.std.proofs.lemmas.List.{get_or_default}
 use mathlib.Core.Logic.{dite}
 use native.Mathlib.Decide.{ℕ_discrete}
-use Rattle.client_database.specs.declared.event.Event.{Event}
+use Rattle.database_protocol.specs.declared.event.Event.{Event}
 use Rattle.turn_lock.specs.Shared.{Lock}
 use Rattle.turn_lock.specs.Passes.{ClientPass, PassList, passes_from}
 use Rattle.turn_lock.proofs.PassLists.{passes_from-next}

@@ -1,6 +1,6 @@
 -- A client's own events in a trace.
 use Rattle.std.proofs.Common.{◌≡◌, ◌==◌, ℕ, Bool, true, false, List, [], ◌∷◌, map, cond, refl, ap}
-use Rattle.client_database.specs.declared.event.Event.{Event}
+use Rattle.database_protocol.specs.declared.event.Event.{Event}
 use Rattle.database_meaning.specs.Traces.{answers_of, operations_of}
 use Rattle.turn_lock.specs.Journal.{own_entries}
 use Rattle.client_runner.specs.Meant.{client_in}

@@ -9,7 +9,7 @@ use Rattle.client_runner.specs.contracts.served.Served as served
 use Rattle.turn_lock.specs.contracts.passes.Pass as pass
 use Rattle.turn_lock.specs.declared.journal.Journal as journal
 use Rattle.client_runner.specs.contracts.task.Task.{the_row}
-use Rattle.client_database.specs.contracts.ends.ClientEnd as end
+use Rattle.database_protocol.specs.contracts.ends.ClientEnd as end
 
 pub start_send : (D : RattleType) → IsSend (start.the_row D)
 start_send D = search (sendable, crosses) depth 12

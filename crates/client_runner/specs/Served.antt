@@ -2,8 +2,8 @@
 use Rattle.std.specs.Prelude.{◌≡◌, ◌++◌, ◌+◌, ◌≤◌, ◌<◌, ℕ, List}
 use Rattle.std.specs.List.{All}
 use Rattle.database_meaning.specs.declared.contents.Contents.{Contents}
-use Rattle.client_database.specs.declared.operation.Op.{Op}
-use Rattle.client_database.specs.declared.event.Event.{Event}
+use Rattle.database_protocol.specs.declared.operation.Op.{Op}
+use Rattle.database_protocol.specs.declared.event.Event.{Event}
 use Rattle.database_meaning.specs.Setting.{Setting}
 use Rattle.turn_lock.specs.Journal.{own_entries}
 use Rattle.client_runner.specs.declared.start.Start.{Start}

@@ -1,7 +1,7 @@
 //! All clients together.
 
 ghost use Rattle.std.specs.Prelude.{◌≡◌, ◌⊎◌, ℕ, ◌+◌, ◌≤◌, ◌<◌, [], length, map, slice_index_or, IfOk, IfErr};
-ghost use Rattle.client_database.specs.declared.operation.Op.{Op as Operation};
+ghost use Rattle.database_protocol.specs.declared.operation.Op.{Op as Operation};
 ghost use Rattle.database_meaning.specs.declared.contents.Contents.{Contents};
 ghost use Rattle.database_meaning.specs.Setting.{Setting};
 ghost use Rattle.database_meaning.specs.Traces.{IsLegal};
@@ -16,8 +16,8 @@ use crate::noted::Noted;
 use crate::served::Served;
 use crate::session::Session;
 use crate::task::Task;
-use abl_outside::Gate;
 use database_interface::Database;
+use host_io::Gate;
 use std::alloc::Global;
 use std::sync::Wait;
 use std::thread;

@@ -1,14 +1,14 @@
 //! What the runner asks of a client.
 
 ghost use Rattle.std.specs.Prelude.{◌≡◌, ◌++◌, ◌∷◌, [], ℕ, List, None, IfSome};
-ghost use Rattle.client_database.specs.declared.event.Event.{Event};
-ghost use Rattle.client_database.specs.declared.operation.Op.{Op};
+ghost use Rattle.database_protocol.specs.declared.event.Event.{Event};
+ghost use Rattle.database_protocol.specs.declared.operation.Op.{Op};
 ghost use Rattle.database_meaning.specs.Setting.{Setting};
-ghost use Rattle.client_database.specs.declared.next_step.NextStep.{NextStep as Step};
+ghost use Rattle.database_protocol.specs.declared.next_step.NextStep.{NextStep as Step};
 ghost use Rattle.database_interface.specs.Step.{event_of};
 ghost use Rattle.client_runner.specs.Meant.{Meant, IsSureOf, IsOver, Requests, NoneIsRefused, AllFit};
 
-use client_database::{Answer, NextStep};
+use database_protocol::{Answer, NextStep};
 
 /// The session of a client: a machine that requests operations, receives their answers, and ends.
 pub trait Session {

@@ -3,8 +3,8 @@
 ghost use Rattle.std.specs.Prelude.{◌≡◌, ◌≢◌, ◌⊎◌, ◌++◌, ◌∷◌, [], ℕ, None, IfSome};
 ghost use Rattle.database_meaning.specs.Setting.{Setting};
 ghost use Rattle.database_meaning.specs.Fits.{Fits};
-ghost use Rattle.client_database.specs.declared.operation.Op.{Op as Operation};
-ghost use Rattle.client_database.specs.declared.answer.Answer.TheVariants.{Refused};
+ghost use Rattle.database_protocol.specs.declared.operation.Op.{Op as Operation};
+ghost use Rattle.database_protocol.specs.declared.answer.Answer.TheVariants.{Refused};
 ghost use Rattle.database_interface.specs.Step.{event_of};
 ghost use Rattle.client_runner.specs.Meant.{IsSureOf, HasNotEnded};
 ghost use Rattle.client_runner.specs.Tasks.{IsReady, HasRun, IsOneOfLock, HasSettingAtLock, ServesAtLock, EndedBy};
@@ -12,9 +12,9 @@ ghost use Rattle.client_runner.specs.Tasks.{IsReady, HasRun, IsOneOfLock, HasSet
 use crate::noted::Noted;
 use crate::served::Served;
 use crate::session::Session;
-use abl_outside::Gate;
-use client_database::{Answer, ClientEnd, NextStep, Op};
 use database_interface::Database;
+use database_protocol::{Answer, ClientEnd, NextStep, Op};
+use host_io::Gate;
 use std::sync::Wait;
 use turn_lock::{Pass, Shared};
 

@@ -4,7 +4,7 @@ use Rattle.std.specs.Prelude.{Vec, map, reverse, nat_lt, slice_index_or, slice_s
 use Rattle.std.specs.declared.alloc.Global.{Global}
 use Rattle.std.proofs.lemmas.List.{reverse-append, map-set}
 use Rattle.abl_base.specs.declared.limits.TheConstants.{MAX_OUTPUT_BYTES}
-use Rattle.client_database.specs.declared.ends.StopWhy.TheVariants as why
+use Rattle.database_protocol.specs.declared.ends.StopWhy.TheVariants as why
 use Rattle.block_meaning.specs.declared.wants.Piece.{Piece}
 use Rattle.block_meaning.specs.declared.wants.Piece.TheVariants.{Wrote, Opened}
 use Rattle.block_meaning.specs.Program.{Program}
@@ -13,12 +13,12 @@ use Rattle.block_meaning.specs.State.{State, wrote, bytes_in}
 use Rattle.block_meaning.specs.Lines.{complaint_of}
 use Rattle.block_meaning.specs.Values.{Text, IsText, HasFault, EvaluatedAll, GivesAll, FailsAll}
 use Rattle.abl_base.specs.declared.value.Value.{Value}
-use Rattle.abl_expr.specs.declared.fault.RunFault.{RunFault}
-use Rattle.client_texts.specs.Writes.{line_text}
+use Rattle.expression_meaning.specs.declared.fault.RunFault.{RunFault}
+use Rattle.client_streams.specs.lines.Writes.{line_text}
 use Rattle.block_meaning.specs.Streams as streams
 use Rattle.block_meaning.specs.Streams.{stream_at, with_stream}
 use Rattle.block_meaning.proofs.Continues.{begins_itself}
-use Rattle.block_flat.specs.Flat as flat
+use Rattle.flat_machine.specs.Flat as flat
 use Rattle.client_output.specs.declared.output.Output.{Output}
 use Rattle.client_output.specs.Written.{HasWritten}
 use Rattle.client_output.proofs.Unchanged.{written_same}

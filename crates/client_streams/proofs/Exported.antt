@@ -7,8 +7,8 @@ use Rattle.block_meaning.specs.Frames.{content_of}
 use Rattle.block_meaning.specs.Program.{Program}
 use Rattle.block_meaning.specs.State.{Buffer, Content, Empty, Pending, Record, State}
 use Rattle.block_meaning.specs.Values.{spaced}
-use Rattle.block_flat.specs.Flat as flat
-use Rattle.block_flat.specs.Steps.{export_step}
+use Rattle.flat_machine.specs.Flat as flat
+use Rattle.flat_machine.specs.Steps.{export_step}
 use Rattle.client_memory.specs.declared.buffer.Place.{Place}
 use Rattle.client_memory.specs.Buffers.{denoted_place}
 use Rattle.client_memory.specs.Memory.{buffer_at}
@@ -19,7 +19,7 @@ use Rattle.client_machine.specs.declared.mode.Completion.TheVariants as completi
 use Rattle.client_machine.specs.KeepsFrom.{KeepsFrom}
 use Rattle.client_machine.specs.Machine.{state_in}
 use Rattle.client_machine.specs.Step.{FitsIn}
-use Rattle.client_texts.proofs.Texts.{spaced_is}
+use Rattle.client_streams.proofs.LinesLemmas.Texts.{spaced_is}
 use Rattle.client_streams.specs.Records.{record_text}
 
 -- ---- the line of a row

@@ -8,7 +8,7 @@ use Rattle.bound_tree.specs.declared.statement.Target.{Target}
 use Rattle.bound_tree.specs.Tree.{Assignment}
 use Rattle.block_meaning.specs.Streams.{pairs_of}
 use Rattle.block_meaning.proofs.Continues.{begins_itself}
-use Rattle.block_flat.specs.Flat as flat
+use Rattle.flat_machine.specs.Flat as flat
 use Rattle.client_output.proofs.Unchanged.{written_same}
 use Rattle.client_values.specs.Given.{pair_of}
 use Rattle.client_machine.specs.declared.machine.Machine.{Machine}

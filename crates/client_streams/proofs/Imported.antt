@@ -4,16 +4,16 @@ use Rattle.std.specs.Prelude.{Vec, map, reverse, slice_index_or, slice_set}
 use Rattle.std.specs.declared.alloc.Global.{Global}
 use Rattle.std.proofs.lemmas.List.{reverse-append}
 use Rattle.bound_tree.specs.declared.statement.Target.{Target}
-use Rattle.text_forms.specs.TextForms.{Imported}
+use Rattle.abl_base.specs.text_forms.TextForms.{Imported}
 use Rattle.block_meaning.specs.Program.{Program}
 use Rattle.block_meaning.specs.State as state
 use Rattle.block_meaning.specs.State.{State, nothing_passed}
 use Rattle.block_meaning.specs.Streams as streams
 use Rattle.block_meaning.specs.Streams.{stream_at, line_now, read_to, read_up_to}
 use Rattle.block_meaning.proofs.Continues.{begins_itself}
-use Rattle.block_flat.specs.Flat as flat
-use Rattle.block_flat.specs.Steps.{import_step}
-use Rattle.block_flat.proofs.Machine.{step_means}
+use Rattle.flat_machine.specs.Flat as flat
+use Rattle.flat_machine.specs.Steps.{import_step}
+use Rattle.flat_machine.proofs.Machine.{step_means}
 use Rattle.client_output.proofs.Unchanged.{written_same}
 use Rattle.client_machine.specs.declared.inputs.Stream.{Stream}
 use Rattle.client_machine.specs.declared.machine.Machine.{Machine}

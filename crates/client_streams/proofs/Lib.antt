@@ -1,3 +1,4 @@
+pub mod LinesLemmas
 pub mod Paid
 pub mod Effects
 pub mod Imported

@@ -1,10 +1,10 @@
 -- A statement that costs a unit.
 use Rattle.std.proofs.Common.{◌≡◌, ℕ, List, ◌∷◌, Bool, ap}
 use Rattle.bound_tree.specs.Tree.{Stmt}
-use Rattle.client_database.specs.declared.ends.StopWhy.TheVariants as why
+use Rattle.database_protocol.specs.declared.ends.StopWhy.TheVariants as why
 use Rattle.block_meaning.specs.Program.{Program}
 use Rattle.block_meaning.specs.State.{State}
-use Rattle.block_flat.specs.Flat as flat
+use Rattle.flat_machine.specs.Flat as flat
 use Rattle.client_machine.specs.declared.machine.Machine.{Machine}
 use Rattle.client_machine.specs.declared.mode.Mode.TheVariants as mode
 use Rattle.client_machine.specs.declared.mode.Completion.TheVariants as completion

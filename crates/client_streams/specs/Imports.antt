@@ -2,7 +2,7 @@
 use Rattle.std.specs.Prelude.{ℕ, List, [], Option, Some, None, slice_index_or, slice_set}
 use Rattle.bound_tree.specs.declared.statement.Target.{Target}
 use Rattle.bound_tree.specs.Tree.{Import}
-use Rattle.block_flat.specs.Flat as flat
+use Rattle.flat_machine.specs.Flat as flat
 use Rattle.client_machine.specs.declared.inputs.Inputs.{Inputs}
 use Rattle.client_machine.specs.declared.inputs.Stream.{Stream}
 use Rattle.client_streams.specs.Statements.{no_stream}

@@ -1,3 +1,4 @@
+pub mod lines
 pub mod Imports
 pub mod Records
 pub mod Statements

@@ -1,7 +1,7 @@
 -- What a statement at a place has, and the streams of a machine.
 use Rattle.std.specs.Prelude.{ℕ, Bool, List, [], ◌∷◌, Option, Some, None, slice_get, slice_index_or, slice_set}
 use Rattle.bound_tree.specs.Tree.{Expr, Item, PutItems, Export, Message}
-use Rattle.block_flat.specs.Flat as flat
+use Rattle.flat_machine.specs.Flat as flat
 use Rattle.client_machine.specs.declared.machine.Machine.{Machine}
 use Rattle.client_machine.specs.declared.inputs.Stream.{Stream}
 use Rattle.client_machine.specs.Machine.{stack_in}

@@ -3,7 +3,7 @@
 ghost use Rattle.std.specs.Prelude.{◌≡◌, OnOk, OnErr, IfSome, true, false, None, Some};
 ghost use Rattle.bound_tree.specs.Tree.{OutputClose, InputFrom, InputClose};
 ghost use Rattle.block_meaning.specs.Streams.{closes_output, opens_input};
-ghost use Rattle.block_flat.specs.Flat as flat;
+ghost use Rattle.flat_machine.specs.Flat as flat;
 ghost use Rattle.client_output.specs.Written.{IsUnchanged};
 ghost use Rattle.client_machine.specs.Config.{instr_at};
 ghost use Rattle.client_machine.specs.Step.{KeepsTask};

@@ -7,7 +7,7 @@ ghost use Rattle.block_meaning.specs.Changes.{assigns_each, buffers_in};
 ghost use Rattle.block_meaning.specs.Program.{Program};
 ghost use Rattle.block_meaning.specs.State.{State};
 ghost use Rattle.block_meaning.specs.Streams.{pairs_of};
-ghost use Rattle.client_database.specs.declared.answer.Answer.{Answer};
+ghost use Rattle.database_protocol.specs.declared.answer.Answer.{Answer};
 ghost use Rattle.client_machine.specs.Config.{given_of, instr_at};
 ghost use Rattle.client_values.specs.Ends.{Ends};
 ghost use Rattle.client_values.specs.Given.{pair_of};
@@ -16,12 +16,12 @@ ghost use Rattle.client_streams.specs.Imports.{targets_in};
 
 use crate::inputs::targets_at;
 use abl_base::Value;
-use abl_eval::EvalFault;
 use block_code::Instr;
 use bound_tree::{Stmt, Target};
 use client_machine::machine::Machine;
 use client_machine::mode::changes::GivenValue;
 use client_values::assign::{are_variable_targets, assign_values};
+use evaluator::EvalFault;
 use std::alloc::{AllocError, Global};
 
 /// Whether all targets of the IMPORT at the place are variables.

@@ -5,7 +5,7 @@ ghost use Rattle.std.specs.Prelude.{◌≡◌, ◌∷◌, OnOk, OnErr, IfSome};
 ghost use Rattle.bound_tree.specs.Tree.{Import};
 ghost use Rattle.block_meaning.specs.Lines.{BadField};
 ghost use Rattle.block_meaning.specs.Streams.{pairs_of, read_to};
-ghost use Rattle.block_flat.specs.Flat as flat;
+ghost use Rattle.flat_machine.specs.Flat as flat;
 ghost use Rattle.client_output.specs.Written.{IsUnchanged};
 ghost use Rattle.client_machine.specs.Config.{instr_at};
 ghost use Rattle.client_machine.specs.KeepsFrom.{KeepsFrom};
@@ -19,15 +19,15 @@ use crate::given::{are_variables_at, assign_at, given_values};
 use crate::inputs::{line_at, read_up_to, targets_at};
 use crate::statement::{end_input, fail, go_on, push_statement};
 use abl_base::Value;
-use abl_eval::EvalFault;
-use abl_format::ImportFault;
 use block_code::Instr;
 use bound_tree::Stmt;
 use client_machine::machine::Machine;
 use client_machine::mode::changes::{AssignmentList, ChangeTask};
 use client_machine::mode::{LineFault, Mode, Task};
-use complaint_lines::Complaint;
+use evaluator::EvalFault;
+use record_rules::lines::Complaint;
 use std::alloc::AllocError;
+use value_formats::ImportFault;
 
 /// The stream that an IMPORT reads, whether it has NO-ERROR, and the place after it.
 #[derive(Clone, Copy, Debug)]

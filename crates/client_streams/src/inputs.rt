@@ -4,7 +4,7 @@ ghost use Rattle.std.specs.Prelude.{◌≡◌, IfSome, slice_index_or, slice_set
 ghost use Rattle.block_meaning.specs.Program.{Program};
 ghost use Rattle.block_meaning.specs.State.{State};
 ghost use Rattle.block_meaning.specs.Streams.{line_now};
-ghost use Rattle.client_texts.specs.Imports.{ReadsLine};
+ghost use Rattle.client_streams.specs.lines.Imports.{ReadsLine};
 ghost use Rattle.client_machine.specs.Config.{instr_at};
 ghost use Rattle.client_machine.specs.Machine.{state_in};
 ghost use Rattle.client_machine.specs.Step.{FitsIn};
@@ -13,12 +13,12 @@ ghost use Rattle.client_machine.specs.declared.mode.Mode.{Mode};
 ghost use Rattle.client_streams.specs.Imports.{input_in, own_read, place_in, streams_read, targets_in, text_in};
 ghost use Rattle.client_streams.specs.Statements.{no_stream};
 
-use abl_format::{ImportFault, Imported};
+use crate::lines::read_line;
 use block_code::Instr;
 use bound_tree::{Stmt, Target};
 use client_machine::inputs::{Inputs, Stream};
 use client_machine::machine::Machine;
-use client_texts::read_line;
+use value_formats::{ImportFault, Imported};
 
 /// The line at the place of the stream's input, for the targets of the IMPORT at the place.
 pub(crate) fn line_at(machine: &Machine, place: usize, stream: u32) -> Result<Imported, ImportFault>

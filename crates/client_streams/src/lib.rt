@@ -1,4 +1,4 @@
-//! The statements that write to streams and redirect them. It depends on `client_texts` for their
+//! The statements that write to streams and redirect them. It depends on `lines` for their
 //! texts, on `client_output` for the sections, and on `client_machine`. A layer above may rely on
 //! the one contract of its arms: each keeps the rest of the run (`specs/Step.antt` of
 //! `client_machine`). An arm looks its statement up at the place; where another one stands there,
@@ -9,6 +9,7 @@ pub mod closes;
 mod given;
 pub mod imports;
 mod inputs;
+pub mod lines;
 pub mod outputs;
 pub mod records;
 mod redirect;

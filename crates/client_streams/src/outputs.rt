@@ -6,7 +6,7 @@ ghost use Rattle.bound_tree.specs.Tree.{OutputTo};
 ghost use Rattle.block_meaning.specs.declared.wants.Piece.{Piece};
 ghost use Rattle.block_meaning.specs.State.{wrote};
 ghost use Rattle.block_meaning.specs.Streams.{with_stream, stream_at};
-ghost use Rattle.block_flat.specs.Flat as flat;
+ghost use Rattle.flat_machine.specs.Flat as flat;
 ghost use Rattle.client_output.specs.Written.{HasWritten, IsUnchanged};
 ghost use Rattle.client_machine.specs.Config.{instr_at};
 ghost use Rattle.client_machine.specs.Inputs.{names_of};

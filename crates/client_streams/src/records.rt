@@ -3,14 +3,14 @@
 ghost use Rattle.std.specs.Prelude.{◌≡◌, ◌++◌, ◌∷◌, ℕ, IfOk, IfSome, OnOk, OnErr, flat_map};
 ghost use Rattle.abl_values.specs.Texts.{export_text};
 ghost use Rattle.bound_tree.specs.Tree.{ExportRecord};
-ghost use Rattle.block_flat.specs.Flat as flat;
+ghost use Rattle.flat_machine.specs.Flat as flat;
 ghost use Rattle.block_meaning.specs.Frames.{content_of};
 ghost use Rattle.block_meaning.specs.Program.{Program};
 ghost use Rattle.block_meaning.specs.State.{State};
 ghost use Rattle.block_meaning.specs.Values.{export_line, spaced};
 ghost use Rattle.client_memory.specs.Buffers.{denoted_content};
 ghost use Rattle.client_output.specs.Written.{IsUnchanged};
-ghost use Rattle.client_texts.specs.Writes.{WritesText};
+ghost use Rattle.client_streams.specs.lines.Writes.{WritesText};
 ghost use Rattle.client_machine.specs.Config.{instr_at};
 ghost use Rattle.client_machine.specs.Machine.{state_in};
 ghost use Rattle.client_machine.specs.Step.{FitsIn, KeepsTask};
@@ -21,13 +21,13 @@ ghost use Rattle.client_streams.specs.Records.{record_text};
 
 use crate::statement::write_or_fail;
 use abl_base::{Bytes, Value};
-use abl_eval::EvalFault;
-use abl_expr::RunFault;
 use abl_values::export_value;
 use block_code::Instr;
 use bound_tree::Stmt;
 use client_machine::machine::Machine;
 use client_memory::{Content, Place};
+use evaluator::EvalFault;
+use expression_meaning::RunFault;
 use std::alloc::{AllocError, Global};
 
 /// The stream that an EXPORT writes to, its buffer, and the place after the statement.

@@ -1,12 +1,12 @@
 //! How a statement of a stream ends.
 
 ghost use Rattle.std.specs.Prelude.{◌≡◌, ℕ, Err, OnOk, OnErr, ◌∷◌, ◌++◌, [], Bool, true, false};
-ghost use Rattle.block_flat.specs.Flat as flat;
+ghost use Rattle.flat_machine.specs.Flat as flat;
 ghost use Rattle.block_meaning.specs.Program.{Program};
 ghost use Rattle.block_meaning.specs.State.{State, EndKeys, nothing_passed};
 ghost use Rattle.block_meaning.specs.Values.{Text};
 ghost use Rattle.client_output.specs.Written.{IsUnchanged};
-ghost use Rattle.client_texts.specs.Writes.{WritesText};
+ghost use Rattle.client_streams.specs.lines.Writes.{WritesText};
 ghost use Rattle.client_machine.specs.Config.{complaint_in};
 ghost use Rattle.client_machine.specs.Machine.{state_in};
 ghost use Rattle.client_machine.specs.Step.{FitsIn};
@@ -14,17 +14,17 @@ ghost use Rattle.client_machine.specs.declared.mode.Completion.{Completion};
 ghost use Rattle.client_machine.specs.declared.mode.Mode.{Mode};
 ghost use Rattle.client_machine.specs.declared.mode.StackEntry.{StackEntry};
 ghost use Rattle.client_machine.specs.declared.mode.Task.{Task};
-ghost use Rattle.client_database.specs.declared.ends.StopWhy.{StopWhy};
+ghost use Rattle.database_protocol.specs.declared.ends.StopWhy.{StopWhy};
 ghost use Rattle.client_machine.specs.KeepsFrom.{KeepsFrom};
 ghost use Rattle.client_streams.specs.Statements.{section_in, under};
 
 use abl_base::Bytes;
-use abl_eval::EvalFault;
-use client_database::StopWhy;
 use client_machine::inputs::Stream;
 use client_machine::machine::Machine;
 use client_machine::mode::ends::BufferList;
 use client_machine::mode::{Completion, LineFault, Mode, PassedLevels, StackEntry, Task};
+use database_protocol::StopWhy;
+use evaluator::EvalFault;
 use std::alloc::AllocError;
 
 /// The section that a stream writes to, and None for the default one.

@@ -5,7 +5,7 @@ ghost use Rattle.bound_tree.specs.Bound.{expr_of, item_of};
 ghost use Rattle.block_meaning.specs.Program.{Program};
 ghost use Rattle.block_meaning.specs.State.{State};
 ghost use Rattle.block_meaning.specs.Values.{put_text, values_now, export_line, message_line};
-ghost use Rattle.client_texts.specs.Writes.{WritesText, line_text};
+ghost use Rattle.client_streams.specs.lines.Writes.{WritesText, line_text};
 ghost use Rattle.client_machine.specs.Config.{instr_at};
 ghost use Rattle.client_machine.specs.Machine.{state_in};
 ghost use Rattle.client_machine.specs.Step.{FitsIn};
@@ -13,13 +13,13 @@ ghost use Rattle.client_machine.specs.declared.mode.Completion.{Completion};
 ghost use Rattle.client_machine.specs.declared.mode.Mode.{Mode};
 ghost use Rattle.client_streams.specs.Statements.{items_in, values_in};
 
+use crate::lines::{export_values, message_values, put_items};
 use abl_base::{Bytes, Value};
-use abl_eval::EvalFault;
 use block_code::Instr;
 use bound_tree::{Expr, PutItem, Stmt};
 use client_machine::machine::Machine;
-use client_texts::{export_values, message_values, put_items};
 use client_values::scope::Scope;
+use evaluator::EvalFault;
 
 /// The text of the PUT at the place.
 pub(crate) fn put_text_at(machine: &Machine, place: usize, retry: bool) -> Result<Bytes, EvalFault>

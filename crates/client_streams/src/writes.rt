@@ -3,7 +3,7 @@
 
 ghost use Rattle.std.specs.Prelude.{◌≡◌, OnOk, OnErr, IfSome, true, false};
 ghost use Rattle.bound_tree.specs.Tree.{PutItems, Export, Message};
-ghost use Rattle.block_flat.specs.Flat as flat;
+ghost use Rattle.flat_machine.specs.Flat as flat;
 ghost use Rattle.client_output.specs.Written.{IsUnchanged};
 ghost use Rattle.client_machine.specs.Config.{instr_at};
 ghost use Rattle.client_machine.specs.Step.{KeepsTask};

@@ -1,8 +1,8 @@
 -- The header of an iteration.
 use Rattle.std.proofs.Common.{◌≡◌, ℕ, List, Bool, true, false, Result, Ok, Err, Option, Some, None, refl, sym, ap, ◌∙◌, subst}
 use Rattle.abl_base.specs.declared.value.Value.{Value}
-use Rattle.abl_eval.specs.declared.fault.EvalFault.{EvalFault}
-use Rattle.abl_eval.specs.declared.fault.EvalFault.TheVariants.{Fault, NoMemory}
+use Rattle.evaluator.specs.declared.fault.EvalFault.{EvalFault}
+use Rattle.evaluator.specs.declared.fault.EvalFault.TheVariants.{Fault, NoMemory}
 use Rattle.abl_values.specs.Arithmetic.{sum_of}
 use Rattle.bound_tree.specs.declared.expression.Variable.{Variable}
 use Rattle.bound_tree.specs.Tree.{Expr, ToPhrase, Header}
@@ -13,8 +13,8 @@ use Rattle.block_meaning.specs.Frames.{assigned, value_of}
 use Rattle.block_meaning.specs.Values.{Evaluated, Gives, Fails, value_now, or_range}
 use Rattle.block_meaning.specs.Changes.{stored_value}
 use Rattle.block_meaning.specs.Blocks.{counts_down, in_bound, first_turn}
-use Rattle.block_flat.specs.Config.{Config, StackEntry, Unwind, Execute, Turns}
-use Rattle.block_flat.specs.Steps.{config, config_if, fault, given_step, set_step, advance_step, by_step, block_step}
+use Rattle.flat_machine.specs.Config.{Config, StackEntry, Unwind, Execute, Turns}
+use Rattle.flat_machine.specs.Steps.{config, config_if, fault, given_step, set_step, advance_step, by_step, block_step}
 use Rattle.client_memory.specs.Memory.{Remembered}
 use Rattle.client_values.specs.Ends.{Evaluates, Assigns, Judges}
 use Rattle.client_values.specs.Loops.{BeginsWith, by_value, value_to_set}

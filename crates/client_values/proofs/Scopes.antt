@@ -5,16 +5,16 @@ use Rattle.std.proofs.lemmas.List.{reverse-append, length-append}
 use Rattle.abl_base.specs.declared.value.Value.{Value}
 use Rattle.abl_base.specs.declared.value.Value.TheVariants.{Unknown}
 use Rattle.bound_tree.specs.declared.expression.Variable.{Variable}
-use Rattle.abl_expr.specs.Env.{Env}
+use Rattle.expression_meaning.specs.Env.{Env}
 use Rattle.block_meaning.specs.State.{State, CallFrame}
 use Rattle.block_meaning.specs.Frames.{no_frame, own_frame, last_frame, frame_for, value_in, value_of}
 use Rattle.bound_tree.specs.Tree.{Expr}
-use Rattle.abl_expr.specs.declared.fault.RunFault.{RunFault}
-use Rattle.text_forms.specs.TextForms.{TextForms}
-use Rattle.abl_expr.specs.Evaluate.{evaluate}
-use Rattle.abl_eval.specs.declared.fault.EvalFault.{EvalFault}
-use Rattle.abl_eval.specs.declared.fault.EvalFault.TheVariants.{Fault, NoMemory}
-use Rattle.abl_eval.specs.Forms.{AreForms}
+use Rattle.expression_meaning.specs.declared.fault.RunFault.{RunFault}
+use Rattle.abl_base.specs.text_forms.TextForms.{TextForms}
+use Rattle.expression_meaning.specs.Evaluate.{evaluate}
+use Rattle.evaluator.specs.declared.fault.EvalFault.{EvalFault}
+use Rattle.evaluator.specs.declared.fault.EvalFault.TheVariants.{Fault, NoMemory}
+use Rattle.evaluator.specs.Forms.{AreForms}
 use Rattle.block_meaning.specs.Program.{Program}
 use Rattle.block_meaning.specs.Values.{field_in, is_available, env_of, as_evaluated, value_now as value_here}
 use Rattle.block_meaning.specs.State.{Buffer}

@@ -1,15 +1,15 @@
 -- What a call answers, beside what the meaning says.
 use Rattle.std.specs.Prelude.{◌≡◌, List, [], Bool, true, false, Result, Ok, Err}
 use Rattle.abl_base.specs.declared.value.Value.{Value}
-use Rattle.abl_eval.specs.declared.fault.EvalFault.{EvalFault}
-use Rattle.abl_eval.specs.declared.fault.EvalFault.TheVariants.{Fault, NoMemory}
-use Rattle.client_database.specs.declared.answer.Answer.{Answer}
+use Rattle.evaluator.specs.declared.fault.EvalFault.{EvalFault}
+use Rattle.evaluator.specs.declared.fault.EvalFault.TheVariants.{Fault, NoMemory}
+use Rattle.database_protocol.specs.declared.answer.Answer.{Answer}
 use Rattle.block_meaning.specs.State.{State, Completed, Outcome, Done, Normal, Faults, completed}
 use Rattle.std.specs.Prelude.{Some, ℕ}
 use Rattle.block_meaning.specs.Lines.{complaint_of}
 use Rattle.block_meaning.specs.Values.{Evaluated, Gives, Fails}
-use Rattle.block_flat.specs.Config.{Config, StackEntry, Unwind}
-use Rattle.block_flat.specs.Steps.{config, fault}
+use Rattle.flat_machine.specs.Config.{Config, StackEntry, Unwind}
+use Rattle.flat_machine.specs.Steps.{config, fault}
 
 -- a call that evaluates
 abbrev pub Evaluates : Result Value EvalFault → Evaluated → Type 0

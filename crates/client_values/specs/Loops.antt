@@ -3,8 +3,8 @@ use Rattle.std.specs.Prelude.{◌≡◌, ℕ, List, Bool, Option, Some, None, Re
 use Rattle.abl_base.specs.declared.value.Value.{Value}
 use Rattle.abl_base.specs.declared.value.Value.TheVariants.{Int64}
 use Rattle.abl_values.specs.Arithmetic.{sum_of}
-use Rattle.abl_eval.specs.declared.fault.EvalFault.{EvalFault}
-use Rattle.abl_eval.specs.declared.fault.EvalFault.TheVariants.{Fault, NoMemory}
+use Rattle.evaluator.specs.declared.fault.EvalFault.{EvalFault}
+use Rattle.evaluator.specs.declared.fault.EvalFault.TheVariants.{Fault, NoMemory}
 use Rattle.bound_tree.specs.declared.block.ToPhrase.{ToPhrase as SourceToPhrase}
 use Rattle.bound_tree.specs.Tree.{Expr, ToPhrase, Header}
 use Rattle.bound_tree.specs.Bound.{expr_of, maybe_expr_of}
@@ -14,8 +14,8 @@ use Rattle.block_meaning.specs.Lines.{complaint_of}
 use Rattle.block_meaning.specs.Frames.{value_of}
 use Rattle.block_meaning.specs.Values.{Evaluated, Gives, value_now, or_range}
 use Rattle.block_meaning.specs.Blocks.{first_turn}
-use Rattle.block_flat.specs.Config.{Config, StackEntry, Execute, Turns}
-use Rattle.block_flat.specs.Steps.{config, fault}
+use Rattle.flat_machine.specs.Config.{Config, StackEntry, Execute, Turns}
+use Rattle.flat_machine.specs.Steps.{config, fault}
 use Rattle.client_values.specs.declared.loops.LoopValues.{LoopValues}
 
 -- the phrase

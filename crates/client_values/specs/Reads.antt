@@ -1,6 +1,6 @@
 -- When a state is the one that a call reads.
 use Rattle.std.specs.Prelude.{◌≡◌, ℕ, List, Bool}
-use Rattle.abl_eval.specs.Forms.{AreForms}
+use Rattle.evaluator.specs.Forms.{AreForms}
 use Rattle.block_meaning.specs.Program.{Program}
 use Rattle.block_meaning.specs.State.{State}
 use Rattle.client_memory.specs.Memory.{Remembered}

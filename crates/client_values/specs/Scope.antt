@@ -1,6 +1,6 @@
 -- What an expression reads of a client.
 use Rattle.std.specs.Prelude.{ℕ, Bool, List}
-use Rattle.abl_expr.specs.Env.{Env}
+use Rattle.expression_meaning.specs.Env.{Env}
 use Rattle.block_meaning.specs.Buffers.{own}
 use Rattle.block_meaning.specs.Values.{field_in, is_available}
 use Rattle.client_memory.specs.Memory.{Remembered, buffer_at, value_now}

@@ -5,7 +5,7 @@ ghost use Rattle.std.specs.Prelude.{◌≡◌, [], ℕ, List, Option, Bool, true
 ghost use Rattle.abl_base.specs.declared.value.Value.{Value};
 ghost use Rattle.bound_tree.specs.declared.statement.Target.TheVariants as target;
 ghost use Rattle.bound_tree.specs.Bound.{assignment_of};
-ghost use Rattle.client_database.specs.declared.answer.Answer.{Answer};
+ghost use Rattle.database_protocol.specs.declared.answer.Answer.{Answer};
 ghost use Rattle.block_meaning.specs.Program.{Program};
 ghost use Rattle.block_meaning.specs.State.{State};
 ghost use Rattle.block_meaning.specs.Changes.{assigns_each, assigns_one, buffer_first, buffers_in, stored};
@@ -18,9 +18,9 @@ ghost use Rattle.client_values.specs.Variables.{AreEven, HasSameShape, state_wit
 use crate::fitted::fitted;
 use crate::value::{Status, value_of};
 use abl_base::Value;
-use abl_eval::EvalFault;
 use bound_tree::{Assignment, Right, Target, Variable};
 use client_memory::Memory;
+use evaluator::EvalFault;
 use std::alloc::Global;
 
 /// Whether all targets are variables.

@@ -8,9 +8,9 @@ ghost use Rattle.block_meaning.specs.Values.{fit as fits, or_range};
 ghost use Rattle.client_values.specs.Ends.{Evaluates};
 
 use abl_base::{Bytes, Kind, MAX_TEXT_BYTES, Value};
-use abl_eval::EvalFault;
-use abl_expr::RunFault;
 use abl_values::{ArithFault, add, fit};
+use evaluator::EvalFault;
+use expression_meaning::RunFault;
 use std::alloc::Global;
 
 /// The value as a variable of the kind takes it; a text is moved and not copied. An overflow is a

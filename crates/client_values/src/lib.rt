@@ -1,6 +1,6 @@
 //! Values in the variables of a client's open procedures: what an expression gives there,
 //! assignments to variables, and the loop variable of TO. Over `client_memory` (the variables) and
-//! `abl_eval` (expressions); the layer above may rely on `specs/Ends.antt`: each call does what the
+//! `evaluator` (expressions); the layer above may rely on `specs/Ends.antt`: each call does what the
 //! meaning says of the state that has these variables, and out of memory is the only other answer.
 #![tactic(auto)]
 

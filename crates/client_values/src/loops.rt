@@ -9,8 +9,8 @@ ghost use Rattle.block_meaning.specs.Program.{Program};
 ghost use Rattle.block_meaning.specs.State.{State, Turn};
 ghost use Rattle.block_meaning.specs.Values.{Gives};
 ghost use Rattle.block_meaning.specs.Blocks.{counts_down, in_bound};
-ghost use Rattle.block_flat.specs.Config.{Config, StackEntry};
-ghost use Rattle.block_flat.specs.Steps.{advance_step, block_step, loop_step, reach_step, set_step, while_step};
+ghost use Rattle.flat_machine.specs.Config.{Config, StackEntry};
+ghost use Rattle.flat_machine.specs.Steps.{advance_step, block_step, loop_step, reach_step, set_step, while_step};
 ghost use Rattle.client_values.specs.Ends.{Evaluates, Judges};
 ghost use Rattle.client_values.specs.Loops.{BeginsWith, by_value, phrase_of, value_to_set};
 ghost use Rattle.client_values.specs.Reads.{Reads};
@@ -20,9 +20,9 @@ use crate::assign::assign_value;
 use crate::fitted::next_value;
 use crate::value::{Status, value_of, while_holds};
 use abl_base::Value;
-use abl_eval::{EvalFault, at_least, at_most, holds};
 use bound_tree::{Expr, Header, ToPhrase};
 use client_memory::Memory;
+use evaluator::{EvalFault, at_least, at_most, holds};
 use std::alloc::Global;
 
 /// The values with which the iterations of a block begin: the start value of TO, if it has one, and

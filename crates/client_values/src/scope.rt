@@ -2,13 +2,13 @@
 
 ghost use Rattle.std.specs.Prelude.{◌≡◌, MatchOption, Some, None};
 ghost use Rattle.abl_base.specs.declared.value.Value.{Value};
-ghost use Rattle.abl_expr.specs.Env.{Env};
+ghost use Rattle.expression_meaning.specs.Env.{Env};
 ghost use Rattle.client_values.specs.Scope.{env_in};
 
 use abl_base::Value;
-use abl_eval::Surroundings;
 use bound_tree::Variable;
 use client_memory::{Memory, Place};
+use evaluator::Surroundings;
 
 /// The variables and buffers of a client, RETRY, ERROR-STATUS and RETURN-VALUE.
 #[derive(Drop)]

@@ -1,9 +1,9 @@
 //! The value of an expression.
 
 ghost use Rattle.std.specs.Prelude.{◌≡◌, ℕ, List};
-ghost use Rattle.abl_expr.specs.Operators.{holds as holds_here};
-ghost use Rattle.block_flat.specs.Config.{Config, StackEntry};
-ghost use Rattle.block_flat.specs.Steps.{while_step};
+ghost use Rattle.expression_meaning.specs.Operators.{holds as holds_here};
+ghost use Rattle.flat_machine.specs.Config.{Config, StackEntry};
+ghost use Rattle.flat_machine.specs.Steps.{while_step};
 ghost use Rattle.block_meaning.specs.Program.{Program};
 ghost use Rattle.block_meaning.specs.State.{State};
 ghost use Rattle.block_meaning.specs.Values.{value_now};
@@ -14,9 +14,9 @@ ghost use Rattle.client_values.specs.Variables.{state_with};
 
 use crate::scope::Scope;
 use abl_base::Value;
-use abl_eval::{EvalFault, evaluate, holds};
 use bound_tree::Expr;
 use client_memory::Memory;
+use evaluator::{EvalFault, evaluate, holds};
 use std::alloc::Global;
 
 /// What an expression reads beside variables: RETRY, ERROR-STATUS:ERROR and RETURN-VALUE.

@@ -2,13 +2,13 @@
 use Rattle.std.proofs.Common.{◌≡◌, inl, inr, ℕ, ◌+◌, List, [], ◌∷◌, ◌++◌, None, IsTrue, sym, subst, arith}
 use Rattle.std.proofs.Math.Logic.{∥∥₁_elim, ∥∥₁_map, ∥∥₁_prop}
 use Rattle.abl_cli.specs.Undisturbed.{HasDatabase}
-use Rattle.abl_schema.proofs.ObservableSound.{files-sound}
-use Rattle.abl_schema.specs.Rules.{violation_of}
-use Rattle.abl_storage.specs.Disk.{IsImage}
-use Rattle.abl_storage.specs.declared.disk.Disk.{Ghosts}
+use Rattle.schema_reader.proofs.ObservableSound.{files-sound}
+use Rattle.schema_reader.specs.Rules.{violation_of}
+use Rattle.storage.specs.Disk.{IsImage}
+use Rattle.storage.specs.declared.disk.Disk.{Ghosts}
 use Rattle.abl_values.specs.Schema.{SchemaData}
 use Rattle.abl_values.specs.Sound.{IsSound}
-use Rattle.client_database.specs.declared.event.Event.{Event}
+use Rattle.database_protocol.specs.declared.event.Event.{Event}
 use Rattle.crash_laws.proofs.Births.{born_with, crash_born, history_born}
 use Rattle.crash_laws.proofs.Calls.{calls_kept}
 use Rattle.crash_laws.specs.Births.{IsBornFrom, IsBornWith, LeavesBorn}
@@ -19,7 +19,7 @@ use Rattle.database_meaning.specs.Setting.{Setting}
 use Rattle.database_meaning.specs.Traces.{IsLegal, acknowledged, after_commits}
 use Rattle.database_meaning.specs.declared.contents.Contents.{Contents}
 use Rattle.disk_database.specs.Images.{IsImageOf, created}
-use Rattle.disk_steps.specs.Steps.{Image}
+use Rattle.log_meaning.specs.steps.Steps.{Image}
 use Rattle.run_works.specs.Disks.{state_of}
 use Rattle.source_files.specs.Compiled.{schema_in}
 use Rattle.command_laws.proofs.Histories.{has_clean, made_view}

@@ -1,12 +1,12 @@
 -- A history of commands is one of runs.
 use Rattle.std.proofs.Common.{◌≡◌, ℕ, List, [], ◌∷◌, None, sym, ap, ◌∙◌, subst}
 use Rattle.std.specs.Prelude.{map}
-use Rattle.abl_arguments.specs.CommandLine.{Create, create_arguments}
-use Rattle.abl_schema.proofs.ObservableSound.{files-sound}
-use Rattle.held_schemas.proofs.Held.{files-held}
-use Rattle.abl_schema.specs.Rules.{violation_of}
+use Rattle.command_arguments.specs.CommandLine.{Create, create_arguments}
+use Rattle.schema_reader.proofs.ObservableSound.{files-sound}
+use Rattle.schema_text.proofs.HeldLemmas.Held.{files-held}
+use Rattle.schema_reader.specs.Rules.{violation_of}
 use Rattle.abl_values.specs.Schema.{SchemaData}
-use Rattle.abl_storage.specs.declared.disk.Disk.{Ghosts}
+use Rattle.storage.specs.declared.disk.Disk.{Ghosts}
 use Rattle.disk_database.specs.Images.{created}
 use Rattle.source_files.specs.Compiled.{schema_in}
 use Rattle.source_files.specs.Files.{HasText}

@@ -1,3 +1,4 @@
+pub mod RefusalsLemmas
 pub mod Unrefused
 pub mod Histories
 pub mod Results

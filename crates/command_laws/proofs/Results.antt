@@ -1,27 +1,27 @@
 -- A command over its database keeps the contents, or it is a run whose commits survive.
 use Rattle.std.proofs.Common.{◌≡◌, ◌⊎◌, inl, inr, ℕ, ◌+◌, ◌≤◌, List, [], None, length, IsTrue, refl, sym, ap, ◌∙◌, subst, arith}
-use Rattle.abl_schema.proofs.ObservableSound.{files-sound}
-use Rattle.held_schemas.proofs.Held.{files-held}
-use Rattle.abl_schema.specs.Rules.{violation_of}
-use Rattle.abl_arguments.specs.CommandLine.{Bank, number_of}
+use Rattle.schema_reader.proofs.ObservableSound.{files-sound}
+use Rattle.schema_text.proofs.HeldLemmas.Held.{files-held}
+use Rattle.schema_reader.specs.Rules.{violation_of}
+use Rattle.command_arguments.specs.CommandLine.{Bank, number_of}
 use Rattle.abl_cli.proofs.FileCauses.{same_text}
 use Rattle.abl_cli.proofs.Refusals.{creation_stays}
 use Rattle.abl_cli.specs.Command.{Banked, Checked, Created, Dumped, NotRun, Ran, Refused, bank_of}
 use Rattle.abl_cli.specs.Stored.{CreateResult, Made, NotMade}
-use Rattle.abl_outside.specs.Files.{FileState}
-use Rattle.abl_storage.specs.Disk.{IsImage}
-use Rattle.abl_storage.specs.declared.disk.Disk.{Ghosts}
+use Rattle.host_io.specs.Files.{FileState}
+use Rattle.storage.specs.Disk.{IsImage}
+use Rattle.storage.specs.declared.disk.Disk.{Ghosts}
 use Rattle.abl_values.specs.Schema.{SchemaData}
 use Rattle.abl_values.specs.Sound.{IsSound}
 use Rattle.schema_text.specs.Written.{IsHeld}
-use Rattle.bank_inputs.specs.declared.sources.TheConstants.{BANK_SCHEMA}
+use Rattle.bank_run.specs.declared.inputs.sources.TheConstants.{BANK_SCHEMA}
 use Rattle.bank_run.specs.Result.{BankNotRun, BankPrevented, BankRan, BankResult}
 use Rattle.database_meaning.specs.Traces.{IsSoundContents}
 use Rattle.database_meaning.specs.declared.contents.Contents.{Contents}
 use Rattle.disk_database.proofs.Reopenings.{not_missing}
 use Rattle.disk_database.specs.Answers.{IsNoDatabase}
 use Rattle.disk_database.specs.Images.{IsImageOf}
-use Rattle.disk_steps.specs.Steps.{Image}
+use Rattle.log_meaning.specs.steps.Steps.{Image}
 use Rattle.run_works.proofs.Disks.{untouched}
 use Rattle.run_works.specs.Disks.{HoldsContents, IsDurable, IsUntouched, KeepsContents, state_of}
 use Rattle.source_files.specs.Compiled.{schema_in}

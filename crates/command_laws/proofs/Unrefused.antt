@@ -2,21 +2,21 @@
 use Rattle.std.proofs.Common.{◌≡◌, ◌≢◌, refl, sym, subst, ℕ, List, [], ◌∷◌, length}
 use Rattle.std.specs.Prelude.{map}
 use Rattle.std.proofs.lemmas.List.Elements.{All-nil}
-use Rattle.abl_arguments.specs.CommandLine.{Run, arguments_of, number_of}
-use Rattle.abl_outside.specs.Files.{FileState}
-use Rattle.abl_outside.specs.Out.{OutState}
+use Rattle.command_arguments.specs.CommandLine.{Run, arguments_of, number_of}
+use Rattle.host_io.specs.Files.{FileState}
+use Rattle.host_io.specs.Out.{OutState}
 use Rattle.abl_values.specs.Schema.{SchemaData}
-use Rattle.client_database.specs.declared.answer.Answer.TheVariants as answer
-use Rattle.client_database.specs.declared.event.Event.{Event}
+use Rattle.database_protocol.specs.declared.answer.Answer.TheVariants as answer
+use Rattle.database_protocol.specs.declared.event.Event.{Event}
 use Rattle.run_report.specs.declared.ending.Report.{Report}
 use Rattle.source_files.specs.Compiled.{schema_in}
 use Rattle.source_files.specs.declared.files.ClientTexts.{ClientTexts}
-use Rattle.served_works.specs.Works.{Work}
+use Rattle.client_threads.specs.served.Works.{Work}
 use Rattle.run_works.specs.declared.outcome.Outcome.{Outcome}
 use Rattle.run_works.specs.Disks.{DiskState}
-use Rattle.refusal_laws.specs.Unrefused.{NoneRefused}
-use Rattle.refusal_laws.specs.Works.{AreOfTexts}
-use Rattle.refusal_laws.proofs.Works.{works_unrefused}
+use Rattle.command_laws.specs.refusals.Unrefused.{NoneRefused}
+use Rattle.command_laws.specs.refusals.Works.{AreOfTexts}
+use Rattle.command_laws.proofs.RefusalsLemmas.Works.{works_unrefused}
 use Rattle.abl_cli.specs.Command.{AreWorks, Banked, Checked, CommandResult, Created, Dumped, NotRun, Ran, Refused}
 use Rattle.abl_cli.specs.Stored.{CreateResult, Made, NotMade}
 use Rattle.abl_cli.proofs.Marks.{run_or_bank}

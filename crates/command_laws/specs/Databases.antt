@@ -1,18 +1,18 @@
 -- Commands over one database, the images that their crashes leave, and what they keep.
 use Rattle.std.specs.Prelude.{◌≡◌, ℕ, ◌≤◌, IsTrue, List, [], ◌∷◌}
-use Rattle.abl_arguments.specs.CommandLine.{Bank, Dump, Run, arguments_of, bank_arguments, dump_arguments}
+use Rattle.command_arguments.specs.CommandLine.{Bank, Dump, Run, arguments_of, bank_arguments, dump_arguments}
 use Rattle.abl_cli.specs.Command.{IsThere}
-use Rattle.abl_outside.specs.Files.{FileState}
-use Rattle.abl_storage.specs.declared.disk.Disk.{Ghosts}
+use Rattle.host_io.specs.Files.{FileState}
+use Rattle.storage.specs.declared.disk.Disk.{Ghosts}
 use Rattle.abl_values.specs.Schema.{SchemaData}
-use Rattle.bank_inputs.specs.declared.sources.TheConstants.{BANK_SCHEMA}
+use Rattle.bank_run.specs.declared.inputs.sources.TheConstants.{BANK_SCHEMA}
 use Rattle.crash_laws.specs.Disks.{ComesNext, IsAfterCrash, MayBeOpened, view_of}
 use Rattle.crash_laws.specs.History.{AreKept, IsNeverClosed}
 use Rattle.database_meaning.specs.Traces.{IsLegal, after_commits}
 use Rattle.database_meaning.specs.declared.contents.Contents.{Contents}
 use Rattle.disk_database.specs.Images.{stored_contents}
-use Rattle.disk_steps.specs.Steps.{Image}
-use Rattle.slot_contents.specs.Born.{IsBorn}
+use Rattle.log_meaning.specs.steps.Steps.{Image}
+use Rattle.database_layout.specs.contents.Born.{IsBorn}
 use Rattle.command_laws.specs.History.{HasResult, PastCommand}
 
 -- ---- one command

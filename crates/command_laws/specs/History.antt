@@ -1,13 +1,13 @@
 -- The history of a database as commands make it: a creation, then runs, each over what was left of the one before.
 use Rattle.std.specs.Prelude.{◌≡◌, ℕ, List, [], ◌∷◌, length}
 use Rattle.abl_values.specs.Schema.{SchemaData}
-use Rattle.abl_storage.specs.declared.disk.Disk.{Ghosts}
-use Rattle.abl_outside.specs.Files.{FileState}
-use Rattle.abl_outside.specs.Out.{OutState}
-use Rattle.abl_arguments.specs.CommandLine.{Create}
-use Rattle.abl_arguments.specs.declared.parts.Mode.{Mode}
+use Rattle.storage.specs.declared.disk.Disk.{Ghosts}
+use Rattle.host_io.specs.Files.{FileState}
+use Rattle.host_io.specs.Out.{OutState}
+use Rattle.command_arguments.specs.CommandLine.{Create}
+use Rattle.command_arguments.specs.declared.parts.Mode.{Mode}
 use Rattle.source_files.specs.Compiled.{schema_in}
-use Rattle.served_works.specs.Works.{Work}
+use Rattle.client_threads.specs.served.Works.{Work}
 use Rattle.run_works.specs.declared.outcome.Outcome.{Outcome}
 use Rattle.run_works.specs.Disks.{state_of}
 use Rattle.run_works.specs.Works.{HasRun}

@@ -1,2 +1,3 @@
+pub mod refusals
 pub mod History
 pub mod Databases

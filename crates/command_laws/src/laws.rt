@@ -1,15 +1,15 @@
 //! The laws. Each is the contract of a function with an empty body.
 
 ghost use Rattle.std.specs.Prelude.{◌≡◌, ℕ, List, None, map};
-ghost use Rattle.abl_arguments.specs.CommandLine.{Run, arguments_of};
-ghost use Rattle.abl_outside.specs.Files.{FileState};
-ghost use Rattle.abl_outside.specs.Out.{OutState};
-ghost use Rattle.abl_schema.specs.Rules.{violation_of};
+ghost use Rattle.command_arguments.specs.CommandLine.{Run, arguments_of};
+ghost use Rattle.host_io.specs.Files.{FileState};
+ghost use Rattle.host_io.specs.Out.{OutState};
+ghost use Rattle.schema_reader.specs.Rules.{violation_of};
 ghost use Rattle.source_files.specs.Compiled.{schema_in};
 ghost use Rattle.disk_database.specs.Images.{created};
 ghost use Rattle.run_works.specs.declared.outcome.Outcome.{Outcome};
 ghost use Rattle.run_works.specs.Disks.{state_of};
-ghost use Rattle.refusal_laws.specs.Unrefused.{NoneRefused};
+ghost use Rattle.command_laws.specs.refusals.Unrefused.{NoneRefused};
 ghost use Rattle.abl_cli.specs.Command.{CommandResult};
 ghost use Rattle.abl_cli.specs.Undisturbed.{HasDatabase};
 ghost use Rattle.crash_laws.specs.Disks.{ComesNext, view_of};
@@ -17,7 +17,7 @@ ghost use Rattle.crash_laws.specs.History.{NothingIsLost};
 ghost use Rattle.command_laws.specs.Databases.{AreCommandsOver, IsOver, LeaveDatabases, LeavesDatabases, LoseNothing, TimedCommand};
 ghost use Rattle.command_laws.specs.History.{CommandHistory, HasCreated, HasResult, IsCommandHistory, PastCommand, past_run};
 
-use abl_storage::Disk;
+use storage::Disk;
 
 /// No answer to an operation of a client of a run is Refused, whatever the files, the disk and the
 /// schedule.

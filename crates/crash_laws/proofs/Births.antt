@@ -3,13 +3,13 @@ use Rattle.std.proofs.Common.{inl, inr, ℕ, ◌+◌, ◌≤◌, List, [], ◌�
 use Rattle.std.proofs.Math.Logic.{∥∥₁_elim, ∥∥₁_map, ∥∥₁_prop}
 use Rattle.abl_values.specs.Schema.{SchemaData}
 use Rattle.abl_values.specs.Sound.{IsSound}
-use Rattle.client_database.specs.declared.event.Event.{Event}
+use Rattle.database_protocol.specs.declared.event.Event.{Event}
 use Rattle.database_meaning.specs.declared.contents.Contents.{Contents}
 use Rattle.database_meaning.specs.Setting.{Setting}
 use Rattle.database_meaning.specs.Traces.{IsLegal, IsSoundContents, acknowledged, after_commits}
-use Rattle.disk_steps.specs.Steps.{Image}
-use Rattle.slot_contents.specs.Born.{IsBorn}
-use Rattle.sound_commits.proofs.Commits.{commits_sound}
+use Rattle.log_meaning.specs.steps.Steps.{Image}
+use Rattle.database_layout.specs.contents.Born.{IsBorn}
+use Rattle.crash_laws.proofs.CommitsLemmas.Commits.{commits_sound}
 use Rattle.disk_database.specs.Images.{AreImagesOf, IsImageFrom, IsImageOf, SurvivesCrashes, created, stored_contents}
 use Rattle.disk_database.proofs.Reopenings.{born_of}
 use Rattle.crash_laws.specs.Births.{IsBornFrom, IsBornWith, LeavesBorn, RunLeavesBorn}

@@ -10,13 +10,13 @@ use Rattle.disk_database.specs.Answers.{IsBornOf, IsDatabaseOf, IsNoDatabase, Is
 use Rattle.disk_database.specs.declared.refusals.OpenRefusal.TheVariants.{NotCreated}
 use Rattle.disk_database.specs.Parts.{IsUnused}
 use Rattle.disk_database.proofs.Reopenings.{database_contents}
-use Rattle.disk_steps.specs.Steps.{Image}
-use Rattle.record_store.specs.Opened.{AreSoundRows}
-use Rattle.row_chain.specs.Fragments.{StoredBytes, row_at}
+use Rattle.log_meaning.specs.steps.Steps.{Image}
+use Rattle.indexed_store.specs.Opened.{AreSoundRows}
+use Rattle.row_fragments.specs.Fragments.{StoredBytes, row_at}
 use Rattle.schema_text.specs.Written.{IsHeld}
-use Rattle.slot_contents.specs.Born.{IsBorn}
-use Rattle.slot_contents.specs.Contents.{AreContents, AreUnused, Contents, HoldSchema, contents_in, text_slots, zeros}
-use Rattle.stored_rows.specs.Decoded.{decoded, is_read, or_no_table, row_of}
+use Rattle.database_layout.specs.contents.Born.{IsBorn}
+use Rattle.database_layout.specs.contents.Contents.{AreContents, AreUnused, Contents, HoldSchema, contents_in, text_slots, zeros}
+use Rattle.slot_rows.specs.Decoded.{decoded, is_read, or_no_table, row_of}
 use Rattle.crash_laws.proofs.Fits.{row_fits}
 
 -- ---- rows that are read are sound

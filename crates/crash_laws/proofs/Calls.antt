@@ -7,7 +7,7 @@ use Rattle.schema_text.specs.Written.{IsHeld}
 use Rattle.database_meaning.specs.declared.contents.Contents.{Contents}
 use Rattle.database_meaning.specs.Setting.{Setting}
 use Rattle.database_meaning.specs.Traces.{after_commits}
-use Rattle.disk_steps.specs.Steps.{Image}
+use Rattle.log_meaning.specs.steps.Steps.{Image}
 use Rattle.disk_database.specs.Images.{IsImageOf, created}
 use Rattle.disk_database.proofs.Images.{image_prop}
 use Rattle.crash_laws.specs.Disks.{ComesNext, DiskView, MayBeOpened}

@@ -1,3 +1,4 @@
+pub mod CommitsLemmas
 pub mod Acknowledged
 pub mod Opened
 pub mod Histories

@@ -10,18 +10,18 @@ use Rattle.abl_values.specs.declared.schema.SequenceDef.{SequenceDef}
 use Rattle.abl_values.specs.Schema.{SchemaData}
 use Rattle.abl_values.specs.Sound.{IsSound}
 use Rattle.schema_text.specs.Written.{IsHeld}
-use Rattle.client_database.specs.declared.event.Event.{Event}
+use Rattle.database_protocol.specs.declared.event.Event.{Event}
 use Rattle.database_meaning.specs.declared.contents.ContentRow.{ContentRow}
 use Rattle.database_meaning.specs.declared.contents.Contents.{Contents}
 use Rattle.database_meaning.specs.declared.state.Key.{Key}
 use Rattle.database_meaning.specs.declared.state.StoredRow.{StoredRow}
 use Rattle.database_meaning.specs.Setting.{Setting, has_key, unique_keys}
 use Rattle.database_meaning.specs.Traces.{IsLegal, IsSoundContents, IsSoundRows, acknowledged, after_commits, commits, is_acknowledged, opened, rows_of}
-use Rattle.disk_steps.specs.Steps.{Image}
+use Rattle.log_meaning.specs.steps.Steps.{Image}
 use Rattle.db_core.specs.Crashes.{AreMoments}
 use Rattle.log_meaning.specs.Images.{Recovers}
 use Rattle.db_core.proofs.CommitCounts.{acknowledged_all, acknowledged_within, all_answered, answered_within}
-use Rattle.sound_commits.proofs.Commits.{commits_sound}
+use Rattle.crash_laws.proofs.CommitsLemmas.Commits.{commits_sound}
 use Rattle.disk_database.specs.Answers.{IsRefused}
 use Rattle.disk_database.specs.Images.{AreImagesOf, IsImageFrom, IsImageOf, SurvivesCrashes, created}
 use Rattle.disk_database.specs.declared.refusals.OpenRefusal.{OpenRefusal}

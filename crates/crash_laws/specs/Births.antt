@@ -1,12 +1,12 @@
 -- What the crashes of a run, and of a history, leave: images that are born.
 use Rattle.std.specs.Prelude.{◌⊎◌, ℕ, ◌+◌, ◌<◌, ◌≤◌, List, [], ◌∷◌}
 use Rattle.abl_values.specs.Schema.{SchemaData}
-use Rattle.client_database.specs.declared.event.Event.{Event}
+use Rattle.database_protocol.specs.declared.event.Event.{Event}
 use Rattle.database_meaning.specs.declared.contents.Contents.{Contents}
 use Rattle.database_meaning.specs.Setting.{Setting}
 use Rattle.database_meaning.specs.Traces.{acknowledged, after_commits, commits}
-use Rattle.disk_steps.specs.Steps.{Image}
-use Rattle.slot_contents.specs.Born.{IsBorn}
+use Rattle.log_meaning.specs.steps.Steps.{Image}
+use Rattle.database_layout.specs.contents.Born.{IsBorn}
 use Rattle.disk_database.specs.Images.{stored_contents}
 use Rattle.crash_laws.specs.Calls.{KeptCall, Keeping, PastCall, Running}
 use Rattle.crash_laws.specs.Disks.{DiskView}

@@ -3,7 +3,7 @@ use Rattle.std.specs.Prelude.{ℕ, ◌≤◌, List, [], ◌∷◌}
 use Rattle.abl_values.specs.Schema.{SchemaData}
 use Rattle.database_meaning.specs.declared.contents.Contents.{Contents}
 use Rattle.database_meaning.specs.Traces.{IsLegal, IsSoundContents, after_commits}
-use Rattle.disk_steps.specs.Steps.{Image}
+use Rattle.log_meaning.specs.steps.Steps.{Image}
 use Rattle.disk_database.specs.Images.{AreImagesOf, IsImageOf}
 use Rattle.crash_laws.specs.Disks.{ComesNext, DiskView, IsAfterCrash, IsMade, MayBeOpened}
 use Rattle.crash_laws.specs.History.{AreKept, IsDurable, IsLeftBy, PastRun, setting_of}

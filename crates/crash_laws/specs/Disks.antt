@@ -3,14 +3,14 @@ use Rattle.std.specs.Prelude.{◌≡◌, ℕ, ◌≤◌, Bool, List, length, IsT
 use Rattle.abl_values.specs.Schema.{SchemaData, canonical_text}
 use Rattle.abl_values.specs.Sound.{IsSound}
 use Rattle.schema_text.specs.Written.{IsHeld}
-use Rattle.abl_storage.specs.declared.disk.Disk.{Ghosts}
+use Rattle.storage.specs.declared.disk.Disk.{Ghosts}
 use Rattle.database_meaning.specs.declared.contents.Contents.{Contents}
 use Rattle.database_meaning.specs.Traces.{IsSoundContents}
-use Rattle.disk_steps.specs.Steps.{Image, Run}
-use Rattle.database_creation.specs.Created.{CreatesNew}
+use Rattle.log_meaning.specs.steps.Steps.{Image, Run}
+use Rattle.database_layout.specs.creation.Created.{CreatesNew}
 use Rattle.log_meaning.specs.Images.{Recovers}
-use Rattle.slot_contents.specs.Born.{IsBorn}
-use Rattle.slot_contents.specs.Contents.{new_contents}
+use Rattle.database_layout.specs.contents.Born.{IsBorn}
+use Rattle.database_layout.specs.contents.Contents.{new_contents}
 use Rattle.disk_database.specs.Answers.{IsRefused}
 use Rattle.disk_database.specs.Images.{AreImagesOf}
 use Rattle.disk_database.specs.declared.refusals.OpenRefusal.TheVariants.{NotCreated, SchemaDiffers}

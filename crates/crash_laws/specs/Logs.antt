@@ -1,7 +1,7 @@
 -- The areas of the log through a history of commands.
 use Rattle.std.specs.Prelude.{ℕ, ◌≤◌, List, [], ◌∷◌}
 use Rattle.bi_log.specs.Lengths.{IsShort}
-use Rattle.disk_steps.specs.Steps.{Image}
+use Rattle.log_meaning.specs.steps.Steps.{Image}
 use Rattle.crash_laws.specs.Disks.{DiskView}
 use Rattle.crash_laws.specs.Calls.{IsLeftByKept, KeptCall}
 

@@ -4,14 +4,14 @@ ghost use Rattle.std.specs.Prelude.{◌≤◌, ◌++◌, ◌∷◌, [], ℕ, Lis
 ghost use Rattle.abl_values.specs.Schema.{SchemaData, canonical_text};
 ghost use Rattle.abl_values.specs.Sound.{IsSound};
 ghost use Rattle.schema_text.specs.Written.{IsHeld};
-ghost use Rattle.client_database.specs.declared.event.Event.{Event};
+ghost use Rattle.database_protocol.specs.declared.event.Event.{Event};
 ghost use Rattle.database_meaning.specs.declared.contents.Contents.{Contents};
 ghost use Rattle.database_meaning.specs.Setting.{Setting};
 ghost use Rattle.database_meaning.specs.Traces.{IsLegal, acknowledged, commits, is_acknowledged};
-ghost use Rattle.disk_steps.specs.Steps.{Image};
+ghost use Rattle.log_meaning.specs.steps.Steps.{Image};
 ghost use Rattle.log_meaning.specs.Images.{Recovers};
-ghost use Rattle.slot_contents.specs.Born.{IsBorn};
-ghost use Rattle.slot_contents.specs.Contents.{Contents as SlotContents};
+ghost use Rattle.database_layout.specs.contents.Born.{IsBorn};
+ghost use Rattle.database_layout.specs.contents.Contents.{Contents as SlotContents};
 ghost use Rattle.db_core.specs.Crashes.{AreMoments};
 ghost use Rattle.disk_database.specs.Answers.{IsBornOf, IsDatabaseOf, IsNoDatabase, IsRefused};
 ghost use Rattle.disk_database.specs.Images.{AreImagesOf, IsImageOf, created};
@@ -22,7 +22,7 @@ ghost use Rattle.crash_laws.specs.Disks.{ComesNext, IsBeingMade, IsMade, MayBeOp
 ghost use Rattle.crash_laws.specs.Logs.{AreCommands, HasShortLog, LogStaysShort};
 ghost use Rattle.crash_laws.specs.History.{PastRun, History, IsDurable, IsHistory, IsLeftBy, IsOpenedAfter, NothingIsLost};
 
-use abl_storage::Disk;
+use storage::Disk;
 
 /// A disk on which `create` answered Ok may be opened, after a crash too: with no rows, and with each
 /// sequence at its initial value.

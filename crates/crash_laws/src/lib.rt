@@ -2,4 +2,5 @@
 //! again, and has every acknowledged commit. Each law is the contract of a function that does nothing.
 #![tactic(auto)]
 
+pub mod commits;
 pub mod laws;

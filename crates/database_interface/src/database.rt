@@ -2,14 +2,14 @@
 
 ghost use Rattle.std.specs.Prelude.{◌≡◌, ◌≢◌, ◌++◌, ◌∷◌, ◌<◌, ◌↔◌, [], ℕ, List, length, None, IfSome, IsTrue};
 ghost use Rattle.database_meaning.specs.declared.contents.Contents.{Contents};
-ghost use Rattle.client_database.specs.declared.event.Event.{Event};
-ghost use Rattle.client_database.specs.declared.operation.Op.{Op};
+ghost use Rattle.database_protocol.specs.declared.event.Event.{Event};
+ghost use Rattle.database_protocol.specs.declared.operation.Op.{Op};
 ghost use Rattle.database_meaning.specs.Setting.{Setting};
 ghost use Rattle.database_meaning.specs.Fits.{Fits};
 ghost use Rattle.database_meaning.specs.Traces.{IsLegal, left_by};
 ghost use Rattle.database_interface.specs.Step.{event_of, StaysBlocked, IsRefusedRightly};
 
-use client_database::{Answer, Op};
+use database_protocol::{Answer, Op};
 
 /// A database that answers the operations of its clients, which are numbered from 0.
 ///

@@ -15,10 +15,10 @@ use Rattle.database_meaning.specs.Answers.{Answers, FromGone, Succeeds, IsGone, 
 use Rattle.database_meaning.specs.Fits.{Fits, IsNoEnd}
 use Rattle.database_meaning.specs.Traces.{state_after, opened}
 use Rattle.database_meaning.specs.Laws.{AnswersFit}
-use Rattle.client_database.specs.declared.operation.Op.{Op}
-use Rattle.client_database.specs.declared.operation.Op.TheVariants.{Enter, Leave, Back, Next, Get, Lock, Insert, Put, Delete, Drop as DropLock, NextValue, CurrentValue, End}
-use Rattle.client_database.specs.declared.answer.Answer.{Answer}
-use Rattle.client_database.specs.declared.answer.Answer.TheVariants.{Gone, KeyTooLong, Busy, Blocked, Deadlock, Duplicate, Full, TxFull, SequenceEnd, AtEnd}
+use Rattle.database_protocol.specs.declared.operation.Op.{Op}
+use Rattle.database_protocol.specs.declared.operation.Op.TheVariants.{Enter, Leave, Back, Next, Get, Lock, Insert, Put, Delete, Drop as DropLock, NextValue, CurrentValue, End}
+use Rattle.database_protocol.specs.declared.answer.Answer.{Answer}
+use Rattle.database_protocol.specs.declared.answer.Answer.TheVariants.{Gone, KeyTooLong, Busy, Blocked, Deadlock, Duplicate, Full, TxFull, SequenceEnd, AtEnd}
 use Rattle.database_meaning.proofs.Keys.{Has, has_cases, has_one}
 use Rattle.database_meaning.proofs.LockedReads.{follows_split}
 use Rattle.database_meaning.proofs.RowsFit.{RowFits, StateFits, laid_fits, fits_legal}

@@ -6,9 +6,9 @@ use Rattle.database_meaning.specs.Setting.{Setting}
 use Rattle.database_meaning.specs.State.{State, Client, Rows, Held, depth_of}
 use Rattle.database_meaning.specs.Waiting.{LocksConflict}
 use Rattle.database_meaning.specs.Steps.{own_after, own_after_commit, own_after_leave, own_after_drop, is_outermost, row_of_answer, or_exclusive, held_after_commit, stays}
-use Rattle.client_database.specs.declared.operation.Op.{Op}
-use Rattle.client_database.specs.declared.operation.Op.TheVariants.{Enter, Leave, Back, Next, Get, Lock, Insert, Put, Delete, Drop as DropLock, NextValue, CurrentValue, End}
-use Rattle.client_database.specs.declared.answer.Answer.{Answer}
+use Rattle.database_protocol.specs.declared.operation.Op.{Op}
+use Rattle.database_protocol.specs.declared.operation.Op.TheVariants.{Enter, Leave, Back, Next, Get, Lock, Insert, Put, Delete, Drop as DropLock, NextValue, CurrentValue, End}
+use Rattle.database_protocol.specs.declared.answer.Answer.{Answer}
 use Rattle.database_meaning.proofs.Maps.{insert_cases, remove_cases, retain_cases, empty_cases, as_share_cases}
 use Rattle.database_meaning.proofs.TableRows.{Success}
 

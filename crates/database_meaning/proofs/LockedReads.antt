@@ -11,11 +11,11 @@ use Rattle.database_meaning.specs.Answers.{Answers}
 use Rattle.database_meaning.specs.Steps.{own_after, own_after_commit, own_after_leave, own_after_drop, is_success, row_of_answer, or_exclusive, after, client_after, blocked_after, committed_after, laid_on}
 use Rattle.database_meaning.specs.Traces.{state_after, Follows, opened, is_committed}
 use Rattle.database_meaning.specs.Laws.{StaysOpen, AllStayOpen, ReadsAsCommitted, read_event}
-use Rattle.client_database.specs.declared.event.Event.{Event}
-use Rattle.client_database.specs.declared.operation.Op.{Op}
-use Rattle.client_database.specs.declared.operation.Op.TheVariants.{Enter, Leave, Back, Next, Get, Lock, Insert, Put, Delete, Drop as DropLock, NextValue, CurrentValue, End}
-use Rattle.client_database.specs.declared.answer.Answer.{Answer}
-use Rattle.client_database.specs.declared.answer.Answer.TheVariants.{Row as RowAnswer}
+use Rattle.database_protocol.specs.declared.event.Event.{Event}
+use Rattle.database_protocol.specs.declared.operation.Op.{Op}
+use Rattle.database_protocol.specs.declared.operation.Op.TheVariants.{Enter, Leave, Back, Next, Get, Lock, Insert, Put, Delete, Drop as DropLock, NextValue, CurrentValue, End}
+use Rattle.database_protocol.specs.declared.answer.Answer.{Answer}
+use Rattle.database_protocol.specs.declared.answer.Answer.TheVariants.{Row as RowAnswer}
 use Rattle.database_meaning.proofs.Maps.{get_insert_same, get_insert_other}
 use Rattle.database_meaning.proofs.TableRows.{Success, success_of}
 use Rattle.database_meaning.proofs.Own.{Covers, sound, stable_lt}

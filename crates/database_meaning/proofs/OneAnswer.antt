@@ -8,7 +8,7 @@ use Rattle.std.specs.Cmp.Lexicographic.{slice_cmp, nat_list_cmp_total}
 use Rattle.std.proofs.lemmas.Bool.{cases_eq, cases_lt}
 use Rattle.abl_base.specs.declared.value.Value.{Value}
 use Rattle.abl_base.specs.declared.row.RowId.{RowId}
-use Rattle.client_database.specs.declared.row_order.Cursor.{Cursor}
+use Rattle.database_protocol.specs.declared.row_order.Cursor.{Cursor}
 use Rattle.abl_values.specs.declared.schema.IndexDef.{IndexDef}
 use Rattle.abl_values.specs.Keys.{unique_key}
 use Rattle.abl_values.specs.Schema.{indexes_of}
@@ -23,11 +23,11 @@ use Rattle.database_meaning.specs.Counts.{HasRoom}
 use Rattle.database_meaning.specs.Answers.{when◌comes◌otherwise◌, ByTable, FromGone, Succeeds, HasLongKey, IsFirstLongKey, entered, IsFirstDuplicate}
 use Rattle.database_meaning.specs.Traces.{IsLegal, left_by}
 use Rattle.database_meaning.specs.Laws.{IsChoice, HasOneAnswer}
-use Rattle.client_database.specs.declared.event.Event.{Event}
-use Rattle.client_database.specs.declared.operation.Op.{Op}
-use Rattle.client_database.specs.declared.operation.Op.TheVariants.{Enter, Leave, Back, Next, Get, Lock, Insert, Put, Delete, Drop as DropLock, NextValue, CurrentValue, End}
-use Rattle.client_database.specs.declared.answer.Answer.{Answer}
-use Rattle.client_database.specs.declared.answer.Answer.TheVariants.{TraceFull, KeyTooLong, Busy, Blocked, Deadlock, Duplicate, Committed, Found, Row as RowAnswer, Inserted}
+use Rattle.database_protocol.specs.declared.event.Event.{Event}
+use Rattle.database_protocol.specs.declared.operation.Op.{Op}
+use Rattle.database_protocol.specs.declared.operation.Op.TheVariants.{Enter, Leave, Back, Next, Get, Lock, Insert, Put, Delete, Drop as DropLock, NextValue, CurrentValue, End}
+use Rattle.database_protocol.specs.declared.answer.Answer.{Answer}
+use Rattle.database_protocol.specs.declared.answer.Answer.TheVariants.{TraceFull, KeyTooLong, Busy, Blocked, Deadlock, Duplicate, Committed, Found, Row as RowAnswer, Inserted}
 use Rattle.database_meaning.proofs.Keys.{Has, has_cases, has_one}
 use Rattle.database_meaning.proofs.Shortest.{here, there, uncons}
 use Rattle.database_meaning.proofs.Good.{Good, good_legal}

@@ -14,11 +14,11 @@ use Rattle.database_meaning.specs.Answers.{Answers, IsRefused, HasDuplicate, Has
 use Rattle.database_meaning.specs.Steps.{own_after, own_after_commit, own_after_leave, own_after_drop, is_outermost, is_success, row_of_answer, after, client_after, blocked_after, committed_after, laid_on, reserving}
 use Rattle.database_meaning.specs.Traces.{rows_of, state_after, Follows, opened, IsLegal, left_by}
 use Rattle.database_meaning.specs.declared.contents.Contents.{Contents}
-use Rattle.client_database.specs.declared.event.Event.{Event}
+use Rattle.database_protocol.specs.declared.event.Event.{Event}
 use Rattle.abl_base.specs.declared.value.Value.{Value}
-use Rattle.client_database.specs.declared.operation.Op.{Op}
-use Rattle.client_database.specs.declared.operation.Op.TheVariants.{Enter, Leave, Back, Next, Get, Lock, Insert, Put, Delete, Drop as DropLock, NextValue, CurrentValue, End}
-use Rattle.client_database.specs.declared.answer.Answer.{Answer}
+use Rattle.database_protocol.specs.declared.operation.Op.{Op}
+use Rattle.database_protocol.specs.declared.operation.Op.TheVariants.{Enter, Leave, Back, Next, Get, Lock, Insert, Put, Delete, Drop as DropLock, NextValue, CurrentValue, End}
+use Rattle.database_protocol.specs.declared.answer.Answer.{Answer}
 use Rattle.database_meaning.proofs.Maps.{get_insert_same, get_insert_other, insert_cases, empty_cases, get_laid_on}
 use Rattle.database_meaning.proofs.Keys.{Has, has_left, has_right, has_cases, has_without, without_cases}
 use Rattle.database_meaning.proofs.TableRows.{Success, success_of}

@@ -19,10 +19,10 @@ use Rattle.database_meaning.specs.Waiting.{row_in}
 use Rattle.database_meaning.specs.Answers.{Answers, IsRefused}
 use Rattle.database_meaning.specs.Steps.{own_after, own_after_commit, own_after_leave, own_after_drop, is_outermost, is_success, row_of_answer, after, client_after, blocked_after, committed_after, laid_on}
 use Rattle.database_meaning.specs.Traces.{state_after, Follows, opened, identity_of, stored_of, IsSoundRows, IsSoundContents, IsLegal, left_by}
-use Rattle.client_database.specs.declared.event.Event.{Event}
-use Rattle.client_database.specs.declared.operation.Op.{Op}
-use Rattle.client_database.specs.declared.operation.Op.TheVariants.{Enter, Leave, Back, Next, Get, Lock, Insert, Put, Delete, Drop as DropLock, NextValue, CurrentValue, End}
-use Rattle.client_database.specs.declared.answer.Answer.{Answer}
+use Rattle.database_protocol.specs.declared.event.Event.{Event}
+use Rattle.database_protocol.specs.declared.operation.Op.{Op}
+use Rattle.database_protocol.specs.declared.operation.Op.TheVariants.{Enter, Leave, Back, Next, Get, Lock, Insert, Put, Delete, Drop as DropLock, NextValue, CurrentValue, End}
+use Rattle.database_protocol.specs.declared.answer.Answer.{Answer}
 use Rattle.database_meaning.proofs.Maps.{insert_cases, empty_cases, get_laid_on}
 use Rattle.database_meaning.proofs.TableRows.{success_of}
 use Rattle.database_meaning.proofs.Own.{sound, by_test}

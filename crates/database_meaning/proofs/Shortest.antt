@@ -5,7 +5,7 @@ use Rattle.std.proofs.lemmas.Bool.{cases_eq}
 use Rattle.database_meaning.specs.Setting.{Setting}
 use Rattle.database_meaning.specs.State.{State}
 use Rattle.database_meaning.specs.Waiting.{Chain, IsDistinct, IsCycle, Closes, WouldWait}
-use Rattle.client_database.specs.declared.operation.Op.{Op}
+use Rattle.database_protocol.specs.declared.operation.Op.{Op}
 
 pub here : (a : ℕ) (xs : List ℕ) → Contains (a ∷ xs) a
 here a xs = (0, omega arith, refl)

@@ -5,10 +5,10 @@ use Rattle.database_meaning.specs.State.{State}
 use Rattle.database_meaning.specs.Waiting.{HasConflict, Closes, IsHolders}
 use Rattle.database_meaning.specs.Answers.{when◌comes◌otherwise◌, Answers, FromGone, IsRefused, Succeeds, IsGone, HasDuplicates}
 use Rattle.database_meaning.specs.Steps.{is_success}
-use Rattle.client_database.specs.declared.operation.Op.{Op}
-use Rattle.client_database.specs.declared.operation.Op.TheVariants.{Enter, Leave, Back, Next, Get, Lock, Insert, Put, Delete, Drop as DropLock, NextValue, CurrentValue, End}
-use Rattle.client_database.specs.declared.answer.Answer.{Answer}
-use Rattle.client_database.specs.declared.answer.Answer.TheVariants.{Refused, Closed, TraceFull, Gone, KeyTooLong, Busy, Blocked, Deadlock, Duplicate, Full, TxFull, SequenceEnd, AtEnd, NoMemory}
+use Rattle.database_protocol.specs.declared.operation.Op.{Op}
+use Rattle.database_protocol.specs.declared.operation.Op.TheVariants.{Enter, Leave, Back, Next, Get, Lock, Insert, Put, Delete, Drop as DropLock, NextValue, CurrentValue, End}
+use Rattle.database_protocol.specs.declared.answer.Answer.{Answer}
+use Rattle.database_protocol.specs.declared.answer.Answer.TheVariants.{Refused, Closed, TraceFull, Gone, KeyTooLong, Busy, Blocked, Deadlock, Duplicate, Full, TxFull, SequenceEnd, AtEnd, NoMemory}
 
 -- the answer is not this row's
 pub skip : {applies answer below : Type 0} → (answer → ⊥) → (when applies comes answer otherwise below) → (¬ applies) × below

@@ -5,8 +5,8 @@ use Rattle.database_meaning.specs.Setting.{Setting}
 use Rattle.database_meaning.specs.State.{State, Client}
 use Rattle.database_meaning.specs.Steps.{after, own_after, blocked_after, row_of_answer, is_success, committed_after, sequences_after, frees_some}
 use Rattle.database_meaning.specs.Laws.{IsUnchanged}
-use Rattle.client_database.specs.declared.operation.Op.{Op}
-use Rattle.client_database.specs.declared.answer.Answer.{Answer}
+use Rattle.database_protocol.specs.declared.operation.Op.{Op}
+use Rattle.database_protocol.specs.declared.answer.Answer.{Answer}
 use Rattle.database_meaning.proofs.Good.{part_same, laid_same}
 
 module _ (f : Setting) (s : State) (c : ℕ) (op : Op) (a : Answer) (fails : is_success a ≡ false) where

@@ -1,12 +1,12 @@
 -- What is counted: the fragments that an operation draws, the slots that it writes, and the bytes of an event.
 use Rattle.std.specs.Prelude.{ℕ, zero, suc, ◌+◌, ◌-◌, ◌*◌, ◌≤◌, ◌≡◌, ◌⊎◌, max, Bool, true, false, length, map, sum, Option, Some, None}
 use Rattle.std.specs.FinMap.{values}
-use Rattle.client_database.specs.declared.row_order.Cursor.{Cursor}
+use Rattle.database_protocol.specs.declared.row_order.Cursor.{Cursor}
 use Rattle.abl_base.specs.declared.limits.TheConstants.{MAX_TRACE_BYTES, EVENT_BYTES, NUMBER_BYTES}
-use Rattle.client_database.specs.declared.operation.Op.{Op}
-use Rattle.client_database.specs.declared.operation.Op.TheVariants.{Leave, Next, Insert, Put, Delete, End}
-use Rattle.client_database.specs.declared.answer.Answer.{Answer}
-use Rattle.client_database.specs.declared.answer.Answer.TheVariants.{TraceFull, Busy, Blocked, Deadlock, Found, Row as RowAnswer}
+use Rattle.database_protocol.specs.declared.operation.Op.{Op}
+use Rattle.database_protocol.specs.declared.operation.Op.TheVariants.{Leave, Next, Insert, Put, Delete, End}
+use Rattle.database_protocol.specs.declared.answer.Answer.{Answer}
+use Rattle.database_protocol.specs.declared.answer.Answer.TheVariants.{TraceFull, Busy, Blocked, Deadlock, Found, Row as RowAnswer}
 use Rattle.database_meaning.specs.Setting.{Setting, row_size, fragments}
 use Rattle.database_meaning.specs.State.{State, view}
 use Rattle.database_meaning.specs.Waiting.{row_in}

@@ -8,8 +8,8 @@ use Rattle.abl_values.specs.declared.schema.TableDef.{TableDef}
 use Rattle.abl_values.specs.Keys.{key_bytes, unique_key}
 use Rattle.abl_values.specs.Rows.{bytes_of_row, number_bytes}
 use Rattle.database_meaning.specs.declared.state.Key.{Key}
-use Rattle.client_database.specs.declared.operation.Op.TheVariants.{Enter, Leave, Insert, Lock, End}
-use Rattle.client_database.specs.declared.answer.Answer.TheVariants.{Refused, Blocked, Busy, Done, NoMemory, Committed}
+use Rattle.database_protocol.specs.declared.operation.Op.TheVariants.{Enter, Leave, Insert, Lock, End}
+use Rattle.database_protocol.specs.declared.answer.Answer.TheVariants.{Refused, Blocked, Busy, Done, NoMemory, Committed}
 use Rattle.database_meaning.specs.Setting.{Setting, unique_keys, fragments}
 use Rattle.database_meaning.specs.Waiting.{row_in}
 use Rattle.database_meaning.specs.Search.{place_cmp, MatchesPrefix}

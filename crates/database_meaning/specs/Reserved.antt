@@ -3,10 +3,10 @@ use Rattle.std.specs.Prelude.{◌≡◌, ◌≢◌, ◌⊎◌, ℕ, ◌+◌, ◌
 use Rattle.abl_base.specs.declared.value.Value.{Value}
 use Rattle.abl_base.specs.declared.row.RowId.{RowId}
 use Rattle.database_meaning.specs.declared.contents.Contents.{Contents}
-use Rattle.client_database.specs.declared.operation.Op.{Op}
-use Rattle.client_database.specs.declared.operation.Op.TheVariants.{Enter, Leave, Back, Lock, Insert, Drop as DropLock, End}
-use Rattle.client_database.specs.declared.answer.Answer.TheVariants.{Done, Granted, Inserted}
-use Rattle.client_database.specs.declared.event.Event.{Event}
+use Rattle.database_protocol.specs.declared.operation.Op.{Op}
+use Rattle.database_protocol.specs.declared.operation.Op.TheVariants.{Enter, Leave, Back, Lock, Insert, Drop as DropLock, End}
+use Rattle.database_protocol.specs.declared.answer.Answer.TheVariants.{Done, Granted, Inserted}
+use Rattle.database_protocol.specs.declared.event.Event.{Event}
 use Rattle.database_meaning.specs.Setting.{Setting}
 use Rattle.database_meaning.specs.State.{State, lock_of, depth_of}
 use Rattle.database_meaning.specs.Traces.{after_event, left_by, is_leave}

@@ -7,9 +7,9 @@ use Rattle.std.specs.Cmp.Lexicographic.{slice_cmp}
 use Rattle.abl_base.specs.declared.value.Value.{Value}
 use Rattle.abl_base.specs.declared.value.Kind.{Kind}
 use Rattle.abl_base.specs.declared.row.RowId.{RowId}
-use Rattle.client_database.specs.declared.row_order.Cursor.{Cursor}
-use Rattle.client_database.specs.declared.operation.Op.{Op}
-use Rattle.client_database.specs.declared.operation.Op.TheVariants.{Next}
+use Rattle.database_protocol.specs.declared.row_order.Cursor.{Cursor}
+use Rattle.database_protocol.specs.declared.operation.Op.{Op}
+use Rattle.database_protocol.specs.declared.operation.Op.TheVariants.{Next}
 use Rattle.abl_values.specs.declared.schema.KeyPart.{KeyPart}
 use Rattle.abl_values.specs.Fit.{IsOfField}
 use Rattle.abl_values.specs.Schema.{SchemaData}

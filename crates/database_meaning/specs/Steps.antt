@@ -6,10 +6,10 @@ use Rattle.abl_base.specs.declared.row.RowId.{RowId}
 use Rattle.database_meaning.specs.declared.state.StoredRow.{StoredRow}
 use Rattle.database_meaning.specs.declared.state.Key.{Key}
 use Rattle.database_meaning.specs.declared.state.BlockedRequest.{BlockedRequest}
-use Rattle.client_database.specs.declared.operation.Op.{Op}
-use Rattle.client_database.specs.declared.operation.Op.TheVariants.{Enter, Leave, Back, Lock, Insert, Put, Delete, Drop as DropLock, NextValue, End}
-use Rattle.client_database.specs.declared.answer.Answer.{Answer}
-use Rattle.client_database.specs.declared.answer.Answer.TheVariants.{Refused, Closed, Blocked, Done, Committed, Found, Row as RowAnswer, Granted, Inserted, Value as ValueAnswer}
+use Rattle.database_protocol.specs.declared.operation.Op.{Op}
+use Rattle.database_protocol.specs.declared.operation.Op.TheVariants.{Enter, Leave, Back, Lock, Insert, Put, Delete, Drop as DropLock, NextValue, End}
+use Rattle.database_protocol.specs.declared.answer.Answer.{Answer}
+use Rattle.database_protocol.specs.declared.answer.Answer.TheVariants.{Refused, Closed, Blocked, Done, Committed, Found, Row as RowAnswer, Granted, Inserted, Value as ValueAnswer}
 use Rattle.database_meaning.specs.Setting.{Setting, unique_keys, keys_without}
 use Rattle.database_meaning.specs.State.{State, Client, Rows, Overlay, Held, view, lock_of, depth_of}
 use Rattle.database_meaning.specs.Waiting.{row_in}

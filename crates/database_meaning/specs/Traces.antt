@@ -6,11 +6,11 @@ use Rattle.database_meaning.specs.declared.state.Key.{Key}
 use Rattle.abl_base.specs.declared.limits.TheConstants.{MAX_KEY_BYTES}
 use Rattle.database_meaning.specs.declared.contents.Contents.{Contents}
 use Rattle.database_meaning.specs.declared.contents.ContentRow.{ContentRow}
-use Rattle.client_database.specs.declared.operation.Op.{Op}
-use Rattle.client_database.specs.declared.operation.Op.TheVariants.{Leave}
-use Rattle.client_database.specs.declared.answer.Answer.{Answer}
-use Rattle.client_database.specs.declared.answer.Answer.TheVariants.{Committed}
-use Rattle.client_database.specs.declared.event.Event.{Event}
+use Rattle.database_protocol.specs.declared.operation.Op.{Op}
+use Rattle.database_protocol.specs.declared.operation.Op.TheVariants.{Leave}
+use Rattle.database_protocol.specs.declared.answer.Answer.{Answer}
+use Rattle.database_protocol.specs.declared.answer.Answer.TheVariants.{Committed}
+use Rattle.database_protocol.specs.declared.event.Event.{Event}
 use Rattle.database_meaning.specs.Setting.{Setting, unique_keys, has_key, HasTable, HasIndex, FitsTable, key_in}
 use Rattle.database_meaning.specs.State.{State, Client, Rows}
 use Rattle.database_meaning.specs.Waiting.{IsAscending}

@@ -6,8 +6,8 @@ use Rattle.abl_values.specs.Schema.{SchemaData}
 use Rattle.database_meaning.specs.declared.state.StoredRow.{StoredRow}
 use Rattle.database_meaning.specs.declared.state.Key.{Key}
 use Rattle.database_meaning.specs.declared.state.BlockedRequest.{BlockedRequest}
-use Rattle.client_database.specs.declared.operation.Op.{Op}
-use Rattle.client_database.specs.declared.operation.Op.TheVariants.{Lock, Insert, Put}
+use Rattle.database_protocol.specs.declared.operation.Op.{Op}
+use Rattle.database_protocol.specs.declared.operation.Op.TheVariants.{Lock, Insert, Put}
 use Rattle.database_meaning.specs.Setting.{Setting, unique_keys, has_key}
 use Rattle.database_meaning.specs.State.{State, view, lock_of}
 

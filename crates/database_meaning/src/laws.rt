@@ -9,9 +9,9 @@ ghost use Rattle.database_meaning.specs.Traces.{IsLegal, left_by, HasUniqueKeys}
 ghost use Rattle.database_meaning.specs.Steps.{is_success, after};
 ghost use Rattle.database_meaning.specs.Laws.{IsExclusive, HasApartOverlays, HasApartKeys, ReadsAsCommitted, AnswersFit, IsUnchanged, HasOneAnswer};
 ghost use Rattle.database_meaning.specs.declared.contents.Contents.{Contents as Opening};
-ghost use Rattle.client_database.specs.declared.event.Event.{Event as TraceEvent};
-ghost use Rattle.client_database.specs.declared.operation.Op.{Op as Asked};
-ghost use Rattle.client_database.specs.declared.answer.Answer.{Answer as Given};
+ghost use Rattle.database_protocol.specs.declared.event.Event.{Event as TraceEvent};
+ghost use Rattle.database_protocol.specs.declared.operation.Op.{Op as Asked};
+ghost use Rattle.database_protocol.specs.declared.answer.Answer.{Answer as Given};
 
 /// No client ever waits for itself, directly or over other clients.
 pub fn no_cycle_ever()

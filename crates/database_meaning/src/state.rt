@@ -3,7 +3,7 @@
 ghost use Rattle.std.specs.Prelude.{◌≡◌, IfOk};
 
 use abl_base::{Bytes, Row, copy_row};
-use client_database::Op;
+use database_protocol::Op;
 use std::alloc::AllocError;
 
 /// A row with its table.

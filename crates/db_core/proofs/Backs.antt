@@ -4,17 +4,17 @@ use Rattle.std.specs.Prelude.{IsTrue}
 use Rattle.std.specs.FinMap.{get}
 use Rattle.std.proofs.lemmas.Bool.{cases_eq}
 use Rattle.std.proofs.lemmas.Option.{slice_get_read}
-use Rattle.client_database.specs.declared.operation.Op.TheVariants.{Back}
-use Rattle.client_database.specs.declared.answer.Answer.TheVariants.{Done}
+use Rattle.database_protocol.specs.declared.operation.Op.TheVariants.{Back}
+use Rattle.database_protocol.specs.declared.answer.Answer.TheVariants.{Done}
 use Rattle.database_meaning.specs.Setting.{Setting}
 use Rattle.database_meaning.specs.State.{State, Client}
 use Rattle.database_meaning.specs.Steps.{after, copy_of_level}
 use Rattle.record_locks.specs.declared.locks.Client.{Client as LockClient}
 use Rattle.record_locks.specs.Table.{client_of, lock_of, AreApart}
-use Rattle.abl_rows.specs.declared.store.RowChange.{RowChange}
-use Rattle.abl_rows.specs.Changes.{RowsById, has_change, change_at, copy_at, IsOverlay, AreCopies, AreMarks}
-use Rattle.abl_rows.specs.Rows.{RowState, RowTransaction, IsObservable, IsConsistent, GoesBack}
-use Rattle.abl_rows.proofs.Copies.{undone_other, copy_of, copies_back, marks_rise, mark_at}
+use Rattle.row_store.specs.declared.store.RowChange.{RowChange}
+use Rattle.row_store.specs.Changes.{RowsById, has_change, change_at, copy_at, IsOverlay, AreCopies, AreMarks}
+use Rattle.row_store.specs.Rows.{RowState, RowTransaction, IsObservable, IsConsistent, GoesBack}
+use Rattle.row_store.proofs.Copies.{undone_other, copy_of, copies_back, marks_rise, mark_at}
 use Rattle.db_core.specs.declared.control.Control.{Control}
 use Rattle.db_core.specs.declared.control.Session.{Session}
 use Rattle.db_core.specs.Represents.{Represents, IsSound, IsOpen, IsClient, marks_at, marks_in, blocked_at, is_open}

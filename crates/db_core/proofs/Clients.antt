@@ -8,9 +8,9 @@ use Rattle.database_meaning.specs.Setting.{Setting}
 use Rattle.database_meaning.specs.State.{State, Client, Held}
 use Rattle.record_locks.specs.declared.locks.Client.{Client as LockClient}
 use Rattle.record_locks.specs.Table.{client_of, lock_of}
-use Rattle.abl_rows.specs.Changes.{has_change}
-use Rattle.abl_rows.specs.Rows.{RowState, RowTransaction, IsObservable}
-use Rattle.abl_rows.proofs.Copies.{change_same, copies_same}
+use Rattle.row_store.specs.Changes.{has_change}
+use Rattle.row_store.specs.Rows.{RowState, RowTransaction, IsObservable}
+use Rattle.row_store.proofs.Copies.{change_same, copies_same}
 use Rattle.db_core.specs.declared.control.Control.{Control}
 use Rattle.db_core.specs.Represents.{Represents, IsClient, marks_at, blocked_at}
 

@@ -6,16 +6,16 @@ use Rattle.std.specs.Cmp.{nat_cmp_total}
 use Rattle.std.specs.Ordering.{nat_cmp}
 use Rattle.std.proofs.lemmas.List.{get_or_append_left, length_push}
 use Rattle.std.proofs.Math.Seq.{get_or-append_seam}
-use Rattle.client_database.specs.declared.answer.Answer.{Answer}
-use Rattle.client_database.specs.declared.answer.Answer.TheVariants.{Committed}
-use Rattle.client_database.specs.declared.event.Event.{Event}
+use Rattle.database_protocol.specs.declared.answer.Answer.{Answer}
+use Rattle.database_protocol.specs.declared.answer.Answer.TheVariants.{Committed}
+use Rattle.database_protocol.specs.declared.event.Event.{Event}
 use Rattle.database_meaning.specs.declared.contents.Contents.{Contents}
 use Rattle.database_meaning.specs.declared.state.StoredRow.{StoredRow}
 use Rattle.database_meaning.specs.Setting.{Setting}
 use Rattle.database_meaning.specs.State.{State, Rows}
 use Rattle.database_meaning.specs.Steps.{is_closed}
 use Rattle.database_meaning.specs.Traces.{acknowledged, after_commits, after_event, commits, content_row, contents_after_commits, contents_of, identity_of, is_acknowledged, is_committed, is_unanswered_commit, left_by, opened, rows_of, state_after, stored_of}
-use Rattle.abl_rows.specs.Rows.{Durable}
+use Rattle.row_store.specs.Rows.{Durable}
 use Rattle.db_core.specs.Crashes.{AreMoments, Holds, HoldsFrom, answered, moment_of}
 
 -- ---- answers

@@ -9,8 +9,8 @@ use Rattle.std.proofs.lemmas.Bool.{cases_eq}
 use Rattle.abl_base.specs.declared.row.RowId.{RowId}
 use Rattle.database_meaning.specs.declared.state.Key.{Key}
 use Rattle.database_meaning.specs.declared.state.StoredRow.{StoredRow}
-use Rattle.client_database.specs.declared.operation.Op.TheVariants.{Leave}
-use Rattle.client_database.specs.declared.answer.Answer.TheVariants.{Committed}
+use Rattle.database_protocol.specs.declared.operation.Op.TheVariants.{Leave}
+use Rattle.database_protocol.specs.declared.answer.Answer.TheVariants.{Committed}
 use Rattle.database_meaning.specs.Setting.{Setting}
 use Rattle.database_meaning.specs.State.{State, Client, Held, Rows as Stored, over, depth_of}
 use Rattle.database_meaning.specs.Steps.{after, committed_after, held_after_commit, as_share, is_empty, is_in, is_outermost, laid_on, stays}
@@ -18,8 +18,8 @@ use Rattle.database_meaning.proofs.Maps.{get_laid_on}
 use Rattle.record_locks.specs.declared.locks.Client.{Client as LockClient}
 use Rattle.record_locks.specs.Settled.{IsFreed, has_row, settled}
 use Rattle.record_locks.specs.Table.{client_of, lock_of, AreApart}
-use Rattle.abl_rows.specs.Changes.{RowsById, has_change, change_at}
-use Rattle.abl_rows.specs.Rows.{RowState, Durable, IsObservable, IsConsistent, Commits, joined, no_transaction}
+use Rattle.row_store.specs.Changes.{RowsById, has_change, change_at}
+use Rattle.row_store.specs.Rows.{RowState, Durable, IsObservable, IsConsistent, Commits, joined, no_transaction}
 use Rattle.db_core.specs.declared.control.Control.{Control}
 use Rattle.db_core.specs.Represents.{Represents, IsSound, IsClient, marks_at, blocked_at}
 use Rattle.db_core.specs.Moves.{Settles}

@@ -5,20 +5,20 @@ use Rattle.std.proofs.Math.Logic.{∥∥₁_map}
 use Rattle.std.proofs.lemmas.Bool.{cases_lt, lt-leb}
 use Rattle.std.specs.FinMap.{get}
 use Rattle.abl_base.specs.declared.row.RowId.{RowId}
-use Rattle.client_database.specs.declared.operation.Op.{Op}
-use Rattle.client_database.specs.declared.operation.Op.TheVariants.{Leave}
-use Rattle.client_database.specs.declared.answer.Answer.{Answer}
-use Rattle.client_database.specs.declared.answer.Answer.TheVariants.{Closed, Committed}
-use Rattle.client_database.specs.declared.event.Event.{Event}
+use Rattle.database_protocol.specs.declared.operation.Op.{Op}
+use Rattle.database_protocol.specs.declared.operation.Op.TheVariants.{Leave}
+use Rattle.database_protocol.specs.declared.answer.Answer.{Answer}
+use Rattle.database_protocol.specs.declared.answer.Answer.TheVariants.{Closed, Committed}
+use Rattle.database_protocol.specs.declared.event.Event.{Event}
 use Rattle.database_meaning.specs.declared.contents.Contents.{Contents}
 use Rattle.database_meaning.specs.Setting.{Setting}
 use Rattle.database_meaning.specs.State.{State, depth_of}
 use Rattle.database_meaning.specs.Steps.{after, committed_after, is_outermost}
 use Rattle.database_meaning.specs.Traces.{acknowledged, after_commits, commits, contents_after_commits, contents_of, is_acknowledged, is_committed, left_by, opened, rows_of}
-use Rattle.abl_rows.specs.declared.store.RowFault.{RowFault}
-use Rattle.abl_rows.specs.declared.store.RowFault.TheVariants.{Disk, NoMemory}
-use Rattle.abl_rows.specs.Rows.{AfterError, Durable, IsConsistent, IsObservable, RowState, SameBase, commit_of, durable_of}
-use Rattle.abl_rows.specs.Times.{Goes, IsInDoubt, IsStop, Rests, Times}
+use Rattle.row_store.specs.declared.store.RowFault.{RowFault}
+use Rattle.row_store.specs.declared.store.RowFault.TheVariants.{Disk, NoMemory}
+use Rattle.row_store.specs.Rows.{AfterError, Durable, IsConsistent, IsObservable, RowState, SameBase, commit_of, durable_of}
+use Rattle.row_store.specs.Times.{Goes, IsInDoubt, IsStop, Rests, Times}
 use Rattle.db_core.specs.declared.control.Control.{Control}
 use Rattle.db_core.specs.Represents.{Represents, marks_at}
 use Rattle.db_core.proofs.Commits.{laid_rows_are}

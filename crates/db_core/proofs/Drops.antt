@@ -6,8 +6,8 @@ use Rattle.std.specs.Cmp.{nat_cmp_total}
 use Rattle.std.specs.FinMap.{get, remove, contains_key, get-remove}
 use Rattle.std.proofs.lemmas.Bool.{cases_eq, ne_eqb}
 use Rattle.abl_base.specs.declared.row.RowId.{RowId}
-use Rattle.client_database.specs.declared.operation.Op.TheVariants.{Drop as DropLock, NextValue}
-use Rattle.client_database.specs.declared.answer.Answer.TheVariants.{Done, Value as ValueAnswer}
+use Rattle.database_protocol.specs.declared.operation.Op.TheVariants.{Drop as DropLock, NextValue}
+use Rattle.database_protocol.specs.declared.answer.Answer.TheVariants.{Done, Value as ValueAnswer}
 use Rattle.database_meaning.specs.Setting.{Setting}
 use Rattle.database_meaning.specs.State.{State, Client, Held, depth_of}
 use Rattle.database_meaning.specs.Answers.{next_value}
@@ -15,7 +15,7 @@ use Rattle.database_meaning.specs.Steps.{after, own_after_drop}
 use Rattle.database_meaning.proofs.Maps.{tied_same, tied_other}
 use Rattle.record_locks.specs.declared.locks.Client.{Client as LockClient}
 use Rattle.record_locks.specs.Table.{client_of, lock_of}
-use Rattle.abl_rows.specs.Rows.{RowState, RowTransaction, IsObservable, IsConsistent}
+use Rattle.row_store.specs.Rows.{RowState, RowTransaction, IsObservable, IsConsistent}
 use Rattle.db_core.specs.declared.control.Control.{Control}
 use Rattle.db_core.specs.Represents.{Represents, IsSound, IsClient, marks_at, blocked_at, is_open}
 use Rattle.db_core.specs.Moves.{Drops, EndsWait, OnlyClient, Sets}

@@ -5,16 +5,16 @@ use Rattle.std.specs.Ordering.{nat_cmp}
 use Rattle.std.specs.FinMap.{get, empty, entries, get-empty}
 use Rattle.std.proofs.lemmas.Bool.{cases_eq}
 use Rattle.database_meaning.specs.declared.state.Key.{Key}
-use Rattle.client_database.specs.declared.operation.Op.TheVariants.{End}
-use Rattle.client_database.specs.declared.answer.Answer.TheVariants.{Done}
+use Rattle.database_protocol.specs.declared.operation.Op.TheVariants.{End}
+use Rattle.database_protocol.specs.declared.answer.Answer.TheVariants.{Done}
 use Rattle.database_meaning.specs.Setting.{Setting}
 use Rattle.database_meaning.specs.State.{State, Client, Held}
 use Rattle.database_meaning.specs.Steps.{after, is_empty}
 use Rattle.record_locks.specs.declared.locks.Client.{Client as LockClient}
 use Rattle.record_locks.specs.Table.{lock_of, no_client}
-use Rattle.abl_rows.specs.Changes.{RowsById, undone, has_change}
-use Rattle.abl_rows.specs.Rows.{RowState, RowTransaction, IsObservable, IsConsistent, Abandons, no_transaction}
-use Rattle.abl_rows.proofs.Copies.{undone_other}
+use Rattle.row_store.specs.Changes.{RowsById, undone, has_change}
+use Rattle.row_store.specs.Rows.{RowState, RowTransaction, IsObservable, IsConsistent, Abandons, no_transaction}
+use Rattle.row_store.proofs.Copies.{undone_other}
 use Rattle.db_core.specs.declared.control.Control.{Control}
 use Rattle.db_core.specs.Represents.{Represents, IsSound, IsClient}
 use Rattle.db_core.specs.Moves.{Ends}

@@ -5,14 +5,14 @@ use Rattle.abl_base.specs.declared.value.Value.{Value}
 use Rattle.abl_base.specs.declared.row.RowId.{RowId}
 use Rattle.abl_values.specs.Schema.{SchemaData}
 use Rattle.database_meaning.specs.declared.state.Key.{Key}
-use Rattle.client_database.specs.declared.operation.Op.TheVariants.{Get, NextValue}
-use Rattle.client_database.specs.declared.answer.Answer.TheVariants.{Gone, Row as RowAnswer}
+use Rattle.database_protocol.specs.declared.operation.Op.TheVariants.{Get, NextValue}
+use Rattle.database_protocol.specs.declared.answer.Answer.TheVariants.{Gone, Row as RowAnswer}
 use Rattle.database_meaning.specs.Setting.{Setting, unique_keys, has_key}
 use Rattle.database_meaning.specs.State.{State, view}
 use Rattle.database_meaning.specs.Waiting.{row_in}
 use Rattle.database_meaning.specs.Answers.{FromGone, IsThere}
-use Rattle.abl_rows.specs.Rows.{RowState, IsObservable, IsConsistent}
-use Rattle.abl_rows.specs.Questions.{table_in, table_at}
+use Rattle.row_store.specs.Rows.{RowState, IsObservable, IsConsistent}
+use Rattle.row_store.specs.Questions.{table_in, table_at}
 use Rattle.db_core.specs.declared.control.Control.{Control}
 use Rattle.db_core.specs.Represents.{Represents, IsSound}
 use Rattle.db_core.proofs.Views.{rows_viewed}

@@ -9,8 +9,8 @@ use Rattle.abl_base.specs.declared.value.Value.{Value}
 use Rattle.abl_values.specs.Schema.{SchemaData}
 use Rattle.database_meaning.specs.declared.state.StoredRow.{StoredRow}
 use Rattle.database_meaning.specs.declared.state.Key.{Key}
-use Rattle.client_database.specs.declared.operation.Op.TheVariants.{Insert}
-use Rattle.client_database.specs.declared.answer.Answer.TheVariants.{Inserted}
+use Rattle.database_protocol.specs.declared.operation.Op.TheVariants.{Insert}
+use Rattle.database_protocol.specs.declared.answer.Answer.TheVariants.{Inserted}
 use Rattle.database_meaning.specs.Setting.{Setting, unique_keys, has_key, keys_without, same_key, fragments}
 use Rattle.database_meaning.specs.State.{State, Client, Held, Overlay}
 use Rattle.database_meaning.specs.Waiting.{row_in}
@@ -20,10 +20,10 @@ use Rattle.database_meaning.proofs.Maps.{get_insert_same, get_insert_other}
 use Rattle.record_locks.specs.declared.locks.Client.{Client as LockClient}
 use Rattle.record_locks.specs.Requests.{granted}
 use Rattle.record_locks.specs.Table.{client_of, lock_of, AreApart}
-use Rattle.abl_rows.specs.declared.store.RowChange.{RowChange}
-use Rattle.abl_rows.specs.Changes.{RowsById, undone, has_change, change_at, IsOverlay, AreCopies}
-use Rattle.abl_rows.specs.Rows.{RowState, RowTransaction, IsObservable, IsConsistent, IsFree, ChangesRow, with_change, is_moved}
-use Rattle.abl_rows.proofs.Copies.{overlay_more, copies_more, with_row_other}
+use Rattle.row_store.specs.declared.store.RowChange.{RowChange}
+use Rattle.row_store.specs.Changes.{RowsById, undone, has_change, change_at, IsOverlay, AreCopies}
+use Rattle.row_store.specs.Rows.{RowState, RowTransaction, IsObservable, IsConsistent, IsFree, ChangesRow, with_change, is_moved}
+use Rattle.row_store.proofs.Copies.{overlay_more, copies_more, with_row_other}
 use Rattle.db_core.specs.declared.control.Control.{Control}
 use Rattle.db_core.specs.Represents.{Represents, IsSound, IsClient, marks_at, blocked_at}
 use Rattle.db_core.specs.Moves.{Grants}

@@ -1,15 +1,15 @@
 -- Whether reserved keys of others conflict with an Insert or Put, and its answer then.
 use Rattle.std.proofs.Common.{◌≡◌, ◌≢◌, ◌<◌, ℕ, List, [], ◌∷◌, length, refl, inl, inr, arith}
 use Rattle.std.specs.List.{Contains}
-use Rattle.client_database.specs.declared.operation.Op.{Op}
-use Rattle.client_database.specs.declared.operation.Op.TheVariants.{Insert, Put}
-use Rattle.client_database.specs.declared.answer.Answer.TheVariants.{Blocked, Deadlock}
+use Rattle.database_protocol.specs.declared.operation.Op.{Op}
+use Rattle.database_protocol.specs.declared.operation.Op.TheVariants.{Insert, Put}
+use Rattle.database_protocol.specs.declared.answer.Answer.TheVariants.{Blocked, Deadlock}
 use Rattle.database_meaning.specs.Setting.{Setting}
 use Rattle.database_meaning.specs.State.{State}
 use Rattle.database_meaning.specs.Waiting.{Conflicts, HasConflict, IsHolders, ListsAll, Chain, IsCycleFrom}
 use Rattle.record_locks.specs.declared.locks.KeyWait.{KeyWait}
 use Rattle.record_locks.specs.Table.{WaitsAgainst}
-use Rattle.abl_rows.specs.Rows.{RowState, IsObservable, IsConsistent}
+use Rattle.row_store.specs.Rows.{RowState, IsObservable, IsConsistent}
 use Rattle.db_core.specs.declared.control.Control.{Control}
 use Rattle.db_core.specs.Represents.{Represents, IsSound}
 use Rattle.db_core.specs.Waits.{MeetsReserved, ListsWaits, IsKeyed, AnswersConflict}

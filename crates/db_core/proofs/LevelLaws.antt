@@ -4,9 +4,9 @@ use Rattle.std.specs.FinMap.{get, insert, remove}
 use Rattle.std.proofs.lemmas.Bool.{cases_eq, ne_eqb}
 use Rattle.std.proofs.lemmas.List.{length-take}
 use Rattle.abl_base.specs.declared.row.RowId.{RowId}
-use Rattle.client_database.specs.declared.operation.Op.{Op}
-use Rattle.client_database.specs.declared.operation.Op.TheVariants.{Enter, Leave, Back, Next, Get, Lock, Insert, Put, Delete, Drop as DropLock, NextValue, CurrentValue, End}
-use Rattle.client_database.specs.declared.answer.Answer.{Answer}
+use Rattle.database_protocol.specs.declared.operation.Op.{Op}
+use Rattle.database_protocol.specs.declared.operation.Op.TheVariants.{Enter, Leave, Back, Next, Get, Lock, Insert, Put, Delete, Drop as DropLock, NextValue, CurrentValue, End}
+use Rattle.database_protocol.specs.declared.answer.Answer.{Answer}
 use Rattle.database_meaning.specs.Setting.{Setting}
 use Rattle.database_meaning.specs.State.{State, Client, Held, Rows as Stored, depth_of, lock_of}
 use Rattle.database_meaning.specs.Answers.{IsWellFormed}
@@ -14,7 +14,7 @@ use Rattle.database_meaning.specs.Steps.{after, blocked_after, client_after, com
 use Rattle.database_meaning.proofs.Maps.{get_insert_other, get_insert_same, get_remove_other, get_remove_same}
 use Rattle.record_locks.specs.Settled.{has_row, settled}
 use Rattle.record_locks.specs.Table.{client_of, lock_of as table_lock}
-use Rattle.abl_rows.specs.Rows.{RowState}
+use Rattle.row_store.specs.Rows.{RowState}
 use Rattle.db_core.specs.declared.control.Control.{Control}
 use Rattle.db_core.specs.Known.{known}
 use Rattle.db_core.specs.Levels.{SameLevels, is_exclusive}

@@ -5,16 +5,16 @@ use Rattle.std.proofs.lemmas.Bool.{cases_eq, ne_eqb}
 use Rattle.std.proofs.lemmas.List.{length_push}
 use Rattle.abl_base.specs.declared.row.RowId.{RowId}
 use Rattle.database_meaning.specs.declared.state.StoredRow.{StoredRow}
-use Rattle.client_database.specs.declared.operation.Op.TheVariants.{Enter, Leave}
-use Rattle.client_database.specs.declared.answer.Answer.TheVariants.{Done}
+use Rattle.database_protocol.specs.declared.operation.Op.TheVariants.{Enter, Leave}
+use Rattle.database_protocol.specs.declared.answer.Answer.TheVariants.{Done}
 use Rattle.database_meaning.specs.Setting.{Setting}
 use Rattle.database_meaning.specs.State.{State, Client, Overlay, depth_of}
 use Rattle.database_meaning.specs.Steps.{after, is_outermost, own_after_commit, own_after_leave, frees_some, laid_on}
 use Rattle.record_locks.specs.declared.locks.Client.{Client as LockClient}
 use Rattle.record_locks.specs.Table.{client_of, lock_of}
-use Rattle.abl_rows.specs.declared.store.RowChange.{RowChange}
-use Rattle.abl_rows.specs.Changes.{RowsById, undone, change_at, copy_at, IsOverlay, AreCopies, AreMarks}
-use Rattle.abl_rows.specs.Rows.{RowState, RowTransaction, Begins, IsObservable, IsConsistent}
+use Rattle.row_store.specs.declared.store.RowChange.{RowChange}
+use Rattle.row_store.specs.Changes.{RowsById, undone, change_at, copy_at, IsOverlay, AreCopies, AreMarks}
+use Rattle.row_store.specs.Rows.{RowState, RowTransaction, Begins, IsObservable, IsConsistent}
 use Rattle.db_core.specs.declared.control.Control.{Control}
 use Rattle.db_core.specs.Represents.{Represents, IsSound, IsClient, marks_at, is_open}
 use Rattle.db_core.specs.Moves.{OnlyClient, OnlyMarks, SameControl, Enters, EndsWait, BacksTo}

@@ -5,9 +5,9 @@ use Rattle.std.specs.FinMap.{get, insert}
 use Rattle.std.proofs.lemmas.Bool.{cases_eq}
 use Rattle.abl_base.specs.declared.row.RowId.{RowId}
 use Rattle.database_meaning.specs.declared.state.BlockedRequest.{BlockedRequest}
-use Rattle.client_database.specs.declared.operation.Op.{Op}
-use Rattle.client_database.specs.declared.operation.Op.TheVariants.{Lock}
-use Rattle.client_database.specs.declared.answer.Answer.TheVariants.{Granted, Blocked}
+use Rattle.database_protocol.specs.declared.operation.Op.{Op}
+use Rattle.database_protocol.specs.declared.operation.Op.TheVariants.{Lock}
+use Rattle.database_protocol.specs.declared.answer.Answer.TheVariants.{Granted, Blocked}
 use Rattle.database_meaning.specs.Setting.{Setting}
 use Rattle.database_meaning.specs.State.{State, Client, Held}
 use Rattle.database_meaning.specs.Steps.{after, or_exclusive}
@@ -17,7 +17,7 @@ use Rattle.record_locks.specs.declared.locks.Client.{Client as LockClient}
 use Rattle.record_locks.specs.Table.{client_of, lock_of}
 use Rattle.record_locks.specs.Requests.{HasConflict, granted}
 use Rattle.record_locks.proofs.Apart.{granted_apart}
-use Rattle.abl_rows.specs.Rows.{RowState, IsObservable}
+use Rattle.row_store.specs.Rows.{RowState, IsObservable}
 use Rattle.db_core.specs.declared.control.Control.{Control}
 use Rattle.db_core.specs.Represents.{Represents, FitsOp, IsClient, IsSound, lock_asked, marks_at}
 use Rattle.db_core.specs.Moves.{Grants, Waits}

@@ -10,9 +10,9 @@ use Rattle.abl_values.specs.Schema.{SchemaData}
 use Rattle.database_meaning.specs.declared.state.StoredRow.{StoredRow}
 use Rattle.database_meaning.specs.declared.state.Key.{Key}
 use Rattle.database_meaning.specs.declared.state.BlockedRequest.{BlockedRequest}
-use Rattle.client_database.specs.declared.operation.Op.{Op}
-use Rattle.client_database.specs.declared.operation.Op.TheVariants.{Lock, Insert, Put, NextValue}
-use Rattle.client_database.specs.declared.answer.Answer.TheVariants.{Gone, Busy, Blocked, Deadlock, Granted}
+use Rattle.database_protocol.specs.declared.operation.Op.{Op}
+use Rattle.database_protocol.specs.declared.operation.Op.TheVariants.{Lock, Insert, Put, NextValue}
+use Rattle.database_protocol.specs.declared.answer.Answer.TheVariants.{Gone, Busy, Blocked, Deadlock, Granted}
 use Rattle.database_meaning.specs.Setting.{Setting, unique_keys, has_key}
 use Rattle.database_meaning.specs.State.{State, Held, view}
 use Rattle.database_meaning.specs.Waiting.{LocksConflict, ReservesEntered, Conflicts, HasConflict, IsHolders, ListsAll, WaitsFor, WouldWait, Chain, IsCycleFrom, Closes, IsCycle, row_in}
@@ -23,8 +23,8 @@ use Rattle.record_locks.specs.declared.locks.Client.{Client as LockClient}
 use Rattle.record_locks.specs.declared.locks.KeyWait.{KeyWait}
 use Rattle.record_locks.specs.Requests.{HasConflict as LockedAgainst}
 use Rattle.record_locks.specs.Table.{ConflictsOnLock, WaitsForKey, Waits, WaitsAgainst}
-use Rattle.abl_rows.specs.Rows.{RowState, IsObservable, IsConsistent}
-use Rattle.abl_rows.specs.Questions.{ReservesAgainst, table_in, table_at}
+use Rattle.row_store.specs.Rows.{RowState, IsObservable, IsConsistent}
+use Rattle.row_store.specs.Questions.{ReservesAgainst, table_in, table_at}
 use Rattle.db_core.specs.declared.control.Control.{Control}
 use Rattle.db_core.specs.Represents.{Represents, IsSound, lock_asked, blocked_lock, blocked_at, blocked_in}
 use Rattle.db_core.specs.Waits.{MeetsReserved, WaitsByKey, ListsWaits}

@@ -10,7 +10,7 @@ use Rattle.database_meaning.specs.Traces.{opened, no_client as no_state_client}
 use Rattle.record_locks.specs.declared.locks.Client.{Client as LockClient}
 use Rattle.record_locks.specs.Table.{client_of, lock_of, no_client}
 use Rattle.abl_values.specs.Schema.{SchemaData}
-use Rattle.abl_rows.specs.Rows.{RowState, RowTransaction, no_transaction}
+use Rattle.row_store.specs.Rows.{RowState, RowTransaction, no_transaction}
 use Rattle.db_core.specs.declared.control.Control.{Control}
 use Rattle.db_core.specs.Opening.{IsOpened, IsNew}
 use Rattle.db_core.specs.Represents.{Represents, IsSound, IsOpen, IsClient, marks_at, blocked_at}

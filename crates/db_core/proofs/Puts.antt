@@ -6,17 +6,17 @@ use Rattle.std.proofs.lemmas.Bool.{cases_eq, ne_eqb}
 use Rattle.abl_base.specs.declared.row.RowId.{RowId}
 use Rattle.abl_base.specs.declared.value.Value.{Value}
 use Rattle.database_meaning.specs.declared.state.StoredRow.{StoredRow}
-use Rattle.client_database.specs.declared.operation.Op.TheVariants.{Put, Delete}
-use Rattle.client_database.specs.declared.answer.Answer.TheVariants.{Done}
+use Rattle.database_protocol.specs.declared.operation.Op.TheVariants.{Put, Delete}
+use Rattle.database_protocol.specs.declared.answer.Answer.TheVariants.{Done}
 use Rattle.database_meaning.specs.Setting.{Setting, fragments}
 use Rattle.database_meaning.specs.State.{State, Client, Held, view}
 use Rattle.database_meaning.specs.Waiting.{row_in}
 use Rattle.database_meaning.specs.Steps.{after, reserving}
 use Rattle.record_locks.specs.declared.locks.Client.{Client as LockClient}
 use Rattle.record_locks.specs.Table.{client_of, lock_of}
-use Rattle.abl_rows.specs.Changes.{RowsById, change_at, IsOverlay, AreCopies}
-use Rattle.abl_rows.specs.Rows.{RowState, RowTransaction, IsObservable, IsConsistent, ChangesRow, with_change, is_moved}
-use Rattle.abl_rows.proofs.Copies.{overlay_more, copies_more, with_row_other}
+use Rattle.row_store.specs.Changes.{RowsById, change_at, IsOverlay, AreCopies}
+use Rattle.row_store.specs.Rows.{RowState, RowTransaction, IsObservable, IsConsistent, ChangesRow, with_change, is_moved}
+use Rattle.row_store.proofs.Copies.{overlay_more, copies_more, with_row_other}
 use Rattle.db_core.specs.declared.control.Control.{Control}
 use Rattle.db_core.specs.Represents.{Represents, IsSound, IsClient, marks_at}
 use Rattle.db_core.specs.Moves.{EndsWait}

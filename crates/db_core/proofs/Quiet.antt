@@ -3,18 +3,18 @@ use Rattle.std.proofs.Common.{◌≡◌, ◌⊎◌, ℕ, ◌+◌, ◌==◌, ◌&
 use Rattle.std.specs.Prelude.{ℤ}
 use Rattle.std.specs.FinMap.{get}
 use Rattle.std.proofs.lemmas.Bool.{cases_eq, ne_eqb}
-use Rattle.client_database.specs.declared.operation.Op.{Op}
-use Rattle.client_database.specs.declared.operation.Op.TheVariants.{Next, Get, CurrentValue}
-use Rattle.client_database.specs.declared.answer.Answer.{Answer}
-use Rattle.client_database.specs.declared.answer.Answer.TheVariants.{Refused}
+use Rattle.database_protocol.specs.declared.operation.Op.{Op}
+use Rattle.database_protocol.specs.declared.operation.Op.TheVariants.{Next, Get, CurrentValue}
+use Rattle.database_protocol.specs.declared.answer.Answer.{Answer}
+use Rattle.database_protocol.specs.declared.answer.Answer.TheVariants.{Refused}
 use Rattle.database_meaning.specs.declared.state.BlockedRequest.{BlockedRequest}
 use Rattle.database_meaning.specs.Setting.{Setting}
 use Rattle.database_meaning.specs.Steps.{after, blocked_after, committed_after, frees_some, is_success, own_after, row_of_answer, sequences_after}
 use Rattle.database_meaning.specs.State.{State, Client, Rows as Committed}
 use Rattle.record_locks.specs.declared.locks.Client.{Client as LockClient}
 use Rattle.record_locks.specs.Table.{client_of, lock_of}
-use Rattle.abl_rows.specs.Changes.{RowsById}
-use Rattle.abl_rows.specs.Rows.{RowState, RowTransaction, IsObservable, Fails}
+use Rattle.row_store.specs.Changes.{RowsById}
+use Rattle.row_store.specs.Rows.{RowState, RowTransaction, IsObservable, Fails}
 use Rattle.db_core.specs.declared.control.Control.{Control}
 use Rattle.db_core.specs.Represents.{Represents, IsSound, IsOpen, IsClient, marks_at, blocked_at}
 use Rattle.db_core.specs.Moves.{EndsWait, IsQuestion}

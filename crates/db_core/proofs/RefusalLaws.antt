@@ -4,14 +4,14 @@ use Rattle.std.specs.Prelude.{◌↔◌, IsTrue}
 use Rattle.std.specs.FinMap.{get}
 use Rattle.std.proofs.lemmas.List.{length-map}
 use Rattle.abl_values.specs.Schema.{SchemaData}
-use Rattle.client_database.specs.declared.operation.Op.{Op}
-use Rattle.client_database.specs.declared.operation.Op.TheVariants.{Leave, Back, Insert, Put, Delete}
+use Rattle.database_protocol.specs.declared.operation.Op.{Op}
+use Rattle.database_protocol.specs.declared.operation.Op.TheVariants.{Leave, Back, Insert, Put, Delete}
 use Rattle.database_meaning.specs.declared.state.BlockedRequest.{BlockedRequest}
 use Rattle.database_meaning.specs.Setting.{Setting}
 use Rattle.database_meaning.specs.State.{State, Held, depth_of}
 use Rattle.database_meaning.specs.Answers.{AsksAgain, IsWellFormed}
 use Rattle.record_locks.specs.Table.{client_of}
-use Rattle.abl_rows.specs.Rows.{RowState}
+use Rattle.row_store.specs.Rows.{RowState}
 use Rattle.db_core.specs.declared.control.Control.{Control}
 use Rattle.db_core.specs.Represents.{Represents, marks_at, blocked_at}
 use Rattle.db_core.specs.Known.{IsAllowed, IsWaiting, known, no_overlay, setting_at}

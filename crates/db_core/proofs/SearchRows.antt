@@ -2,20 +2,20 @@
 use Rattle.std.proofs.Common.{◌≡◌, ◌⊎◌, ℕ, Bool, List, Option, Some, None, MatchOption, refl, sym, subst, inl, inr}
 use Rattle.abl_base.specs.declared.value.Value.{Value}
 use Rattle.abl_base.specs.declared.row.RowId.{RowId}
-use Rattle.client_database.specs.declared.row_order.Cursor.{Cursor}
+use Rattle.database_protocol.specs.declared.row_order.Cursor.{Cursor}
 use Rattle.abl_values.specs.Schema.{SchemaData}
-use Rattle.client_database.specs.declared.operation.Op.{Op}
-use Rattle.client_database.specs.declared.operation.Op.TheVariants.{Next, NextValue}
-use Rattle.client_database.specs.declared.answer.Answer.{Answer}
-use Rattle.client_database.specs.declared.answer.Answer.TheVariants.{AtEnd, Found}
+use Rattle.database_protocol.specs.declared.operation.Op.{Op}
+use Rattle.database_protocol.specs.declared.operation.Op.TheVariants.{Next, NextValue}
+use Rattle.database_protocol.specs.declared.answer.Answer.{Answer}
+use Rattle.database_protocol.specs.declared.answer.Answer.TheVariants.{AtEnd, Found}
 use Rattle.database_meaning.specs.Setting.{Setting}
 use Rattle.database_meaning.specs.State.{State, view}
 use Rattle.database_meaning.specs.Search.{FindsNone, IsNextIn}
 use Rattle.database_meaning.specs.Answers.{FromGone, Succeeds}
-use Rattle.abl_rows.specs.declared.store.FoundRow.{FoundRow}
-use Rattle.abl_rows.specs.Changes.{RowsById}
-use Rattle.abl_rows.specs.Rows.{RowState, IsObservable, IsConsistent}
-use Rattle.abl_rows.specs.Questions.{FindsNoneIn}
+use Rattle.row_store.specs.declared.store.FoundRow.{FoundRow}
+use Rattle.row_store.specs.Changes.{RowsById}
+use Rattle.row_store.specs.Rows.{RowState, IsObservable, IsConsistent}
+use Rattle.row_store.specs.Questions.{FindsNoneIn}
 use Rattle.db_core.specs.declared.control.Control.{Control}
 use Rattle.db_core.specs.Represents.{Represents, IsSound}
 use Rattle.db_core.proofs.GetRows.{no_key}

@@ -1,9 +1,9 @@
 -- The rows of the table of answers that operations on sequences can come to.
 use Rattle.std.proofs.Common.{◌≡◌, ◌⊎◌, ℕ, zero, suc, ◌<◌, List, [], ◌∷◌, length, get_or, refl, sym, ap, ◌∙◌, subst, inl, inr, arith}
 use Rattle.std.specs.Prelude.{ℤ, pos, ◌+ℤ◌}
-use Rattle.client_database.specs.declared.operation.Op.TheVariants.{NextValue, CurrentValue}
-use Rattle.client_database.specs.declared.answer.Answer.{Answer}
-use Rattle.client_database.specs.declared.answer.Answer.TheVariants.{AtEnd, SequenceEnd, Value as ValueAnswer}
+use Rattle.database_protocol.specs.declared.operation.Op.TheVariants.{NextValue, CurrentValue}
+use Rattle.database_protocol.specs.declared.answer.Answer.{Answer}
+use Rattle.database_protocol.specs.declared.answer.Answer.TheVariants.{AtEnd, SequenceEnd, Value as ValueAnswer}
 use Rattle.database_meaning.specs.Setting.{Setting, increment_of}
 use Rattle.database_meaning.specs.State.{State}
 use Rattle.database_meaning.specs.Search.{FindsNone}

@@ -4,9 +4,9 @@ use Rattle.std.proofs.lemmas.Bool.{cases_eq}
 use Rattle.std.proofs.lemmas.List.{length_push}
 use Rattle.database_meaning.specs.declared.state.StoredRow.{StoredRow}
 use Rattle.database_meaning.specs.declared.state.BlockedRequest.{BlockedRequest}
-use Rattle.abl_rows.specs.declared.store.RowChange.{RowChange}
-use Rattle.abl_rows.specs.Changes.{AreMarks}
-use Rattle.abl_rows.specs.Rows.{RowState, RowTransaction, ChangesRow}
+use Rattle.row_store.specs.declared.store.RowChange.{RowChange}
+use Rattle.row_store.specs.Changes.{AreMarks}
+use Rattle.row_store.specs.Rows.{RowState, RowTransaction, ChangesRow}
 use Rattle.db_core.specs.declared.control.Control.{Control}
 use Rattle.record_locks.specs.declared.locks.Client.{Client as LockClient}
 use Rattle.db_core.specs.Moves.{OnlyClient}

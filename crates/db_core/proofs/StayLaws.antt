@@ -3,9 +3,9 @@ use Rattle.std.proofs.Common.{◌≡◌, ◌⊎◌, ℕ, ◌+◌, ◌≤◌, ◌
 use Rattle.std.specs.FinMap.{get, insert, remove, same_map, nat_cmp-IsAntisymmetric}
 use Rattle.std.specs.Cmp.{nat_cmp_total}
 use Rattle.std.proofs.lemmas.Bool.{cases_eq}
-use Rattle.client_database.specs.declared.operation.Op.{Op}
-use Rattle.client_database.specs.declared.answer.Answer.{Answer}
-use Rattle.client_database.specs.declared.answer.Answer.TheVariants.{Closed, NoMemory as OutOfMemory}
+use Rattle.database_protocol.specs.declared.operation.Op.{Op}
+use Rattle.database_protocol.specs.declared.answer.Answer.{Answer}
+use Rattle.database_protocol.specs.declared.answer.Answer.TheVariants.{Closed, NoMemory as OutOfMemory}
 use Rattle.database_meaning.specs.declared.state.BlockedRequest.{BlockedRequest}
 use Rattle.database_meaning.specs.Setting.{Setting}
 use Rattle.database_meaning.specs.State.{State, Held}
@@ -14,9 +14,9 @@ use Rattle.database_meaning.proofs.Maps.{get_insert_other, get_remove_other, get
 use Rattle.record_locks.specs.declared.locks.Client.{Client as LockClient}
 use Rattle.record_locks.specs.Requests.{granted}
 use Rattle.record_locks.specs.Table.{client_of, lock_of, OnlyChanges}
-use Rattle.abl_rows.specs.declared.store.RowFault.{RowFault}
-use Rattle.abl_rows.specs.declared.store.RowFault.TheVariants.{Disk, NoMemory}
-use Rattle.abl_rows.specs.Rows.{AfterError, Fails, RowState, SameBase}
+use Rattle.row_store.specs.declared.store.RowFault.{RowFault}
+use Rattle.row_store.specs.declared.store.RowFault.TheVariants.{Disk, NoMemory}
+use Rattle.row_store.specs.Rows.{AfterError, Fails, RowState, SameBase}
 use Rattle.db_core.specs.declared.control.Control.{Control}
 use Rattle.db_core.specs.Represents.{IsOpen, IsSound, Represents, marks_at, blocked_at}
 use Rattle.db_core.specs.Moves.{EndsWait, Grants, SameControl}

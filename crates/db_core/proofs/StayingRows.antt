@@ -7,9 +7,9 @@ use Rattle.database_meaning.specs.Setting.{Setting}
 use Rattle.database_meaning.specs.State.{State}
 use Rattle.database_meaning.specs.Steps.{is_in, is_outermost}
 use Rattle.record_locks.specs.Settled.{has_row}
-use Rattle.abl_rows.specs.Changes.{RowsById, has_change}
-use Rattle.abl_rows.specs.Rows.{RowState, IsObservable, IsConsistent}
-use Rattle.abl_rows.specs.Questions.{table_at, table_in}
+use Rattle.row_store.specs.Changes.{RowsById, has_change}
+use Rattle.row_store.specs.Rows.{RowState, IsObservable, IsConsistent}
+use Rattle.row_store.specs.Questions.{table_at, table_in}
 use Rattle.db_core.specs.declared.control.Control.{Control}
 use Rattle.db_core.specs.Represents.{Represents}
 use Rattle.db_core.specs.Moves.{AreStaying, ListsPresent}

@@ -7,8 +7,8 @@ use Rattle.std.proofs.lemmas.Option.{slice_get_past}
 use Rattle.database_meaning.specs.declared.state.StoredRow.{StoredRow}
 use Rattle.database_meaning.specs.Setting.{Setting}
 use Rattle.database_meaning.specs.State.{State, Client, Rows, over, laid, view}
-use Rattle.abl_rows.specs.Changes.{has_change, change_at, IsOverlay}
-use Rattle.abl_rows.specs.Rows.{RowState, RowTransaction, IsObservable, IsConsistent, no_transaction}
+use Rattle.row_store.specs.Changes.{has_change, change_at, IsOverlay}
+use Rattle.row_store.specs.Rows.{RowState, RowTransaction, IsObservable, IsConsistent, no_transaction}
 use Rattle.db_core.specs.declared.control.Control.{Control}
 use Rattle.db_core.specs.Represents.{Represents, IsSound, marks_at, marks_in, is_open}
 

@@ -4,7 +4,7 @@ use Rattle.std.specs.List.{Any}
 use Rattle.std.proofs.lemmas.Bool.{cases_eq}
 use Rattle.database_meaning.specs.Waiting.{ListsAll}
 use Rattle.record_locks.specs.declared.locks.KeyWait.{KeyWait}
-use Rattle.abl_rows.specs.Rows.{RowState, IsObservable}
+use Rattle.row_store.specs.Rows.{RowState, IsObservable}
 use Rattle.db_core.specs.declared.control.Control.{Control}
 use Rattle.db_core.specs.Represents.{blocked_at}
 use Rattle.db_core.specs.Waits.{WaitsByKey, ListsWaits}

@@ -8,10 +8,10 @@ use Rattle.abl_base.specs.declared.row.RowId.{RowId}
 use Rattle.abl_base.specs.declared.value.Value.{Value}
 use Rattle.abl_base.specs.declared.limits.TheConstants.{MAX_CLIENTS}
 use Rattle.abl_values.specs.Schema.{SchemaData}
-use Rattle.client_database.specs.declared.operation.Op.{Op}
-use Rattle.client_database.specs.declared.operation.Op.TheVariants.{Insert, Put, Delete}
-use Rattle.client_database.specs.declared.answer.Answer.{Answer}
-use Rattle.client_database.specs.declared.answer.Answer.TheVariants.{Inserted}
+use Rattle.database_protocol.specs.declared.operation.Op.{Op}
+use Rattle.database_protocol.specs.declared.operation.Op.TheVariants.{Insert, Put, Delete}
+use Rattle.database_protocol.specs.declared.answer.Answer.{Answer}
+use Rattle.database_protocol.specs.declared.answer.Answer.TheVariants.{Inserted}
 use Rattle.database_meaning.specs.declared.state.StoredRow.{StoredRow}
 use Rattle.database_meaning.specs.Setting.{Setting, fragments}
 use Rattle.database_meaning.specs.State.{State, view}
@@ -19,11 +19,11 @@ use Rattle.database_meaning.specs.Waiting.{row_in, Closes, IsCycle}
 use Rattle.database_meaning.specs.Counts.{draws, sum_below, used, writes}
 use Rattle.database_meaning.specs.Answers.{FromGone, HasDuplicates, HasTooLongKey, IsDrawing, IsDuplicateIn, IsFirstDuplicate, IsFirstLongKey, IsGone, IsNextOp, IsThere, IsWrite, MayWait, PassesEnd, Succeeds, entered, own_row}
 use Rattle.database_meaning.specs.Steps.{is_success}
-use Rattle.answer_table.specs.Stages.{FromBusy}
-use Rattle.answer_table.proofs.TableLaws.{long_row, wait_row, from_duplicate_row}
-use Rattle.abl_rows.specs.Changes.{RowsById}
-use Rattle.abl_rows.specs.Rows.{RowState, RowTransaction, IsObservable, IsConsistent}
-use Rattle.abl_rows.specs.Questions.{IsLeastDuplicate, IsLongKey, IsUsed, setting_of, table_in, table_at}
+use Rattle.row_store.specs.answers.Stages.{FromBusy}
+use Rattle.row_store.proofs.AnswersLemmas.TableLaws.{long_row, wait_row, from_duplicate_row}
+use Rattle.row_store.specs.Changes.{RowsById}
+use Rattle.row_store.specs.Rows.{RowState, RowTransaction, IsObservable, IsConsistent}
+use Rattle.row_store.specs.Questions.{IsLeastDuplicate, IsLongKey, IsUsed, setting_of, table_in, table_at}
 use Rattle.db_core.specs.declared.control.Control.{Control}
 use Rattle.db_core.specs.Represents.{Represents, IsSound, is_open, marks_in}
 use Rattle.db_core.specs.Waits.{AnswersConflict}

@@ -1,15 +1,15 @@
 -- What a stop of the store leaves: the contents after the commits that were acknowledged by then, or after one commit more.
 use Rattle.std.specs.Prelude.{◌≡◌, ◌⊎◌, ℕ, ◌+◌, ◌<◌, ◌≤◌, false, List, [], ◌∷◌, ◌++◌, length, filter}
 use Rattle.std.specs.FinMap.{get}
-use Rattle.client_database.specs.declared.answer.Answer.{Answer}
-use Rattle.client_database.specs.declared.answer.Answer.TheVariants.{Committed}
-use Rattle.client_database.specs.declared.operation.Op.{Op}
-use Rattle.client_database.specs.declared.event.Event.{Event}
+use Rattle.database_protocol.specs.declared.answer.Answer.{Answer}
+use Rattle.database_protocol.specs.declared.answer.Answer.TheVariants.{Committed}
+use Rattle.database_protocol.specs.declared.operation.Op.{Op}
+use Rattle.database_protocol.specs.declared.event.Event.{Event}
 use Rattle.database_meaning.specs.declared.contents.Contents.{Contents}
 use Rattle.database_meaning.specs.Setting.{Setting}
 use Rattle.database_meaning.specs.Traces.{acknowledged, after_commits, commits, is_committed, left_by, rows_of}
-use Rattle.abl_rows.specs.Rows.{Durable, RowState, durable_of}
-use Rattle.abl_rows.specs.Times.{Times}
+use Rattle.row_store.specs.Rows.{Durable, RowState, durable_of}
+use Rattle.row_store.specs.Times.{Times}
 use Rattle.db_core.specs.declared.control.Control.{Control}
 use Rattle.db_core.specs.Represents.{Represents}
 

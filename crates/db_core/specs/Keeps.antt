@@ -1,10 +1,10 @@
 -- What a call preserves besides the state that it represents, and what is unchanged after its error.
 use Rattle.std.specs.Prelude.{◌≡◌, ◌⊎◌, ℕ, ◌+◌, ◌≤◌, ◌==◌, if◌then◌else◌, length, None}
-use Rattle.client_database.specs.declared.answer.Answer.{Answer}
-use Rattle.client_database.specs.declared.answer.Answer.TheVariants.{Closed, NoMemory}
+use Rattle.database_protocol.specs.declared.answer.Answer.{Answer}
+use Rattle.database_protocol.specs.declared.answer.Answer.TheVariants.{Closed, NoMemory}
 use Rattle.database_meaning.specs.Setting.{Setting}
 use Rattle.database_meaning.specs.State.{State}
-use Rattle.abl_rows.specs.Rows.{IsObservable, RowState}
+use Rattle.row_store.specs.Rows.{IsObservable, RowState}
 use Rattle.db_core.specs.declared.control.Control.{Control}
 use Rattle.db_core.specs.Known.{known}
 use Rattle.db_core.specs.Levels.{SameLevels}

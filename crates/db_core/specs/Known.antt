@@ -5,7 +5,7 @@ use Rattle.abl_values.specs.Schema.{SchemaData}
 use Rattle.database_meaning.specs.declared.state.BlockedRequest.{BlockedRequest}
 use Rattle.database_meaning.specs.Setting.{Setting}
 use Rattle.database_meaning.specs.State.{Client, Overlay, State}
-use Rattle.client_database.specs.declared.operation.Op.{Op}
+use Rattle.database_protocol.specs.declared.operation.Op.{Op}
 use Rattle.database_meaning.specs.Answers.{AsksAgain, IsWellFormed}
 use Rattle.record_locks.specs.Table.{client_of}
 use Rattle.db_core.specs.declared.control.Control.{Control}

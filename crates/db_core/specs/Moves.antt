@@ -2,8 +2,8 @@
 use Rattle.std.specs.FinMap.{get, insert, remove}
 use Rattle.database_meaning.specs.State.{State}
 use Rattle.database_meaning.specs.Steps.{committed_after, is_in, stays}
-use Rattle.client_database.specs.declared.operation.Op.{Op}
-use Rattle.client_database.specs.declared.operation.Op.TheVariants.{Leave, Next, Get, CurrentValue}
+use Rattle.database_protocol.specs.declared.operation.Op.{Op}
+use Rattle.database_protocol.specs.declared.operation.Op.TheVariants.{Leave, Next, Get, CurrentValue}
 use Rattle.record_locks.specs.Requests.{granted}
 use Rattle.record_locks.specs.Settled.{has_row, settled}
 use Rattle.abl_base.specs.declared.row.RowId.{RowId}
@@ -12,7 +12,7 @@ use Rattle.record_locks.specs.declared.locks.Client.{Client as LockClient}
 use Rattle.record_locks.specs.declared.locks.BlockedLock.{BlockedLock}
 use Rattle.database_meaning.specs.declared.state.BlockedRequest.{BlockedRequest}
 use Rattle.record_locks.specs.Table.{client_of, lock_of, no_client}
-use Rattle.abl_rows.specs.Changes.{RowsById}
+use Rattle.row_store.specs.Changes.{RowsById}
 use Rattle.db_core.specs.declared.control.Control.{Control}
 use Rattle.db_core.specs.Represents.{marks_at, blocked_at}
 

@@ -4,7 +4,7 @@ use Rattle.std.specs.FinMap.{get}
 use Rattle.database_meaning.specs.declared.contents.Contents.{Contents}
 use Rattle.database_meaning.specs.Traces.{rows_of}
 use Rattle.record_locks.specs.Table.{client_of, no_client}
-use Rattle.abl_rows.specs.Rows.{RowState, no_transaction}
+use Rattle.row_store.specs.Rows.{RowState, no_transaction}
 use Rattle.db_core.specs.declared.control.Control.{Control}
 use Rattle.db_core.specs.Represents.{marks_at, blocked_at}
 

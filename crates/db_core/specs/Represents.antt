@@ -4,15 +4,15 @@ use Rattle.std.specs.FinMap.{get}
 use Rattle.abl_values.specs.Schema.{SchemaData}
 use Rattle.database_meaning.specs.declared.state.Key.{Key}
 use Rattle.database_meaning.specs.declared.state.BlockedRequest.{BlockedRequest}
-use Rattle.client_database.specs.declared.operation.Op.{Op}
-use Rattle.client_database.specs.declared.operation.Op.TheVariants.{Lock, Insert, Put}
+use Rattle.database_protocol.specs.declared.operation.Op.{Op}
+use Rattle.database_protocol.specs.declared.operation.Op.TheVariants.{Lock, Insert, Put}
 use Rattle.database_meaning.specs.Setting.{Setting, HasTable, FitsTable, has_key}
 use Rattle.database_meaning.specs.State.{State, Client}
 use Rattle.record_locks.specs.declared.locks.Client.{Client as LockClient}
 use Rattle.record_locks.specs.declared.locks.BlockedLock.{BlockedLock}
 use Rattle.record_locks.specs.Table.{client_of, AreApart}
-use Rattle.abl_rows.specs.Changes.{IsOverlay, AreCopies, AreMarks, change_at}
-use Rattle.abl_rows.specs.Rows.{RowState, RowTransaction, IsObservable}
+use Rattle.row_store.specs.Changes.{IsOverlay, AreCopies, AreMarks, change_at}
+use Rattle.row_store.specs.Rows.{RowState, RowTransaction, IsObservable}
 use Rattle.db_core.specs.declared.control.Control.{Control}
 use Rattle.db_core.specs.declared.control.Session.{Session}
 

@@ -1,17 +1,17 @@
 -- Who waits for whom by a key, as the store knows it.
 use Rattle.std.specs.Prelude.{◌≡◌, ◌≢◌, ℕ, ◌<◌, ◌⊎◌, List, Option, Some, None}
 use Rattle.database_meaning.specs.declared.state.BlockedRequest.{BlockedRequest}
-use Rattle.client_database.specs.declared.operation.Op.{Op}
-use Rattle.client_database.specs.declared.operation.Op.TheVariants.{Insert, Put}
+use Rattle.database_protocol.specs.declared.operation.Op.{Op}
+use Rattle.database_protocol.specs.declared.operation.Op.TheVariants.{Insert, Put}
 use Rattle.database_meaning.specs.Waiting.{row_in, HasConflict, Closes, IsHolders, IsCycle}
 use Rattle.database_meaning.specs.Setting.{Setting}
 use Rattle.database_meaning.specs.State.{State}
-use Rattle.client_database.specs.declared.answer.Answer.{Answer}
-use Rattle.client_database.specs.declared.answer.Answer.TheVariants.{Blocked, Deadlock}
+use Rattle.database_protocol.specs.declared.answer.Answer.{Answer}
+use Rattle.database_protocol.specs.declared.answer.Answer.TheVariants.{Blocked, Deadlock}
 use Rattle.record_locks.specs.declared.locks.KeyWait.{KeyWait}
 use Rattle.record_locks.specs.Table.{WaitsForKey}
-use Rattle.abl_rows.specs.Rows.{RowState}
-use Rattle.abl_rows.specs.Questions.{ReservesAgainst}
+use Rattle.row_store.specs.Rows.{RowState}
+use Rattle.row_store.specs.Questions.{ReservesAgainst}
 use Rattle.db_core.specs.declared.control.Control.{Control}
 use Rattle.db_core.specs.Represents.{blocked_at}
 

@@ -1,19 +1,19 @@
 //! Answers that change no row, lock or level.
 
 ghost use Rattle.std.specs.Prelude.{◌≡◌, ◌⊎◌, ◌<◌, None, false, length};
-ghost use Rattle.client_database.specs.declared.answer.Answer.{Answer as Given};
-ghost use Rattle.client_database.specs.declared.operation.Op.{Op as Asked};
+ghost use Rattle.database_protocol.specs.declared.answer.Answer.{Answer as Given};
+ghost use Rattle.database_protocol.specs.declared.operation.Op.{Op as Asked};
 ghost use Rattle.database_meaning.specs.Answers.{next_value};
 ghost use Rattle.database_meaning.specs.Setting.{Setting};
 ghost use Rattle.database_meaning.specs.State.{State};
 ghost use Rattle.database_meaning.specs.Steps.{after, blocked_after, is_success};
-ghost use Rattle.abl_rows.specs.Rows.{RowState};
+ghost use Rattle.row_store.specs.Rows.{RowState};
 ghost use Rattle.db_core.specs.Keeps.{IsFailure, RepresentsBut, SameCounts};
 ghost use Rattle.db_core.specs.Moves.{IsQuestion};
 ghost use Rattle.db_core.specs.Represents.{IsSound, Represents};
 
 use crate::control::{Control, end_wait, set_sequence};
-use client_database::{Answer, Op};
+use database_protocol::{Answer, Op};
 
 /// After an answer to a question, or an answer that is no success: the client's blocked request ends,
 /// and nothing else changes. Refused and Blocked are no such answers.

@@ -7,8 +7,8 @@ ghost use Rattle.db_core.specs.Moves.{BacksTo, Drops, Ends, EndsWait, Grants, On
 ghost use Rattle.db_core.specs.Represents.{marks_at};
 
 use abl_base::RowId;
-use client_database::{Op, RowIds};
 use database_meaning::BlockedRequest;
+use database_protocol::{Op, RowIds};
 use record_locks::{BlockedLock, Locks};
 use std::alloc::{AllocError, Global};
 

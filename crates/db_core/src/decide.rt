@@ -1,24 +1,24 @@
 //! The answer of an operation that is not refused, where the database is open. Nothing changes here.
 
 ghost use Rattle.std.specs.Prelude.{◌≡◌, ◌≢◌, ◌⊎◌, ◌<◌, ◌≤◌, ℕ, length, Some, None, false, OnOk, IfOk, IfSome, MatchOption};
-ghost use Rattle.client_database.specs.declared.operation.Op.{Op as Asked};
+ghost use Rattle.database_protocol.specs.declared.operation.Op.{Op as Asked};
 ghost use Rattle.database_meaning.specs.Setting.{Setting};
 ghost use Rattle.database_meaning.specs.Steps.{blocked_after, is_success};
 ghost use Rattle.database_meaning.specs.State.{State};
 ghost use Rattle.database_meaning.specs.Answers.{FromGone};
 ghost use Rattle.database_meaning.specs.Waiting.{HasConflict, ListsAll};
 ghost use Rattle.record_locks.specs.Requests.{HasConflict as LockedAgainst};
-ghost use Rattle.abl_rows.specs.Rows.{AfterError, IsObservable};
-ghost use Rattle.abl_rows.specs.Questions.{table_at};
+ghost use Rattle.row_store.specs.Rows.{AfterError, IsObservable};
+ghost use Rattle.row_store.specs.Questions.{table_at};
 ghost use Rattle.db_core.specs.Crashes.{StaysDurable};
 ghost use Rattle.db_core.specs.Represents.{FitsOp, IsSound, Represents, blocked_at};
 ghost use Rattle.db_core.specs.Waits.{AnswersConflict, IsKeyed, ListsWaits, MeetsReserved, WaitsByKey};
 
 use crate::control::Control;
 use abl_base::{Items, RowId};
-use abl_rows::{RowFault, RowStore};
-use client_database::{Answer, ClientIds, Op};
+use database_protocol::{Answer, ClientIds, Op};
 use record_locks::KeyWait;
+use row_store::{RowFault, RowStore};
 use std::alloc::{AllocError, Global};
 
 /// The other clients that have reserved a unique key which the operation enters; None if it enters

@@ -7,8 +7,8 @@ ghost use Rattle.database_meaning.specs.Setting.{FitsTable, HasTable, Setting, r
 ghost use Rattle.database_meaning.specs.State.{State};
 ghost use Rattle.database_meaning.specs.Steps.{is_success};
 ghost use Rattle.database_meaning.specs.Waiting.{row_in};
-ghost use Rattle.abl_rows.specs.Rows.{AfterError, IsFree, IsObservable};
-ghost use Rattle.abl_rows.specs.Questions.{IsLongKey, table_at};
+ghost use Rattle.row_store.specs.Rows.{AfterError, IsFree, IsObservable};
+ghost use Rattle.row_store.specs.Questions.{IsLongKey, table_at};
 ghost use Rattle.db_core.specs.Crashes.{StaysDurable};
 ghost use Rattle.db_core.specs.Represents.{FitsOp, IsSound, Represents};
 ghost use Rattle.db_core.specs.Waits.{IsKeyed};
@@ -18,8 +18,8 @@ use crate::control::Control;
 use crate::decide::decide_keys;
 use crate::room::{decide_removal, decide_room, fragments_of};
 use abl_base::{Row, RowId};
-use abl_rows::{RowFault, RowStore};
-use client_database::{Answer, Op};
+use database_protocol::{Answer, Op};
+use row_store::{RowFault, RowStore};
 use std::alloc::Global;
 
 /// The least index in which the key of these values is too long. The store looks at no row for it, so

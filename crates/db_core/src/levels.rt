@@ -5,7 +5,7 @@ ghost use Rattle.abl_base.specs.declared.row.RowId.{RowId as Kept};
 ghost use Rattle.database_meaning.specs.Setting.{Setting};
 ghost use Rattle.database_meaning.specs.State.{State};
 ghost use Rattle.database_meaning.specs.Steps.{after, is_outermost};
-ghost use Rattle.abl_rows.specs.Rows.{Abandons, AfterError, OnlyDisk, RowState};
+ghost use Rattle.row_store.specs.Rows.{Abandons, AfterError, OnlyDisk, RowState};
 ghost use Rattle.db_core.specs.Crashes.{Continues, StaysDurable};
 ghost use Rattle.db_core.specs.Keeps.{Keeps, SameCounts, Stays};
 ghost use Rattle.db_core.specs.Known.{known};
@@ -16,8 +16,8 @@ ghost use Rattle.db_core.specs.Represents.{IsSound, Represents, marks_at};
 use crate::control::{
     Control, back_to_level, count_frees, depth, end_client, end_wait, pop_mark, push_mark, settle,
 };
-use abl_rows::{RowFault, RowStore};
-use client_database::{Answer, Op, RowIds};
+use database_protocol::{Answer, Op, RowIds};
+use row_store::{RowFault, RowStore};
 
 /// Opens a level of the client: the transaction, or a subtransaction inside it. After an error the
 /// client has the levels that it had.

@@ -5,7 +5,7 @@ ghost use Rattle.database_meaning.specs.Setting.{Setting};
 ghost use Rattle.database_meaning.specs.State.{State};
 ghost use Rattle.database_meaning.specs.Steps.{after};
 ghost use Rattle.record_locks.specs.Requests.{HasConflict};
-ghost use Rattle.abl_rows.specs.Rows.{IsConsistent, IsObservable, RowState};
+ghost use Rattle.row_store.specs.Rows.{IsConsistent, IsObservable, RowState};
 ghost use Rattle.db_core.specs.Keeps.{NextCounts, SameCounts, Stays};
 ghost use Rattle.db_core.specs.Moves.{SameControl};
 ghost use Rattle.db_core.specs.Represents.{FitsOp, IsSound, Represents, lock_asked};
@@ -14,7 +14,7 @@ use crate::control::{
     Control, block_at_key, block_at_lock, count_frees, depth, end_wait, grant, release,
 };
 use abl_base::RowId;
-use client_database::{Answer, Op};
+use database_protocol::{Answer, Op};
 use std::alloc::{AllocError, Global};
 
 /// Grants the client a lock with which no lock of another client conflicts, on a row that is there.

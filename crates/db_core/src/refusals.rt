@@ -10,8 +10,8 @@ use crate::control::{Control, depth};
 use abl_base::limits::MAX_ROW_BYTES;
 use abl_base::{Row, RowId};
 use abl_values::Schema;
-use answer_table::rows::{fits, size_within};
-use client_database::Op;
+use database_protocol::Op;
+use row_store::answers::rows::{fits, size_within};
 
 /// Whether there is a table of this number.
 fn has_table(schema: &Schema, table: u16) -> bool
@@ -122,7 +122,7 @@ fn is_well_formed(schema: &Schema, control: &Control, client: u16, op: &Op) -> b
 }
 
 /// Whether the client asks its blocked request again, and nothing was freed since.
-#[tactic(auto, using(answer_table::proofs::Agreeing::blocked_same))]
+#[tactic(auto, using(row_store::proofs::AnswersLemmas::Agreeing::blocked_same))]
 fn asks_again(control: &Control, client: u16, op: &Op) -> bool
     ensures { IsTrue result ↔ AsksAgain (known control.now) client op.now }
 {

@@ -2,23 +2,23 @@
 
 ghost use Rattle.std.specs.Prelude.{◌≡◌, ◌<◌, ◌≤◌, ◌↔◌, ◌+◌, ◌-◌, ℕ, false, IfSome, IsTrue, length, max};
 ghost use Rattle.abl_base.specs.declared.limits.TheConstants.{MAX_ROW_BYTES as MOST};
-ghost use Rattle.client_database.specs.declared.operation.Op.{Op as Asked};
+ghost use Rattle.database_protocol.specs.declared.operation.Op.{Op as Asked};
 ghost use Rattle.database_meaning.specs.Answers.{IsDrawing, IsWrite};
 ghost use Rattle.database_meaning.specs.Counts.{draws, writes};
 ghost use Rattle.database_meaning.specs.Setting.{Setting, fragments, row_size};
 ghost use Rattle.database_meaning.specs.State.{State};
 ghost use Rattle.database_meaning.specs.Steps.{is_success};
 ghost use Rattle.database_meaning.specs.Waiting.{row_in};
-ghost use Rattle.abl_rows.specs.Rows.{IsObservable};
+ghost use Rattle.row_store.specs.Rows.{IsObservable};
 ghost use Rattle.db_core.specs.Represents.{IsSound, Represents};
 ghost use Rattle.db_core.specs.Writes.{AnswersRoom};
 
 use crate::control::Control;
 use abl_base::Row;
 use abl_base::limits::{MAX_FRAGMENTS, MAX_ROW_BYTES, MAX_SLOT_WRITES};
-use abl_rows::RowStore;
-use answer_table::rows::{fragments_for, size_within};
-use client_database::Answer;
+use database_protocol::Answer;
+use row_store::RowStore;
+use row_store::answers::rows::{fragments_for, size_within};
 
 /// How many fragments hold these values as a row.
 pub(crate) fn fragments_of(values: &Row) -> u64

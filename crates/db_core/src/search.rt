@@ -2,19 +2,19 @@
 
 ghost use Rattle.std.specs.Prelude.{◌≡◌, ℕ, IfOk, None, OnOk, MatchOption, ⊤};
 ghost use Rattle.std.specs.Option.{option_copied};
-ghost use Rattle.client_database.specs.declared.operation.Op.{Op as Asked};
+ghost use Rattle.database_protocol.specs.declared.operation.Op.{Op as Asked};
 ghost use Rattle.database_meaning.specs.Answers.{FromGone};
 ghost use Rattle.database_meaning.specs.Steps.{blocked_after};
 ghost use Rattle.database_meaning.specs.Setting.{HasIndex, HasTable, Setting};
 ghost use Rattle.database_meaning.specs.State.{State};
-ghost use Rattle.abl_rows.specs.Rows.{AfterError, IsObservable};
+ghost use Rattle.row_store.specs.Rows.{AfterError, IsObservable};
 ghost use Rattle.db_core.specs.Crashes.{StaysDurable};
 ghost use Rattle.db_core.specs.Represents.{IsSound, Represents};
 
 use crate::control::Control;
 use abl_base::Row;
-use abl_rows::{RowFault, RowStore};
-use client_database::{Answer, Cursor, Op};
+use database_protocol::{Answer, Cursor, Op};
+use row_store::{RowFault, RowStore};
 
 /// The answer to a Next.
 pub fn decide_next<R: RowStore>(

@@ -1,16 +1,16 @@
 //! The answers to operations on sequences. Nothing changes here.
 
 ghost use Rattle.std.specs.Prelude.{◌≡◌, ◌<◌, ℕ, ℤ, None, length};
-ghost use Rattle.client_database.specs.declared.operation.Op.{Op as Asked};
+ghost use Rattle.database_protocol.specs.declared.operation.Op.{Op as Asked};
 ghost use Rattle.database_meaning.specs.Answers.{FromGone, next_value};
 ghost use Rattle.database_meaning.specs.Setting.{Setting, increment_of};
 ghost use Rattle.database_meaning.specs.State.{State};
 ghost use Rattle.database_meaning.specs.Steps.{blocked_after};
-ghost use Rattle.abl_rows.specs.Rows.{RowState};
+ghost use Rattle.row_store.specs.Rows.{RowState};
 ghost use Rattle.db_core.specs.Represents.{Represents};
 
 use crate::control::Control;
-use client_database::{Answer, Op};
+use database_protocol::{Answer, Op};
 
 /// The answer to a NextValue of a sequence with this increment.
 pub fn decide_next_value(control: &Control, sequence: u16, increment: i64) -> Answer

@@ -4,15 +4,15 @@ ghost use Rattle.std.specs.Prelude.{◌≡◌, ℕ, true, IfOk, OnOk};
 ghost use Rattle.database_meaning.specs.Setting.{Setting};
 ghost use Rattle.database_meaning.specs.State.{State};
 ghost use Rattle.database_meaning.specs.Steps.{is_outermost};
-ghost use Rattle.abl_rows.specs.Rows.{AfterError, IsObservable};
+ghost use Rattle.row_store.specs.Rows.{AfterError, IsObservable};
 ghost use Rattle.db_core.specs.Crashes.{StaysDurable};
 ghost use Rattle.db_core.specs.Moves.{AreStaying, ListsPresent};
 ghost use Rattle.db_core.specs.Represents.{Represents};
 
 use crate::control::Control;
 use abl_base::{Items, RowId};
-use abl_rows::{RowFault, RowStore};
-use client_database::RowIds;
+use database_protocol::RowIds;
+use row_store::{RowFault, RowStore};
 use std::alloc::Global;
 
 /// Those of these rows that are there.

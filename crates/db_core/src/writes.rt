@@ -6,16 +6,16 @@ ghost use Rattle.database_meaning.specs.Setting.{FitsTable, HasTable, Setting, r
 ghost use Rattle.database_meaning.specs.State.{HoldsExclusively, State};
 ghost use Rattle.database_meaning.specs.Answers.{IsFresh};
 ghost use Rattle.database_meaning.specs.Steps.{after};
-ghost use Rattle.abl_rows.specs.Rows.{AfterError, IsFree, IsObservable};
-ghost use Rattle.abl_rows.specs.Questions.{table_at};
+ghost use Rattle.row_store.specs.Rows.{AfterError, IsFree, IsObservable};
+ghost use Rattle.row_store.specs.Questions.{table_at};
 ghost use Rattle.db_core.specs.Crashes.{StaysDurable};
 ghost use Rattle.db_core.specs.Keeps.{Keeps, Stays};
 ghost use Rattle.db_core.specs.Represents.{IsSound, Represents};
 
 use crate::control::{Control, end_wait, grant};
 use abl_base::{Row, RowId};
-use abl_rows::{RowFault, RowStore};
-use client_database::{Answer, Op};
+use database_protocol::{Answer, Op};
+use row_store::{RowFault, RowStore};
 use std::alloc::Global;
 
 /// Inserts a row at a free identity and locks it exclusively for the client. Memory for the lock is

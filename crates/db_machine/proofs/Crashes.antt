@@ -1,20 +1,20 @@
 -- What the answers of the operations do to what stops leave.
 use Rattle.std.proofs.Common.{◌≡◌, ◌∙◌, ℕ, true, false, List, refl, sym, ap, subst, inl, inr}
 use Rattle.std.specs.Prelude.{IfOk, Result, Ok, Err}
-use Rattle.client_database.specs.declared.operation.Op.{Op}
-use Rattle.client_database.specs.declared.operation.Op.TheVariants.{Enter, Leave, Back, Next, Get, Lock, Insert, Put, Delete, Drop as DropLock, NextValue, CurrentValue, End}
-use Rattle.client_database.specs.declared.answer.Answer.{Answer}
-use Rattle.client_database.specs.declared.answer.Answer.TheVariants.{Closed, Committed}
-use Rattle.client_database.specs.declared.event.Event.{Event}
+use Rattle.database_protocol.specs.declared.operation.Op.{Op}
+use Rattle.database_protocol.specs.declared.operation.Op.TheVariants.{Enter, Leave, Back, Next, Get, Lock, Insert, Put, Delete, Drop as DropLock, NextValue, CurrentValue, End}
+use Rattle.database_protocol.specs.declared.answer.Answer.{Answer}
+use Rattle.database_protocol.specs.declared.answer.Answer.TheVariants.{Closed, Committed}
+use Rattle.database_protocol.specs.declared.event.Event.{Event}
 use Rattle.abl_values.specs.Schema.{SchemaData}
 use Rattle.database_meaning.specs.declared.contents.Contents.{Contents}
 use Rattle.database_meaning.specs.Fits.{IsOwnAnswer}
 use Rattle.database_meaning.specs.Setting.{Setting}
 use Rattle.database_meaning.specs.Traces.{is_committed, is_leave}
-use Rattle.abl_rows.specs.declared.store.RowFault.{RowFault}
-use Rattle.abl_rows.specs.declared.store.RowFault.TheVariants.{Disk as DiskFailed, NoMemory as OutOfMemory}
-use Rattle.abl_rows.specs.Rows.{Durable, OnlyDisk, RowState}
-use Rattle.abl_rows.specs.Times.{Times}
+use Rattle.row_store.specs.declared.store.RowFault.{RowFault}
+use Rattle.row_store.specs.declared.store.RowFault.TheVariants.{Disk as DiskFailed, NoMemory as OutOfMemory}
+use Rattle.row_store.specs.Rows.{Durable, OnlyDisk, RowState}
+use Rattle.row_store.specs.Times.{Times}
 use Rattle.db_core.specs.declared.control.Control.{Control}
 use Rattle.db_core.specs.Crashes.{Continues, IsDurable, StaysDurable, longer}
 use Rattle.db_core.proofs.Crashes.{grows_quietly}

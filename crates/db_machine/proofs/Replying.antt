@@ -4,10 +4,10 @@ use Rattle.std.specs.Prelude.{IsTrue, ◌↔◌}
 use Rattle.std.specs.FinMap.{get, empty}
 use Rattle.std.proofs.lemmas.List.{length-map}
 use Rattle.abl_values.specs.Schema.{SchemaData}
-use Rattle.client_database.specs.declared.operation.Op.{Op}
-use Rattle.client_database.specs.declared.operation.Op.TheVariants.{CurrentValue, End, Get, Lock, Next}
-use Rattle.client_database.specs.declared.answer.Answer.{Answer}
-use Rattle.client_database.specs.declared.answer.Answer.TheVariants.{Closed, NoMemory, Refused}
+use Rattle.database_protocol.specs.declared.operation.Op.{Op}
+use Rattle.database_protocol.specs.declared.operation.Op.TheVariants.{CurrentValue, End, Get, Lock, Next}
+use Rattle.database_protocol.specs.declared.answer.Answer.{Answer}
+use Rattle.database_protocol.specs.declared.answer.Answer.TheVariants.{Closed, NoMemory, Refused}
 use Rattle.database_meaning.specs.declared.state.BlockedRequest.{BlockedRequest}
 use Rattle.database_meaning.specs.Setting.{Setting}
 use Rattle.database_meaning.specs.State.{Held, HoldsExclusively, State, depth_of}
@@ -15,8 +15,8 @@ use Rattle.database_meaning.specs.Answers.{FromGone, IsRefused}
 use Rattle.database_meaning.specs.Steps.{after, is_outermost, is_success}
 use Rattle.record_locks.specs.declared.locks.BlockedLock.{BlockedLock}
 use Rattle.record_locks.specs.Table.{client_of}
-use Rattle.abl_rows.specs.Questions.{table_at, table_in}
-use Rattle.abl_rows.specs.Rows.{IsObservable, RowState}
+use Rattle.row_store.specs.Questions.{table_at, table_in}
+use Rattle.row_store.specs.Rows.{IsObservable, RowState}
 use Rattle.db_core.specs.declared.control.Control.{Control}
 use Rattle.db_core.specs.Keeps.{IsFailure, Keeps, NextCounts, RepresentsBut, SameCounts, Stays}
 use Rattle.db_core.specs.Known.{IsAllowed, known, no_overlay, setting_at}

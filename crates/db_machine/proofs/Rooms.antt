@@ -2,10 +2,10 @@
 use Rattle.std.proofs.Common.{◌≡◌, ◌≢◌, ℕ, ◌+◌, ◌≤◌, min, true, false, List, None, refl, sym, ◌∙◌, subst, inl, inr, arith}
 use Rattle.abl_base.specs.declared.limits.TheConstants.{MAX_TRACE_BYTES}
 use Rattle.abl_base.specs.declared.row.RowId.{RowId}
-use Rattle.client_database.specs.declared.operation.Op.{Op}
-use Rattle.client_database.specs.declared.operation.Op.TheVariants.{Back, Drop as DropLock, End, Enter, Leave, NextValue}
-use Rattle.client_database.specs.declared.answer.Answer.{Answer}
-use Rattle.client_database.specs.declared.answer.Answer.TheVariants.{AtEnd, Busy, Closed, Committed, Deadlock, Done, Duplicate, Full, Gone, KeyTooLong, NoMemory, Refused, SequenceEnd, TraceFull, TxFull}
+use Rattle.database_protocol.specs.declared.operation.Op.{Op}
+use Rattle.database_protocol.specs.declared.operation.Op.TheVariants.{Back, Drop as DropLock, End, Enter, Leave, NextValue}
+use Rattle.database_protocol.specs.declared.answer.Answer.{Answer}
+use Rattle.database_protocol.specs.declared.answer.Answer.TheVariants.{AtEnd, Busy, Closed, Committed, Deadlock, Done, Duplicate, Full, Gone, KeyTooLong, NoMemory, Refused, SequenceEnd, TraceFull, TxFull}
 use Rattle.database_meaning.specs.Setting.{Setting}
 use Rattle.database_meaning.specs.State.{State}
 use Rattle.database_meaning.specs.Answers.{Answers, FromGone, IsRefused, Succeeds}

@@ -2,7 +2,7 @@
 use Rattle.std.proofs.Crossing.{crosses}
 use denote.RattleType.{RattleType}
 use denote.Param.Send.{IsSend, sendable}
-use Rattle.client_database.proofs.event.Event.TheSendSync as event
+use Rattle.database_protocol.proofs.event.Event.TheSendSync as event
 use Rattle.abl_values.proofs.schema.Schema.TheSendSync as schema
 use Rattle.abl_values.specs.contracts.schema.Schema as schema_type
 use Rattle.db_core.specs.contracts.control.Control as control_type
@@ -10,7 +10,7 @@ use Rattle.db_core.proofs.control.Session.TheSendSync as session
 use Rattle.db_core.specs.contracts.control.Session as session_type
 use Rattle.record_locks.proofs.locks.Locks.TheSendSync as locks
 use Rattle.record_locks.specs.contracts.locks.Locks as locks_type
-use Rattle.abl_rows.specs.declared.store.RowStore.{Ghosts}
+use Rattle.row_store.specs.declared.store.RowStore.{Ghosts}
 use Rattle.db_machine.proofs.running.Running.TheSendSync as running
 use Rattle.db_machine.specs.contracts.running.Running as running_type
 use Rattle.db_machine.specs.contracts.db.Db.{the_row}

@@ -7,17 +7,17 @@ use Rattle.std.proofs.lemmas.List.Sums.{sum_by-cons}
 use Rattle.record_locks.specs.declared.locks.Client.{Client as LockClient}
 use Rattle.abl_base.specs.declared.limits.TheConstants.{MAX_TRACE_BYTES}
 use Rattle.abl_values.specs.Schema.{SchemaData}
-use Rattle.client_database.specs.declared.operation.Op.{Op}
-use Rattle.client_database.specs.declared.operation.Op.TheVariants.{End}
-use Rattle.client_database.specs.declared.answer.Answer.{Answer}
-use Rattle.client_database.specs.declared.event.Event.{Event}
+use Rattle.database_protocol.specs.declared.operation.Op.{Op}
+use Rattle.database_protocol.specs.declared.operation.Op.TheVariants.{End}
+use Rattle.database_protocol.specs.declared.answer.Answer.{Answer}
+use Rattle.database_protocol.specs.declared.event.Event.{Event}
 use Rattle.database_meaning.specs.declared.contents.Contents.{Contents}
 use Rattle.database_meaning.specs.Setting.{Setting}
 use Rattle.database_meaning.specs.State.{State}
 use Rattle.database_meaning.specs.Answers.{Answers}
 use Rattle.database_meaning.specs.Steps.{after, is_closed}
 use Rattle.database_meaning.specs.Traces.{Follows, after_event, left_by, opened, state_after}
-use Rattle.abl_rows.specs.Rows.{RowState}
+use Rattle.row_store.specs.Rows.{RowState}
 use Rattle.db_core.specs.declared.control.Control.{Control}
 use Rattle.db_core.specs.Known.{known}
 use Rattle.db_core.specs.Levels.{SameLevels, is_exclusive}

@@ -1,16 +1,16 @@
 -- The answer of a call that may fail, and what a step does to what stops leave.
 use Rattle.std.specs.Prelude.{◌≡◌, ℕ, Bool, List, Result, Ok, Err}
-use Rattle.client_database.specs.declared.operation.Op.{Op}
-use Rattle.client_database.specs.declared.answer.Answer.{Answer}
-use Rattle.client_database.specs.declared.answer.Answer.TheVariants.{Closed, NoMemory}
-use Rattle.client_database.specs.declared.event.Event.{Event}
+use Rattle.database_protocol.specs.declared.operation.Op.{Op}
+use Rattle.database_protocol.specs.declared.answer.Answer.{Answer}
+use Rattle.database_protocol.specs.declared.answer.Answer.TheVariants.{Closed, NoMemory}
+use Rattle.database_protocol.specs.declared.event.Event.{Event}
 use Rattle.database_meaning.specs.declared.contents.Contents.{Contents}
 use Rattle.database_meaning.specs.Setting.{Setting}
 use Rattle.database_meaning.specs.Traces.{left_by}
-use Rattle.abl_rows.specs.declared.store.RowFault.{RowFault}
-use Rattle.abl_rows.specs.declared.store.RowFault.TheVariants.{Disk as DiskFailed, NoMemory as OutOfMemory}
-use Rattle.abl_rows.specs.Rows.{Durable, RowState}
-use Rattle.abl_rows.specs.Times.{Times}
+use Rattle.row_store.specs.declared.store.RowFault.{RowFault}
+use Rattle.row_store.specs.declared.store.RowFault.TheVariants.{Disk as DiskFailed, NoMemory as OutOfMemory}
+use Rattle.row_store.specs.Rows.{Durable, RowState}
+use Rattle.row_store.specs.Times.{Times}
 use Rattle.db_core.specs.declared.control.Control.{Control}
 use Rattle.db_core.specs.Crashes.{IsDurable, longer}
 use Rattle.db_core.specs.Represents.{Represents}

@@ -7,8 +7,8 @@ use Rattle.database_meaning.specs.Setting.{Setting}
 use Rattle.database_meaning.specs.State.{State}
 use Rattle.database_meaning.specs.Traces.{IsLegal, left_by}
 use Rattle.database_interface.specs.Step.{StaysBlocked}
-use Rattle.abl_rows.specs.Rows.{Durable, RowState}
-use Rattle.abl_rows.specs.Times.{Times}
+use Rattle.row_store.specs.Rows.{Durable, RowState}
+use Rattle.row_store.specs.Times.{Times}
 use Rattle.db_core.specs.Crashes.{IsDurable}
 use Rattle.db_core.specs.Known.{IsWaiting, known}
 use Rattle.db_core.specs.Levels.{SameLevels}

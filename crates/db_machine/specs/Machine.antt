@@ -4,14 +4,14 @@ use Rattle.std.specs.Coded.{Coded, code_by, coded×, coded_ℕ, coded_bool, code
 use Rattle.abl_base.specs.declared.limits.TheConstants.{MAX_TRACE_BYTES}
 use Rattle.abl_values.specs.Schema.{SchemaData}
 use Rattle.abl_values.specs.contracts.schema.Schema as schema
-use Rattle.client_database.specs.contracts.event.Event as event
+use Rattle.database_protocol.specs.contracts.event.Event as event
 use Rattle.db_core.specs.contracts.control.Control as control
-use Rattle.client_database.specs.declared.event.Event.{Event}
+use Rattle.database_protocol.specs.declared.event.Event.{Event}
 use Rattle.database_meaning.specs.declared.contents.Contents.{Contents}
 use Rattle.database_meaning.specs.Setting.{Setting}
 use Rattle.database_meaning.specs.State.{State}
 use Rattle.database_meaning.specs.Traces.{Follows, IsSoundContents, left_by, opened}
-use Rattle.abl_rows.specs.Rows.{RowState}
+use Rattle.row_store.specs.Rows.{RowState}
 use Rattle.db_core.specs.declared.control.Control.{Control}
 use Rattle.db_core.specs.Represents.{IsSound, Represents}
 use Rattle.db_machine.specs.Replies.{IsSize}

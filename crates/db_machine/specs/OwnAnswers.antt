@@ -1,8 +1,8 @@
 -- The answers that an operation can have where it is not refused and the database is open.
 use Rattle.std.specs.Prelude.{◌≡◌, ◌⊎◌, ℕ}
-use Rattle.client_database.specs.declared.operation.Op.{Op}
-use Rattle.client_database.specs.declared.answer.Answer.{Answer}
-use Rattle.client_database.specs.declared.answer.Answer.TheVariants.{KeyTooLong, Blocked, Deadlock, Duplicate, Full, TraceFull, TxFull}
+use Rattle.database_protocol.specs.declared.operation.Op.{Op}
+use Rattle.database_protocol.specs.declared.answer.Answer.{Answer}
+use Rattle.database_protocol.specs.declared.answer.Answer.TheVariants.{KeyTooLong, Blocked, Deadlock, Duplicate, Full, TraceFull, TxFull}
 use Rattle.abl_values.specs.Schema.{SchemaData}
 use Rattle.database_meaning.specs.Fits.{IsNoEnd, IsOwnAnswer}
 use Rattle.database_meaning.specs.Setting.{HasIndex}

@@ -2,16 +2,16 @@
 use Rattle.std.specs.Prelude.{◌≡◌, ◌⊎◌, ℕ, ◌+◌, ◌<◌, ◌≤◌, min, Bool, length, IsTrue, if◌then◌else◌}
 use Rattle.abl_base.specs.declared.limits.TheConstants.{MAX_TRACE_BYTES}
 use Rattle.abl_values.specs.Schema.{SchemaData}
-use Rattle.client_database.specs.declared.operation.Op.{Op}
-use Rattle.client_database.specs.declared.operation.Op.TheVariants.{CurrentValue, End, Get, Next}
-use Rattle.client_database.specs.declared.answer.Answer.{Answer}
-use Rattle.client_database.specs.declared.answer.Answer.TheVariants.{AtEnd, Busy, Deadlock, Duplicate, Full, Gone, KeyTooLong, SequenceEnd, TraceFull, TxFull}
+use Rattle.database_protocol.specs.declared.operation.Op.{Op}
+use Rattle.database_protocol.specs.declared.operation.Op.TheVariants.{CurrentValue, End, Get, Next}
+use Rattle.database_protocol.specs.declared.answer.Answer.{Answer}
+use Rattle.database_protocol.specs.declared.answer.Answer.TheVariants.{AtEnd, Busy, Deadlock, Duplicate, Full, Gone, KeyTooLong, SequenceEnd, TraceFull, TxFull}
 use Rattle.database_meaning.specs.Setting.{HasTable, Setting}
 use Rattle.database_meaning.specs.State.{State}
 use Rattle.database_meaning.specs.Answers.{Answers, FromGone, HasOrder}
 use Rattle.database_meaning.specs.Counts.{HasRoom, event_size, is_counted}
 use Rattle.database_meaning.specs.Steps.{after}
-use Rattle.abl_rows.specs.Rows.{IsObservable, RowState}
+use Rattle.row_store.specs.Rows.{IsObservable, RowState}
 use Rattle.db_core.specs.declared.control.Control.{Control}
 use Rattle.db_core.specs.Keeps.{Keeps, NextCounts}
 use Rattle.db_core.specs.Known.{known, setting_at}

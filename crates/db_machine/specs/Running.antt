@@ -1,8 +1,8 @@
 -- Which clients have not ended.
 use Rattle.std.specs.Prelude.{◌≡◌, ◌≢◌, ◌+◌, ◌<◌, ℕ, Bool, true, false, List, length, slice_index_or}
 use Rattle.std.specs.List.{sum_by}
-use Rattle.client_database.specs.declared.operation.Op.{Op}
-use Rattle.client_database.specs.declared.operation.Op.TheVariants.{End}
+use Rattle.database_protocol.specs.declared.operation.Op.{Op}
+use Rattle.database_protocol.specs.declared.operation.Op.TheVariants.{End}
 
 abbrev pub one_if_running : Bool → ℕ
 one_if_running true = 1

@@ -1,7 +1,7 @@
 //! The database.
 
 ghost use Rattle.std.specs.Prelude.{◌≡◌, ◌≢◌, ◌⊎◌, ◌<◌, ◌≤◌, ◌+◌, ◌↔◌, ◌||◌, ◌++◌, ◌∷◌, [], ℕ, None, IfErr, IfOk, IfSome, IsTrue, false, true, length, replicate, slice_get, vec_capacity, vec_len};
-ghost use Rattle.client_database.specs.declared.answer.Answer.TheVariants.{Closed};
+ghost use Rattle.database_protocol.specs.declared.answer.Answer.TheVariants.{Closed};
 ghost use Rattle.database_interface.specs.Step.{IsRefusedRightly, event_of};
 ghost use Rattle.database_meaning.specs.declared.contents.Contents.{Contents};
 ghost use Rattle.database_meaning.specs.Fits.{Fits};
@@ -10,7 +10,7 @@ ghost use Rattle.database_meaning.specs.Setting.{Setting};
 ghost use Rattle.database_meaning.specs.Steps.{is_closed};
 ghost use Rattle.database_meaning.specs.Waiting.{HasNoCycle, WaitsFor};
 ghost use Rattle.database_meaning.specs.Traces.{IsLegal, IsSoundContents, left_by};
-ghost use Rattle.abl_rows.specs.Rows.{Durable};
+ghost use Rattle.row_store.specs.Rows.{Durable};
 ghost use Rattle.db_core.specs.Crashes.{StartsFrom, Survives};
 ghost use Rattle.db_core.specs.Opening.{IsNew, IsOpened as IsStoreOpened};
 ghost use Rattle.db_core.specs.Represents.{blocked_in, marks_in};
@@ -20,17 +20,17 @@ use crate::running::Running;
 use crate::steps::answer;
 use crate::trace_size::{counted, is_end};
 use abl_base::Items;
-use abl_rows::RowStore;
 use abl_values::Schema;
-use client_database::{Answer, Event, Op, Trace};
 use database_interface::Database;
 use database_meaning::laws::{
     keys_are_apart, locked_reads_are_serial, locks_are_apart, no_cycle_ever,
 };
+use database_protocol::{Answer, Event, Op, Trace};
 use db_core::laws::a_new_database_is_represented;
 use db_core::refusals::is_waiting;
 use db_core::{Control, Session};
 use record_locks::Locks;
+use row_store::RowStore;
 use std::alloc::{AllocError, Global};
 use std::marker::Model;
 

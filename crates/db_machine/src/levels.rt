@@ -12,13 +12,13 @@ ghost use Rattle.db_machine.specs.OwnAnswers.{IsOpenAnswer};
 ghost use Rattle.db_machine.specs.Replies.{IsReply};
 
 use crate::replies::{Reply, is_refusal, prepare};
-use abl_rows::{RowFault, RowStore};
 use abl_values::Schema;
-use client_database::{Answer, Op, RowIds};
+use database_protocol::{Answer, Op, RowIds};
 use db_core::Control;
 use db_core::answers::end_request;
 use db_core::levels::{back, commit, enter, leave};
 use db_core::staying::staying_rows;
+use row_store::{RowFault, RowStore};
 use std::alloc::Global;
 
 /// Answers an Enter.

@@ -1,6 +1,6 @@
 //! The database machine with its trace: each step answers one operation of one client by the table
 //! of answers of `database_meaning`, changes rows, locks and levels as its definition says, and
-//! appends one event. Rows are a `RowStore` of `abl_rows`; the answers and changes are those of
+//! appends one event. Rows are a `RowStore` of `row_store`; the answers and changes are those of
 //! `db_core`. From opening on the trace is legal (`specs/Machine.antt`).
 #![tactic(auto)]
 

@@ -7,8 +7,8 @@ ghost use Rattle.db_machine.specs.OwnAnswers.{IsEntryAnswer};
 
 use abl_base::Row;
 use abl_values::Schema;
-use answer_table::rows::fits;
-use client_database::{Answer, Op};
+use database_protocol::{Answer, Op};
+use row_store::answers::rows::fits;
 
 /// Whether the values are a row of the table.
 fn is_row_of(schema: &Schema, table: u16, values: &Row) -> bool

@@ -3,13 +3,13 @@
 
 ghost use Rattle.std.specs.Prelude.{◌≡◌, ◌<◌, ◌≤◌, ◌+◌, ◌^◌, ℕ, IfOk, IsErrOf, None, OnErr, OnOk, length, false, IsTrue};
 ghost use Rattle.abl_base.specs.declared.limits.TheConstants.{MAX_TRACE_BYTES as MOST};
-ghost use Rattle.client_database.specs.declared.operation.Op.{Op as Asked};
+ghost use Rattle.database_protocol.specs.declared.operation.Op.{Op as Asked};
 ghost use Rattle.database_meaning.specs.Answers.{FromGone};
 ghost use Rattle.database_meaning.specs.Steps.{blocked_after};
 ghost use Rattle.database_meaning.specs.Setting.{Setting, increment_of};
 ghost use Rattle.database_meaning.specs.State.{State};
 ghost use Rattle.database_meaning.specs.Traces.{is_committed};
-ghost use Rattle.abl_rows.specs.Rows.{AfterError, IsObservable};
+ghost use Rattle.row_store.specs.Rows.{AfterError, IsObservable};
 ghost use Rattle.db_core.specs.Crashes.{StaysDurable};
 ghost use Rattle.db_core.specs.Keeps.{Stays};
 ghost use Rattle.db_core.specs.Represents.{IsSound, Represents};
@@ -19,15 +19,15 @@ ghost use Rattle.db_machine.specs.Replies.{AsksWhatIs, IsReply};
 
 use crate::replies::{Reply, is_refusal, prepare};
 use abl_base::RowId;
-use abl_rows::{RowFault, RowStore};
 use abl_values::Schema;
-use client_database::{Answer, Op};
+use database_protocol::{Answer, Op};
 use db_core::Control;
 use db_core::answers::{end_request, move_sequence};
 use db_core::decide::{decide_get, decide_lock};
 use db_core::locks::{drop_lock, grant_lock, wait as wait_for_lock};
 use db_core::search::decide_next;
 use db_core::sequences::{decide_current_value, decide_next_value};
+use row_store::{RowFault, RowStore};
 use std::alloc::Global;
 
 /// The answer to a Next, Get or CurrentValue. Nothing changes. Other operations do not come here.

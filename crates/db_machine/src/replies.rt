@@ -7,9 +7,9 @@ ghost use Rattle.db_machine.specs.Replies.{IsFitted, IsRefusal};
 
 use crate::own_answers::can_have;
 use crate::trace_size::has_place;
-use abl_rows::RowFault;
 use abl_values::Schema;
-use client_database::{Answer, Op};
+use database_protocol::{Answer, Op};
+use row_store::RowFault;
 
 /// An answer, and a copy of it for the trace.
 #[derive(Drop)]

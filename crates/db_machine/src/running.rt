@@ -1,11 +1,11 @@
 //! Which clients have not ended.
 
 ghost use Rattle.std.specs.Prelude.{◌≡◌, ◌≢◌, ◌+◌, ◌↔◌, IfOk, IsTrue, length, replicate, true, false, slice_set};
-ghost use Rattle.client_database.specs.declared.operation.Op.{Op as Asked};
+ghost use Rattle.database_protocol.specs.declared.operation.Op.{Op as Asked};
 ghost use Rattle.db_machine.specs.Running.{EndsAtEnd, IsRunning, running_in};
 
 use crate::trace_size::is_end;
-use client_database::Op;
+use database_protocol::Op;
 use std::alloc::{AllocError, Global};
 use std::marker::Model;
 

@@ -2,8 +2,8 @@
 
 ghost use Rattle.std.specs.Prelude.{◌≡◌, ◌≢◌, ◌<◌, ◌≤◌, ◌+◌, ◌^◌, ◌||◌, IfOk, IsErrOf, OnErr, length, false, IsTrue, ◌⊎◌};
 ghost use Rattle.abl_base.specs.declared.limits.TheConstants.{MAX_TRACE_BYTES as MOST};
-ghost use Rattle.client_database.specs.declared.answer.Answer.TheVariants.{Closed, Refused};
-ghost use Rattle.client_database.specs.declared.operation.Op.TheVariants.{End};
+ghost use Rattle.database_protocol.specs.declared.answer.Answer.TheVariants.{Closed, Refused};
+ghost use Rattle.database_protocol.specs.declared.operation.Op.TheVariants.{End};
 ghost use Rattle.database_meaning.specs.Fits.{Fits};
 ghost use Rattle.database_meaning.specs.Setting.{increment_of};
 ghost use Rattle.database_meaning.specs.Steps.{is_closed};
@@ -21,15 +21,15 @@ use crate::queries::{answer_drop, answer_lock, answer_next_value, answer_questio
 use crate::replies::Reply;
 use crate::trace_size::is_end;
 use crate::writes::{answer_delete, answer_insert, answer_put};
-use abl_rows::{RowFault, RowStore};
 use abl_values::Schema;
-use client_database::{Answer, Op};
+use database_protocol::{Answer, Op};
 use db_core::Control;
 use db_core::answers::{end_failed, end_request};
 use db_core::control::depth;
 use db_core::laws::{a_refusal_changes_nothing, refusals_are_known};
 use db_core::levels::end;
 use db_core::refusals::is_allowed;
+use row_store::{RowFault, RowStore};
 use std::alloc::Global;
 
 /// By how much the sequence moves.

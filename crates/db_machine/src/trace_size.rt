@@ -6,8 +6,8 @@ ghost use Rattle.database_meaning.specs.Counts.{is_counted};
 ghost use Rattle.db_machine.specs.Replies.{HasPlace, IsSize, size_after};
 
 use abl_base::limits::MAX_TRACE_BYTES;
-use answer_table::events::event_size_within;
-use client_database::{Answer, Op};
+use database_protocol::{Answer, Op};
+use row_store::answers::events::event_size_within;
 
 /// Whether the operation is End.
 pub(crate) fn is_end(op: &Op) -> bool

@@ -5,7 +5,7 @@ ghost use Rattle.abl_base.specs.declared.limits.TheConstants.{MAX_ROW_BYTES, MAX
 ghost use Rattle.database_meaning.specs.Setting.{FitsTable, HasTable, Setting, row_size};
 ghost use Rattle.database_meaning.specs.State.{HoldsExclusively, State};
 ghost use Rattle.database_meaning.specs.Steps.{after};
-ghost use Rattle.abl_rows.specs.Rows.{RowState};
+ghost use Rattle.row_store.specs.Rows.{RowState};
 ghost use Rattle.db_core.specs.Crashes.{StaysDurable};
 ghost use Rattle.db_core.specs.Keeps.{SameCounts, Stays};
 ghost use Rattle.db_core.specs.Known.{known};
@@ -16,15 +16,15 @@ ghost use Rattle.db_machine.specs.Replies.{IsReply};
 
 use crate::replies::{Reply, is_refusal, prepare};
 use abl_base::{Row, RowId};
-use abl_rows::{RowFault, RowStore};
 use abl_values::Schema;
-use client_database::{Answer, Op};
+use database_protocol::{Answer, Op};
 use db_core::Control;
 use db_core::answers::end_request;
 use db_core::decide_writes::{decide_delete, decide_insert, decide_put};
 use db_core::laws::held_rows_are_untouched_by_others;
 use db_core::locks::wait_for_key;
 use db_core::writes::{delete, insert, put};
+use row_store::{RowFault, RowStore};
 use std::alloc::Global;
 
 /// Blocks the client at an Insert or Put. An error means out of memory.

@@ -3,15 +3,15 @@ use Rattle.std.proofs.Common.{◌≡◌, ◌⊎◌, ◌≤◌, ◌<◌, ℕ, Boo
 use Rattle.std.proofs.Math.Logic.{∥∥₁_map}
 use Rattle.std.proofs.lemmas.Bool.{cases_lt}
 use Rattle.std.specs.Prelude.{IsTrue}
-use Rattle.abl_storage.specs.Slots.{IsReadable, SlotState}
+use Rattle.storage.specs.Slots.{IsReadable, SlotState}
 use Rattle.abl_values.specs.Schema.{SchemaData}
-use Rattle.disk_steps.specs.Steps.{Image, Run}
+use Rattle.log_meaning.specs.steps.Steps.{Image, Run}
 use Rattle.log_meaning.specs.Images.{Recovers}
 use Rattle.bi_recovery.specs.Reopening.{SameRecovery}
 use Rattle.bi_recovery.specs.declared.open_fault.OpenFault.{OpenFault}
 use Rattle.bi_recovery.specs.declared.open_fault.OpenFault.TheVariants as fault
 use Rattle.bi_log.specs.Lengths.{StayShort}
-use Rattle.logged_slots.specs.Stops.{HasSlots, IsRecoverable, StayRecoverable}
+use Rattle.slot_txn.specs.logged.Stops.{HasSlots, IsRecoverable, StayRecoverable}
 use Rattle.disk_database.specs.Answers.{IsRefused}
 use Rattle.disk_database.specs.Images.{IsGivenBack, RecoversAsBefore}
 use Rattle.disk_database.specs.Inside.{IsSlotRefusal, of_fault}

@@ -2,26 +2,26 @@
 use Rattle.std.proofs.Common.{◌≡◌, ◌⊎◌, ◌≤◌, ℕ, Bool, true, false, List, [], None, refl, sym, ap, ◌∙◌, subst, arith, inl, inr}
 use Rattle.std.proofs.Math.Logic.{∥∥₁_elim, ∥∥₁_map, ∥∥₁_prop}
 use Rattle.std.specs.Prelude.{IsTrue}
-use Rattle.abl_storage.specs.Slots.{SlotState}
+use Rattle.storage.specs.Slots.{SlotState}
 use Rattle.abl_values.specs.Schema.{SchemaData, primary_of}
 use Rattle.database_meaning.specs.declared.contents.Contents.{Contents}
 use Rattle.db_core.specs.Crashes.{Holds}
-use Rattle.abl_outside.specs.Out.{OutState}
-use Rattle.abl_rows.specs.Changes.{RowsById}
-use Rattle.abl_rows.specs.Rows.{Durable, IsObservable, RowState, durable_of}
-use Rattle.abl_rows.specs.Times.{Times}
-use Rattle.stored_rows.specs.Decoded.{decoded}
-use Rattle.stored_rows.specs.Durable.{durable_in, left_in, times_in}
-use Rattle.disk_steps.specs.Steps.{Image}
+use Rattle.host_io.specs.Out.{OutState}
+use Rattle.row_store.specs.Changes.{RowsById}
+use Rattle.row_store.specs.Rows.{Durable, IsObservable, RowState, durable_of}
+use Rattle.row_store.specs.Times.{Times}
+use Rattle.slot_rows.specs.Decoded.{decoded}
+use Rattle.slot_rows.specs.Durable.{durable_in, left_in, times_in}
+use Rattle.log_meaning.specs.steps.Steps.{Image}
 use Rattle.log_meaning.specs.Images.{Recovers}
-use Rattle.logged_slots.specs.Stops.{HasSlots, StayRecoverable}
-use Rattle.table_dump.specs.Calls.{HasRead, HasWritten}
-use Rattle.table_dump.specs.Order.{AreAll, AreFirst}
-use Rattle.abl_outside.specs.declared.out.Stream.TheVariants.{Output as Standard}
-use Rattle.table_dump.specs.Calls as table
-use Rattle.table_dump.specs.declared.writing.TableError.{TableError}
-use Rattle.table_dump.specs.declared.writing.TableError.TheVariants as error
-use Rattle.table_dump.proofs.Appended.{writes_nothing}
+use Rattle.slot_txn.specs.logged.Stops.{HasSlots, StayRecoverable}
+use Rattle.disk_database.specs.table.Calls.{HasRead, HasWritten}
+use Rattle.disk_database.specs.table.Order.{AreAll, AreFirst}
+use Rattle.host_io.specs.declared.out.Stream.TheVariants.{Output as Standard}
+use Rattle.disk_database.specs.table.Calls as table
+use Rattle.disk_database.specs.declared.table.writing.TableError.{TableError}
+use Rattle.disk_database.specs.declared.table.writing.TableError.TheVariants as error
+use Rattle.disk_database.proofs.TableLemmas.Appended.{writes_nothing}
 use Rattle.disk_database.specs.Answers.{IsDumped, IsNotDumped, is_output, of_table}
 use Rattle.disk_database.specs.declared.refusals.OpenRefusal.TheVariants.{NoMemory}
 use Rattle.disk_database.specs.declared.refusals.DumpRefusal.{DumpRefusal}

@@ -1,13 +1,13 @@
 -- Slots that were just opened may be guarded, and the same slots guarded.
 use Rattle.std.proofs.Common.{◌≡◌, ◌∙◌, ℕ, Bool, List, refl, ap, sym, subst}
 use Rattle.std.specs.Prelude.{IsTrue}
-use Rattle.abl_rows.specs.Rows.{RowState}
-use Rattle.abl_storage.specs.Slots.{IsReadable, SlotState}
+use Rattle.row_store.specs.Rows.{RowState}
+use Rattle.storage.specs.Slots.{IsReadable, SlotState}
 use Rattle.abl_values.specs.Schema.{SchemaData}
-use Rattle.disk_steps.specs.Steps.{Image}
+use Rattle.log_meaning.specs.steps.Steps.{Image}
 use Rattle.guarded_slots.specs.Guarded.{AllAllowed}
 use Rattle.log_meaning.specs.Images.{Recovers}
-use Rattle.record_store.specs.Opened.{CanOpen, IsOpenedStore}
+use Rattle.indexed_store.specs.Opened.{CanOpen, IsOpenedStore}
 use Rattle.slot_txn.specs.Opening.{IsOpenedOver}
 use Rattle.disk_database.specs.Inside.{AreOpened, IsStoreOver}
 use Rattle.disk_database.specs.Parts.{KeptSince}

@@ -2,27 +2,27 @@
 use Rattle.std.proofs.Common.{◌≡◌, ◌⊎◌, ◌≤◌, ◌<◌, ℕ, Bool, true, List, refl, sym, ap, ◌∙◌, subst, arith, inl, inr}
 use Rattle.std.proofs.lemmas.Bool.{cases_lt}
 use Rattle.std.specs.Prelude.{IsTrue}
-use Rattle.abl_rows.specs.Rows.{RowState, durable_of}
-use Rattle.abl_storage.specs.Disk.{IsImage, Stays}
-use Rattle.abl_storage.specs.Slots.{IsReadable, SlotState, Transaction}
+use Rattle.row_store.specs.Rows.{RowState, durable_of}
+use Rattle.storage.specs.Disk.{IsImage, Stays}
+use Rattle.storage.specs.Slots.{IsReadable, SlotState, Transaction}
 use Rattle.abl_values.specs.Schema.{SchemaData, canonical_text}
 use Rattle.abl_values.specs.Sound.{IsSound}
 use Rattle.bi_log.specs.Lengths.{StayShort}
 use Rattle.bi_recovery.specs.declared.open_fault.OpenFault.{OpenFault}
 use Rattle.bi_recovery.specs.declared.open_fault.OpenFault.TheVariants as fault
-use Rattle.chain_store.specs.Still.{Still}
-use Rattle.disk_steps.specs.Steps.{Image}
-use Rattle.fault_count.specs.Faults.{Rose}
+use Rattle.byte_rows.specs.Still.{Still}
+use Rattle.log_meaning.specs.steps.Steps.{Image}
+use Rattle.storage.specs.faults.Faults.{Rose}
 use Rattle.log_meaning.specs.Images.{Recovers}
-use Rattle.logged_slots.specs.Stops.{StayRecoverable}
-use Rattle.record_store.specs.Opened.{CanOpen, HoldStore, IsOpenedStore}
-use Rattle.record_store.specs.declared.open_error.OpenError.{OpenError}
-use Rattle.record_store.specs.declared.open_error.OpenError.TheVariants as error
+use Rattle.slot_txn.specs.logged.Stops.{StayRecoverable}
+use Rattle.indexed_store.specs.Opened.{CanOpen, HoldStore, IsOpenedStore}
+use Rattle.indexed_store.specs.declared.open_error.OpenError.{OpenError}
+use Rattle.indexed_store.specs.declared.open_error.OpenError.TheVariants as error
 use Rattle.recovered_view.specs.View.{IsAtRest}
-use Rattle.stored_rows.specs.Chained.{StayChains}
-use Rattle.stored_rows.specs.Decoded.{decoded}
-use Rattle.stored_rows.specs.Durable.{durable_in}
-use Rattle.stored_text.specs.Held.{HoldText}
+use Rattle.slot_rows.specs.Chained.{StayChains}
+use Rattle.slot_rows.specs.Decoded.{decoded}
+use Rattle.slot_rows.specs.Durable.{durable_in}
+use Rattle.database_layout.specs.stored_text.Held.{HoldText}
 use Rattle.disk_database.specs.Answers.{IsRefused, is_judgement}
 use Rattle.disk_database.specs.Images.{IsGivenBack}
 use Rattle.disk_database.specs.Inside.{AreJudged, AreOpened, IsSlotRefusal, of_error, of_fault, of_late_fault}

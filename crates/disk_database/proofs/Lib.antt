@@ -1,3 +1,5 @@
+pub mod TableLemmas
+pub mod SameTextLemmas
 pub mod Causes
 pub mod Dumps
 pub mod Guards

@@ -2,12 +2,12 @@
 use Rattle.std.proofs.Common.{◌≡◌, ◌⊎◌, ◌≤◌, ◌<◌, ℕ, Bool, List, sym, subst, arith, inl, inr}
 use Rattle.std.proofs.Props.{props}
 use Rattle.std.proofs.lemmas.Bool.{cases_lt}
-use Rattle.abl_storage.specs.Slots.{SlotState}
-use Rattle.disk_steps.specs.Steps.{Image, Run}
+use Rattle.storage.specs.Slots.{SlotState}
+use Rattle.log_meaning.specs.steps.Steps.{Image, Run}
 use Rattle.log_meaning.specs.Images.{Recovers}
 use Rattle.bi_recovery.specs.Reopening.{SameRecovery}
-use Rattle.logged_slots.specs.Stops.{Stops}
-use Rattle.stored_rows.specs.Chained.{StayChains}
+use Rattle.slot_txn.specs.logged.Stops.{Stops}
+use Rattle.slot_rows.specs.Chained.{StayChains}
 use Rattle.slot_txn.specs.Opening.{IsOpenedOver}
 use Rattle.disk_database.specs.Inside.{AreOpened}
 use Rattle.disk_database.specs.Images.{RecoversAsBefore}

@@ -4,15 +4,15 @@ use Rattle.std.proofs.Math.Logic.{∥∥₁_elim, ∥∥₁_map, ∥∥₁_prop}
 use Rattle.std.proofs.Props.{props}
 use Rattle.abl_values.specs.Rows.{fragments_of}
 use Rattle.abl_values.specs.Schema.{SchemaData, canonical_text}
-use Rattle.new_slots.proofs.Counted.{get_counted, length_counted}
-use Rattle.record_store.specs.State.{Have64Bits-prop}
-use Rattle.sequence_reads.proofs.Contents.{length_values_in}
+use Rattle.database_layout.proofs.FreshLemmas.Counted.{get_counted, length_counted}
+use Rattle.indexed_store.specs.State.{Have64Bits-prop}
+use Rattle.sequence_slots.proofs.ReadsLemmas.Contents.{length_values_in}
 use Rattle.sequence_slots.specs.Values.{Have64Bits, HoldValues, part, slot_bytes, values_in}
 use Rattle.sequence_slots.proofs.Reading.{values_read}
-use Rattle.slot_contents.specs.Chains.{chain_slot}
-use Rattle.slot_contents.specs.Contents.{text_slots}
+use Rattle.database_layout.specs.contents.Chains.{chain_slot}
+use Rattle.database_layout.specs.contents.Contents.{text_slots}
 use Rattle.database_meaning.specs.declared.contents.Contents.{Contents}
-use Rattle.disk_steps.specs.Steps.{Image}
+use Rattle.log_meaning.specs.steps.Steps.{Image}
 use Rattle.log_meaning.specs.Images.{Recovers}
 use Rattle.guarded_slots.specs.Guarded.{AllAllowed}
 use Rattle.disk_database.specs.Images.{AllAreOf, AreSlotsOf}

@@ -1,22 +1,22 @@
 -- Whether slots, and the image that recovers to them, hold a database; and slots that come back.
 use Rattle.std.proofs.Common.{◌≡◌, ◌≤◌, ℕ, List, IsTrue, Result, Ok, Err, length, refl, subst}
 use Rattle.std.specs.Prelude.{IfErr, IfOk}
-use Rattle.abl_storage.specs.Slots.{IsReadable, IsStop, SlotState}
+use Rattle.storage.specs.Slots.{IsReadable, IsStop, SlotState}
 use Rattle.abl_values.specs.Rows.{fragments_of}
 use Rattle.abl_values.specs.Schema.{SchemaData, canonical_text}
 use Rattle.abl_values.specs.Sound.{IsSound}
-use Rattle.chain_store.specs.Still.{Still}
-use Rattle.database_laws.proofs.Held.{text_decides_held}
-use Rattle.disk_steps.specs.Steps.{Image}
+use Rattle.byte_rows.specs.Still.{Still}
+use Rattle.disk_database.proofs.SameTextLemmas.Held.{text_decides_held}
+use Rattle.log_meaning.specs.steps.Steps.{Image}
 use Rattle.log_meaning.specs.Images.{Recovers}
-use Rattle.record_store.specs.Opened.{CanOpen, HoldStore}
-use Rattle.row_chain.specs.Chains.{AreChains}
-use Rattle.row_chain.proofs.Composes.{readable_on}
+use Rattle.indexed_store.specs.Opened.{CanOpen, HoldStore}
+use Rattle.row_fragments.specs.Chains.{AreChains}
+use Rattle.row_fragments.proofs.Composes.{readable_on}
 use Rattle.schema_text.specs.Written.{IsHeld}
-use Rattle.slot_contents.specs.Contents.{text_slots}
-use Rattle.stored_rows.specs.Chained.{StayChains}
-use Rattle.stored_rows.proofs.Chaining.{stay_chains}
-use Rattle.stored_text.specs.Held.{HoldText}
+use Rattle.database_layout.specs.contents.Contents.{text_slots}
+use Rattle.slot_rows.specs.Chained.{StayChains}
+use Rattle.slot_rows.proofs.Chaining.{stay_chains}
+use Rattle.database_layout.specs.stored_text.Held.{HoldText}
 use Rattle.disk_database.specs.Answers.{AreDatabase, IsDatabaseOf, IsNoDatabase}
 use Rattle.disk_database.specs.Inside.{HoldDatabase, HoldDatabaseWith}
 use Rattle.disk_database.specs.Parts.{AreUnusedLeft, LeaveUnused}

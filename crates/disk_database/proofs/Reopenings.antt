@@ -19,21 +19,21 @@ use Rattle.database_meaning.specs.declared.state.StoredRow.{StoredRow}
 use Rattle.database_meaning.specs.Setting.{Setting, has_key, unique_keys}
 use Rattle.database_meaning.specs.Traces.{IsSoundContents, IsSoundRow, IsSoundRows, identity_of, rows_of, stored_of}
 use Rattle.db_core.specs.Crashes.{Holds}
-use Rattle.disk_steps.specs.Steps.{Image}
-use Rattle.logged_slots.specs.Stops.{HasSlots}
-use Rattle.record_store.specs.Opened.{AreSoundRows, HoldStore}
-use Rattle.record_store.proofs.Sound.{rows_read}
-use Rattle.row_chain.specs.Chains.{AreChains}
-use Rattle.row_chain.specs.Fragments.{StoredBytes, row_at}
+use Rattle.log_meaning.specs.steps.Steps.{Image}
+use Rattle.slot_txn.specs.logged.Stops.{HasSlots}
+use Rattle.indexed_store.specs.Opened.{AreSoundRows, HoldStore}
+use Rattle.indexed_store.proofs.Sound.{rows_read}
+use Rattle.row_fragments.specs.Chains.{AreChains}
+use Rattle.row_fragments.specs.Fragments.{StoredBytes, row_at}
 use Rattle.schema_text.specs.Written.{IsHeld}
-use Rattle.sequence_reads.proofs.Contents.{length_values_in}
+use Rattle.sequence_slots.proofs.ReadsLemmas.Contents.{length_values_in}
 use Rattle.sequence_slots.specs.Values.{HoldValues, values_in}
-use Rattle.slot_contents.specs.Born.{IsBorn}
-use Rattle.slot_contents.specs.Chains.{IsChain, counted}
-use Rattle.slot_contents.specs.Contents.{contents_in, initial_values, new_contents}
-use Rattle.slot_contents.specs.Contents as slot
-use Rattle.stored_rows.specs.Decoded.{decoded, row_of}
-use Rattle.stored_rows.specs.Durable.{durable_in}
+use Rattle.database_layout.specs.contents.Born.{IsBorn}
+use Rattle.database_layout.specs.contents.Chains.{IsChain, counted}
+use Rattle.database_layout.specs.contents.Contents.{contents_in, initial_values, new_contents}
+use Rattle.database_layout.specs.contents.Contents as slot
+use Rattle.slot_rows.specs.Decoded.{decoded, row_of}
+use Rattle.slot_rows.specs.Durable.{durable_in}
 use Rattle.disk_database.proofs.Texts.{one_text}
 use Rattle.disk_database.specs.Answers.{AreDatabase, IsDatabaseOf, IsRefused}
 use Rattle.disk_database.specs.Images.{AreSlotsOf, IsImageOf, created, stored_contents}

@@ -1,22 +1,22 @@
 -- What a store over a disk that was just opened starts from.
 use Rattle.std.proofs.Common.{◌≡◌, ◌≤◌, ℕ, Bool, List, None, refl, sym, ap, ◌∙◌, subst}
 use Rattle.std.specs.Prelude.{IsTrue, map}
-use Rattle.abl_storage.specs.Slots.{SlotState}
+use Rattle.storage.specs.Slots.{SlotState}
 use Rattle.abl_values.specs.Schema.{SchemaData, canonical_text}
 use Rattle.abl_values.specs.Sound.{IsSound}
 use Rattle.database_meaning.specs.declared.contents.Contents.{Contents}
 use Rattle.database_meaning.specs.Traces.{IsSoundContents, identity_of}
 use Rattle.database_meaning.specs.Waiting.{IsAscending}
-use Rattle.abl_rows.specs.Rows.{Durable, RowState, durable_of}
+use Rattle.row_store.specs.Rows.{Durable, RowState, durable_of}
 use Rattle.db_core.specs.Crashes.{Holds, StartsFrom}
 use Rattle.db_core.specs.Opening.{IsOpened as IsStoreOpened}
-use Rattle.stored_rows.specs.Durable.{durable_in, left_in, times_in}
-use Rattle.record_store.specs.Contents.{contents_of}
-use Rattle.record_store.proofs.Contents.{only_contents, sound_contents, store_contents}
-use Rattle.record_store.proofs.Sound.{decoded_past}
-use Rattle.disk_steps.specs.Steps.{Image}
-use Rattle.record_store.specs.Opened.{HoldStore}
-use Rattle.stored_text.specs.Held.{HoldText}
+use Rattle.slot_rows.specs.Durable.{durable_in, left_in, times_in}
+use Rattle.indexed_store.specs.Contents.{contents_of}
+use Rattle.indexed_store.proofs.Contents.{only_contents, sound_contents, store_contents}
+use Rattle.indexed_store.proofs.Sound.{decoded_past}
+use Rattle.log_meaning.specs.steps.Steps.{Image}
+use Rattle.indexed_store.specs.Opened.{HoldStore}
+use Rattle.database_layout.specs.stored_text.Held.{HoldText}
 use Rattle.disk_database.specs.Answers.{IsBornOf}
 use Rattle.disk_database.specs.Images.{AreImagesOf}
 use Rattle.disk_database.specs.Parts.{LeaveUnused}

@@ -4,21 +4,21 @@ use Rattle.std.proofs.Math.Logic.{∥∥₁_elim, ∥∥₁_map, ∥∥₁_prop}
 use Rattle.std.proofs.Props.{props}
 use Rattle.std.specs.Coded.{×_prop}
 use Rattle.abl_values.specs.Schema.{SchemaData}
-use Rattle.client_database.specs.declared.event.Event.{Event}
+use Rattle.database_protocol.specs.declared.event.Event.{Event}
 use Rattle.database_meaning.specs.declared.contents.Contents.{Contents}
 use Rattle.database_meaning.specs.Setting.{Setting}
 use Rattle.database_meaning.specs.Traces.{acknowledged, after_commits}
-use Rattle.abl_rows.specs.Rows.{Durable}
-use Rattle.abl_rows.specs.Times.{Times}
+use Rattle.row_store.specs.Rows.{Durable}
+use Rattle.row_store.specs.Times.{Times}
 use Rattle.db_core.specs.Crashes.{AreMoments, Holds, HoldsFrom, Survives, moment_of}
-use Rattle.row_chain.specs.Chains.{AreChains}
+use Rattle.row_fragments.specs.Chains.{AreChains}
 use Rattle.sequence_slots.specs.Values.{HoldValues}
-use Rattle.stored_rows.specs.Chained.{StayChains}
-use Rattle.stored_rows.specs.Durable.{durable_in, left_in}
-use Rattle.disk_steps.specs.Steps.{Image}
+use Rattle.slot_rows.specs.Chained.{StayChains}
+use Rattle.slot_rows.specs.Durable.{durable_in, left_in}
+use Rattle.log_meaning.specs.steps.Steps.{Image}
 use Rattle.log_meaning.specs.Images.{Recovers}
 use Rattle.log_meaning.proofs.LogStates.{one_recovery}
-use Rattle.logged_slots.specs.Stops.{HasSlots, StayRecoverable, Stops}
+use Rattle.slot_txn.specs.logged.Stops.{HasSlots, StayRecoverable, Stops}
 use Rattle.disk_database.specs.Images.{AllAreOf, AreSlotsOf, IsImageFrom, IsImageOf, RecoversToChains, SurvivesCrashes}
 use Rattle.disk_database.specs.Parts.{HoldParts}
 

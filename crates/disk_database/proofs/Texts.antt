@@ -5,11 +5,11 @@ use Rattle.std.proofs.lemmas.List.{length-map}
 use Rattle.abl_values.specs.Rows.{fragments_of, number_at_head, number_bytes}
 use Rattle.std.proofs.Math.Seq.{drop-append-add}
 use Rattle.abl_values.proofs.Numbers.{number_at_head-bytes, length-number_bytes}
-use Rattle.row_chain.specs.Fragments.{content_in, fragment_bytes}
-use Rattle.row_chain.proofs.Encoded.{content_read}
-use Rattle.slot_contents.specs.Chains.{chain_slot, counted, part}
-use Rattle.new_slots.proofs.Counted.{length_counted, get_counted}
-use Rattle.stored_text.specs.Held.{HoldText, AreOf}
+use Rattle.row_fragments.specs.Fragments.{content_in, fragment_bytes}
+use Rattle.row_fragments.proofs.Encoded.{content_read}
+use Rattle.database_layout.specs.contents.Chains.{chain_slot, counted, part}
+use Rattle.database_layout.proofs.FreshLemmas.Counted.{length_counted, get_counted}
+use Rattle.database_layout.specs.stored_text.Held.{HoldText, AreOf}
 
 -- the content of a slot of a text
 part_read : (chain text : List ℕ) (i : ℕ) → content_in (chain_slot 3 3 0 chain text i) ≡ part i text

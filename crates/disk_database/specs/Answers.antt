@@ -3,18 +3,18 @@ use Rattle.std.specs.Prelude.{◌≡◌, ◌≢◌, ℕ, Bool, true, false, List
 use Rattle.abl_values.specs.Schema.{SchemaData, canonical_text, primary_of}
 use Rattle.abl_values.specs.Sound.{IsSound}
 use Rattle.schema_text.specs.Written.{IsHeld}
-use Rattle.disk_steps.specs.Steps.{Image}
+use Rattle.log_meaning.specs.steps.Steps.{Image}
 use Rattle.log_meaning.specs.Images.{Recovers}
-use Rattle.stored_text.specs.Held.{HoldText}
-use Rattle.record_store.specs.Opened.{HoldStore}
-use Rattle.slot_contents.specs.Contents.{AreContents}
-use Rattle.abl_outside.specs.Out.{OutState, Writes}
-use Rattle.abl_outside.specs.declared.out.Stream.TheVariants.{Output as Standard}
-use Rattle.abl_rows.specs.declared.store.FoundRow.{FoundRow}
-use Rattle.stored_rows.specs.Decoded.{decoded}
-use Rattle.table_dump.specs.Order.{AreAll, AreFirst, export_lines}
-use Rattle.table_dump.specs.declared.writing.TableError.{TableError}
-use Rattle.table_dump.specs.declared.writing.TableError.TheVariants as error
+use Rattle.database_layout.specs.stored_text.Held.{HoldText}
+use Rattle.indexed_store.specs.Opened.{HoldStore}
+use Rattle.database_layout.specs.contents.Contents.{AreContents}
+use Rattle.host_io.specs.Out.{OutState, Writes}
+use Rattle.host_io.specs.declared.out.Stream.TheVariants.{Output as Standard}
+use Rattle.row_store.specs.declared.store.FoundRow.{FoundRow}
+use Rattle.slot_rows.specs.Decoded.{decoded}
+use Rattle.disk_database.specs.table.Order.{AreAll, AreFirst, export_lines}
+use Rattle.disk_database.specs.declared.table.writing.TableError.{TableError}
+use Rattle.disk_database.specs.declared.table.writing.TableError.TheVariants as error
 use Rattle.disk_database.specs.Parts.{LeaveUnused}
 use Rattle.disk_database.specs.declared.refusals.OpenRefusal.{OpenRefusal}
 use Rattle.disk_database.specs.declared.refusals.OpenRefusal.TheVariants.{NotCreated, SchemaDiffers, Disk, NoMemory}
@@ -31,7 +31,7 @@ pub record AreDatabase (schema : SchemaData) (slots : ℕ → List ℕ) : Type 0
   pub unused : LeaveUnused schema slots
   pub store : HoldStore schema slots
 
--- the image is born of this schema, with the contents that its slots hold (`IsBorn` of slot_contents)
+-- the image is born of this schema, with the contents that its slots hold (`IsBorn` of database_layout::contents)
 abbrev pub IsBornOf : Image → SchemaData → Type 0
 IsBornOf seen schema = (slots : ℕ → List ℕ) × Recovers seen slots × AreContents schema slots
 

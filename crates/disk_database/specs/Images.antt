@@ -2,21 +2,21 @@
 use Rattle.std.specs.Prelude.{◌≡◌, ◌⊎◌, ℕ, ◌+◌, ◌<◌, ◌≤◌, Bool, List, [], map, IsTrue}
 use Rattle.std.specs.FinMap.{get}
 use Rattle.abl_values.specs.Schema.{SchemaData, canonical_text}
-use Rattle.client_database.specs.declared.event.Event.{Event}
+use Rattle.database_protocol.specs.declared.event.Event.{Event}
 use Rattle.database_meaning.specs.declared.contents.Contents.{Contents}
 use Rattle.database_meaning.specs.Setting.{Setting}
 use Rattle.database_meaning.specs.Waiting.{IsAscending}
 use Rattle.database_meaning.specs.Traces.{acknowledged, after_commits, commits, identity_of, rows_of}
 use Rattle.db_core.specs.Crashes.{AreMoments, Holds}
-use Rattle.row_chain.specs.Chains.{AreChains}
+use Rattle.row_fragments.specs.Chains.{AreChains}
 use Rattle.sequence_slots.specs.Values.{HoldValues}
-use Rattle.stored_rows.specs.Durable.{durable_in}
-use Rattle.stored_text.specs.Held.{HoldText}
-use Rattle.slot_contents.specs.Contents.{initial_values}
-use Rattle.slot_contents.specs.Contents as stored
-use Rattle.disk_steps.specs.Steps.{Image}
+use Rattle.slot_rows.specs.Durable.{durable_in}
+use Rattle.database_layout.specs.stored_text.Held.{HoldText}
+use Rattle.database_layout.specs.contents.Contents.{initial_values}
+use Rattle.database_layout.specs.contents.Contents as stored
+use Rattle.log_meaning.specs.steps.Steps.{Image}
 use Rattle.log_meaning.specs.Images.{Recovers}
-use Rattle.logged_slots.specs.Stops.{IsRecoverable, StayRecoverable}
+use Rattle.slot_txn.specs.logged.Stops.{IsRecoverable, StayRecoverable}
 use Rattle.bi_log.specs.Lengths.{StayShort}
 use Rattle.disk_database.specs.Parts.{LeaveUnused}
 
@@ -92,7 +92,7 @@ pub record SurvivesCrashes (from now : ℕ) (left : ℕ → Image → Type 0) (f
   pub each : (m : ℕ) (image : Image) → from ≤ m → left m image → ∥ IsImageFrom f contents trace (acknowledged m trace) image ∥₁
   pub moments : AreMoments from trace now
 
--- these contents as an image is born with them (`slot_contents`)
+-- these contents as an image is born with them (`database_layout::contents`)
 abbrev pub stored_contents : SchemaData → Contents → stored.Contents
 stored_contents schema contents = record { text = canonical_text schema; rows = λ row. get (rows_of contents.rows) row; values = contents.sequences }
 

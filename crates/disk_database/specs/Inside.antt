@@ -1,20 +1,20 @@
 -- What is kept between the parts of an opening.
 use Rattle.std.specs.Prelude.{◌≡◌, ◌≢◌, ℕ, Bool, false, List, IsTrue}
-use Rattle.abl_storage.specs.Slots.{IsReadable, SlotState}
-use Rattle.abl_storage.specs.declared.slots.SlotFault.{SlotFault}
-use Rattle.abl_storage.specs.declared.slots.SlotFault.TheVariants as slot
+use Rattle.storage.specs.Slots.{IsReadable, SlotState}
+use Rattle.storage.specs.declared.slots.SlotFault.{SlotFault}
+use Rattle.storage.specs.declared.slots.SlotFault.TheVariants as slot
 use Rattle.abl_values.specs.Schema.{SchemaData, canonical_text}
 use Rattle.abl_values.specs.Sound.{IsSound}
 use Rattle.schema_text.specs.Written.{IsHeld}
-use Rattle.abl_rows.specs.Rows.{RowState}
-use Rattle.disk_steps.specs.Steps.{Image}
+use Rattle.row_store.specs.Rows.{RowState}
+use Rattle.log_meaning.specs.steps.Steps.{Image}
 use Rattle.log_meaning.specs.Images.{Recovers}
 use Rattle.bi_recovery.specs.declared.open_fault.OpenFault.{OpenFault}
 use Rattle.bi_recovery.specs.declared.open_fault.OpenFault.TheVariants as fault
-use Rattle.record_store.specs.Opened.{IsOpenedStore}
-use Rattle.record_store.specs.declared.open_error.OpenError.{OpenError}
-use Rattle.record_store.specs.declared.open_error.OpenError.TheVariants as error
-use Rattle.stored_text.specs.Held.{HoldText}
+use Rattle.indexed_store.specs.Opened.{IsOpenedStore}
+use Rattle.indexed_store.specs.declared.open_error.OpenError.{OpenError}
+use Rattle.indexed_store.specs.declared.open_error.OpenError.TheVariants as error
+use Rattle.database_layout.specs.stored_text.Held.{HoldText}
 use Rattle.disk_database.specs.Answers.{AreDatabase}
 use Rattle.disk_database.specs.Parts.{LeaveUnused}
 use Rattle.disk_database.specs.declared.refusals.OpenRefusal.{OpenRefusal}

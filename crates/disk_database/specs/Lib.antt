@@ -1,3 +1,4 @@
+pub mod table
 pub mod Parts
 pub mod Images
 pub mod Answers

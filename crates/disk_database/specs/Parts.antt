@@ -2,12 +2,12 @@
 use Rattle.std.specs.Prelude.{◌≡◌, ◌⊎◌, ℕ, ◌+◌, ◌-◌, ◌*◌, ◌<◌, min, List, length, get_or, ℤ}
 use Rattle.abl_values.specs.Rows.{fragments_of}
 use Rattle.abl_values.specs.Schema.{SchemaData, canonical_text}
-use Rattle.disk_steps.specs.Steps.{Image}
+use Rattle.log_meaning.specs.steps.Steps.{Image}
 use Rattle.log_meaning.specs.Images.{Recovers}
 use Rattle.sequence_slots.specs.Values.{Have64Bits, HoldValues, slot_bytes, values_in}
-use Rattle.slot_contents.specs.Chains.{chain_slot, counted}
-use Rattle.slot_contents.specs.Contents.{text_slots, zeros}
-use Rattle.stored_text.specs.Held.{HoldText}
+use Rattle.database_layout.specs.contents.Chains.{chain_slot, counted}
+use Rattle.database_layout.specs.contents.Contents.{text_slots, zeros}
+use Rattle.database_layout.specs.stored_text.Held.{HoldText}
 
 -- the slots of the schema's text, in order
 abbrev pub text_chain : SchemaData → List ℕ

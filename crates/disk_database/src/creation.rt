@@ -1,24 +1,24 @@
 //! A new database.
 
 ghost use Rattle.std.specs.Prelude.{◌≡◌, ◌⊎◌, ◌≤◌, length, false, IfOk, IsErrOf, IsTrue, OnOk};
-ghost use Rattle.fault_count.specs.Faults.{Rose};
+ghost use Rattle.storage.specs.faults.Faults.{Rose};
 ghost use Rattle.abl_values.specs.Schema.{SchemaData, canonical_text};
-ghost use Rattle.abl_storage.specs.Disk.{Stays};
+ghost use Rattle.storage.specs.Disk.{Stays};
 ghost use Rattle.bi_log.specs.Lengths.{StayShort};
-ghost use Rattle.disk_steps.specs.Steps.{Image, Run};
-ghost use Rattle.slot_contents.specs.Contents.{new_contents};
-ghost use Rattle.slot_contents.specs.Born.{IsBorn};
-ghost use Rattle.database_creation.specs.Created.{CreatesNew};
+ghost use Rattle.log_meaning.specs.steps.Steps.{Image, Run};
+ghost use Rattle.database_layout.specs.contents.Contents.{new_contents};
+ghost use Rattle.database_layout.specs.contents.Born.{IsBorn};
+ghost use Rattle.database_layout.specs.creation.Created.{CreatesNew};
 ghost use Rattle.disk_database.specs.Answers.{IsDatabaseOf, IsNoDatabase};
 
 use crate::recognition::hold_database;
 use crate::refusals::CreateRefusal;
 use crate::text::fits;
-use abl_storage::Disk;
 use abl_values::Schema;
-use database_creation::{CreateFault, create_database};
+use database_layout::creation::{CreateFault, create_database};
 use recovered_view::{OpenFault, RecoveredView};
 use std::alloc::Global;
+use storage::Disk;
 
 /// Whether the disk holds a database, of whatever schema.
 fn holds_database<D: Disk>(alloc: Global, disk: &mut D) -> Result<bool, CreateFault>

@@ -1,17 +1,17 @@
 //! Opening and closing a database.
 
 ghost use Rattle.std.specs.Prelude.{◌≡◌, ◌<◌, ◌≤◌, ℕ, List, [], map, true, IfErr, IfOk, IsTrue};
-ghost use Rattle.fault_count.specs.Faults.{Rose};
-ghost use Rattle.abl_storage.specs.Disk.{Stays};
+ghost use Rattle.storage.specs.faults.Faults.{Rose};
+ghost use Rattle.storage.specs.Disk.{Stays};
 ghost use Rattle.database_meaning.specs.declared.contents.Contents.{Contents};
 ghost use Rattle.database_meaning.specs.Setting.{Setting};
 ghost use Rattle.database_meaning.specs.Traces.{identity_of};
 ghost use Rattle.database_meaning.specs.Waiting.{IsAscending};
 ghost use Rattle.db_core.specs.Crashes.{StartsFrom};
-ghost use Rattle.disk_steps.specs.Steps.{Image};
+ghost use Rattle.log_meaning.specs.steps.Steps.{Image};
 ghost use Rattle.log_meaning.specs.Images.{Recovers};
 ghost use Rattle.bi_log.specs.Lengths.{StayShort};
-ghost use Rattle.logged_slots.specs.Stops.{StayRecoverable};
+ghost use Rattle.slot_txn.specs.logged.Stops.{StayRecoverable};
 ghost use Rattle.db_machine.specs.Database.{HasSetting, IsActive, IsOpened};
 ghost use Rattle.disk_database.specs.Answers.{HasText, IsBornOf, IsRefused, is_judgement};
 ghost use Rattle.disk_database.specs.Inside.{IsStoreOver};
@@ -20,12 +20,12 @@ ghost use Rattle.disk_database.specs.Images.{AllAreOf, AreImagesOf, RecoversAsBe
 use crate::guard::Opening;
 use crate::opening::{DiskSlots, DiskStore, disk_of, open_rows};
 use crate::refusals::OpenRefusal;
-use abl_rows::RowStore;
-use abl_storage::{Disk, Slots};
 use abl_values::Schema;
-use client_database::Trace;
+use database_protocol::Trace;
 use db_machine::Db;
+use row_store::RowStore;
 use std::alloc::{AllocError, Global};
+use storage::{Disk, Slots};
 
 /// A database over a disk.
 pub type DiskDatabase<D, K> = Db<DiskStore<D, K>>;

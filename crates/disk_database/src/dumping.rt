@@ -1,26 +1,26 @@
 //! The rows of a table, written as lines.
 
 ghost use Rattle.std.specs.Prelude.{◌≡◌, ◌⊎◌, ◌<◌, ◌≤◌, ℕ, MatchOption, length, not, true, false, IfErr, IfOk, IsTrue, OnOk, ⊤};
-ghost use Rattle.fault_count.specs.Faults.{Rose};
-ghost use Rattle.abl_storage.specs.Disk.{Stays};
+ghost use Rattle.storage.specs.faults.Faults.{Rose};
+ghost use Rattle.storage.specs.Disk.{Stays};
 ghost use Rattle.abl_values.specs.Schema.{primary_of};
 ghost use Rattle.database_meaning.specs.Setting.{HasIndex};
 ghost use Rattle.bi_log.specs.Lengths.{StayShort};
-ghost use Rattle.logged_slots.specs.Stops.{StayRecoverable};
+ghost use Rattle.slot_txn.specs.logged.Stops.{StayRecoverable};
 ghost use Rattle.disk_database.specs.Answers.{HasText, IsBornOf, IsDumped, IsNotDumped, is_disk, is_judged, is_output, of_table};
-ghost use Rattle.disk_steps.specs.Steps.{Image};
+ghost use Rattle.log_meaning.specs.steps.Steps.{Image};
 ghost use Rattle.database_meaning.specs.declared.contents.Contents.{Contents};
 ghost use Rattle.disk_database.specs.Images.{AllAreOf, AreImagesOf, HoldsAsBefore, IsImageOf};
 
 use crate::guard::Opening;
 use crate::opening::{disk_of, open_rows, rose};
 use crate::refusals::{DumpRefusal, OpenRefusal};
-use abl_outside::Out;
-use abl_storage::Disk;
+use crate::table::{TableError, write_table};
 use abl_values::Schema;
+use host_io::Out;
 use std::alloc::Global;
 use std::marker::Brand;
-use table_dump::{TableError, write_table};
+use storage::Disk;
 
 /// The primary index of the table, by which its rows are in order.
 fn order_of(schema: &Schema, table: u16) -> Option<u16>

@@ -5,18 +5,17 @@ ghost use Rattle.abl_values.specs.Schema.{canonical_text};
 ghost use Rattle.disk_database.specs.Parts.{AreValues, KeptSince, values_at};
 
 use crate::text::fits;
+use abl_base::limits::FIRST_ROW;
 use abl_values::Schema;
 use byteorder::{BigEndian, ByteOrder};
 use guarded_slots::Guard;
 use sequence_slots::{have_64_bits, slot_of};
 use std::marker::{Brand, PhantomData};
 
-/// The first slot of sequence values, the first one after them, and the first one for rows.
+/// The first slot of sequence values, and the first one after them.
 const FIRST_VALUES: u32 = 5000;
 
 const AFTER_VALUES: u32 = 5009;
-
-const FIRST_ROW: u32 = 8192;
 
 /// The most values in a slot.
 const MOST_VALUES: usize = 30;
@@ -27,7 +26,7 @@ const MOST_VALUES: usize = 30;
 pub trait Opening {
     ghost use Rattle.std.specs.Prelude.{ℕ};
     ghost use Rattle.abl_values.specs.Schema.{SchemaData};
-    ghost use Rattle.disk_steps.specs.Steps.{Image};
+    ghost use Rattle.log_meaning.specs.steps.Steps.{Image};
 
     ghost schema: { SchemaData };
 

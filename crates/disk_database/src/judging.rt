@@ -2,8 +2,8 @@
 //! memory, and the rows are opened there.
 
 ghost use Rattle.std.specs.Prelude.{◌≡◌, ◌⊎◌, ◌≤◌, IfErr, IfOk, IsErrOf, IsTrue};
-ghost use Rattle.fault_count.specs.Faults.{Rose};
-ghost use Rattle.abl_storage.specs.Disk.{Stays};
+ghost use Rattle.storage.specs.faults.Faults.{Rose};
+ghost use Rattle.storage.specs.Disk.{Stays};
 ghost use Rattle.recovered_view.specs.View.{IsAtRest};
 ghost use Rattle.disk_database.specs.Answers.{IsRefused};
 ghost use Rattle.log_meaning.specs.Images.{Recovers};
@@ -11,12 +11,12 @@ ghost use Rattle.disk_database.specs.Inside.{AreJudged, IsSlotRefusal, of_error,
 
 use crate::refusals::OpenRefusal;
 use crate::text::test_slots;
-use abl_rows::RowStore;
-use abl_storage::{Disk, Slots};
 use abl_values::Schema;
-use record_store::{OpenError, RecordStore};
+use indexed_store::{OpenError, RecordStore};
 use recovered_view::{OpenFault, RecoveredView};
+use row_store::RowStore;
 use std::alloc::Global;
+use storage::{Disk, Slots};
 
 /// Rows in slots in memory.
 pub(crate) type ViewStore = RecordStore<RecoveredView>;

@@ -1,5 +1,5 @@
 //! A whole database over any disk: made by `create`, opened by `open`, given up by `close`, and one
-//! table of it written by `dump`. It joins `db_machine` with `record_store` over `slot_txn`, and
+//! table of it written by `dump`. It joins `db_machine` with `indexed_store` over `slot_txn`, and
 //! compares the schema with the stored text. The layer above relies on what the images that a crash
 //! may leave hold (`specs/Images.antt`): the contents at opening, and after the commits
 //! acknowledged by then, or one more.
@@ -14,6 +14,8 @@ pub mod laws;
 mod opening;
 mod recognition;
 mod refusals;
+pub mod same_text;
+pub mod table;
 mod text;
 mod unused;
 

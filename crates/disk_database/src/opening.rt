@@ -1,14 +1,14 @@
 //! The rows of a disk: judged first, then the disk recovered, and the rows put over its slots.
 
 ghost use Rattle.std.specs.Prelude.{◌≡◌, ◌≤◌, ℕ, List, true, IfErr, IfOk, IsTrue};
-ghost use Rattle.fault_count.specs.Faults.{Rose};
-ghost use Rattle.abl_storage.specs.Disk.{Stays};
+ghost use Rattle.storage.specs.faults.Faults.{Rose};
+ghost use Rattle.storage.specs.Disk.{Stays};
 ghost use Rattle.abl_values.specs.Schema.{canonical_text};
-ghost use Rattle.disk_steps.specs.Steps.{Image};
+ghost use Rattle.log_meaning.specs.steps.Steps.{Image};
 ghost use Rattle.log_meaning.specs.Images.{Recovers};
 ghost use Rattle.bi_log.specs.Lengths.{StayShort};
-ghost use Rattle.logged_slots.specs.Stops.{StayRecoverable};
-ghost use Rattle.stored_text.specs.Held.{HoldText};
+ghost use Rattle.slot_txn.specs.logged.Stops.{StayRecoverable};
+ghost use Rattle.database_layout.specs.stored_text.Held.{HoldText};
 ghost use Rattle.disk_database.specs.Answers.{IsRefused, is_judgement};
 ghost use Rattle.disk_database.specs.Images.{IsGivenBack, RecoversToChains};
 ghost use Rattle.disk_database.specs.Inside.{AreOpened, AreJudged, IsStoreOver, of_late_fault};
@@ -17,15 +17,15 @@ ghost use Rattle.disk_database.specs.Parts.{AllHoldParts, HoldParts, LeaveUnused
 use crate::guard::{Opening, SlotGuard};
 use crate::judging::{ViewStore, judged_rows};
 use crate::refusals::OpenRefusal;
-use abl_rows::RowStore;
-use abl_storage::{Disk, Slots};
 use abl_values::Schema;
 use bi_recovery::OpenFault;
 use guarded_slots::Guarded;
-use record_store::RecordStore;
+use indexed_store::RecordStore;
 use recovered_view::RecoveredView;
+use row_store::RowStore;
 use slot_txn::SlotTxn;
 use std::alloc::Global;
+use storage::{Disk, Slots};
 
 /// Slots with transactions over a disk, guarded since the opening.
 pub(crate) type DiskSlots<D, K> = Guarded<SlotTxn<D>, SlotGuard<K>>;

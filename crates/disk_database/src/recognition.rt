@@ -1,23 +1,23 @@
 //! Whether slots hold a database, of whatever schema.
 
 ghost use Rattle.std.specs.Prelude.{◌≡◌, false, IfOk, IsTrue};
-ghost use Rattle.abl_storage.specs.Slots.{IsReadable};
+ghost use Rattle.storage.specs.Slots.{IsReadable};
 ghost use Rattle.abl_values.specs.Schema.{canonical_text};
-ghost use Rattle.record_store.specs.Opened.{CanOpen};
-ghost use Rattle.row_chain.specs.Chains.{AreChains};
+ghost use Rattle.indexed_store.specs.Opened.{CanOpen};
+ghost use Rattle.row_fragments.specs.Chains.{AreChains};
 ghost use Rattle.schema_text.specs.Written.{IsHeld};
-ghost use Rattle.stored_rows.specs.Chained.{StayChains};
-ghost use Rattle.stored_text.specs.Held.{HoldText};
+ghost use Rattle.slot_rows.specs.Chained.{StayChains};
+ghost use Rattle.database_layout.specs.stored_text.Held.{HoldText};
 ghost use Rattle.disk_database.specs.Inside.{HoldDatabase, HoldDatabaseWith};
 
 use crate::text::slots_of_text;
 use crate::unused::are_unused_left;
-use abl_storage::{SlotFault, Slots};
 use abl_values::Schema;
-use record_store::{OpenError, RecordStore};
+use database_layout::stored_text::stored_text;
+use indexed_store::{OpenError, RecordStore};
 use schema_text::read_canonical;
 use std::alloc::Global;
-use stored_text::stored_text;
+use storage::{SlotFault, Slots};
 
 /// What an error of the store says of a database: unsound slots hold none.
 fn found(error: OpenError) -> Result<bool, SlotFault>

@@ -1,30 +1,26 @@
 //! The text of a schema: whether a database can have it, and the stored one compared with it.
 
 ghost use Rattle.std.specs.Prelude.{◌≡◌, ◌≤◌, length, IfErr, IfOk, IfSome, IsTrue, OnOk};
-ghost use Rattle.abl_storage.specs.Slots.{IsReadable};
+ghost use Rattle.storage.specs.Slots.{IsReadable};
 ghost use Rattle.abl_values.specs.Schema.{canonical_text};
-ghost use Rattle.chain_store.specs.Still.{Still};
-ghost use Rattle.record_store.specs.Opened.{CanOpen};
-ghost use Rattle.row_chain.specs.Chains.{AreChains};
-ghost use Rattle.slot_contents.specs.Contents.{text_slots};
-ghost use Rattle.stored_rows.specs.Chained.{StayChains};
-ghost use Rattle.stored_text.specs.Held.{HoldText};
+ghost use Rattle.byte_rows.specs.Still.{Still};
+ghost use Rattle.indexed_store.specs.Opened.{CanOpen};
+ghost use Rattle.row_fragments.specs.Chains.{AreChains};
+ghost use Rattle.database_layout.specs.contents.Contents.{text_slots};
+ghost use Rattle.slot_rows.specs.Chained.{StayChains};
+ghost use Rattle.database_layout.specs.stored_text.Held.{HoldText};
 ghost use Rattle.disk_database.specs.Inside.{IsSlotRefusal, of_slots};
 ghost use Rattle.disk_database.specs.Parts.{LeaveUnused};
 
 use crate::recognition::hold_database_with;
 use crate::refusals::OpenRefusal;
 use crate::unused::are_unused_left;
-use abl_storage::{SlotFault, Slots};
+use abl_base::limits::{MAX_CANONICAL_BYTES, MAX_SEQUENCES};
 use abl_values::Schema;
-use new_slots::text_slots::slot_count;
+use database_layout::fresh::text_slots::slot_count;
+use database_layout::stored_text::stored_text;
 use std::alloc::Global;
-use stored_text::stored_text;
-
-/// The most bytes of the text of a schema, and the most sequences of one.
-const MAX_TEXT_BYTES: usize = 1_048_576;
-
-const MAX_SEQUENCES: usize = 256;
+use storage::{SlotFault, Slots};
 
 /// Whether the schema is one that a database can have.
 pub(crate) fn fits(schema: &Schema) -> Option<bool>
@@ -33,7 +29,7 @@ pub(crate) fn fits(schema: &Schema) -> Option<bool>
     let Ok(text) = schema.canonical() else {
         return None;
     };
-    Some(text.as_slice().len() <= MAX_TEXT_BYTES && schema.sequences().len() <= MAX_SEQUENCES)
+    Some(text.as_slice().len() <= MAX_CANONICAL_BYTES && schema.sequences().len() <= MAX_SEQUENCES)
 }
 
 /// How many slots the text of this schema takes, if it is one that a database can have. None also means
@@ -45,7 +41,7 @@ pub(crate) fn slots_of_text(schema: &Schema) -> Option<u32>
         return None;
     };
     let bytes = text.as_slice().len();
-    if MAX_TEXT_BYTES < bytes {
+    if MAX_CANONICAL_BYTES < bytes {
         return None;
     }
     Some(slot_count(bytes))

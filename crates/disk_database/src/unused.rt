@@ -1,19 +1,18 @@
 //! Whether a database leaves the slots unused that belong to nothing.
 
 ghost use Rattle.std.specs.Prelude.{◌≡◌, ◌≢◌, ◌<◌, false, IfOk, IsTrue};
-ghost use Rattle.abl_storage.specs.Slots.{IsReadable};
-ghost use Rattle.row_chain.specs.Calls.{Looked};
-ghost use Rattle.slot_contents.specs.Contents.{zeros};
+ghost use Rattle.storage.specs.Slots.{IsReadable};
+ghost use Rattle.row_fragments.specs.Calls.{Looked};
+ghost use Rattle.database_layout.specs.contents.Contents.{zeros};
 ghost use Rattle.disk_database.specs.Parts.{AreUnusedLeft, IsUnused};
 
-use abl_storage::{SlotFault, Slots};
+use abl_base::limits::FIRST_ROW;
+use storage::{SlotFault, Slots};
 
-/// The first slot of sequence values, the last one, and the first one for rows.
+/// The first slot of sequence values, and the last one.
 const FIRST_VALUES: u32 = 5000;
 
 const LAST_VALUES: u32 = 5008;
-
-const FIRST_ROW: u32 = 8192;
 
 /// Whether the slot belongs to nothing, where the text of the schema takes this many slots.
 fn is_unused(text: u32, slot: u32) -> bool

@@ -2,8 +2,8 @@
 use Rattle.std.proofs.Common.{◌≡◌, ◌⊎◌, ⊎_elim, inr, take_all, ℕ, ◌+◌, ◌-◌, ◌<◌, ◌≤◌, List, ◌++◌, length, get_or, take, drop, refl, sym, ◌∙◌, ap, arith, length-append, take-add, ext_get_or, length-take-le, length-drop}
 use Rattle.std.proofs.lemmas.List.{get_or_append_left, get_or-append_right}
 use Rattle.std.proofs.lemmas.Bool.{cases_lt}
-use Rattle.abl_storage.specs.Disk.{overlaid}
-use Rattle.disk_steps.proofs.Writes.{length-overlaid, overlaid-here, overlaid-before, overlaid-after}
+use Rattle.storage.specs.Disk.{overlaid}
+use Rattle.log_meaning.proofs.StepsLemmas.Writes.{length-overlaid, overlaid-here, overlaid-before, overlaid-after}
 
 -- ---- two writes, the second from the end of the first on, are one
 

@@ -1,7 +1,7 @@
 //! A file that is read and written at a place.
 
 ghost use Rattle.std.specs.Prelude.{◌≡◌, ◌+◌, ◌<◌, ◌≤◌, ◌^◌, ◌⊎◌, ℕ, Bool, List, [], false, length, take, get_or, IsTrue, IfOk, OnOk, OnErr};
-ghost use Rattle.abl_storage.specs.Disk.{overlaid, Torn};
+ghost use Rattle.storage.specs.Disk.{overlaid, Torn};
 
 use std::fs::File;
 use std::io;

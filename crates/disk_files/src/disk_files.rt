@@ -1,17 +1,17 @@
 //! The disk over three files of the machine.
 
 ghost use Rattle.std.specs.Prelude.{◌≡◌, ◌+◌, ◌≤◌, ◌^◌, is_ok, IsTrue, IfOk, true, false};
-ghost use Rattle.abl_storage.specs.Disk.{HasCause};
+ghost use Rattle.storage.specs.Disk.{HasCause};
 
 use crate::fault::{Fault, Place};
 use crate::names::Names;
 use crate::open_files::OpenFiles;
-use abl_storage::{Disk, DiskFailed};
 use std::alloc::{AllocError, Global};
 use std::fs::File;
 use std::io;
 use std::io::ErrorKind;
 use std::rt::Files as Machine;
+use storage::{Disk, DiskFailed};
 
 /// The files `DATABASE.d0`, `DATABASE.b1` and `DATABASE.b2` of the machine as areas 0, 1 and 2. What
 /// they hold is not observable in proofs. They are opened at the first call, under an exclusive

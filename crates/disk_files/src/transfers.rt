@@ -1,7 +1,7 @@
 //! A whole read and a whole write, made of parts.
 
 ghost use Rattle.std.specs.Prelude.{◌≡◌, ◌+◌, ◌<◌, ◌^◌, length, IsTrue, OnOk};
-ghost use Rattle.abl_storage.specs.Disk.{Reads, Torn, overlaid};
+ghost use Rattle.storage.specs.Disk.{Reads, Torn, overlaid};
 
 use crate::area_file::AreaFile;
 use std::io;

@@ -11,9 +11,7 @@ ghost use Rattle.free_slots.specs.Free.{AreDifferent, AreSlots, Takes, free_in, 
 use std::alloc::{AllocError, Global};
 use std::collections::BinaryHeap;
 
-/// The first slot for rows, and the last one.
-const FIRST_SLOT: u32 = 8192;
-
+/// The last slot for rows.
 const LAST_SLOT: u32 = 1_048_575;
 
 /// The free slots among those from 8,192 to 1,048,575: all from `end` on, and those in `back` below
@@ -31,18 +29,6 @@ pub struct FreeSlots {
 }
 
 impl FreeSlots {
-    /// All slots for rows. It takes no memory.
-    pub fn all(alloc: Global) -> FreeSlots
-        ensures free { (k : ℕ) → 8192 ≤ k → k < 1048576 → free_in (heap_items result.back) result.end k ≡ 1 }
-        ensures none { (k : ℕ) → k < 8192 → free_in (heap_items result.back) result.end k ≡ 0 }
-        ensures count { heap_len result.back + (1048576 - result.end) ≡ 1040384 }
-    {
-        FreeSlots {
-            back: BinaryHeap::new(alloc),
-            end: FIRST_SLOT,
-        }
-    }
-
     /// All slots from `end` on. It takes no memory.
     pub fn above(alloc: Global, end: u32) -> FreeSlots
         requires low { 8192 ≤ end }

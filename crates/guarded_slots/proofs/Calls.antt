@@ -2,9 +2,9 @@
 use Rattle.std.proofs.Common.{◌≡◌, ◌⊎◌, inl, inr, ℕ, Bool, false, List, drop, Result, Ok, Err, IsTrue, sym, subst}
 use Rattle.std.specs.Prelude.{OnOk, OnErr}
 use Rattle.std.proofs.lemmas.Bool.{cases_eq}
-use Rattle.abl_storage.specs.Slots.{Becomes, Begins, Commits, Ends, Fails, Goes, GoesBack, Grows, IsReadable, KeepsCommitted, Rests, SlotState, Transaction, Writes, joined}
-use Rattle.abl_storage.specs.declared.slots.SlotFault.{SlotFault}
-use Rattle.abl_storage.specs.declared.slots.Undo.{Undo}
+use Rattle.storage.specs.Slots.{Becomes, Begins, Commits, Ends, Fails, Goes, GoesBack, Grows, IsReadable, KeepsCommitted, Rests, SlotState, Transaction, Writes, joined}
+use Rattle.storage.specs.declared.slots.SlotFault.{SlotFault}
+use Rattle.storage.specs.declared.slots.Undo.{Undo}
 use Rattle.guarded_slots.specs.Guarded.{AllAllowed, AllRestore, IsGuarded}
 use Rattle.guarded_slots.proofs.Keeping.{all_as, all_joined, all_put, all_undone, restore_drop, restore_push, restore_take, stops_keep}
 

@@ -3,9 +3,9 @@ use Rattle.std.proofs.Common.{◌≡◌, ◌⊎◌, inl, inr, ⊎_elim, ℕ, zer
 use Rattle.std.proofs.Math.Logic.{∥∥₁_elim, ∥∥₁_prop}
 use Rattle.std.proofs.lemmas.Bool.{cases_eq, cases_lt, true≢false}
 use Rattle.std.proofs.lemmas.Bool.Decides.{nat_tests}
-use Rattle.abl_storage.specs.Slots.{Goes, HasCause, IsReadable, SlotState, joined, put, undone, wrote}
-use Rattle.abl_storage.specs.declared.slots.SlotFault.{SlotFault}
-use Rattle.abl_storage.specs.declared.slots.Undo.{Undo}
+use Rattle.storage.specs.Slots.{Goes, HasCause, IsReadable, SlotState, joined, put, undone, wrote}
+use Rattle.storage.specs.declared.slots.SlotFault.{SlotFault}
+use Rattle.storage.specs.declared.slots.Undo.{Undo}
 use Rattle.guarded_slots.specs.Guarded.{AllAllowed, AllRestore, guarded_state}
 
 -- ---- a failed call

@@ -2,9 +2,9 @@
 use Rattle.std.specs.Prelude.{◌≡◌, ℕ, max, Bool, false, ◌||◌, if◌then◌else◌, List, IsTrue}
 use Rattle.std.specs.List.{AllByRecursion, AllByRecursion-prop}
 use Rattle.std.proofs.Props.{props}
-use Rattle.fault_count.specs.Faults.{counted}
-use Rattle.abl_storage.specs.Slots.{IsReadable, SlotState}
-use Rattle.abl_storage.specs.declared.slots.Undo.{Undo}
+use Rattle.storage.specs.faults.Faults.{counted}
+use Rattle.storage.specs.Slots.{IsReadable, SlotState}
+use Rattle.storage.specs.declared.slots.Undo.{Undo}
 
 -- each slot holds what it may hold
 abbrev pub AllAllowed : (ℕ → List ℕ → Type 0) → (ℕ → List ℕ) → Type 0

@@ -2,11 +2,11 @@
 
 ghost use Rattle.std.specs.Prelude.{◌≡◌, ℕ, List, [], IsTrue, false};
 ghost use Rattle.guarded_slots.specs.Guarded.{AllAllowed, IsGuarded, IsGuarded-prop};
-ghost use Rattle.abl_storage.specs.Slots.{IsReadable};
+ghost use Rattle.storage.specs.Slots.{IsReadable};
 ghost use Rattle.std.proofs.Props.{props};
 
 use crate::guard::Guard;
-use abl_storage::Slots;
+use storage::Slots;
 
 /// Slots that commit no write which the guard does not allow. A transaction may make such a write; from
 /// then on each commit of any transaction answers Disk, as where the disk failed.

@@ -5,7 +5,7 @@ ghost use Rattle.guarded_slots.specs.Guarded.{guarded_state};
 
 use crate::guard::Guard;
 use crate::guarded::Guarded;
-use abl_storage::{Mark, SlotFault, Slots};
+use storage::{Mark, SlotFault, Slots};
 
 /// Whether slots are tainted after a further write, which is allowed or not.
 fn is_tainted(tainted: bool, allowed: bool) -> bool

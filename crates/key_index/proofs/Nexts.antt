@@ -1,7 +1,7 @@
 -- What a search finds under the cursor's own key.
 use Rattle.std.proofs.Common.{◌≡◌, ◌<◌, ◌≤◌, ◌⊎◌, inl, inr, ℕ, Bool, true, false, List, Option, Some, None, MatchOption, IfSome, IfNone, refl, sym, subst, ◌∙◌}
 use Rattle.std.specs.FinMap as map
-use Rattle.client_database.specs.declared.row_order.Cursor.{Cursor}
+use Rattle.database_protocol.specs.declared.row_order.Cursor.{Cursor}
 use Rattle.key_index.specs.declared.index.Node.{Node}
 use Rattle.key_index.specs.Index.{Keys, IsEntry}
 use Rattle.key_index.specs.Search.{BeginsWith, IsKeyBefore, IsBeyondCursor, IsNextAmong, FindsNoneAmong, LiesBeyond}

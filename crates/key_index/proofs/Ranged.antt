@@ -19,7 +19,7 @@ use Rattle.std.proofs.lemmas.List.Kept.{IsStrictlySortedBy-filter}
 use Rattle.std.proofs.lemmas.Map.Entries.{lookup-filter-keys}
 use Rattle.std.proofs.lemmas.Map.Keys.{sorted_head, sorted_tail}
 use Rattle.std.proofs.lemmas.Map.Views.{IsInRange-from_range_contains, range_contains-from_IsInRange}
-use Rattle.client_database.specs.declared.row_order.Cursor.{Cursor}
+use Rattle.database_protocol.specs.declared.row_order.Cursor.{Cursor}
 use Rattle.std.proofs.lemmas.Bool.{both_ways}
 use Rattle.key_index.specs.declared.index.Node.{Node}
 use Rattle.key_index.specs.Index.{Keys, IsEntry}

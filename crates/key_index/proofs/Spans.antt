@@ -2,7 +2,7 @@
 use Rattle.std.proofs.Common.{◌≡◌, ◌↔◌, ℕ, List, Bool, true, false, not, IsTrue, Option, Some, None, IfSome, MatchOption, Vec, refl, sym, subst}
 use Rattle.std.specs.declared.ops.Bound.{Bound}
 use Rattle.std.specs.declared.ops.Bound.TheVariants.{Included, Excluded}
-use Rattle.client_database.specs.declared.row_order.Cursor.{Cursor}
+use Rattle.database_protocol.specs.declared.row_order.Cursor.{Cursor}
 use Rattle.abl_base.proofs.Bools.{not_true}
 use Rattle.key_index.specs.Search.{BeginsWith, IsKeyBefore, IsKeyBeyond}
 use Rattle.key_index.specs.Span.{IsFromStart, IsUpToEnd, IsBeforeEnd, IsInOrder, IsNoSpan, IsSpan, StartsBefore, end_at}

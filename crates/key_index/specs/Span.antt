@@ -6,7 +6,7 @@ use Rattle.std.specs.Cmp.Lexicographic.{slice_cmp}
 use Rattle.std.specs.Range.Bound.{IsForward}
 use Rattle.std.specs.declared.ops.Bound.{Bound}
 use Rattle.std.specs.declared.ops.Bound.TheVariants.{Included, Excluded, Unbounded}
-use Rattle.client_database.specs.declared.row_order.Cursor.{Cursor}
+use Rattle.database_protocol.specs.declared.row_order.Cursor.{Cursor}
 use Rattle.key_index.specs.Search.{BeginsWith, IsKeyBefore, IsKeyBeyond}
 
 -- a key equals another or precedes it

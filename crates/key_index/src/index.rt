@@ -14,7 +14,7 @@ use crate::seek::{first_entry, last_entry};
 use crate::span::{span_after, span_before};
 use crate::touched::{Keyed, Nodes, end_keys, keeps_one, list};
 use abl_base::{Bytes, RowId};
-use client_database::Cursor;
+use database_protocol::Cursor;
 use std::alloc::{AllocError, Global};
 use std::collections::BTreeMap;
 use std::marker::Model;

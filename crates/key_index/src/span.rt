@@ -6,7 +6,7 @@ ghost use Rattle.key_index.specs.Search.{BeginsWith, IsKeyBefore, IsKeyBeyond};
 ghost use Rattle.key_index.specs.Span.{IsBeforeEnd, IsFromStart, IsInOrder, IsNoSpan, IsSpan, StartsBefore};
 
 use crate::prefix::after_prefix;
-use client_database::Cursor;
+use database_protocol::Cursor;
 use std::alloc::{AllocError, Global};
 use std::ops::Bound;
 

@@ -6,14 +6,14 @@ use Rattle.abl_base.specs.declared.value.Value.{Value}
 use Rattle.abl_base.specs.declared.value.Value.TheVariants.{Int64}
 use Rattle.abl_values.specs.Schema.{SchemaData}
 use Rattle.database_meaning.specs.Fits.{Fits}
-use Rattle.client_database.specs.declared.answer.Answer.{Answer}
-use Rattle.client_database.specs.declared.answer.Answer.TheVariants as answer
-use Rattle.client_database.specs.declared.operation.Op.{Op}
-use Rattle.client_database.specs.declared.operation.Op.TheVariants as op
-use Rattle.client_database.specs.declared.row_order.Cursor.{Cursor}
+use Rattle.database_protocol.specs.declared.answer.Answer.{Answer}
+use Rattle.database_protocol.specs.declared.answer.Answer.TheVariants as answer
+use Rattle.database_protocol.specs.declared.operation.Op.{Op}
+use Rattle.database_protocol.specs.declared.operation.Op.TheVariants as op
+use Rattle.database_protocol.specs.declared.row_order.Cursor.{Cursor}
 use Rattle.bound_tree.specs.declared.statement.Target.{Target}
 use Rattle.bound_tree.specs.Tree.{Reading}
-use Rattle.bound_kinds.specs.WellKinded.{is_target}
+use Rattle.kind_laws.specs.bound_kinds.WellKinded.{is_target}
 use Rattle.block_meaning.specs.Buffers.{Place, got_content, holding_in}
 use Rattle.block_meaning.specs.Changes.{stored}
 use Rattle.block_meaning.specs.Frames.{emptied, holding, table_of, with_spot}
@@ -22,9 +22,9 @@ use Rattle.block_meaning.specs.Program.{Program}
 use Rattle.block_meaning.specs.Reads.{Search, held_as, next_shown, shows, spot_at}
 use Rattle.block_meaning.specs.State.{Exclusive, Held, Lost, NoLock, Normal, Record, State}
 use Rattle.block_meaning.specs.Views.{FoundRow, Grant, IsBusy, IsGone, IsGranted, found_in, grant_in, is_gone, number_in, refusal_in, row_in, values_in}
-use Rattle.block_flat.specs.Config.{CurrentGranted, Execute, Looks, OnAnswer, OrDo, Seconds, StackEntry, Takes, Unwind, WasBack, WasCounted, WasCurrent, WasDeleted, WasDropped, WasEntered, WasGot, WasGranted, WasInserted, WasLeft, WasNext, WasPut, WasRead, WasSecond, WasUpgraded}
-use Rattle.block_flat.specs.Machine.{answer_step, answered, busy_answered, count_answered, current_answered, current_grant_answered, grant_answered, insert_answered, next_answered, read_answered, refused_answered, second_answered}
-use Rattle.block_flat.specs.Steps.{config, fault}
+use Rattle.flat_machine.specs.Config.{CurrentGranted, Execute, Looks, OnAnswer, OrDo, Seconds, StackEntry, Takes, Unwind, WasBack, WasCounted, WasCurrent, WasDeleted, WasDropped, WasEntered, WasGot, WasGranted, WasInserted, WasLeft, WasNext, WasPut, WasRead, WasSecond, WasUpgraded}
+use Rattle.flat_machine.specs.Machine.{answer_step, answered, busy_answered, count_answered, current_answered, current_grant_answered, grant_answered, insert_answered, next_answered, read_answered, refused_answered, second_answered}
+use Rattle.flat_machine.specs.Steps.{config, fault}
 use Rattle.kind_laws.specs.Reached.{Ground}
 use Rattle.kind_laws.proofs.Kept.{allows, AreFrames, here, IsAsked, IsAwaited, IsRecord, IsRow, IsSearch, IsStack, Kept, Suits, table_here, table_there}
 use Rattle.kind_laws.proofs.Calls.{stored_ends}

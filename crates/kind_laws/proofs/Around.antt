@@ -6,14 +6,14 @@ use Rattle.std.proofs.lemmas.Bool.Decides.{nat_tests}
 use Rattle.abl_values.specs.Masks.{same_bytes}
 use Rattle.abl_values.specs.Order.{folded}
 use Rattle.abl_values.specs.Schema.{same_name}
-use Rattle.abl_syntax.specs.declared.name.Word.{Word}
-use Rattle.abl_syntax.specs.Syntax.{Head}
+use Rattle.syntax_tree.specs.declared.name.Word.{Word}
+use Rattle.syntax_tree.specs.Syntax.{Head}
 use Rattle.bind_names.specs.declared.names.Around.{Around}
 use Rattle.bind_blocks.specs.Named.{block_named, first_block, is_labelled, is_number, undoing}
 use Rattle.block_meaning.specs.Frames.{is_in}
 use Rattle.block_rules.specs.Blocks as rules
 use Rattle.block_rules.specs.Blocks.{from_label, from_undo, is_called, is_inner}
-use Rattle.bound_kinds.proofs.Parts.{both_left, both_right, equal}
+use Rattle.kind_laws.proofs.BoundKindsLemmas.Parts.{both_left, both_right, equal}
 use Rattle.kind_laws.specs.Placed.{outward}
 use Rattle.kind_laws.proofs.Parts.{clash, equal_self, in_self}
 

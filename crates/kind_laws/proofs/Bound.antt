@@ -7,10 +7,10 @@ use Rattle.abl_base.specs.declared.place.Place.{Place}
 use Rattle.abl_base.specs.declared.rule.Rule.{Rule}
 use Rattle.abl_base.specs.declared.rule.Rule.TheVariants as rule
 use Rattle.abl_values.specs.Schema.{SchemaData, number_of_name, table_named}
-use Rattle.abl_syntax.specs.declared.name.Word.{Word}
-use Rattle.abl_syntax.specs.declared.word.BlockWord.TheVariants as word
-use Rattle.abl_syntax.specs.Syntax as s
-use Rattle.abl_syntax.specs.Syntax.{Head, Opening, Phrase, Program, Statement, Statements}
+use Rattle.syntax_tree.specs.declared.name.Word.{Word}
+use Rattle.syntax_tree.specs.declared.word.BlockWord.TheVariants as word
+use Rattle.syntax_tree.specs.Syntax as s
+use Rattle.syntax_tree.specs.Syntax.{Head, Opening, Phrase, Program, Statement, Statements}
 use Rattle.bound_tree.specs.declared.expression.Variable.{Variable}
 use Rattle.bound_tree.specs.declared.statement.FindWord.{FindWord}
 use Rattle.bound_tree.specs.Tree as b
@@ -31,8 +31,8 @@ use Rattle.bind_blocks.specs.Headers.{Phrases, can_be_undone, head, inside, is_f
 use Rattle.bind_blocks.specs.Headers as headers
 use Rattle.bind_blocks.specs.Named.{block_named, first_block, is_labelled, is_number, iterating, undoing}
 use Rattle.bind_blocks.specs.Records.{Asked, find_word_of, found, looked_for}
-use Rattle.abl_types.specs.Statements.{statement, statements}
-use Rattle.abl_types.specs.Sources.{Parts, beginning, bound, inside_procedure, items, judged, namings, or_first, outside_again, procedure_with, signatures, violations}
+use Rattle.binder.specs.Statements.{statement, statements}
+use Rattle.binder.specs.Sources.{Parts, beginning, bound, inside_procedure, items, judged, namings, or_first, outside_again, procedure_with, signatures, violations}
 use Rattle.block_rules.specs.Blocks as rules
 use Rattle.block_rules.specs.Blocks.{first_iterates, from_label, from_undo, is_called, is_inner}
 use Rattle.block_rules.specs.Rules.{action_breaks, head_breaks, inside_breaks, item_breaks, label_breaks, leave_breaks, maybe_action_breaks, next_breaks, opening_breaks, phrase_breaks, phrases_break, program_breaks, statement_breaks, statements_break, target_breaks, undo_breaks, undone_by}
@@ -42,7 +42,7 @@ use Rattle.buffer_scope.specs.Blocks.{Placed, blocks_of}
 use Rattle.buffer_scope.specs.Scoped.{scoped_body, scoped_procedure, scoped_to, with_scopes}
 use Rattle.txn_infer.specs.Flags.{flagged_procedure, with_flags}
 use Rattle.block_meaning.specs.Frames.{is_in}
-use Rattle.bound_kinds.proofs.Parts.{both, both_left, both_right, holds, nil_left, nil_right}
+use Rattle.kind_laws.proofs.BoundKindsLemmas.Parts.{both, both_left, both_right, holds, nil_left, nil_right}
 use Rattle.kind_laws.specs.Placed.{is_internal, is_own, is_placed, is_placed_body, is_placed_header, is_placed_phrase, is_placed_procedure, is_placed_statement, names_one_of, outward, undoes_one_of}
 use Rattle.kind_laws.proofs.Around.{Agree, AreDistinct, first_in, from_test, label_agrees, label_around, label_is_test, Match, named_in, no_match, number_outward, numbers, rest_outward, undo_agrees, undo_is_test}
 use Rattle.kind_laws.proofs.Inferred.{flags_place_in, scopes_place_in}

@@ -4,13 +4,13 @@ use Rattle.std.specs.Prelude.{◌==◌, slice_index_or, slice_set}
 use Rattle.abl_base.specs.declared.row.RowId.{RowId}
 use Rattle.abl_base.specs.declared.value.Value.{Value}
 use Rattle.abl_values.specs.Schema.{SchemaData}
-use Rattle.client_database.specs.declared.row_order.Cursor.{Cursor}
-use Rattle.client_database.specs.declared.operation.Op.TheVariants as op
+use Rattle.database_protocol.specs.declared.row_order.Cursor.{Cursor}
+use Rattle.database_protocol.specs.declared.operation.Op.TheVariants as op
 use Rattle.block_meaning.specs.Buffers.{Place, as_share, buffer_in, buffer_shared, holding_in, left, left_if, shared}
 use Rattle.block_meaning.specs.Changes.{as_before}
 use Rattle.block_meaning.specs.Frames.{all_emptied, buffer_at, content_of, content_restored, contents_restored, copy_of, emptied, frames_restored, holding, marked_locked, no_buffer, no_frame, own_frame, pending_of, put_back, saved_of, table_of as table_now, with_own, with_spot}
 use Rattle.block_meaning.specs.State.{Buffer, CallFrame, Content, Copy, Empty, Exclusive, NoLock, Pending, Record, Saved, Share, Spot, State}
-use Rattle.block_flat.specs.Means.{contents_back, contents_of, first_of, less}
+use Rattle.flat_machine.specs.Means.{contents_back, contents_of, first_of, less}
 use Rattle.kind_laws.specs.Reached.{Ground}
 use Rattle.kind_laws.proofs.Kept.{AreBuffers, AreFrames, AreOld, AreRecords, AreSaved, IsBuffer, IsFrame, IsRecord, Suits, table_here, table_in, table_there}
 use Rattle.kind_laws.proofs.Rows.{IsRead}

@@ -14,8 +14,8 @@ use Rattle.bound_tree.specs.declared.statement.Target.{Target}
 use Rattle.bound_tree.specs.declared.statement.Target.TheVariants as target
 use Rattle.bound_tree.specs.Tree.{Argument, In, InOut, Out}
 use Rattle.bind_names.specs.Sorts.{same_kind}
-use Rattle.bound_kinds.specs.WellKinded.{are_arguments, are_of_kinds, begins_well, is_argument, is_of_kind, is_target, is_variable, kind_of_field, table_of}
-use Rattle.bound_kinds.proofs.Parts.{both_left, both_right}
+use Rattle.kind_laws.specs.bound_kinds.WellKinded.{are_arguments, are_of_kinds, begins_well, is_argument, is_of_kind, is_target, is_variable, kind_of_field, table_of}
+use Rattle.kind_laws.proofs.BoundKindsLemmas.Parts.{both_left, both_right}
 use Rattle.block_meaning.specs.Changes.{stored, stored_if, stored_in, stored_value, with_field}
 use Rattle.block_meaning.specs.Frames.{assigned, content_of, set_in, value_in, value_of}
 use Rattle.block_meaning.specs.Meaning.{argument_value, argument_values, copied_out, new_buffer, new_frame, opened_frame, params_set}

@@ -1,6 +1,6 @@
 -- The steps of a completion that reaches an entry of the stack.
 use Rattle.std.proofs.Common.{◌≡◌, ℕ, Bool, true, false, List, [], ◌∷◌, Option, refl, subst}
-use Rattle.client_database.specs.declared.ends.ClientEnd.{ClientEnd}
+use Rattle.database_protocol.specs.declared.ends.ClientEnd.{ClientEnd}
 use Rattle.bound_tree.specs.declared.statement.FindWord.{FindWord}
 use Rattle.bound_tree.specs.declared.statement.FindWord.TheVariants as find
 use Rattle.bound_tree.specs.Tree.{Argument, Header}
@@ -9,9 +9,9 @@ use Rattle.block_meaning.specs.Frames.{own_frame}
 use Rattle.block_meaning.specs.Meaning.{copied_out, popped, without_frame}
 use Rattle.block_meaning.specs.Program.{procedure_at}
 use Rattle.block_meaning.specs.State.{Again, CallFrame, Completion, Content, Copy, EndKeys, Faults, Found, Lost, Normal, NotFound, Raises, Returns, State, Stops, Turn, Undoes, nothing_passed}
-use Rattle.block_flat.specs.Config.{AfterClosing, AndAgain, AsBefore, Called, Completes, EndsWith, ErrorComes, Execute, FetchedAs, FoundAs, Handles, In, OrDo, Quiet, StackEntry, Task, ThenDo}
-use Rattle.block_flat.specs.Machine.{again_step, before_step, called_step, closing_step, fetched_step, found_step, handled_step, not_found_step, or_step, pop_step, quiet_step, then_step}
-use Rattle.block_flat.specs.Steps.{config}
+use Rattle.flat_machine.specs.Config.{AfterClosing, AndAgain, AsBefore, Called, Completes, EndsWith, ErrorComes, Execute, FetchedAs, FoundAs, Handles, In, OrDo, Quiet, StackEntry, Task, ThenDo}
+use Rattle.flat_machine.specs.Machine.{again_step, before_step, called_step, closing_step, fetched_step, found_step, handled_step, not_found_step, or_step, pop_step, quiet_step, then_step}
+use Rattle.flat_machine.specs.Steps.{config}
 use Rattle.kind_laws.specs.Placed.{is_nil}
 use Rattle.kind_laws.specs.Reached.{Ground}
 use Rattle.kind_laws.proofs.Kept.{allows, AreFrames, AreOld, CanFail, in_block, IsAllowed, IsCall, IsFrame, IsKept, IsOpen, IsOver, IsStack, IsTask, IsWhole, Kept, nothing, IsCopy}

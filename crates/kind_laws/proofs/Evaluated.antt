@@ -11,13 +11,13 @@ use Rattle.bound_tree.specs.Tree.{Action, Argument, BracketValue, CurrentOf, Exp
 use Rattle.bind_names.specs.declared.sort.Sort.{Sort}
 use Rattle.bind_names.specs.Sorts.{fits, is_broken, is_whole_kind, mask_fits, may_be_logical, may_be_number}
 use Rattle.bind_expressions.specs.WellKinded.{sort_of}
-use Rattle.bound_kinds.specs.WellKinded.{Surroundings, are_arguments, if_there, is_action, is_argument, is_body, is_bracket, is_condition, is_counting, is_for, is_good, is_item, is_kind, is_marked, is_number, is_reading, is_run, is_shown, is_statement, is_value, is_variable, kind_of_field, kind_of_target, parts_of, table_of}
-use Rattle.bound_kinds.proofs.Parts.{both, both_left, both_right}
+use Rattle.kind_laws.specs.bound_kinds.WellKinded.{Surroundings, are_arguments, if_there, is_action, is_argument, is_body, is_bracket, is_condition, is_counting, is_for, is_good, is_item, is_kind, is_marked, is_number, is_reading, is_run, is_shown, is_statement, is_value, is_variable, kind_of_field, kind_of_target, parts_of, table_of}
+use Rattle.kind_laws.proofs.BoundKindsLemmas.Parts.{both, both_left, both_right}
 use Rattle.block_meaning.specs.Blocks.{Iteration}
 use Rattle.block_meaning.specs.State.{Stops}
-use Rattle.block_flat.specs.Code.{DenotesAt, Ends, Instr, Opens, Plain, Tests}
-use Rattle.client_database.specs.declared.operation.Op.{Op}
-use Rattle.block_flat.specs.Config.{StackEntry, Acts, AssignsOne, Await, Blocks, Config, EndsWith, Execute, Iterates, Mode, OnAnswer, RunsFrom, Searches, Task, Unwind, WasNext, WasRead, WasSecond}
+use Rattle.flat_machine.specs.Code.{DenotesAt, Ends, Instr, Opens, Plain, Tests}
+use Rattle.database_protocol.specs.declared.operation.Op.{Op}
+use Rattle.flat_machine.specs.Config.{StackEntry, Acts, AssignsOne, Await, Blocks, Config, EndsWith, Execute, Iterates, Mode, OnAnswer, RunsFrom, Searches, Task, Unwind, WasNext, WasRead, WasSecond}
 use Rattle.kind_laws.specs.Evaluated.{action_expressions, answer_expressions, argument_expressions, end_expressions, expressions_if, expressions_of, instruction_expressions, item_expressions, right_expressions, start_expressions, statement_expressions, task_expressions}
 use Rattle.kind_laws.specs.Reached.{Ground, IsGround, ReachedOn, running, surroundings}
 use Rattle.kind_laws.proofs.Iterations.{header_to, header_while}
@@ -26,7 +26,7 @@ use Rattle.kind_laws.proofs.Runs.{own_procedure, reached_kept}
 use Rattle.kind_laws.proofs.Statements.{code_is}
 use Rattle.kind_laws.proofs.Undone.{IsSafe, IsUndone, Undoing, undoing_frames, bare}
 use Rattle.kind_laws.proofs.Undone.{acts, awaits_back, awaits_drop, awaits_get, awaits_leave, closes, drops, empties, enters, goes, has_dropped, has_emptied, has_entered, has_left, leaves, releases, restores, updated, updated_one, updates, updates_one}
-use Rattle.client_database.specs.declared.event.Event.{Event}
+use Rattle.database_protocol.specs.declared.event.Event.{Event}
 
 -- ---- a place for a value is a place for any
 

@@ -7,7 +7,7 @@ use Rattle.bound_tree.specs.declared.expression.Variable.{Variable}
 use Rattle.bound_tree.specs.Tree.{Body, Choose, Inner, Nothing, Procedure, Source, Stmt, Then}
 use Rattle.buffer_scope.specs.Scoped.{scoped_body, scoped_by, scoped_stmt}
 use Rattle.txn_infer.specs.Flags.{flagged_body, flagged_procedure, flagged_stmt}
-use Rattle.bound_kinds.specs.WellKinded.{Surroundings, VariableKinds, are_procedures, begins_well, inside, is_body, is_condition, is_header, is_procedure, is_statement, is_variable, is_well_kinded, parameters_of}
+use Rattle.kind_laws.specs.bound_kinds.WellKinded.{Surroundings, VariableKinds, are_procedures, begins_well, inside, is_body, is_condition, is_header, is_procedure, is_statement, is_variable, is_well_kinded, parameters_of}
 use Rattle.kind_laws.specs.Placed.{is_placed_body, is_placed_header, is_placed_statement}
 
 -- ---- kinds

@@ -2,13 +2,13 @@
 use Rattle.std.proofs.Common.{◌≡◌, ℕ, Bool, true, false, List, ◌∷◌, Option, Some, None, refl, inl, inr}
 use Rattle.std.specs.Prelude.{◌&&◌, ◌==◌, ◌⊎◌}
 use Rattle.bound_tree.specs.Tree.{Action, Header, OnPhrase, Fetch, ThenError, ThenLeave, ThenNext, ThenReturn, ThenRetry}
-use Rattle.bound_kinds.specs.WellKinded.{Surroundings, if_there, is_action, is_condition, is_counting, is_header, is_reading}
-use Rattle.bound_kinds.proofs.Parts.{both_left, both_right}
+use Rattle.kind_laws.specs.bound_kinds.WellKinded.{Surroundings, if_there, is_action, is_condition, is_counting, is_header, is_reading}
+use Rattle.kind_laws.proofs.BoundKindsLemmas.Parts.{both_left, both_right}
 use Rattle.block_meaning.specs.Blocks.{Iteration, after_iteration, handles_endkey, instead_of_retry, iterates, next_turn, passed_with}
 use Rattle.block_meaning.specs.Program.{Program}
 use Rattle.block_meaning.specs.State.{Again, Completion, EndKeys, Faults, Found, Leaves, Lost, Nexts, Normal, NotFound, Passed, Raises, Returns, State, Stops, Undoes}
-use Rattle.block_flat.specs.Config.{Closes, Execute, Passes, StackEntry, UndoComes, Unwind, Releases, ThenDo, Completes}
-use Rattle.block_flat.specs.Steps.{act_step, config, config_if, endkey_step, ends_step, error_step}
+use Rattle.flat_machine.specs.Config.{Closes, Execute, Passes, StackEntry, UndoComes, Unwind, Releases, ThenDo, Completes}
+use Rattle.flat_machine.specs.Steps.{act_step, config, config_if, endkey_step, ends_step, error_step}
 use Rattle.kind_laws.specs.Placed.{is_placed_phrase, names_one_of}
 use Rattle.kind_laws.specs.Reached.{Ground}
 use Rattle.kind_laws.proofs.Kept.{Allowed, allows, AreFrames, CanFail, here, in_block, IsAllowed, IsBlock, IsCopy, IsOpen, IsOver, IsStack, Kept}

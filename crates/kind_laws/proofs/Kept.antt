@@ -5,21 +5,21 @@ use Rattle.abl_base.specs.declared.value.Kind.{Kind}
 use Rattle.abl_base.specs.declared.value.Value.{Value}
 use Rattle.abl_base.specs.declared.value.Value.TheVariants.{Unknown}
 use Rattle.abl_values.specs.Schema.{SchemaData}
-use Rattle.client_database.specs.declared.operation.Op.{Op}
-use Rattle.client_database.specs.declared.operation.Op.TheVariants as op
+use Rattle.database_protocol.specs.declared.operation.Op.{Op}
+use Rattle.database_protocol.specs.declared.operation.Op.TheVariants as op
 use Rattle.database_meaning.specs.Setting.{FitsTable, HasTable}
 use Rattle.bound_tree.specs.declared.expression.Variable.{Variable}
 use Rattle.bound_tree.specs.declared.procedure.BufferDef.{BufferDef}
 use Rattle.bound_tree.specs.declared.statement.Target.{Target}
 use Rattle.bound_tree.specs.Tree.{Argument, Assignment, Header, Reading, Right, ValueOf}
-use Rattle.bound_kinds.specs.WellKinded.{Surroundings, are_arguments, if_there, is_action, is_body, is_for, is_good_procedure, is_header, is_of_kind, is_reading, is_target, kind_of_target}
+use Rattle.kind_laws.specs.bound_kinds.WellKinded.{Surroundings, are_arguments, if_there, is_action, is_body, is_for, is_good_procedure, is_header, is_of_kind, is_reading, is_target, kind_of_target}
 use Rattle.block_meaning.specs.Blocks.{Iteration}
 use Rattle.block_meaning.specs.Frames.{is_in, no_buffer}
 use Rattle.block_meaning.specs.Program.{no_buffer_def, procedure_at}
 use Rattle.block_meaning.specs.State.{Again, Buffer, CallFrame, Completion, Content, Copy, Empty, EndKeys, Faults, Found, Leaves, Lost, Nexts, Normal, NotFound, Pending, Raises, Record, Returns, Saved, Stops, Undoes}
-use Rattle.block_flat.specs.Config.{Acts, AfterBack, AfterClosing, AndAgain, AsBefore, Assigns, AssignsEach, AssignsOne, Await, Begins, Begun, Blocks, Called, Calls, Closes, Closing, Completes, Config, Creates, CurrentGranted, Deletes, DeletesRow, Drops, Empties, EndKeyComes, EndsWith, Enters, EntersLevel, EntersOne, EntersRest, ErrorComes, Execute, FetchedAs, Fetches, FetchesFrom, Finds, FindsAs, FindsCurrent, FoundAs, GoesBack, Handles, Imports, In, IsOnly, Iterates, LeavesIf, LeavesNow, LocksAll, LocksOne, Looks, Mode, OnAnswer, OrDo, Passes, Quiet, Releases, RunsFrom, Searches, Seconds, SettlesAll, SettlesOne, StackEntry, Takes, TakesAgain, TakesAs, Task, ThenDo, Turns, UndoComes, Unwind, Updates, UpdatesOne, WasBack, WasCounted, WasCurrent, WasDeleted, WasDropped, WasEntered, WasGot, WasGranted, WasInserted, WasLeft, WasNext, WasPut, WasRead, WasSecond, WasUpgraded}
-use Rattle.block_flat.specs.Means.{first_of, less}
-use Rattle.schema_laws.specs.Named.{has_body, has_buffer, has_fetch, has_procedure, has_reading, has_right}
+use Rattle.flat_machine.specs.Config.{Acts, AfterBack, AfterClosing, AndAgain, AsBefore, Assigns, AssignsEach, AssignsOne, Await, Begins, Begun, Blocks, Called, Calls, Closes, Closing, Completes, Config, Creates, CurrentGranted, Deletes, DeletesRow, Drops, Empties, EndKeyComes, EndsWith, Enters, EntersLevel, EntersOne, EntersRest, ErrorComes, Execute, FetchedAs, Fetches, FetchesFrom, Finds, FindsAs, FindsCurrent, FoundAs, GoesBack, Handles, Imports, In, IsOnly, Iterates, LeavesIf, LeavesNow, LocksAll, LocksOne, Looks, Mode, OnAnswer, OrDo, Passes, Quiet, Releases, RunsFrom, Searches, Seconds, SettlesAll, SettlesOne, StackEntry, Takes, TakesAgain, TakesAs, Task, ThenDo, Turns, UndoComes, Unwind, Updates, UpdatesOne, WasBack, WasCounted, WasCurrent, WasDeleted, WasDropped, WasEntered, WasGot, WasGranted, WasInserted, WasLeft, WasNext, WasPut, WasRead, WasSecond, WasUpgraded}
+use Rattle.flat_machine.specs.Means.{first_of, less}
+use Rattle.kind_laws.specs.schemas.Named.{has_body, has_buffer, has_fetch, has_procedure, has_reading, has_right}
 use Rattle.kind_laws.specs.Operations.{IsOfSchema}
 use Rattle.kind_laws.specs.Placed.{is_internal, is_nil, is_outermost, is_placed_body, is_placed_header, is_placed_procedure, names_one_of, undoes_one_of}
 use Rattle.kind_laws.specs.Reached.{Ground, kinds_at, surroundings}

@@ -1,3 +1,5 @@
+pub mod BoundKindsLemmas
+pub mod SchemasLemmas
 pub mod Kept
 pub mod States
 pub mod Rows

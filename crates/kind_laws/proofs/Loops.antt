@@ -3,26 +3,26 @@ use Rattle.std.proofs.Common.{◌≡◌, ℕ, Bool, true, false, List, Option, S
 use Rattle.std.specs.Prelude.{◌&&◌, ◌⊎◌, pos}
 use Rattle.abl_base.specs.declared.value.Value.{Value}
 use Rattle.abl_base.specs.declared.value.Value.TheVariants.{Int64}
-use Rattle.client_database.specs.declared.operation.Op.TheVariants as op
+use Rattle.database_protocol.specs.declared.operation.Op.TheVariants as op
 use Rattle.bound_tree.specs.Tree.{Expr, Fetch, Header, ToPhrase}
-use Rattle.bound_kinds.specs.WellKinded.{if_there, is_counting, is_of_kind, is_reading, is_variable}
+use Rattle.kind_laws.specs.bound_kinds.WellKinded.{if_there, is_counting, is_of_kind, is_reading, is_variable}
 use Rattle.bind_names.specs.Sorts.{is_whole_kind}
-use Rattle.bound_kinds.proofs.Parts.{both_left}
-use Rattle.abl_expr.specs.Operators.{holds}
+use Rattle.kind_laws.proofs.BoundKindsLemmas.Parts.{both_left}
+use Rattle.expression_meaning.specs.Operators.{holds}
 use Rattle.block_meaning.specs.Blocks.{counts_down, enters_at, first_turn, in_bound, is_given, next_value, retry_in}
 use Rattle.block_meaning.specs.Frames.{assigned, value_of}
 use Rattle.block_meaning.specs.Program.{Program}
 use Rattle.block_meaning.specs.State.{Copy, Normal, State, Turn}
 use Rattle.block_meaning.specs.Values.{Evaluated, Fails, Gives, fit, value_now}
-use Rattle.block_flat.specs.Config.{Begins, Config, EntersLevel, Execute, StackEntry, Turns, Unwind, WasEntered}
-use Rattle.block_flat.specs.Steps.{advance_step, ask, begins_step, block_step, by_step, config, config_if, given_step, loop_step, reach_step, set_step, turn_step, while_step}
+use Rattle.flat_machine.specs.Config.{Begins, Config, EntersLevel, Execute, StackEntry, Turns, Unwind, WasEntered}
+use Rattle.flat_machine.specs.Steps.{advance_step, ask, begins_step, block_step, by_step, config, config_if, given_step, loop_step, reach_step, set_step, turn_step, while_step}
 use Rattle.kind_laws.specs.Reached.{Ground}
 use Rattle.kind_laws.proofs.Kept.{Allowed, allows, AreFrames, CanFail, here, IsApart, IsBlock, IsStack, IsWhole, Kept, IsCopy}
 use Rattle.kind_laws.proofs.Calls.{fit_is, IfGives}
 use Rattle.kind_laws.proofs.Iterations.{header_fetch, header_to}
 use Rattle.kind_laws.proofs.Parts.{ask_kept, given_kept, kept_if, lacked}
 use Rattle.kind_laws.proofs.States.{assigned_keeps}
-use Rattle.schema_laws.specs.Named.{has_fetch}
+use Rattle.kind_laws.specs.schemas.Named.{has_fetch}
 
 -- ---- where another iteration is allowed too
 

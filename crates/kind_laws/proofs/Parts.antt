@@ -3,10 +3,10 @@ use Rattle.std.proofs.Common.{◌≡◌, ℕ, zero, suc, Bool, true, false, List
 use Rattle.std.specs.Prelude.{◌&&◌, ◌||◌, ◌==◌, ◌⊎◌, not, if◌then◌else◌}
 use Rattle.std.proofs.lemmas.Bool.Decides.{nat_tests}
 use Rattle.abl_base.specs.declared.value.Value.{Value}
-use Rattle.client_database.specs.declared.operation.Op.{Op}
+use Rattle.database_protocol.specs.declared.operation.Op.{Op}
 use Rattle.bound_tree.specs.Tree.{Action, Expr, Header}
-use Rattle.bound_kinds.proofs.Parts.{both_left, both_right}
-use Rattle.abl_expr.specs.Operators.{holds}
+use Rattle.kind_laws.proofs.BoundKindsLemmas.Parts.{both_left, both_right}
+use Rattle.expression_meaning.specs.Operators.{holds}
 use Rattle.block_meaning.specs.declared.wants.Piece.{Piece}
 use Rattle.block_meaning.specs.Blocks.{Iteration, after_iteration, complained, completion_if, first_of_two, handles_endkey, is_given, iterates, line_piece, next_turn}
 use Rattle.block_meaning.specs.Frames.{emptied, is_in}
@@ -14,8 +14,8 @@ use Rattle.block_meaning.specs.Lines.{Complaint}
 use Rattle.block_meaning.specs.Program.{Program}
 use Rattle.block_meaning.specs.State.{Again, Completed, Completion, Copy, Leaves, Nexts, Normal, Returns, State, Stops, wrote, written_if}
 use Rattle.block_meaning.specs.Values.{Evaluated, EvaluatedAll, Fails, FailsAll, Gives, GivesAll, value_now}
-use Rattle.block_flat.specs.Config.{Config, EndsWith, Execute, OnAnswer, StackEntry, Task, ThenDo, Unwind}
-use Rattle.block_flat.specs.Steps.{ask, asked_from, config, config_if, costing, ends_as, errs_step, given_all_step, given_step, judge_step, test_step}
+use Rattle.flat_machine.specs.Config.{Config, EndsWith, Execute, OnAnswer, StackEntry, Task, ThenDo, Unwind}
+use Rattle.flat_machine.specs.Steps.{ask, asked_from, config, config_if, costing, ends_as, errs_step, given_all_step, given_step, judge_step, test_step}
 use Rattle.kind_laws.specs.Placed.{is_nil, names_one_of, outward, undoes_one_of}
 use Rattle.kind_laws.specs.Reached.{Ground}
 use Rattle.kind_laws.proofs.Kept.{Allowed, allows, AreFrames, CanFail, IsAllowed, IsApart, IsAwaited, IsBlock, IsCopy, IsOver, IsStack, IsTask, Kept}

@@ -1,17 +1,17 @@
 -- An UNDO that undoes no level comes to a block that can be undone only outside of a transaction, where no record is pending.
 use Rattle.std.proofs.Common.{◌≡◌, ℕ, true, false, List, [], ◌∷◌, Option, Some, None, refl, ◌∙◌}
-use Rattle.client_database.specs.declared.event.Event.{Event}
+use Rattle.database_protocol.specs.declared.event.Event.{Event}
 use Rattle.client_runner.specs.Levels.{levels_left}
 use Rattle.block_meaning.specs.Blocks.{first_of_two}
 use Rattle.block_meaning.specs.Frames.{content_of}
 use Rattle.block_meaning.specs.State.{Content, Copy, Empty, Pending, Record, State}
-use Rattle.block_flat.specs.Config.{Await, Config, Execute, Mode, StackEntry, UndoComes, Unwind}
+use Rattle.flat_machine.specs.Config.{Await, Config, Execute, Mode, StackEntry, UndoComes, Unwind}
 use Rattle.bound_tree.specs.Tree.{Body, Header}
-use Rattle.level_laws.proofs.Kept.{FirstAt, IsBare, ModeAt}
-use Rattle.level_laws.proofs.Runs.{reached_sound}
-use Rattle.pending_laws.proofs.Kept.{ModeFits}
-use Rattle.pending_laws.proofs.Pends.{Claims, IsClear, None_is, content_claims}
-use Rattle.pending_laws.proofs.Runs.{reached_kept}
+use Rattle.machine_laws.proofs.LevelsLemmas.Kept.{FirstAt, IsBare, ModeAt}
+use Rattle.machine_laws.proofs.LevelsLemmas.Runs.{reached_sound}
+use Rattle.machine_laws.proofs.PendingLemmas.Kept.{ModeFits}
+use Rattle.machine_laws.proofs.PendingLemmas.Pends.{Claims, IsClear, None_is, content_claims}
+use Rattle.machine_laws.proofs.PendingLemmas.Runs.{reached_kept}
 use Rattle.kind_laws.specs.Reached.{Ground, IsGround, ReachedOn}
 use Rattle.kind_laws.proofs.Undone.{AreClear, is_pending, IsQuiet}
 

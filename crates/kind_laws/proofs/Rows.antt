@@ -16,13 +16,13 @@ use Rattle.abl_values.specs.Rows.{FitsFields}
 use Rattle.abl_values.specs.Schema.{SchemaData, field_kinds, no_field, no_table, table_at}
 use Rattle.database_meaning.specs.Setting.{HasTable, HasIndex}
 use Rattle.bound_tree.specs.declared.procedure.BufferDef.{BufferDef}
-use Rattle.bound_kinds.specs.WellKinded.{is_of_kind, kind_of_field, table_of}
-use Rattle.schema_laws.specs.Named.{can_read, has_buffer, has_index, has_table}
+use Rattle.kind_laws.specs.bound_kinds.WellKinded.{is_of_kind, kind_of_field, table_of}
+use Rattle.kind_laws.specs.schemas.Named.{can_read, has_buffer, has_index, has_table}
 use Rattle.kind_laws.specs.Reached.{Ground}
 use Rattle.kind_laws.proofs.Kept.{here, IsRow, table_among, table_here}
 use Rattle.kind_laws.proofs.States.{of_kind}
 use Rattle.abl_values.specs.declared.schema.TableDef.{TableDef}
-use Rattle.bound_kinds.proofs.Parts.{both_left, both_right}
+use Rattle.kind_laws.proofs.BoundKindsLemmas.Parts.{both_left, both_right}
 
 -- ---- values that were converted
 

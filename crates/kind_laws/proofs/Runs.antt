@@ -9,22 +9,22 @@ use Rattle.bound_tree.specs.Tree.{Expr, Procedure, Source}
 use Rattle.bind_names.specs.declared.sort.Sort.{Sort}
 use Rattle.bind_names.specs.declared.sort.Sort.TheVariants.{Of, Unknown, Broken}
 use Rattle.bind_names.specs.Sorts.{is_whole_kind, may, same_kind, sort_of_value}
-use Rattle.bound_kinds.specs.Values.{Has, Keeps, has_sort, is_like}
-use Rattle.bound_kinds.specs.WellKinded.{Surroundings, is_field, is_good, is_marked, is_of_kind, is_variable, kind_of_field, table_of}
-use Rattle.bound_kinds.proofs.Parts.{both_left, both_right}
-use Rattle.bound_kinds.proofs.Valued.{good_has}
+use Rattle.kind_laws.specs.bound_kinds.Values.{Has, Keeps, has_sort, is_like}
+use Rattle.kind_laws.specs.bound_kinds.WellKinded.{Surroundings, is_field, is_good, is_marked, is_of_kind, is_variable, kind_of_field, table_of}
+use Rattle.kind_laws.proofs.BoundKindsLemmas.Parts.{both_left, both_right}
+use Rattle.kind_laws.proofs.BoundKindsLemmas.Valued.{good_has}
 use Rattle.bind_expressions.specs.WellKinded.{sort_of}
-use Rattle.abl_expr.specs.Env.{Env}
-use Rattle.abl_expr.specs.Evaluate.{evaluate}
+use Rattle.expression_meaning.specs.Env.{Env}
+use Rattle.expression_meaning.specs.Evaluate.{evaluate}
 use Rattle.block_meaning.specs.Frames.{content_of, own_frame, value_of}
 use Rattle.block_meaning.specs.State.{CallFrame, Content, Empty, Pending, Record, State, Stops}
 use Rattle.block_meaning.specs.Values.{env_of, field_in}
-use Rattle.client_database.specs.declared.answer.Answer.{Answer}
-use Rattle.client_database.specs.declared.operation.Op.{Op}
+use Rattle.database_protocol.specs.declared.answer.Answer.{Answer}
+use Rattle.database_protocol.specs.declared.operation.Op.{Op}
 use Rattle.database_meaning.specs.Fits.{Fits}
-use Rattle.block_flat.specs.Config.{Await, Config, EndsWith, Execute, Mode, OnAnswer, StackEntry, Unwind}
-use Rattle.block_flat.specs.Machine.{answered, mode_step, step}
-use Rattle.block_flat.specs.Steps.{config}
+use Rattle.flat_machine.specs.Config.{Await, Config, EndsWith, Execute, Mode, OnAnswer, StackEntry, Unwind}
+use Rattle.flat_machine.specs.Machine.{answered, mode_step, step}
+use Rattle.flat_machine.specs.Steps.{config}
 use Rattle.kind_laws.specs.Reached.{Ground, IsGround, ReachedOn, running, surroundings}
 use Rattle.kind_laws.proofs.Kept.{AreFrames, IsGoing, IsRecord, table_here, here}
 use Rattle.kind_laws.proofs.Answers.{answer_kept}
@@ -34,8 +34,8 @@ use Rattle.kind_laws.proofs.States.{kind_there, variable_has}
 use Rattle.kind_laws.proofs.Tasks.{first_kept, task_kept}
 use Rattle.kind_laws.proofs.Undone.{frames_safe, IsSafe, retreat_answer, retreat_step, IsQuiet, asks_safe}
 use Rattle.abl_values.specs.Schema.{table_at}
-use Rattle.client_database.specs.declared.event.Event.{Event}
-use Rattle.level_laws.specs.Reached.{answers, begins, steps}
+use Rattle.database_protocol.specs.declared.event.Event.{Event}
+use Rattle.machine_laws.specs.levels.Reached.{answers, begins, steps}
 use Rattle.kind_laws.specs.Operations.{IsOfSchema}
 use Rattle.kind_laws.proofs.Rows.{row_fits, field_here}
 use Rattle.kind_laws.proofs.Quiet.{reached_quiet}

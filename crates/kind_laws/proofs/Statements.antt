@@ -4,13 +4,13 @@ use Rattle.std.specs.Prelude.{◌&&◌, slice_get, slice_index_or}
 use Rattle.std.specs.List.{list_all}
 use Rattle.abl_base.specs.declared.value.Value.{Value}
 use Rattle.abl_values.specs.Schema.{SchemaData}
-use Rattle.text_forms.specs.TextForms.{AtInputEnd, BadElement, Elements, Imported}
+use Rattle.abl_base.specs.text_forms.TextForms.{AtInputEnd, BadElement, Elements, Imported}
 use Rattle.bound_tree.specs.declared.expression.Variable.{Variable}
 use Rattle.bound_tree.specs.declared.statement.Target.{Target}
 use Rattle.bound_tree.specs.Tree.{Argument, Assign, Assignment, Body, Choose, Create, CurrentOf, Export, ExportRecord, Find, FindCurrent, Given, Import, Inner, InputClose, InputFrom, LeaveBlock, Message, NextBlock, NextOf, Nothing, OutputClose, OutputTo, Procedure, PutItems, Release, Remove, Return, ReturnError, Right, Run, Source, Stmt, Stop, Then, UndoBlock, ValueOf}
-use Rattle.bound_kinds.specs.WellKinded.{Surroundings, VariableKinds, are_arguments, are_procedures, if_there, inside, is_assignment, is_body, is_condition, is_header, is_procedure, is_right_side, is_run, is_statement, is_target, is_well_kinded, kind_of_target, parameters_of}
-use Rattle.bound_kinds.proofs.Parts.{both, both_left, both_right}
-use Rattle.abl_expr.specs.Operators.{holds}
+use Rattle.kind_laws.specs.bound_kinds.WellKinded.{Surroundings, VariableKinds, are_arguments, are_procedures, if_there, inside, is_assignment, is_body, is_condition, is_header, is_procedure, is_right_side, is_run, is_statement, is_target, is_well_kinded, kind_of_target, parameters_of}
+use Rattle.kind_laws.proofs.BoundKindsLemmas.Parts.{both, both_left, both_right}
+use Rattle.expression_meaning.specs.Operators.{holds}
 use Rattle.block_meaning.specs.declared.wants.Piece.TheVariants.{Opened, Wrote}
 use Rattle.block_meaning.specs.Buffers.{own}
 use Rattle.block_meaning.specs.Frames.{content_of, is_in}
@@ -19,16 +19,16 @@ use Rattle.block_meaning.specs.Program.{no_procedure, procedure_at}
 use Rattle.block_meaning.specs.State.{Content, Empty, Pending, Raises, Record, State, nothing_passed, wrote}
 use Rattle.block_meaning.specs.Streams.{pairs_of, read_to, read_up_to, stream_at, with_stream}
 use Rattle.block_meaning.specs.Values.{Evaluated, EvaluatedAll, Fails, FailsAll, Gives, GivesAll, HasFault, IsText, Text, export_line, message_line, put_text, value_now, values_now}
-use Rattle.block_flat.specs.Code.{DenotesAt, Ends as EndsBody, Instr, Opens, Plain, Tests, before}
-use Rattle.block_flat.specs.Config.{Blocks, Calls, Execute, Handles, RunsFrom, StackEntry, ThenDo, Completes}
-use Rattle.block_flat.specs.Steps.{choose_step, config, ends_as, export_step, given_all_step, given_text_step, import_step, instr_step, stmt_step, wrote_to}
+use Rattle.flat_machine.specs.Code.{DenotesAt, Ends as EndsBody, Instr, Opens, Plain, Tests, before}
+use Rattle.flat_machine.specs.Config.{Blocks, Calls, Execute, Handles, RunsFrom, StackEntry, ThenDo, Completes}
+use Rattle.flat_machine.specs.Steps.{choose_step, config, ends_as, export_step, given_all_step, given_text_step, import_step, instr_step, stmt_step, wrote_to}
 use Rattle.kind_laws.specs.Placed.{is_internal, is_nil, is_placed_body, is_placed_header, is_placed_procedure, is_placed_statement}
 use Rattle.kind_laws.specs.Reached.{Ground, IsGround, kinds_at, no_variables}
 use Rattle.kind_laws.proofs.Kept.{allows, AreAssigned, AreFor, AreFrames, CanFail, here, is_right, IsCall, IsCode, IsProcedure, IsStack, Kept}
 use Rattle.kind_laws.proofs.Calls.{arguments_are, IfAll}
 use Rattle.kind_laws.proofs.Parts.{costing_kept, ends_kept, errs_kept, given_all_kept, kept_if, wrote_ends}
 use Rattle.bound_tree.specs.declared.procedure.BufferDef.{BufferDef}
-use Rattle.schema_laws.specs.Named.{has_fetch, has_assignment, has_statement, has_body, has_procedure}
+use Rattle.kind_laws.specs.schemas.Named.{has_fetch, has_assignment, has_statement, has_body, has_procedure}
 
 -- ---- streams change no variable
 

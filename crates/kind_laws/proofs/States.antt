@@ -10,7 +10,7 @@ use Rattle.abl_base.specs.declared.value.Value.TheVariants.{Unknown}
 use Rattle.abl_values.specs.Fit.{IsOfKind}
 use Rattle.bound_tree.specs.declared.expression.Variable.{Variable}
 use Rattle.bind_names.specs.Sorts.{same_kind}
-use Rattle.bound_kinds.specs.WellKinded.{VariableKinds, is_kind, is_of_kind, is_variable, kind_of_variable}
+use Rattle.kind_laws.specs.bound_kinds.WellKinded.{VariableKinds, is_kind, is_of_kind, is_variable, kind_of_variable}
 use Rattle.block_meaning.specs.Frames.{assigned, frame_for, last_frame, set_in, value_in, value_of, with_frame_for, with_last}
 use Rattle.block_meaning.specs.State.{CallFrame, State}
 use Rattle.kind_laws.specs.Reached.{Ground, kinds_at}

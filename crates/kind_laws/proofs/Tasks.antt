@@ -12,17 +12,17 @@ use Rattle.abl_values.specs.declared.schema.TableDef.{TableDef}
 use Rattle.abl_values.specs.Schema.{no_table, field_kinds}
 use Rattle.abl_values.specs.Sound.{IsSoundField, IsSoundTable}
 use Rattle.abl_values.specs.Rows.{bytes_of_row, FitsFields}
-use Rattle.client_database.specs.declared.row_order.Cursor.{Cursor}
-use Rattle.client_database.specs.declared.operation.Op.TheVariants as op
+use Rattle.database_protocol.specs.declared.row_order.Cursor.{Cursor}
+use Rattle.database_protocol.specs.declared.operation.Op.TheVariants as op
 use Rattle.bound_tree.specs.declared.block.LockWanted.{LockWanted}
 use Rattle.bound_tree.specs.declared.block.LockWanted.TheVariants as wanted
 use Rattle.bound_tree.specs.declared.statement.FindWord.{FindWord}
 use Rattle.bound_tree.specs.declared.statement.FindWord.TheVariants as find
 use Rattle.bound_tree.specs.declared.statement.Target.{Target}
 use Rattle.bound_tree.specs.Tree.{Argument, CurrentOf, Fetch, Given, NextOf, Reading, Right, ValueOf}
-use Rattle.bound_kinds.specs.WellKinded.{begins_well, is_body, is_header, is_variable}
+use Rattle.kind_laws.specs.bound_kinds.WellKinded.{begins_well, is_body, is_header, is_variable}
 use Rattle.std.specs.List.{list_all}
-use Rattle.bound_kinds.proofs.Parts.{both_left, both_right}
+use Rattle.kind_laws.proofs.BoundKindsLemmas.Parts.{both_left, both_right}
 use Rattle.block_meaning.specs.Buffers.{Place, all_places, buffer_in, holding_in, is_left_out, is_row_in, keep_of, made_later, missing_field, own}
 use Rattle.block_meaning.specs.Changes.{all_begun, begun, buffers_in, initial_values, stored, stored_if}
 use Rattle.block_meaning.specs.Frames.{content_of, emptied, locked_row, marked_locked, table_of}
@@ -32,9 +32,9 @@ use Rattle.block_meaning.specs.Reads.{Search, is_each, is_exclusive, is_forward}
 use Rattle.block_meaning.specs.State.{Content, Empty, Exclusive, Held, NoLock, Normal, NotFound, Pending, Record, Share, State}
 use Rattle.block_meaning.specs.Streams.{line_now}
 use Rattle.block_meaning.specs.Values.{EvaluatedAll, FailsAll, GivesAll, value_now, values_now}
-use Rattle.block_flat.specs.Config.{Acts, AfterBack, Assigns, AssignsEach, AssignsOne, Begins, Begun, Blocks, Calls, Closes, Closing, Completes, Creates, CurrentGranted, Deletes, DeletesRow, Drops, Empties, EndKeyComes, EndsWith, Enters, EntersLevel, EntersOne, EntersRest, ErrorComes, Execute, Fetches, FetchesFrom, Finds, FindsAs, FindsCurrent, GoesBack, Imports, IsOnly, Iterates, LeavesIf, LeavesNow, LocksAll, LocksOne, Looks, Passes, Releases, RunsFrom, Searches, Seconds, SettlesAll, SettlesOne, StackEntry, Takes, TakesAgain, TakesAs, Task, ThenDo, Turns, UndoComes, Unwind, Updates, UpdatesOne, WasBack, WasCounted, WasCurrent, WasDeleted, WasDropped, WasGot, WasGranted, WasInserted, WasLeft, WasNext, WasPut, WasRead, WasSecond, WasUpgraded}
-use Rattle.block_flat.specs.Machine.{first_config, task_step}
-use Rattle.block_flat.specs.Steps.{ask, assign_step, config, current_in_step, current_step, delete_step, drop_step, enter_step, fault, fetch_step, find_step, insert_unless, lock_step, only_step, put_unless, search_step, settle_step, take_again_step, take_step, turn_step, update_step, upgrade_step}
+use Rattle.flat_machine.specs.Config.{Acts, AfterBack, Assigns, AssignsEach, AssignsOne, Begins, Begun, Blocks, Calls, Closes, Closing, Completes, Creates, CurrentGranted, Deletes, DeletesRow, Drops, Empties, EndKeyComes, EndsWith, Enters, EntersLevel, EntersOne, EntersRest, ErrorComes, Execute, Fetches, FetchesFrom, Finds, FindsAs, FindsCurrent, GoesBack, Imports, IsOnly, Iterates, LeavesIf, LeavesNow, LocksAll, LocksOne, Looks, Passes, Releases, RunsFrom, Searches, Seconds, SettlesAll, SettlesOne, StackEntry, Takes, TakesAgain, TakesAs, Task, ThenDo, Turns, UndoComes, Unwind, Updates, UpdatesOne, WasBack, WasCounted, WasCurrent, WasDeleted, WasDropped, WasGot, WasGranted, WasInserted, WasLeft, WasNext, WasPut, WasRead, WasSecond, WasUpgraded}
+use Rattle.flat_machine.specs.Machine.{first_config, task_step}
+use Rattle.flat_machine.specs.Steps.{ask, assign_step, config, current_in_step, current_step, delete_step, drop_step, enter_step, fault, fetch_step, find_step, insert_unless, lock_step, only_step, put_unless, search_step, settle_step, take_again_step, take_step, turn_step, update_step, upgrade_step}
 use Rattle.kind_laws.specs.Placed.{is_outermost, is_own, is_placed_body, is_placed_header}
 use Rattle.kind_laws.specs.Reached.{Ground, IsGround, kinds_at, surroundings}
 use Rattle.kind_laws.proofs.Undone.{IsSafe, undo_safe, IsQuiet}
@@ -46,7 +46,7 @@ use Rattle.kind_laws.proofs.Parts.{ask_kept, costing_kept, ends_kept, kept_if, u
 use Rattle.kind_laws.proofs.Buffers.{all_emptied_keeps, buffer_has, content_has, emptied_keeps, finds_here, gets_here, gets_there, holding_in_keeps, holding_keeps, marked_keeps, old_have, place_has, put_back_keeps, has_now, reads_now}
 use Rattle.kind_laws.proofs.Statements.{import_kept, instr_kept, main_is}
 use Rattle.database_meaning.specs.Setting.{HasTable, FitsTable, HasIndex}
-use Rattle.schema_laws.specs.Named.{has_buffer, has_fetch, has_body}
+use Rattle.kind_laws.specs.schemas.Named.{has_buffer, has_fetch, has_body}
 use Rattle.kind_laws.proofs.Rows.{created_table, IsRead, read_table}
 
 -- ---- buffers

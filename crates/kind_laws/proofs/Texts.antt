@@ -7,25 +7,25 @@ use Rattle.bound_tree.specs.Tree.{Procedure}
 use Rattle.buffer_scope.specs.Scoped.{with_scopes}
 use Rattle.txn_infer.specs.Flags.{flagged_procedure}
 use Rattle.txn_infer.specs.Undo.{has_undo}
-use Rattle.level_laws.proofs.Inferred.{inferred_flagged}
+use Rattle.machine_laws.proofs.LevelsLemmas.Inferred.{inferred_flagged}
 use Rattle.block_meaning.specs.Blocks.{handles_endkey}
 use Rattle.block_meaning.specs.State.{State}
-use Rattle.client_database.specs.declared.operation.Op.{Op}
-use Rattle.block_flat.specs.Steps.{config}
+use Rattle.database_protocol.specs.declared.operation.Op.{Op}
+use Rattle.flat_machine.specs.Steps.{config}
 use Rattle.schema_lines.specs.Files.{items_of}
 use Rattle.abl_values.specs.Schema.{SchemaData}
 use Rattle.abl_values.specs.Sound.{IsSound}
-use Rattle.abl_schema.proofs.ObservableSound.{files-sound}
+use Rattle.schema_reader.proofs.ObservableSound.{files-sound}
 use Rattle.bound_tree.specs.Tree.{Expr, Source}
 use Rattle.bind_expressions.specs.WellKinded.{sort_of}
-use Rattle.bound_kinds.specs.Kinds.{kinds_of_source}
-use Rattle.bound_kinds.specs.Values.{Has}
-use Rattle.bound_kinds.specs.WellKinded.{Surroundings, VariableKinds, is_masked, is_value, is_well_kinded}
-use Rattle.bound_kinds.proofs.Parts.{both_left, both_right, both}
-use Rattle.bound_kinds.proofs.Schemas.{schema_masked}
-use Rattle.abl_expr.specs.Evaluate.{evaluate}
+use Rattle.kind_laws.specs.bound_kinds.Kinds.{kinds_of_source}
+use Rattle.kind_laws.specs.bound_kinds.Values.{Has}
+use Rattle.kind_laws.specs.bound_kinds.WellKinded.{Surroundings, VariableKinds, is_masked, is_value, is_well_kinded}
+use Rattle.kind_laws.proofs.BoundKindsLemmas.Parts.{both_left, both_right, both}
+use Rattle.kind_laws.proofs.BoundKindsLemmas.Schemas.{schema_masked}
+use Rattle.expression_meaning.specs.Evaluate.{evaluate}
 use Rattle.block_meaning.specs.Values.{env_of}
-use Rattle.block_flat.specs.Config.{Await, Config, OnAnswer, StackEntry}
+use Rattle.flat_machine.specs.Config.{Await, Config, OnAnswer, StackEntry}
 use Rattle.kind_laws.specs.Evaluated.{expressions_of}
 use Rattle.kind_laws.specs.Placed.{is_outermost, is_own, is_placed, is_placed_procedure}
 use Rattle.kind_laws.specs.Reached.{Ground, IsGround, ReachedOn, running}
@@ -34,9 +34,9 @@ use Rattle.kind_laws.proofs.Bound.{bound_placed}
 use Rattle.kind_laws.proofs.Evaluated.{evaluated_good}
 use Rattle.kind_laws.proofs.Runs.{expressions_have, asked_of_schema}
 use Rattle.kind_laws.proofs.Trees.{tree_kinded}
-use Rattle.client_database.specs.declared.event.Event.{Event}
-use Rattle.schema_laws.specs.Named.{has_source}
-use Rattle.schema_laws.proofs.Sources.{bound_found}
+use Rattle.database_protocol.specs.declared.event.Event.{Event}
+use Rattle.kind_laws.specs.schemas.Named.{has_source}
+use Rattle.kind_laws.proofs.SchemasLemmas.Sources.{bound_found}
 use Rattle.kind_laws.specs.Operations.{IsOfSchema}
 
 -- the block of each procedure can be undone

@@ -2,21 +2,21 @@
 use Rattle.std.proofs.Common.{◌≡◌, ℕ, zero, suc, Bool, true, false, List, [], ◌∷◌, ◌++◌, Option, Some, None, refl, sym, subst, inl, inr}
 use Rattle.std.specs.Prelude.{◌==◌, ◌&&◌, ◌⊎◌, not, nat_lt, slice_index_or, slice_set}
 use Rattle.abl_base.specs.declared.row.RowId.{RowId}
-use Rattle.client_database.specs.declared.operation.Op.{Op}
-use Rattle.client_database.specs.declared.operation.Op.TheVariants as op
-use Rattle.client_database.specs.declared.answer.Answer.{Answer}
-use Rattle.client_database.specs.declared.answer.Answer.TheVariants as answer
+use Rattle.database_protocol.specs.declared.operation.Op.{Op}
+use Rattle.database_protocol.specs.declared.operation.Op.TheVariants as op
+use Rattle.database_protocol.specs.declared.answer.Answer.{Answer}
+use Rattle.database_protocol.specs.declared.answer.Answer.TheVariants as answer
 use Rattle.database_meaning.specs.Fits.{Fits}
 use Rattle.bound_tree.specs.Tree.{Action, Header, ThenError, ThenLeave, ThenNext, ThenReturn, ThenRetry}
-use Rattle.bound_kinds.specs.WellKinded.{is_action}
+use Rattle.kind_laws.specs.bound_kinds.WellKinded.{is_action}
 use Rattle.block_meaning.specs.Blocks.{Iteration, after_iteration, iterates, passed_with, returns_with}
 use Rattle.block_meaning.specs.Buffers.{Place, all_places, buffer_in, is_left_out, is_row_in, keep_of, left, made_later, own}
 use Rattle.block_meaning.specs.Frames.{all_emptied, buffer_at, content_of, emptied, locked_row, no_buffer, no_frame, own_frame, put_back, with_own}
 use Rattle.block_meaning.specs.Program.{Program}
 use Rattle.block_meaning.specs.State.{Buffer, CallFrame, Completion, Content, Copy, Empty, Held, Normal, Passed, Pending, Record, State, Undoes}
-use Rattle.block_flat.specs.Config.{Acts, AfterBack, Await, Closes, Completes, Config, Drops, Empties, EntersOne, Execute, GoesBack, LeavesNow, OnAnswer, Passes, Releases, StackEntry, ThenDo, Unwind, Updates, UpdatesOne, WasBack, WasDropped, WasGot, WasLeft, Mode, UndoComes}
-use Rattle.block_flat.specs.Machine.{answer_step, answered, step}
-use Rattle.block_flat.specs.Steps.{act_step, ask, asked_from, config, config_if, drop_step, enter_step, update_step}
+use Rattle.flat_machine.specs.Config.{Acts, AfterBack, Await, Closes, Completes, Config, Drops, Empties, EntersOne, Execute, GoesBack, LeavesNow, OnAnswer, Passes, Releases, StackEntry, ThenDo, Unwind, Updates, UpdatesOne, WasBack, WasDropped, WasGot, WasLeft, Mode, UndoComes}
+use Rattle.flat_machine.specs.Machine.{answer_step, answered, step}
+use Rattle.flat_machine.specs.Steps.{act_step, ask, asked_from, config, config_if, drop_step, enter_step, update_step}
 use Rattle.kind_laws.specs.Placed.{is_nil, names_one_of, undoes_one_of}
 use Rattle.kind_laws.specs.Reached.{Ground}
 use Rattle.kind_laws.proofs.Kept.{allows, AreFrames, AreSaved, CanFail, here, IsAllowed, IsCopy, IsKept, IsOpen, IsOver, IsStack, Suits, IsRecord, table_there}

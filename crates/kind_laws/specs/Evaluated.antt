@@ -1,8 +1,8 @@
 -- The expressions that a step evaluates.
 use Rattle.std.specs.Prelude.{List, [], ◌∷◌, ◌++◌, Option, Some, None, map}
 use Rattle.bound_tree.specs.Tree.{Action, Argument, Export, Expr, In, InOut, Item, Message, Out, PutItems, Return, ReturnError, Right, Run, Shows, Skips, Spaces, Stmt, ThenReturn, ToPhrase, ValueOf}
-use Rattle.block_flat.specs.Code.{Code, Instr, Plain, Tests}
-use Rattle.block_flat.specs.Config.{Acts, AssignsOne, Await, Blocks, Execute, Iterates, Mode, OnAnswer, RunsFrom, Searches, Task, Unwind, WasNext, WasRead, WasSecond}
+use Rattle.flat_machine.specs.Code.{Code, Instr, Plain, Tests}
+use Rattle.flat_machine.specs.Config.{Acts, AssignsOne, Await, Blocks, Execute, Iterates, Mode, OnAnswer, RunsFrom, Searches, Task, Unwind, WasNext, WasRead, WasSecond}
 
 abbrev pub expressions_if : Option Expr → List Expr
 expressions_if None = []

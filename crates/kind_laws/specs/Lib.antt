@@ -1,3 +1,5 @@
+pub mod bound_kinds
+pub mod schemas
 pub mod Placed
 pub mod Reached
 pub mod Evaluated

@@ -2,8 +2,8 @@
 use Rattle.std.specs.Prelude.{◌≤◌, IfSome}
 use Rattle.abl_base.specs.declared.limits.TheConstants.{MAX_ROW_BYTES}
 use Rattle.abl_values.specs.Schema.{SchemaData}
-use Rattle.client_database.specs.declared.operation.Op.{Op}
-use Rattle.client_database.specs.declared.operation.Op.TheVariants.{CurrentValue, Delete, Get, Insert, Lock, Next, NextValue, Put}
+use Rattle.database_protocol.specs.declared.operation.Op.{Op}
+use Rattle.database_protocol.specs.declared.operation.Op.TheVariants.{CurrentValue, Delete, Get, Insert, Lock, Next, NextValue, Put}
 use Rattle.database_meaning.specs.Setting.{FitsTable, HasIndex, HasSequence, HasTable, row_size}
 
 -- ITS TABLE, INDEX AND SEQUENCE ARE THOSE OF THE SCHEMA, and its values are a row of the table, of at most 30,000 bytes

@@ -2,17 +2,17 @@
 use Rattle.std.specs.Prelude.{◌≡◌, ℕ, true, List, [], slice_index_or}
 use Rattle.abl_values.specs.Schema.{SchemaData}
 use Rattle.abl_values.specs.Sound.{IsSound}
-use Rattle.client_database.specs.declared.event.Event.{Event}
+use Rattle.database_protocol.specs.declared.event.Event.{Event}
 use Rattle.bound_tree.specs.Tree.{Body}
-use Rattle.bound_kinds.specs.WellKinded.{Surroundings, VariableKinds, inside, is_well_kinded, parameters_of}
+use Rattle.kind_laws.specs.bound_kinds.WellKinded.{Surroundings, VariableKinds, inside, is_well_kinded, parameters_of}
 use Rattle.block_meaning.specs.Frames.{own_frame}
 use Rattle.block_meaning.specs.Program.{Program, procedure_at}
 use Rattle.block_meaning.specs.State.{State}
-use Rattle.block_flat.specs.Code.{Code, IsCodeOf}
-use Rattle.block_flat.specs.Config.{Config}
-use Rattle.level_laws.specs.Flagged.{IsFlaggedProgram}
-use Rattle.level_laws.specs.Reached.{Reached}
-use Rattle.schema_laws.specs.Named.{has_source}
+use Rattle.flat_machine.specs.Code.{Code, IsCodeOf}
+use Rattle.flat_machine.specs.Config.{Config}
+use Rattle.machine_laws.specs.levels.Flagged.{IsFlaggedProgram}
+use Rattle.machine_laws.specs.levels.Reached.{Reached}
+use Rattle.kind_laws.specs.schemas.Named.{has_source}
 use Rattle.kind_laws.specs.Placed.{is_placed}
 
 -- a program with its code, its schema and the kinds of its variables, by procedure; `tree` has the body at each place of the code

@@ -1,11 +1,11 @@
 -- The runs of a source text over a schema file.
 use Rattle.std.specs.Prelude.{◌≡◌, ℕ, List, None}
 use Rattle.schema_lines.specs.Files.{items_of}
-use Rattle.abl_schema.specs.Meaning.{schema_of}
-use Rattle.abl_schema.specs.Rules.{violation_of}
-use Rattle.abl_source.specs.Sources.{IsTreeOf}
-use Rattle.bound_kinds.specs.Kinds.{kinds_of_source}
-use Rattle.block_flat.specs.Code.{IsCodeOf}
+use Rattle.schema_reader.specs.Meaning.{schema_of}
+use Rattle.schema_reader.specs.Rules.{violation_of}
+use Rattle.source_reader.specs.Sources.{IsTreeOf}
+use Rattle.kind_laws.specs.bound_kinds.Kinds.{kinds_of_source}
+use Rattle.flat_machine.specs.Code.{IsCodeOf}
 use Rattle.kind_laws.specs.Reached.{Ground}
 
 -- THE CODE DENOTES THE PROGRAM OF A TEXT over the schema of a file, and neither breaks a rule. The kinds of its variables are those of its

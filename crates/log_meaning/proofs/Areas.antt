@@ -6,9 +6,9 @@ use Rattle.std.proofs.lemmas.List.{append-nil, get_or_past}
 use Rattle.std.proofs.lemmas.List.Concat.{flat_map-append}
 use Rattle.std.proofs.lemmas.List.Elements.{All-push}
 use Rattle.std.proofs.lemmas.Bool.{cases_eq, cases_lt}
-use Rattle.abl_storage.specs.Disk.{Reads, Torn}
-use Rattle.disk_steps.specs.Steps.{SameBelow}
-use Rattle.disk_steps.proofs.Writes.{reads-head, reads-tail, reads-both, reads-one, reads-same}
+use Rattle.storage.specs.Disk.{Reads, Torn}
+use Rattle.log_meaning.specs.steps.Steps.{SameBelow}
+use Rattle.log_meaning.proofs.StepsLemmas.Writes.{reads-head, reads-tail, reads-both, reads-one, reads-same}
 use Rattle.log_meaning.specs.declared.note.Note.{Note}
 use Rattle.log_meaning.specs.Bytes.{four, note_bytes, batch_bytes, header_bytes, log_bytes, after_gate, IsBatch}
 use Rattle.log_meaning.specs.Images.{IsOpened, HoldsLog}

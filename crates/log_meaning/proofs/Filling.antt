@@ -2,11 +2,11 @@
 use Rattle.std.proofs.Common.{◌≡◌, ◌≢◌, inl, inr, ⊎_elim, ℕ, ◌+◌, ◌-◌, ◌*◌, ◌<◌, ◌≤◌, Bool, ◌||◌, List, [], ◌∷◌, ◌++◌, length, get_or, refl, sym, ◌∙◌, ap, subst, arith}
 use Rattle.std.proofs.lemmas.Bool.{cases_Bool, cases_eq, cases_lt, cond-true, cond-false}
 use Rattle.std.proofs.lemmas.List.{ext_get_or}
-use Rattle.abl_storage.specs.Disk.{TornIn, overlaid}
-use Rattle.abl_storage.specs.declared.slots.Undo.{Undo}
-use Rattle.abl_storage.specs.Slots.{put}
-use Rattle.disk_steps.specs.Steps.{Image}
-use Rattle.disk_steps.proofs.Writes.{overlaid-here, overlaid-before, overlaid-after}
+use Rattle.storage.specs.Disk.{TornIn, overlaid}
+use Rattle.storage.specs.declared.slots.Undo.{Undo}
+use Rattle.storage.specs.Slots.{put}
+use Rattle.log_meaning.specs.steps.Steps.{Image}
+use Rattle.log_meaning.proofs.StepsLemmas.Writes.{overlaid-here, overlaid-before, overlaid-after}
 use Rattle.log_meaning.specs.declared.note.Change.{Change}
 use Rattle.log_meaning.specs.declared.note.Note.{Note}
 use Rattle.log_meaning.specs.declared.note.Note.TheVariants.{Change as Changed, Commit}

@@ -1,3 +1,4 @@
+pub mod StepsLemmas
 pub mod Notes
 pub mod Undone
 pub mod LoggedSteps

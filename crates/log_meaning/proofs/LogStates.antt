@@ -3,9 +3,9 @@ use Rattle.std.proofs.Common.{◌≡◌, ◌≢◌, ◌⊎◌, inl, inr, ⊎_eli
 use Rattle.std.proofs.lemmas.List.{ext_get_or, length-take, length-replicate, get_or-take, get_or-drop, get_or-replicate, get_or_append_left, get_or-append_right, get_or_past}
 use Rattle.std.proofs.lemmas.List.Concat.{flat_map-append}
 use Rattle.std.proofs.lemmas.Bool.{cases_eq, cases_lt, true≢false}
-use Rattle.abl_storage.specs.Disk.{Torn, TornIn, Others}
-use Rattle.abl_storage.specs.declared.slots.Undo.{Undo}
-use Rattle.disk_steps.specs.Steps.{Image, SameBelow}
+use Rattle.storage.specs.Disk.{Torn, TornIn, Others}
+use Rattle.storage.specs.declared.slots.Undo.{Undo}
+use Rattle.log_meaning.specs.steps.Steps.{Image, SameBelow}
 use Rattle.log_meaning.specs.declared.note.Change.{Change}
 use Rattle.log_meaning.specs.declared.note.Note.{Note}
 use Rattle.log_meaning.specs.Bytes.{log_bytes}

@@ -1,8 +1,8 @@
 -- What a begin, a write, a write taken back, a commit, an abandon and a new generation make of the log.
 use Rattle.std.proofs.Common.{◌≡◌, ◌≢◌, inl, inr, ℕ, Bool, true, false, ◌||◌, List, [], ◌∷◌, ◌++◌, sym, ◌∙◌, ap, subst, arith}
 use Rattle.std.proofs.lemmas.Bool.{cases_Bool, cases_eq, or_right, both_ways}
-use Rattle.abl_storage.specs.declared.slots.Undo.{Undo}
-use Rattle.abl_storage.specs.Slots.{put, wrote, undone}
+use Rattle.storage.specs.declared.slots.Undo.{Undo}
+use Rattle.storage.specs.Slots.{put, wrote, undone}
 use Rattle.log_meaning.specs.declared.note.Change.{Change}
 use Rattle.log_meaning.specs.declared.note.Note.{Note}
 use Rattle.log_meaning.specs.declared.note.Note.TheVariants.{Change as Changed}

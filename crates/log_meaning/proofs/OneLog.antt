@@ -6,8 +6,8 @@ use Rattle.std.specs.Int.{w32, w64, from_be_bytes}
 use Rattle.std.proofs.lemmas.List.{ext_get_or, take_at, drop_at}
 use Rattle.std.proofs.lemmas.List.Elements.{All-head, All-tail}
 use Rattle.std.proofs.lemmas.Nat.{from_be_bytes-to_be_bytes_4, from_be_bytes-to_be_bytes_8}
-use Rattle.abl_storage.specs.Disk.{Reads}
-use Rattle.disk_steps.proofs.Writes.{reads-head, reads-tail}
+use Rattle.storage.specs.Disk.{Reads}
+use Rattle.log_meaning.proofs.StepsLemmas.Writes.{reads-head, reads-tail}
 use Rattle.log_meaning.specs.declared.note.Change.{Change}
 use Rattle.log_meaning.specs.declared.note.Note.{Note}
 use Rattle.log_meaning.specs.declared.note.Note.TheVariants.{Change as Changed, Commit}

@@ -1,7 +1,7 @@
 -- What the three areas of an image mean.
 use Rattle.std.specs.Prelude.{◌≡◌, ◌≢◌, ◌⊎◌, ℕ, ◌-◌, ◌*◌, ◌<◌, ◌^◌, List, ◌∷◌, ◌++◌, length, take, drop, replicate, get_or, All}
 use Rattle.std.specs.List.{flat_map}
-use Rattle.abl_storage.specs.Disk.{Reads}
+use Rattle.storage.specs.Disk.{Reads}
 use Rattle.log_meaning.specs.declared.note.Note.{Note}
 use Rattle.log_meaning.specs.Bytes.{header_bytes, log_bytes, IsBatch}
 use Rattle.log_meaning.specs.Recovered.{recovered}

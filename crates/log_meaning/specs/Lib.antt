@@ -1,3 +1,4 @@
+pub mod steps
 pub mod Recovered
 pub mod Bytes
 pub mod Images

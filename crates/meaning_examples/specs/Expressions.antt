@@ -12,10 +12,10 @@ use Rattle.bound_tree.specs.declared.expression.Unary.TheVariants as one
 use Rattle.bound_tree.specs.declared.expression.Binary.TheVariants as two
 use Rattle.bound_tree.specs.declared.expression.Ternary.TheVariants as three
 use Rattle.bound_tree.specs.Tree.{Expr, Literal, TheField, One, Two, Three, Both, Either, IfElse}
-use Rattle.abl_expr.specs.Env.{Env}
-use Rattle.abl_expr.specs.declared.fault.RunFault.TheVariants.{EmptyBuffer, Range, Convert, Argument}
-use Rattle.abl_expr.specs.Operators.{Given}
-use Rattle.abl_expr.specs.Evaluate.{evaluate}
+use Rattle.expression_meaning.specs.Env.{Env}
+use Rattle.expression_meaning.specs.declared.fault.RunFault.TheVariants.{EmptyBuffer, Range, Convert, Argument}
+use Rattle.expression_meaning.specs.Operators.{Given}
+use Rattle.expression_meaning.specs.Evaluate.{evaluate}
 use Rattle.meaning_examples.specs.Small.{toy_forms}
 
 abbrev nowhere : Env

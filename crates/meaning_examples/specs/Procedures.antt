@@ -6,17 +6,17 @@ use Rattle.abl_values.specs.Fit.{fitted}
 use Rattle.abl_values.specs.Order.{value_order}
 use Rattle.abl_values.specs.Rows.{bytes_of_row}
 use Rattle.abl_values.specs.Texts.{plain_text, export_text}
-use Rattle.client_database.specs.declared.operation.Op.TheVariants.{Enter, Leave, Back, End}
-use Rattle.client_database.specs.declared.answer.Answer.TheVariants.{Done, Committed, SequenceEnd}
-use Rattle.client_database.specs.declared.answer.Answer.TheVariants as answer
+use Rattle.database_protocol.specs.declared.operation.Op.TheVariants.{Enter, Leave, Back, End}
+use Rattle.database_protocol.specs.declared.answer.Answer.TheVariants.{Done, Committed, SequenceEnd}
+use Rattle.database_protocol.specs.declared.answer.Answer.TheVariants as answer
 use Rattle.bound_tree.specs.declared.expression.Binary.TheVariants as two
 use Rattle.bound_tree.specs.declared.block.BlockKind.TheVariants as block
 use Rattle.bound_tree.specs.declared.statement.Target.TheVariants as target
 use Rattle.bound_tree.specs.Tree.{Two, ErrorStatus, ReturnValue, ThenLeave, ThenReturn, NextOf, In, Out, Stmt, Inner, Assign, Return, ReturnError, Run, Import, Nothing}
-use Rattle.client_database.specs.declared.ends.StopWhy.TheVariants as why
-use Rattle.client_database.specs.declared.ends.ClientEnd.TheVariants as client
+use Rattle.database_protocol.specs.declared.ends.StopWhy.TheVariants as why
+use Rattle.database_protocol.specs.declared.ends.ClientEnd.TheVariants as client
 use Rattle.block_meaning.specs.declared.wants.Piece.TheVariants.{Wrote}
-use Rattle.client_database.specs.declared.next_step.NextStep.TheVariants.{Ended}
+use Rattle.database_protocol.specs.declared.next_step.NextStep.TheVariants.{Ended}
 use Rattle.block_meaning.specs.Program.{Program}
 use Rattle.block_meaning.specs.Meaning.{run, asked}
 use Rattle.meaning_examples.specs.Small.{◌⨾◌, one_more, only, no_flags, sub, transaction, header, undoable, whole, text, the, sets, puts, procedure, program, plain_source}

@@ -9,9 +9,9 @@ use Rattle.abl_values.specs.Fit.{fitted}
 use Rattle.abl_values.specs.Order.{value_order}
 use Rattle.abl_values.specs.Rows.{bytes_of_row, number_bytes}
 use Rattle.abl_values.specs.Texts.{plain_text, export_text}
-use Rattle.client_database.specs.declared.operation.Op.TheVariants.{Enter, Leave, Back, Next, Get, Lock, Insert, Put, Drop, End}
-use Rattle.client_database.specs.declared.answer.Answer.{Answer}
-use Rattle.client_database.specs.declared.answer.Answer.TheVariants.{Done, Committed, Deadlock, Found, AtEnd, Row, Granted, Inserted, Gone, Busy, Duplicate}
+use Rattle.database_protocol.specs.declared.operation.Op.TheVariants.{Enter, Leave, Back, Next, Get, Lock, Insert, Put, Drop, End}
+use Rattle.database_protocol.specs.declared.answer.Answer.{Answer}
+use Rattle.database_protocol.specs.declared.answer.Answer.TheVariants.{Done, Committed, Deadlock, Found, AtEnd, Row, Granted, Inserted, Gone, Busy, Duplicate}
 use Rattle.bound_tree.specs.declared.expression.Binary.TheVariants as two
 use Rattle.bound_tree.specs.declared.block.BlockKind.TheVariants as block
 use Rattle.bound_tree.specs.declared.block.LockWanted.TheVariants as wanted
@@ -19,10 +19,10 @@ use Rattle.bound_tree.specs.declared.block.FetchWord.TheVariants as fetch
 use Rattle.bound_tree.specs.declared.statement.FindWord.TheVariants as find
 use Rattle.bound_tree.specs.declared.statement.Target.TheVariants as target
 use Rattle.bound_tree.specs.Tree.{FindCurrent, TheField, Two, IsAvailable, IsLocked, Retry, ErrorStatus, ThenRetry, ThenLeave, ValueOf, Stmt, Inner, Assign, Find, Create, Remove, Release, UndoBlock, LeaveBlock, Import, ExportRecord, Nothing}
-use Rattle.client_database.specs.declared.ends.StopWhy.TheVariants as why
-use Rattle.client_database.specs.declared.ends.ClientEnd.TheVariants as client
+use Rattle.database_protocol.specs.declared.ends.StopWhy.TheVariants as why
+use Rattle.database_protocol.specs.declared.ends.ClientEnd.TheVariants as client
 use Rattle.block_meaning.specs.declared.wants.Piece.TheVariants.{Wrote}
-use Rattle.client_database.specs.declared.next_step.NextStep.TheVariants.{Ended}
+use Rattle.database_protocol.specs.declared.next_step.NextStep.TheVariants.{Ended}
 use Rattle.block_meaning.specs.Program.{Program}
 use Rattle.block_meaning.specs.Meaning.{run, asked}
 use Rattle.meaning_examples.specs.Small.{◌⨾◌, only, ann, bob, row_id, at_row, sub, transaction, retried, header, reading, for_of, undoable, whole, text, the, num, name, sets_num, sets_name, puts, when, customer_source, two_buffers}

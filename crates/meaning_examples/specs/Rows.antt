@@ -7,16 +7,16 @@ use Rattle.abl_values.specs.Fit.{fitted}
 use Rattle.abl_values.specs.Order.{value_order}
 use Rattle.abl_values.specs.Rows.{bytes_of_row}
 use Rattle.abl_values.specs.Texts.{plain_text, export_text}
-use Rattle.client_database.specs.declared.operation.Op.TheVariants.{Enter, Leave, Back, End}
-use Rattle.client_database.specs.declared.answer.Answer.{Answer}
-use Rattle.client_database.specs.declared.answer.Answer.TheVariants.{Done, Committed, Blocked, NoMemory, Closed}
+use Rattle.database_protocol.specs.declared.operation.Op.TheVariants.{Enter, Leave, Back, End}
+use Rattle.database_protocol.specs.declared.answer.Answer.{Answer}
+use Rattle.database_protocol.specs.declared.answer.Answer.TheVariants.{Done, Committed, Blocked, NoMemory, Closed}
 use Rattle.bound_tree.specs.declared.expression.Binary.TheVariants as two
 use Rattle.bound_tree.specs.declared.block.BlockKind.TheVariants as block
 use Rattle.bound_tree.specs.Tree.{Expr, Literal, Two, Retry, Header, ThenRetry, ThenLeave, ThenNext, Stmt, Inner, UndoBlock, LeaveBlock, OutputTo, OutputClose, Nothing}
-use Rattle.client_database.specs.declared.ends.StopWhy.TheVariants as why
-use Rattle.client_database.specs.declared.ends.ClientEnd.TheVariants as client
+use Rattle.database_protocol.specs.declared.ends.StopWhy.TheVariants as why
+use Rattle.database_protocol.specs.declared.ends.ClientEnd.TheVariants as client
 use Rattle.block_meaning.specs.declared.wants.Piece.TheVariants.{Wrote, Opened}
-use Rattle.client_database.specs.declared.next_step.NextStep.TheVariants.{Ask, Ended}
+use Rattle.database_protocol.specs.declared.next_step.NextStep.TheVariants.{Ask, Ended}
 use Rattle.block_meaning.specs.Program.{Program}
 use Rattle.block_meaning.specs.Meaning.{run, asked}
 use Rattle.meaning_examples.specs.Small.{◌⨾◌, no_flags, sub, transaction, retried, header, undoable, no_undo, whole, text, the, sets, one_more, puts, when, plain_source}

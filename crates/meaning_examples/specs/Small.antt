@@ -1,7 +1,7 @@
 -- Small sources: how the examples write them down.
 use Rattle.std.specs.Prelude.{ℕ, zero, suc, ◌+◌, ◌==◌, List, [], ◌∷◌, codes, slice_index_or, Bool, true, false, Option, Some, None, pos}
 use Rattle.abl_base.specs.declared.row.RowId.{RowId}
-use Rattle.client_database.specs.declared.row_order.Cursor.{Cursor}
+use Rattle.database_protocol.specs.declared.row_order.Cursor.{Cursor}
 use Rattle.abl_values.specs.declared.schema.TableDef.{TableDef}
 use Rattle.abl_base.specs.declared.value.Value.{Value}
 use Rattle.abl_base.specs.declared.value.Value.TheVariants.{Text, Int, Int64}
@@ -18,7 +18,7 @@ use Rattle.bound_tree.specs.declared.block.Flags.{Flags}
 use Rattle.bound_tree.specs.declared.statement.Target.TheVariants as target
 use Rattle.bound_tree.specs.declared.procedure.BufferDef.{BufferDef}
 use Rattle.bound_tree.specs.Tree.{Expr, Literal, TheVariable, TheField, Two, Header, Reading, ValueOf, Item, Shows, Skips, Stmt, Choose, Assign, PutItems, Body, Nothing, Then, Procedure}
-use Rattle.text_forms.specs.TextForms.{TextForms, Imported, AtInputEnd, BadElement, Elements}
+use Rattle.abl_base.specs.text_forms.TextForms.{TextForms, Imported, AtInputEnd, BadElement, Elements}
 use Rattle.block_meaning.specs.Program.{Program}
 
 -- ---- lists of statements

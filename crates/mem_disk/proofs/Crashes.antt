@@ -2,7 +2,7 @@
 use Rattle.std.proofs.Common.{◌≡◌, ℕ, zero, suc, ◌<◌, ◌≤◌, ◌==◌, Bool, true, false, ◌&&◌, ◌||◌, not, if◌then◌else◌, List, [], ◌∷◌, length, take, drop, replicate, Result, Ok, Err, IfOk, refl, sym, ◌∙◌, ap, subst, arith}
 use Rattle.std.proofs.lemmas.Bool.Decides.{nat_tests}
 use Rattle.std.proofs.lemmas.List.{length-replicate, length-take, get_or-take}
-use Rattle.abl_storage.specs.Disk.{Torn as TornBytes, overlaid}
+use Rattle.storage.specs.Disk.{Torn as TornBytes, overlaid}
 use Rattle.mem_disk.specs.declared.call.Call.{Call}
 use Rattle.mem_disk.specs.declared.call.Effect.{Effect}
 use Rattle.mem_disk.specs.declared.call.Effect.TheVariants.{Written, Cut, Synced, Nothing}

@@ -6,7 +6,7 @@ use Rattle.std.proofs.lemmas.List.{take_all}
 use Rattle.std.specs.declared.alloc.Global.{Global}
 use Rattle.mem_disk.specs.declared.call.Effect.{Effect}
 use Rattle.mem_disk.specs.declared.call.Effect.TheVariants.{Written, Cut, Synced, Nothing}
-use Rattle.abl_storage.specs.Disk.{Torn, TornIn, Passes, overlaid}
+use Rattle.storage.specs.Disk.{Torn, TornIn, Passes, overlaid}
 use Rattle.mem_disk.specs.Notes.{Note, Held, done_by, done, held, fresh, Reaches, LeftBy, Left, bytes_in}
 use Rattle.mem_disk.specs.Crash.{is_write}
 use Rattle.mem_disk.specs.Laws.{torn_none, torn_whole, seen_reaches}

@@ -3,7 +3,7 @@ use Rattle.std.proofs.Common.{◌≡◌, inl, inr, ℕ, ◌+◌, ◌<◌, ◌≤
 use Rattle.std.proofs.lemmas.Bool.{cases_lt}
 use Rattle.std.proofs.lemmas.List.{take_all}
 use Rattle.std.specs.declared.alloc.Global.{Global}
-use Rattle.abl_storage.specs.Disk.{TornIn, Passes}
+use Rattle.storage.specs.Disk.{TornIn, Passes}
 use Rattle.mem_disk.specs.declared.call.Effect.TheVariants.{Written, Synced, Nothing}
 use Rattle.mem_disk.specs.declared.mem_disk.MemDisk.{MemDisk}
 use Rattle.mem_disk.specs.Notes.{Note, Held, spent_by, done, held, LeftBy, Left, bytes_in}

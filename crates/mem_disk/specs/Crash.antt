@@ -5,7 +5,7 @@ use Rattle.mem_disk.specs.declared.images.Torn.TheVariants.{Old, New, Fill}
 use Rattle.mem_disk.specs.declared.images.Images.{Images}
 use Rattle.mem_disk.specs.declared.call.Effect.{Effect}
 use Rattle.mem_disk.specs.declared.call.Effect.TheVariants.{Written, Cut, Synced, Nothing}
-use Rattle.abl_storage.specs.Disk.{overlaid}
+use Rattle.storage.specs.Disk.{overlaid}
 use Rattle.mem_disk.specs.Notes.{Note, held}
 
 -- the bytes of each area

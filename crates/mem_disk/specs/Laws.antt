@@ -5,7 +5,7 @@ use Rattle.std.proofs.lemmas.List.{get_or_append_left, get_or-append_right, get_
 use Rattle.mem_disk.specs.declared.call.Call.{Call}
 use Rattle.mem_disk.specs.declared.call.Effect.{Effect}
 use Rattle.mem_disk.specs.declared.call.Effect.TheVariants.{Written, Cut, Synced, Nothing}
-use Rattle.abl_storage.specs.Disk.{Torn, overlaid, IsImage}
+use Rattle.storage.specs.Disk.{Torn, overlaid, IsImage}
 use Rattle.mem_disk.specs.Notes.{Note, Held, notes_of, done_by, done, after_note, after_notes, held, fresh, Reaches, Left}
 use Rattle.mem_disk.specs.Sound.{AllInside}
 

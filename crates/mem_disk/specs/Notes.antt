@@ -4,7 +4,7 @@ use Rattle.std.specs.declared.alloc.Global.{Global}
 use Rattle.mem_disk.specs.declared.call.Call.{Call}
 use Rattle.mem_disk.specs.declared.call.Effect.{Effect}
 use Rattle.mem_disk.specs.declared.call.Effect.TheVariants.{Written, Cut, Synced, Nothing}
-use Rattle.abl_storage.specs.Disk.{overlaid, Torn}
+use Rattle.storage.specs.Disk.{overlaid, Torn}
 
 -- a write or a sync, with its bytes
 pub record Note : Type 0 where

@@ -1,6 +1,6 @@
 -- What a disk in memory shows: what it was made from, its record, and how many calls there were.
 use Rattle.std.specs.Prelude.{◌≡◌, ◌<◌, ◌≤◌, ◌+◌, ◌^◌, ◌⊎◌, ℕ, List, Contains}
-use Rattle.fault_count.specs.Faults.{counted}
+use Rattle.storage.specs.faults.Faults.{counted}
 use Rattle.mem_disk.specs.declared.images.Room.{Room}
 use Rattle.mem_disk.specs.declared.mem_disk.MemDisk.{MemDisk}
 use Rattle.mem_disk.specs.Notes.{Note, notes_of, spent_by, held, Left}

@@ -2,7 +2,7 @@
 
 ghost use Rattle.std.specs.Prelude.{◌≡◌, ◌<◌, ◌≤◌, ◌+◌, ◌^◌, ◌++◌, length, take, drop, OnOk, IsOk};
 ghost use Rattle.std.specs.Vec.{vec_capacity};
-ghost use Rattle.abl_storage.specs.Disk.{Reads, overlaid};
+ghost use Rattle.storage.specs.Disk.{Reads, overlaid};
 
 use std::alloc::AllocError;
 

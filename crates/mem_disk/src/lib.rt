@@ -1,5 +1,5 @@
 //! The disk in memory: `MemDisk`, the implementation of `Disk` that tests run over. It depends on
-//! `abl_storage`. It records its writes and syncs, fails at the calls of given numbers and where a
+//! `storage`. It records its writes and syncs, fails at the calls of given numbers and where a
 //! call would pass its room, and gives by `crash` the image that a crash at a moment leaves, by
 //! what each write that was not synced became (`specs/Notes.antt`, `specs/Crash.antt`).
 #![tactic(auto)]

@@ -2,8 +2,8 @@
 
 ghost use Rattle.std.specs.Prelude.{◌≡◌, ◌<◌, ◌≤◌, ◌+◌, ◌^◌, ◌++◌, ◌∷◌, ◌⊎◌, ◌↔◌, ℕ, List, [], min, length, take, true, false, refl, is_ok, IsTrue, IsErr, IfOk, OnOk, OnErr};
 ghost use Rattle.std.specs.Vec.{vec_capacity};
-ghost use Rattle.fault_count.specs.Faults.{Rose, counted};
-ghost use Rattle.abl_storage.specs.Disk.{Reads, Stays, overlaid, TornIn, Passes, HasCause};
+ghost use Rattle.storage.specs.faults.Faults.{Rose, counted};
+ghost use Rattle.storage.specs.Disk.{Reads, Stays, overlaid, TornIn, Passes, HasCause};
 ghost use Rattle.mem_disk.specs.Notes.{notes_of, spent_by, bytes_in, held};
 ghost use Rattle.mem_disk.specs.Crash.{area_of, crashed, is_write};
 ghost use Rattle.mem_disk.specs.Sound.{AllInside, HaveRoom};
@@ -12,9 +12,9 @@ use crate::areas::{copy_out, overlay};
 use crate::call::{Call, Effect};
 use crate::images::{Images, Room, Torn};
 use crate::replay::crashed_images;
-use abl_storage::{Disk, DiskFailed};
-use fault_count::is_among;
 use std::alloc::{AllocError, Global};
+use storage::faults::is_among;
+use storage::{Disk, DiskFailed};
 
 /// A disk in memory, with a record of its writes and syncs. What its areas hold, and what a crash at
 /// each moment may leave, is observable.
@@ -39,18 +39,6 @@ pub struct MemDisk {
     ghost areas_room: { HaveRoom room.length current.items },
     ghost small: { (k : ℕ) → length (area_of first k) ≤ 2 ^ 40 },
     ghost inside: { AllInside (length pool.items) calls.items },
-}
-
-/// The bytes of one of these areas.
-fn area_in(images: &Images, area: u8) -> &[u8]
-    requires { area < 3 }
-    ensures { result.now ≡ area_of images.now area }
-{
-    match area {
-        0 => images.d0.as_slice(),
-        1 => images.b1.as_slice(),
-        _ => images.b2.as_slice(),
-    }
 }
 
 /// The same bytes, with memory for `count` of them.

@@ -4,9 +4,9 @@ ghost use Rattle.std.specs.Prelude.{◌≤◌, ◌^◌, length};
 
 use crate::{Effect, Images, MemDisk, Room, Torn};
 use abl_base::Bytes;
-use abl_storage::{Disk, DiskFailed};
 use std::alloc::{AllocError, Global};
 use std::test::Fail;
+use storage::{Disk, DiskFailed};
 
 /// A disk whose area 0 has these bytes, and the others none.
 fn disk(alloc: Global, bytes: &[u8; 8], room: Room, fails: &[u64]) -> Result<MemDisk, AllocError> {

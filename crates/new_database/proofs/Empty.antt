@@ -11,11 +11,11 @@ use Rattle.database_meaning.specs.declared.state.Key.{Key}
 use Rattle.database_meaning.specs.declared.state.StoredRow.{StoredRow}
 use Rattle.database_meaning.specs.Setting.{has_key, unique_keys}
 use Rattle.database_meaning.specs.Traces.{IsSoundContents}
-use Rattle.abl_rows.specs.Rows.{RowState, no_transaction}
+use Rattle.row_store.specs.Rows.{RowState, no_transaction}
 use Rattle.db_core.specs.Opening.{IsOpened}
-use Rattle.mem_slots.specs.Mem.{at_rest}
-use Rattle.mem_slots.specs.Sparse.{zeros}
-use Rattle.chain_store.specs.Places.{HoldNothing}
+use Rattle.new_database.specs.slots.Mem.{at_rest}
+use Rattle.new_database.specs.slots.Sparse.{zeros}
+use Rattle.byte_rows.specs.Places.{HoldNothing}
 use Rattle.sequence_slots.specs.Values.{HoldValues, slot_bytes}
 use Rattle.new_database.specs.Contents.{new_contents}
 

@@ -5,16 +5,16 @@ use denote.RattleType.{RattleType}
 use denote.Struct.Struct.{Struct}
 use denote.Struct.Declared.{shape}
 use denote.Param.Send.{IsSend, sendable, recorded_send, struct_send}
-use Rattle.abl_storage.specs.declared.slots.Slots.{Ghosts}
-use Rattle.mem_slots.specs.contracts.mem_slots.MemSlots as slots
-use Rattle.mem_slots.proofs.mem_slots.MemSlots.TheSendSync as slots_sends
+use Rattle.storage.specs.declared.slots.Slots.{Ghosts}
+use Rattle.new_database.specs.slots.contracts.mem_slots.MemSlots as slots
+use Rattle.new_database.proofs.slots.mem_slots.MemSlots.TheSendSync as slots_sends
 use Rattle.key_index.specs.contracts.index.Index as index
 use Rattle.key_index.proofs.chain.Links.TheLaws.TheKnot.{crosses as links}
-use Rattle.indexed_rows.specs.contracts.client_moves.ClientMoves as moves
-use Rattle.indexed_rows.proofs.client_moves.ClientMoves.TheSendSync as moves_sends
-use Rattle.stored_rows.specs.contracts.rows.StoredRows as rows
-use Rattle.stored_rows.proofs.rows.StoredRows.TheSendSync as rows_sends
-use Rattle.record_store.specs.contracts.store.RecordStore as store
+use Rattle.row_moves.specs.contracts.client_moves.ClientMoves as moves
+use Rattle.row_moves.proofs.client_moves.ClientMoves.TheSendSync as moves_sends
+use Rattle.slot_rows.specs.contracts.rows.StoredRows as rows
+use Rattle.slot_rows.proofs.rows.StoredRows.TheSendSync as rows_sends
+use Rattle.indexed_store.specs.contracts.store.RecordStore as store
 
 pub slots_send : IsSend slots.the_row
 slots_send = search (slots_sends.the_send, maps, crosses, sendable) depth 60 fits 20000

@@ -1,2 +1,3 @@
+pub mod slots
 pub mod Contents
 pub mod New

@@ -1,8 +1,8 @@
 -- A database that was just opened for a run.
 use Rattle.std.specs.Prelude.{◌≡◌, ◌<◌, ℕ, []}
 use Rattle.abl_values.specs.Schema.{SchemaData}
-use Rattle.abl_rows.specs.Rows.{Durable, RowState}
-use Rattle.abl_rows.specs.Times.{Times}
+use Rattle.row_store.specs.Rows.{Durable, RowState}
+use Rattle.row_store.specs.Times.{Times}
 use Rattle.db_machine.specs.Machine.{Machine}
 use Rattle.db_machine.specs.Database.{IsActive, IsOpened}
 use Rattle.new_database.specs.Contents.{new_contents}

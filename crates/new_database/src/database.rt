@@ -4,11 +4,11 @@ ghost use Rattle.std.specs.Prelude.{◌≡◌, ◌≤◌, IfOk, map};
 ghost use Rattle.abl_values.specs.declared.schema.SequenceDef.{SequenceDef as TheSequence};
 ghost use Rattle.new_database.specs.New.{IsNew};
 
-use abl_rows::RowStore;
+use crate::slots::MemSlots;
 use abl_values::{Schema, SequenceDef};
 use db_machine::Db;
-use mem_slots::MemSlots;
-use record_store::RecordStore;
+use indexed_store::RecordStore;
+use row_store::RowStore;
 use std::alloc::{AllocError, Global};
 
 /// Rows in slots in memory.

@@ -2,8 +2,8 @@
 use Rattle.std.proofs.Common.{◌≡◌, ◌≢◌, inl, inr, ℕ, zero, suc, ◌<◌, ◌==◌, ◌||◌, Bool, true, false, List, [], ◌∷◌, ◌++◌, length, take, drop, get_or, slice_index_or, slice_set, None, ◌^◌, refl, sym, ◌∙◌, ap, subst, arith}
 use Rattle.std.proofs.lemmas.Bool.{cases_eq, cases_Bool, cases_lt, eq-eqb, true≢false}
 use Rattle.std.proofs.lemmas.List.{append-nil, take-append-drop}
-use Rattle.abl_storage.specs.declared.slots.Undo.{Undo}
-use Rattle.abl_storage.specs.Slots.{wrote}
+use Rattle.storage.specs.declared.slots.Undo.{Undo}
+use Rattle.storage.specs.Slots.{wrote}
 use Rattle.open_transactions.specs.declared.client.Client.{Client}
 use Rattle.open_transactions.specs.Written.{has_written}
 use Rattle.open_transactions.specs.Clients.{transaction_in, list_of, list_in, due_in, due, NothingDue, AreApart, OthersStay, ListsStay, due_of}

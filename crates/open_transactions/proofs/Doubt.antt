@@ -1,7 +1,7 @@
 -- What undoing the lists of all clients but one gives.
 use Rattle.std.proofs.Common.{◌≡◌, ◌≢◌, inl, inr, ℕ, zero, suc, false, List, [], ◌∷◌, sym, ◌∙◌, refl, arith}
 use Rattle.std.proofs.lemmas.Bool.{cases_Bool, cond-true, cond-false}
-use Rattle.abl_storage.specs.Slots.{wrote, undone, joined}
+use Rattle.storage.specs.Slots.{wrote, undone, joined}
 use Rattle.log_meaning.proofs.Undone.{undone-at, undone-not}
 use Rattle.open_transactions.specs.declared.client.Client.{Client}
 use Rattle.open_transactions.specs.Clients.{list_of, list_in, lists, lists_but, AreApart}

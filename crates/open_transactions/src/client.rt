@@ -1,11 +1,11 @@
 //! A client's transaction.
 
 ghost use Rattle.std.specs.Prelude.{◌≡◌, ◌<◌, ◌≤◌, ◌+◌, ◌-◌, ◌^◌, ◌++◌, ◌∷◌, [], ℕ, Some, None, is_some, if◌then◌else◌, length, take, drop, true, false, vec_capacity};
-ghost use Rattle.abl_storage.specs.Slots.{is_low, wrote};
+ghost use Rattle.storage.specs.Slots.{is_low, wrote};
 ghost use Rattle.open_transactions.specs.Written.{has_written};
 
-use abl_storage::Undo;
 use std::alloc::Global;
+use storage::Undo;
 
 /// One client. A client without a transaction has no room, and no write but those that are due.
 #[derive(Drop)]

@@ -1,6 +1,6 @@
 //! The transactions of sixteen clients in memory: for each its number, the writes that can be
 //! undone, the slots that it wrote, its counts and the memory that is reserved for it. It depends
-//! on `abl_storage` and knows no disk. A transaction that is abandoned keeps its writes until they
+//! on `storage` and knows no disk. A transaction that is abandoned keeps its writes until they
 //! are undone one by one (`due`).
 #![tactic(auto)]
 

@@ -1,13 +1,13 @@
 //! The transactions of all clients.
 
 ghost use Rattle.std.specs.Prelude.{◌≡◌, ◌≢◌, ◌<◌, ◌≤◌, ◌+◌, ◌-◌, ◌^◌, ◌==◌, ◌||◌, ◌++◌, ◌∷◌, [], ℕ, List, Some, None, if◌then◌else◌, length, take, drop, get_or, true, false, IsTrue, IfOk, IfSome, IfNone};
-ghost use Rattle.abl_storage.specs.declared.slots.Undo.{Undo as Write};
-ghost use Rattle.abl_storage.specs.Slots.{Becomes, is_low, put, undone, joined, wrote};
+ghost use Rattle.storage.specs.declared.slots.Undo.{Undo as Write};
+ghost use Rattle.storage.specs.Slots.{Becomes, is_low, put, undone, joined, wrote};
 ghost use Rattle.open_transactions.specs.Clients.{idle, transaction_in, number_in, list_in, due_in, memory_in, lists, due, lists_but, NothingDue, AreApart, OthersStay, ListsStay};
 
 use crate::client::{Client, has_low_number};
-use abl_storage::Undo;
 use std::alloc::{AllocError, Global};
+use storage::Undo;
 
 /// The transactions of the clients 0 to 15.
 #[derive(Drop)]

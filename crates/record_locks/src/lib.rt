@@ -1,5 +1,5 @@
 //! Locks on rows, what clients wait for, and cycles of waiting clients. It depends on
-//! `client_database` and on `database_meaning`, which says what conflicts with a lock, who waits for
+//! `database_protocol` and on `database_meaning`, which says what conflicts with a lock, who waits for
 //! whom and what a cycle is. Contracts see the locks as a list with a record for each client number:
 //! the rows that the client holds, each with true where it holds it exclusively, and the lock that it
 //! waits for. The layer above may rely on this: a lock is granted exactly where no lock of another

@@ -11,7 +11,7 @@ ghost use Rattle.record_locks.specs.Requests.{granted};
 use crate::held::Held;
 use crate::search::{Search, find_cycle, holders};
 use abl_base::{Items, RowId};
-use client_database::{ClientIds, RowIds};
+use database_protocol::{ClientIds, RowIds};
 use std::alloc::{AllocError, Global};
 use std::marker::Model;
 

@@ -9,7 +9,7 @@ use Rattle.abl_base.specs.declared.limits.TheConstants.{MAX_TEXT_BYTES}
 use Rattle.abl_values.specs.Arithmetic.{in_range}
 use Rattle.abl_values.specs.Fit.{fitted}
 use Rattle.abl_values.specs.Order.{value_order}
-use Rattle.abl_expr.specs.Operators.{equals}
+use Rattle.expression_meaning.specs.Operators.{equals}
 use Rattle.block_meaning.specs.Reads.{equal_or}
 
 -- one of two equal values

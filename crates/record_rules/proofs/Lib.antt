@@ -1,3 +1,5 @@
+pub mod ReadingsLemmas
+pub mod LinesLemmas
 pub mod Rest
 pub mod RowLengths
 pub mod EqualValues

@@ -1,2 +1,4 @@
+pub mod readings
+pub mod lines
 pub mod Answers
 pub mod Storing

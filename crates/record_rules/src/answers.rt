@@ -3,12 +3,12 @@
 
 ghost use Rattle.std.specs.Prelude.{◌≡◌};
 ghost use Rattle.block_meaning.specs.Views as views;
-ghost use Rattle.complaint_lines.specs.Complaints.{complaint_if};
+ghost use Rattle.record_rules.specs.lines.Complaints.{complaint_if};
 ghost use Rattle.record_rules.specs.Answers.{found_if, grant_of};
 
+use crate::lines::Complaint;
 use abl_base::{Row, RowId};
-use client_database::{Answer, Cursor};
-use complaint_lines::Complaint;
+use database_protocol::{Answer, Cursor};
 
 /// The record that a search found.
 #[derive(Drop)]

@@ -3,7 +3,7 @@
 ghost use Rattle.std.specs.Prelude.{◌≡◌, ◌||◌, Option};
 ghost use Rattle.std.specs.Option.{option_copied};
 ghost use Rattle.abl_base.specs.declared.row.RowId.{RowId};
-ghost use Rattle.client_database.specs.declared.row_order.Cursor.{Cursor};
+ghost use Rattle.database_protocol.specs.declared.row_order.Cursor.{Cursor};
 ghost use Rattle.block_meaning.specs.Buffers.{is_row_in};
 ghost use Rattle.block_meaning.specs.Changes.{all_begun, any_in};
 ghost use Rattle.block_meaning.specs.Frames.{is_in};
@@ -11,7 +11,7 @@ ghost use Rattle.block_meaning.specs.Reads.{cursor_if, same_index};
 
 use abl_base::RowId;
 use abl_values::{IndexDef, KeyPart};
-use client_database::Cursor;
+use database_protocol::Cursor;
 
 /// Whether each unique index has a component that was assigned since the CREATE: then the pending
 /// record is inserted at the end of the statement. `assigned` are the numbers of the assigned

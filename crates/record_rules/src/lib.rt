@@ -7,6 +7,8 @@
 pub mod answers;
 pub mod bracket;
 pub mod indexes;
+pub mod lines;
+pub mod readings;
 pub mod stored;
 
 pub use answers::{

@@ -2,19 +2,19 @@
 
 ghost use Rattle.std.specs.Prelude.{◌≡◌, ◌+◌, ◌<◌, ◌^◌, nat_lt, length, IfOk};
 ghost use Rattle.abl_base.specs.declared.limits.TheConstants.{MAX_ROW_BYTES};
-ghost use Rattle.abl_expr.specs.Operators.{is_unknown};
+ghost use Rattle.expression_meaning.specs.Operators.{is_unknown};
 ghost use Rattle.abl_values.specs.Rows.{bytes_of_row, field_bytes};
 ghost use Rattle.block_meaning.specs.Buffers.{missing_field};
 ghost use Rattle.block_meaning.specs.Changes.{initial_values};
 ghost use Rattle.block_meaning.specs.Program.{Program};
-ghost use Rattle.complaint_lines.specs.Complaints.{complaint_if};
+ghost use Rattle.record_rules.specs.lines.Complaints.{complaint_if};
 ghost use Rattle.record_rules.specs.Storing.{complaint_about};
 
+use crate::lines::Complaint;
+use crate::lines::names::fields_of;
 use abl_base::limits::MAX_ROW_BYTES;
 use abl_base::{Items, Row, Value};
 use abl_values::{FieldDef, Schema};
-use complaint_lines::Complaint;
-use complaint_lines::names::fields_of;
 use std::alloc::{AllocError, Global};
 
 /// The values of a new record: the initial value of each field (OpenEdge ABL Reference, CREATE

@@ -1,6 +1,6 @@
 -- Slots in memory that are only read.
 use Rattle.std.specs.Prelude.{◌≡◌, ℕ, ◌==◌, Bool, true, false, if◌then◌else◌, List, [], get_or, replicate, Option, Some, None, IsTrue}
-use Rattle.abl_storage.specs.Slots.{SlotState, Transaction}
+use Rattle.storage.specs.Slots.{SlotState, Transaction}
 
 -- the slot of this list, with zeros past its end
 abbrev pub slot_in : List (List ℕ) → ℕ → List ℕ

@@ -1,7 +1,7 @@
 //! The slots that a disk recovers to, read.
 
 ghost use Rattle.std.specs.Prelude.{◌≡◌, ◌≤◌, ◌^◌, ℕ, List, [], length, false, All, IsTrue, IfOk, IsErrOf};
-ghost use Rattle.abl_storage.specs.Disk.{Stays};
+ghost use Rattle.storage.specs.Disk.{Stays};
 ghost use Rattle.log_meaning.specs.Bytes.{IsNote};
 ghost use Rattle.log_meaning.specs.Images.{IsNewest, IsOpened, Recovers, slot_of};
 ghost use Rattle.log_meaning.specs.Recovered.{recovered};
@@ -10,13 +10,13 @@ ghost use Rattle.recovered_view.specs.View.{slot_in, IsAtRest};
 
 use crate::stored::{put_slots, slot_count, stored_slots};
 use crate::view::RecoveredView;
-use abl_storage::{Disk, Slots};
 use bi_log::reader::find;
 use bi_recovery::OpenFault;
 use bi_recovery::notes_read::read_notes;
 use bi_recovery::recovered_slots::recovered_slots;
 use log_meaning::Note;
 use std::alloc::Global;
+use storage::{Disk, Slots};
 
 /// The slots of area 0, those that have a note as the notes recover them.
 fn slots_over<D: Disk>(

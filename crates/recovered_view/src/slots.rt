@@ -4,7 +4,7 @@ ghost use Rattle.recovered_view.specs.View.{viewed};
 ghost use Rattle.std.proofs.Common.{rules};
 
 use crate::view::RecoveredView;
-use abl_storage::{Mark, SlotFault, Slots};
+use storage::{Mark, SlotFault, Slots};
 
 impl Slots for RecoveredView {
     ghost state = { λ v. viewed v.slots.items v.begun };

@@ -1,15 +1,15 @@
 //! The slots of area 0 read, and the slots of notes put over them.
 
 ghost use Rattle.std.specs.Prelude.{◌≡◌, ◌+◌, ◌*◌, ◌<◌, ◌≤◌, ◌^◌, ℕ, length, true, IsTrue, IfOk, IfSome, IsErrOf, OnOk, is_ok};
-ghost use Rattle.abl_storage.specs.Disk.{Stays, HasCause};
-ghost use Rattle.abl_storage.specs.Slots.{put, wrote, undone};
+ghost use Rattle.storage.specs.Disk.{Stays, HasCause};
+ghost use Rattle.storage.specs.Slots.{put, wrote, undone};
 ghost use Rattle.log_meaning.specs.Images.{slot_of};
 ghost use Rattle.bi_recovery.specs.Causes.{HasOpenCause};
 ghost use Rattle.recovered_view.specs.View.{slot_in};
 
-use abl_storage::{Disk, DiskFailed, Undo};
 use bi_recovery::OpenFault;
 use std::alloc::{AllocError, Global};
+use storage::{Disk, DiskFailed, Undo};
 
 /// The most bytes of area 0: 1,048,576 slots.
 const MOST_BYTES: u64 = 268_435_456;

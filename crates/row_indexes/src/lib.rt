@@ -5,6 +5,7 @@
 #![tactic(auto)]
 
 pub mod back;
+pub mod index_changes;
 pub mod laws;
 pub mod moves;
 

@@ -12,13 +12,13 @@ use Rattle.abl_base.specs.declared.value.Value.{Value}
 use Rattle.abl_base.specs.declared.row.RowId.{RowId}
 use Rattle.abl_values.proofs.Numbers.{nat_cmp-less, nat_cmp-greater, nat_cmp-same}
 use Rattle.abl_values.specs.Schema.{SchemaData}
-use Rattle.client_database.specs.declared.row_order.Cursor.{Cursor}
+use Rattle.database_protocol.specs.declared.row_order.Cursor.{Cursor}
 use Rattle.database_meaning.specs.declared.state.StoredRow.{StoredRow}
 use Rattle.database_meaning.specs.Setting.{FitsTable, HasTable, kinds_of, parts_of}
 use Rattle.database_meaning.specs.Search.{IsBeyond, IsFindableIn, MatchesPrefix, direction, order_key, place_cmp}
 use Rattle.database_meaning.specs.Waiting.{row_in}
-use Rattle.abl_rows.specs.Changes.{RowsById}
-use Rattle.abl_rows.specs.Questions.{FindsNoneIn, table_in}
+use Rattle.row_store.specs.Changes.{RowsById}
+use Rattle.row_store.specs.Questions.{FindsNoneIn, table_in}
 use Rattle.key_index.specs.Index.{Keys}
 use Rattle.key_index.specs.Search.{BeginsWith, FindsNone, IsBefore, IsBeyondCursor, IsFindable, IsNext, LiesBeyond}
 use Rattle.row_indexes.specs.Places.{index_at, places_of}

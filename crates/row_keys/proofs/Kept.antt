@@ -7,7 +7,7 @@ use Rattle.abl_values.specs.Schema.{SchemaData}
 use Rattle.database_meaning.specs.declared.state.StoredRow.{StoredRow}
 use Rattle.database_meaning.specs.declared.state.Key.{Key}
 use Rattle.database_meaning.specs.Setting.{HasIndex, HasTable}
-use Rattle.abl_rows.specs.Rows.{is_moved}
+use Rattle.row_store.specs.Rows.{is_moved}
 use Rattle.key_index.specs.Places.{is_client}
 use Rattle.row_indexes.specs.declared.moves.Move.{Move}
 use Rattle.row_indexes.specs.Places.{Keepers, Places, owner_after, with_place}

@@ -14,7 +14,7 @@ use Rattle.database_meaning.specs.Answers.{IsDuplicateIn}
 use Rattle.database_meaning.specs.Search.{order_key}
 use Rattle.database_meaning.specs.Waiting.{row_in}
 use Rattle.database_meaning.proofs.Keys.{Has}
-use Rattle.abl_rows.specs.Changes.{RowsById}
+use Rattle.row_store.specs.Changes.{RowsById}
 use Rattle.key_index.specs.Index.{IsEntry, Keys}
 use Rattle.key_index.specs.Places.{IsAbove}
 use Rattle.row_indexes.specs.Places.{index_at, places_of}

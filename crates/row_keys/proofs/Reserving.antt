@@ -12,7 +12,7 @@ use Rattle.database_meaning.specs.declared.state.Key.{Key}
 use Rattle.database_meaning.specs.Setting.{HasIndex, HasTable, has_key, unique_keys}
 use Rattle.database_meaning.specs.Waiting.{IsAscending, ListsAll, row_in}
 use Rattle.database_meaning.proofs.Keys.{Has}
-use Rattle.abl_rows.specs.Questions.{table_in}
+use Rattle.row_store.specs.Questions.{table_in}
 use Rattle.key_index.specs.Index.{Keys, KeepsSome, keeper_of}
 use Rattle.key_index.specs.Left.{Lists}
 use Rattle.key_index.specs.Places.{is_client}

@@ -16,7 +16,7 @@ use Rattle.database_meaning.specs.declared.state.Key.{Key}
 use Rattle.database_meaning.specs.Setting.{HasIndex, HasTable, has_key, key_at, keys_from, keys_without, kinds_of, unique_keys}
 use Rattle.database_meaning.specs.Waiting.{row_in}
 use Rattle.database_meaning.proofs.Keys.{Has, has_cases, has_left, has_one, has_right, has_without, without_cases}
-use Rattle.abl_rows.specs.Rows.{is_moved}
+use Rattle.row_store.specs.Rows.{is_moved}
 use Rattle.row_indexes.specs.declared.moves.Move.{Move}
 use Rattle.row_indexes.specs.Places.{Keepers}
 use Rattle.row_indexes.specs.Making.{kept_after}

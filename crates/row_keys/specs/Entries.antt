@@ -6,7 +6,7 @@ use Rattle.database_meaning.specs.declared.state.StoredRow.{StoredRow}
 use Rattle.database_meaning.specs.Setting.{FitsTable, HasTable}
 use Rattle.database_meaning.specs.Search.{order_key}
 use Rattle.database_meaning.specs.Waiting.{row_in}
-use Rattle.abl_rows.specs.Changes.{RowsById}
+use Rattle.row_store.specs.Changes.{RowsById}
 use Rattle.row_indexes.specs.Places.{Keepers, Places}
 use Rattle.row_keys.specs.Numbers.{HasOrder, number_of}
 

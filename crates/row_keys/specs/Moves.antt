@@ -4,7 +4,7 @@ use Rattle.abl_values.specs.Schema.{SchemaData}
 use Rattle.database_meaning.specs.declared.state.StoredRow.{StoredRow}
 use Rattle.database_meaning.specs.declared.state.Key.{Key}
 use Rattle.database_meaning.specs.Setting.{HasIndex, HasTable}
-use Rattle.abl_rows.specs.Rows.{is_moved}
+use Rattle.row_store.specs.Rows.{is_moved}
 use Rattle.row_indexes.specs.declared.moves.Move.{Move}
 use Rattle.row_indexes.specs.Places.{AreWithin}
 use Rattle.row_keys.specs.Numbers.{HasOrder, index_count, number_of}

@@ -2,7 +2,7 @@
 use Rattle.std.specs.Prelude.{◌≡◌, ◌≢◌, ℕ, suc, ◌<◌, nat_lt, if◌then◌else◌, Bool, List, [], ◌∷◌, Option, Some, None}
 use Rattle.abl_base.specs.declared.value.Value.{Value}
 use Rattle.abl_base.specs.declared.row.RowId.{RowId}
-use Rattle.client_database.specs.declared.row_order.Cursor.{Cursor}
+use Rattle.database_protocol.specs.declared.row_order.Cursor.{Cursor}
 use Rattle.abl_values.specs.declared.schema.IndexDef.{IndexDef}
 use Rattle.abl_values.specs.Keys.{unique_key}
 use Rattle.abl_values.specs.Schema.{SchemaData}
@@ -10,8 +10,8 @@ use Rattle.database_meaning.specs.declared.state.StoredRow.{StoredRow}
 use Rattle.database_meaning.specs.Waiting.{EntersReserved, row_in}
 use Rattle.database_meaning.specs.Answers.{IsDuplicateIn}
 use Rattle.database_meaning.specs.Search.{IsNextIn}
-use Rattle.abl_rows.specs.Changes.{RowsById}
-use Rattle.abl_rows.specs.Questions.{table_at, table_in}
+use Rattle.row_store.specs.Changes.{RowsById}
+use Rattle.row_store.specs.Questions.{table_at, table_in}
 use Rattle.key_index.specs.Index.{IsEntry, Keys, keeper_of}
 use Rattle.row_indexes.specs.Places.{Keepers}
 use Rattle.row_keys.specs.Reserved.{reserved_at}

@@ -4,7 +4,7 @@ ghost use Rattle.std.specs.Prelude.{◌≡◌, ◌↔◌, ℕ, true, None, Some,
 ghost use Rattle.abl_base.specs.declared.row.RowId.{RowId as Identity};
 ghost use Rattle.database_meaning.specs.Setting.{FitsTable, HasTable};
 ghost use Rattle.database_meaning.specs.Waiting.{row_in};
-ghost use Rattle.abl_rows.specs.Changes.{RowsById};
+ghost use Rattle.row_store.specs.Changes.{RowsById};
 ghost use Rattle.row_indexes.specs.Places.{places_of};
 ghost use Rattle.row_keys.specs.Numbers.{index_count};
 ghost use Rattle.row_keys.specs.Entries.{AreEntries, AreFitting};
@@ -14,9 +14,9 @@ use crate::indexes::index_at;
 use crate::keys::unique_key_of;
 use crate::numbers::{def_at, first_of_table, numbered};
 use abl_base::{Bytes, Row, RowId};
-use abl_rows::Duplicate;
 use abl_values::{IndexDef, Schema};
 use key_index::Index;
+use row_store::Duplicate;
 use std::alloc::AllocError;
 
 /// The least index of the table in which another row than the replaced one has a unique key of these

@@ -4,12 +4,12 @@ ghost use Rattle.std.specs.Prelude.{◌≡◌, ◌↔◌, ◌<◌, ℕ, length, 
 ghost use Rattle.abl_values.specs.Keys.{component, has_unknown, is_unknown, unique_key};
 ghost use Rattle.database_meaning.specs.Setting.{HasIndex, HasTable, key_in};
 ghost use Rattle.abl_base.specs.declared.limits.TheConstants.{MAX_KEY_BYTES};
-ghost use Rattle.abl_rows.specs.Questions.{IsLongKey};
+ghost use Rattle.row_store.specs.Questions.{IsLongKey};
 
+use crate::codec::{KeyFault, key};
 use crate::numbers::{def_at, numbered};
 use abl_base::{Bytes, Row, Value};
 use abl_values::{IndexDef, KeyPart, Schema, key_bytes};
-use key_codec::{KeyFault, key};
 use std::alloc::AllocError;
 
 /// The least index of the table in which the key of these values is too long. An error means out of

@@ -9,7 +9,7 @@ ghost use Rattle.abl_values.specs.Rows.{FitsFields};
 ghost use Rattle.abl_values.specs.Schema.{SchemaData};
 ghost use Rattle.database_meaning.specs.declared.state.StoredRow.{StoredRow};
 ghost use Rattle.database_meaning.specs.declared.state.Key.{Key};
-ghost use Rattle.abl_rows.specs.Rows.{is_moved};
+ghost use Rattle.row_store.specs.Rows.{is_moved};
 ghost use Rattle.row_indexes.specs.declared.moves.Move.{Move};
 ghost use Rattle.row_indexes.specs.Places.{Keepers, Places, undone};
 ghost use Rattle.row_indexes.specs.Making.{CanMake, kept_after, made};

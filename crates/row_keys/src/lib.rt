@@ -1,10 +1,11 @@
 //! The keys of rows in the indexes of their tables: the moves that a change of a row makes, and what
-//! the indexes are asked. It depends on `key_codec` for the bytes of keys, on `row_indexes` for the
-//! indexes and moves, and on the definitions of `abl_rows` and `database_meaning`. It knows nothing
+//! the indexes are asked. It depends on `codec` for the bytes of keys, on `row_indexes` for the
+//! indexes and moves, and on the definitions of `row_store` and `database_meaning`. It knows nothing
 //! of how rows are stored: a clause speaks of any rows whose keys are the entries of the indexes
 //! (`AreEntries` in `specs/Entries.antt`).
 #![tactic(auto)]
 
+pub mod codec;
 pub mod duplicates;
 pub mod indexes;
 pub mod keys;

@@ -8,11 +8,11 @@ ghost use Rattle.database_meaning.specs.Search.{kind_at};
 ghost use Rattle.row_keys.specs.Numbers.{HasOrder};
 ghost use Rattle.row_keys.specs.Prefixes.{FitsParts, FitsPrefix, leading_bytes, prefix_bytes};
 
+use crate::codec::part;
 use crate::numbers::def_at;
 use abl_base::{Bytes, Items, Kind, Row, Value};
 use abl_values::{FieldDef, KeyPart, Schema};
-use answer_table::rows::is_of_field;
-use key_codec::part;
+use row_store::answers::rows::is_of_field;
 use std::alloc::AllocError;
 
 /// The first bytes of the keys of the rows with these leading values; none where no row of the table

@@ -20,7 +20,7 @@ use crate::keys::unique_key_of;
 use crate::numbers::{def_at, first_of_table};
 use abl_base::{Bytes, Items, Row};
 use abl_values::{IndexDef, Schema, same_bytes};
-use client_database::ClientIds;
+use database_protocol::ClientIds;
 use key_index::Index;
 use std::alloc::AllocError;
 

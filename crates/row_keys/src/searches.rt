@@ -3,8 +3,8 @@
 ghost use Rattle.std.specs.Prelude.{◌≡◌, ◌<◌, ◌^◌, length, IfOk, MatchOption};
 ghost use Rattle.std.specs.Option.{option_copied};
 ghost use Rattle.database_meaning.specs.Setting.{HasTable};
-ghost use Rattle.abl_rows.specs.Changes.{RowsById};
-ghost use Rattle.abl_rows.specs.Questions.{FindsNoneIn};
+ghost use Rattle.row_store.specs.Changes.{RowsById};
+ghost use Rattle.row_store.specs.Questions.{FindsNoneIn};
 ghost use Rattle.row_indexes.specs.Places.{places_of};
 ghost use Rattle.row_keys.specs.Numbers.{HasOrder, index_count};
 ghost use Rattle.row_keys.specs.Entries.{AreEntries, AreFitting};
@@ -15,7 +15,7 @@ use crate::numbers::number_of;
 use crate::prefixes::prefix_bytes;
 use abl_base::Row;
 use abl_values::Schema;
-use client_database::Cursor;
+use database_protocol::Cursor;
 use key_index::Index;
 use std::alloc::AllocError;
 

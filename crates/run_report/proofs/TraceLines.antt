@@ -2,10 +2,10 @@
 use Rattle.std.proofs.Common.{◌≡◌, ◌<◌, ◌+◌, ℕ, suc, zero, Bool, true, false, List, [], ◌∷◌, ◌++◌, sym, ap, ◌∙◌, subst, arith, length, take, drop, append_assoc, append-nil, get_or}
 use Rattle.std.specs.Prelude.{codes, decimal, slice_index_or}
 use Rattle.abl_values.specs.Schema.{SchemaData}
-use Rattle.abl_outside.specs.declared.out.Stream.TheVariants.{Output}
-use Rattle.client_database.specs.declared.event.Event.{Event}
+use Rattle.host_io.specs.declared.out.Stream.TheVariants.{Output}
+use Rattle.database_protocol.specs.declared.event.Event.{Event}
 use Rattle.run_report.specs.Trace.{added, answer_name, op_name, operands, trace_line, trace_lines, trace_part}
-use Rattle.abl_outside.specs.Out.{OutState, Writes}
+use Rattle.host_io.specs.Out.{OutState, Writes}
 use Rattle.run_report.proofs.Writing.{writes_part, writes_then}
 
 -- the lines, parted at one of them

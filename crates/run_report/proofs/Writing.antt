@@ -5,11 +5,11 @@ use Rattle.std.proofs.lemmas.Bool.{cases_lt}
 use Rattle.std.proofs.Math.Seq.{take-append-add}
 use Rattle.std.proofs.lemmas.List.{take-append-le}
 use Rattle.std.specs.Prelude.{IsTrue}
-use Rattle.abl_outside.specs.declared.out.Stream.{Stream}
-use Rattle.abl_outside.specs.declared.out.Stream.TheVariants.{Output, Diagnostics}
-use Rattle.abl_outside.specs.Out.{Texts, appended, AppendsPrefix}
-use Rattle.fault_count.specs.Faults.{Rose}
-use Rattle.abl_outside.specs.Out.{OutState, Writes}
+use Rattle.host_io.specs.declared.out.Stream.{Stream}
+use Rattle.host_io.specs.declared.out.Stream.TheVariants.{Output, Diagnostics}
+use Rattle.host_io.specs.Out.{Texts, appended, AppendsPrefix}
+use Rattle.storage.specs.faults.Faults.{Rose}
+use Rattle.host_io.specs.Out.{OutState, Writes}
 
 appended-nothing : (stream : Stream) (t : Texts) → appended stream [] t ≡ t
 appended-nothing Output t = ap (λ text. record { output = text; diagnostics = t.diagnostics }) (append-nil t.output)

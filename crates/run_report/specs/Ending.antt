@@ -1,16 +1,16 @@
 -- How a command ended: its refusal, its status, and the report of a run.
 use Rattle.std.specs.Prelude.{◌≡◌, ◌+◌, ℕ, Bool, true, false, if◌then◌else◌, List, [], ◌∷◌, Option, Some, None}
 use Rattle.std.specs.List.{list_any}
-use Rattle.abl_outside.specs.declared.out.Stream.TheVariants.{Output as Standard, Diagnostics}
-use Rattle.abl_outside.specs.Out.{OutState, Writes}
+use Rattle.host_io.specs.declared.out.Stream.TheVariants.{Output as Standard, Diagnostics}
+use Rattle.host_io.specs.Out.{OutState, Writes}
 use Rattle.abl_values.specs.Schema.{SchemaData}
-use Rattle.client_database.specs.declared.answer.Answer.{Answer}
-use Rattle.client_database.specs.declared.answer.Answer.TheVariants.{Closed}
-use Rattle.client_database.specs.declared.event.Event.{Event}
-use Rattle.client_database.specs.declared.ends.ClientEnd.{ClientEnd}
-use Rattle.client_database.specs.declared.ends.ClientEnd.TheVariants as end
+use Rattle.database_protocol.specs.declared.answer.Answer.{Answer}
+use Rattle.database_protocol.specs.declared.answer.Answer.TheVariants.{Closed}
+use Rattle.database_protocol.specs.declared.event.Event.{Event}
+use Rattle.database_protocol.specs.declared.ends.ClientEnd.{ClientEnd}
+use Rattle.database_protocol.specs.declared.ends.ClientEnd.TheVariants as end
 use Rattle.client_output.specs.declared.section.Section.{Section}
-use Rattle.abl_arguments.specs.declared.parts.Mode.{Mode}
+use Rattle.command_arguments.specs.declared.parts.Mode.{Mode}
 use Rattle.run_report.specs.declared.ending.Report.{Report}
 use Rattle.run_report.specs.declared.refusal.Refusal.{Refusal}
 use Rattle.run_report.specs.declared.refusal.Refusal.TheVariants.{Client, Disk, Output, NoMemory}

@@ -2,11 +2,11 @@
 use Rattle.std.specs.Prelude.{◌≡◌, refl, true, false, None, [], ◌∷◌, ℕ, codes, pos}
 use Rattle.std.specs.Fmt.{digits}
 use Rattle.abl_values.specs.Schema.{SchemaData}
-use Rattle.client_database.specs.declared.operation.Op.{Op}
-use Rattle.client_database.specs.declared.operation.Op.TheVariants.{Enter, Leave, Back, Next, Lock, NextValue, End}
-use Rattle.client_database.specs.declared.answer.Answer.{Answer}
-use Rattle.client_database.specs.declared.answer.Answer.TheVariants.{Done, Committed, Blocked, Deadlock, Found, Value}
-use Rattle.client_database.specs.declared.event.Event.{Event}
+use Rattle.database_protocol.specs.declared.operation.Op.{Op}
+use Rattle.database_protocol.specs.declared.operation.Op.TheVariants.{Enter, Leave, Back, Next, Lock, NextValue, End}
+use Rattle.database_protocol.specs.declared.answer.Answer.{Answer}
+use Rattle.database_protocol.specs.declared.answer.Answer.TheVariants.{Done, Committed, Blocked, Deadlock, Found, Value}
+use Rattle.database_protocol.specs.declared.event.Event.{Event}
 use Rattle.abl_base.specs.declared.rule.Rule.TheVariants.{F1}
 use Rattle.run_report.specs.declared.refusal.Refusal.TheVariants.{Schema}
 use Rattle.run_report.specs.Report.{status_lines}

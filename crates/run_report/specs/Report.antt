@@ -2,14 +2,14 @@
 use Rattle.std.specs.Prelude.{ℕ, ◌==◌, if◌then◌else◌, List, [], ◌∷◌, ◌++◌, Option, Some, None, codes, decimal, slice_get}
 use Rattle.std.specs.List.{flat_map}
 use Rattle.abl_base.specs.Rules.{rule_name}
-use Rattle.client_database.specs.Ends.{stop_name}
-use Rattle.client_database.specs.declared.ends.ClientEnd.{ClientEnd}
-use Rattle.client_database.specs.declared.ends.ClientEnd.TheVariants as end
+use Rattle.database_protocol.specs.Ends.{stop_name}
+use Rattle.database_protocol.specs.declared.ends.ClientEnd.{ClientEnd}
+use Rattle.database_protocol.specs.declared.ends.ClientEnd.TheVariants as end
 use Rattle.abl_values.specs.Schema.{SchemaData}
-use Rattle.client_database.specs.declared.event.Event.{Event}
+use Rattle.database_protocol.specs.declared.event.Event.{Event}
 use Rattle.client_output.specs.declared.section.Section.{Section}
-use Rattle.abl_arguments.specs.declared.parts.Mode.{Mode}
-use Rattle.abl_arguments.specs.declared.parts.Mode.TheVariants.{Trace, Quiet}
+use Rattle.command_arguments.specs.declared.parts.Mode.{Mode}
+use Rattle.command_arguments.specs.declared.parts.Mode.TheVariants.{Trace, Quiet}
 use Rattle.run_report.specs.Trace.{trace_part}
 use Rattle.run_report.specs.declared.refusal.Refusal.{Refusal}
 use Rattle.run_report.specs.declared.refusal.Refusal.TheVariants.{Usage, File, TooLong, Schema, NoTable, Source, NotCreated, AlreadyCreated, SchemaDiffers, Disk, Client, Output, NoMemory}

@@ -6,8 +6,8 @@ ghost use Rattle.run_report.specs.Ending.{IsRefused, WritesStatus, failure_refus
 use crate::refusal::Refusal;
 use crate::report::write_status;
 use abl_base::{Bytes, Items};
-use abl_outside::Out;
-use client_database::{Answer, ClientEnd, Event, Trace};
+use database_protocol::{Answer, ClientEnd, Event, Trace};
+use host_io::Out;
 use std::alloc::Global;
 
 /// How clients ended, in client order.

@@ -3,17 +3,17 @@
 ghost use Rattle.std.specs.Prelude.{◌≡◌, ◌++◌, ◌∷◌, [], List, codes, decimal, is_ok, slice_get};
 ghost use Rattle.client_output.specs.declared.section.Section.{Section as Written};
 ghost use Rattle.std.specs.List.{flat_map};
-ghost use Rattle.abl_outside.specs.declared.out.Stream.{Stream};
-ghost use Rattle.abl_outside.specs.Out.{Writes};
+ghost use Rattle.host_io.specs.declared.out.Stream.{Stream};
+ghost use Rattle.host_io.specs.Out.{Writes};
 ghost use Rattle.run_report.specs.Report.{line_end_of, line_end_after, part_of, report_of, end_line, end_lines, name_or_none, status_lines};
 
 use crate::refusal::Refusal;
-use abl_arguments::Mode;
 use abl_base::{Bytes, Place};
-use abl_outside::{Out, OutFailed, Stream};
 use abl_values::Schema;
-use client_database::ClientEnd;
 use client_output::Section;
+use command_arguments::Mode;
+use database_protocol::ClientEnd;
+use host_io::{Out, OutFailed, Stream};
 use itoa::Buffer;
 
 /// What the report of a run needs besides what the clients did: the mode, the schema, whose names are

@@ -2,15 +2,15 @@
 
 ghost use Rattle.std.specs.Prelude.{◌≡◌, ◌<◌, ◌++◌, ◌∷◌, [], codes, decimal, is_ok, length, slice_index_or};
 ghost use Rattle.abl_values.specs.Schema.{name_of};
-ghost use Rattle.abl_outside.specs.declared.out.Stream.{Stream};
-ghost use Rattle.abl_outside.specs.Out.{Writes};
+ghost use Rattle.host_io.specs.declared.out.Stream.{Stream};
+ghost use Rattle.host_io.specs.Out.{Writes};
 ghost use Rattle.run_report.specs.Trace.{added, answer_name, client_names, either_letter, op_name, operands, sequence_name, trace_line, trace_part};
 
 use crate::report::write_all;
 use abl_base::Bytes;
-use abl_outside::{Out, OutFailed, Stream};
 use abl_values::Schema;
-use client_database::{Answer, Event, Op};
+use database_protocol::{Answer, Event, Op};
+use host_io::{Out, OutFailed, Stream};
 use itoa::Buffer;
 
 /// Writes the part of the report that has the trace: `== trace ==`, and for each event its number

@@ -3,15 +3,15 @@ use Rattle.std.proofs.Common.{◌≡◌, ◌≤◌, ◌<◌, ℕ, Bool, List, []
 use Rattle.std.proofs.Common.{⊎_elim}
 use Rattle.std.proofs.Math.Logic.{∥∥₁_elim, ∥∥₁_map, ∥∥₁_prop}
 use Rattle.std.proofs.Props.{props}
-use Rattle.abl_storage.specs.Disk.{IsImage}
+use Rattle.storage.specs.Disk.{IsImage}
 use Rattle.abl_values.specs.Schema.{SchemaData}
-use Rattle.client_database.specs.declared.event.Event.{Event}
+use Rattle.database_protocol.specs.declared.event.Event.{Event}
 use Rattle.database_meaning.specs.declared.contents.Contents.{Contents}
 use Rattle.database_meaning.specs.Setting.{Setting}
 use Rattle.database_meaning.specs.Traces.{acknowledged, after_commits, commits}
 use Rattle.bi_log.specs.Lengths.{IsShort, StayShort}
-use Rattle.disk_steps.specs.Steps.{Image}
-use Rattle.logged_slots.specs.Stops.{IsRecoverable, StayRecoverable}
+use Rattle.log_meaning.specs.steps.Steps.{Image}
+use Rattle.slot_txn.specs.logged.Stops.{IsRecoverable, StayRecoverable}
 use Rattle.disk_database.specs.Images.{AllAreOf, AllRecover, IsImageFrom, IsImageOf, RecoversAsBefore}
 use Rattle.disk_database.proofs.Images.{image_prop}
 use Rattle.run_works.specs.Disks.{DiskState, HoldsContents, KeepsContents, KeepsLogShort, LogStaysShort}

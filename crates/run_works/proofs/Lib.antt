@@ -1,3 +1,4 @@
+pub mod WatchedLemmas
 pub mod Disks
 pub mod Runs
 pub mod Sends

@@ -3,16 +3,16 @@ use Rattle.std.proofs.Common.{◌≡◌, ◌+◌, ℕ, suc, List, [], ◌∷◌,
 use Rattle.std.specs.Prelude.{map}
 use Rattle.block_meaning.specs.Meaning.{run}
 use Rattle.block_meaning.specs.Program.{Program}
-use Rattle.block_vm.specs.ClientView.{ClientView}
-use Rattle.client_database.specs.declared.event.Event.{Event}
-use Rattle.client_database.specs.declared.ends.ClientEnd.{ClientEnd}
+use Rattle.client_core.specs.ClientView.{ClientView}
+use Rattle.database_protocol.specs.declared.event.Event.{Event}
+use Rattle.database_protocol.specs.declared.ends.ClientEnd.{ClientEnd}
 use Rattle.client_output.specs.declared.section.Section.{Section}
 use Rattle.database_meaning.specs.Setting.{Setting}
-use Rattle.served_works.specs.ClientRun.{ClientOutcome, own_events}
-use Rattle.served_works.specs.Works.{DidAsMeant, IsProgram, Work}
-use Rattle.served_works.specs.declared.clients.EndedClient.{EndedClient}
+use Rattle.client_threads.specs.served.ClientRun.{ClientOutcome, own_events}
+use Rattle.client_threads.specs.served.Works.{DidAsMeant, IsProgram, Work}
+use Rattle.client_threads.specs.declared.served.clients.EndedClient.{EndedClient}
 use Rattle.run_report.specs.Report.{reports}
-use Rattle.served_works.specs.Served.{AreReported, AreToDo, IsToDo, HasEnded, HaveEnded, HaveEndedOrNot, HasSections, HaveSections, end_or_none}
+use Rattle.client_threads.specs.served.Served.{AreReported, AreToDo, IsToDo, HasEnded, HaveEnded, HaveEndedOrNot, HasSections, HaveSections, end_or_none}
 
 -- a client that was to do a work has done it
 pub client_outcome : (setting : Setting) (trace : List Event) (units number : ℕ) (w : Work) (old : ClientView) (new : EndedClient) (sections : List Section) → IsToDo units w old → HasEnded setting trace number old new → AreReported new.end new.client sections →

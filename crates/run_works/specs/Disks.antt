@@ -1,15 +1,15 @@
 -- What a call does to the disk, by the images that a crash at its moments may leave.
 use Rattle.std.specs.Prelude.{◌≡◌, ℕ, ◌≤◌, Bool, true, IsTrue, List}
-use Rattle.fault_count.specs.Faults.{Rose}
+use Rattle.storage.specs.faults.Faults.{Rose}
 use Rattle.abl_values.specs.Schema.{SchemaData}
-use Rattle.abl_storage.specs.Disk.{Stays}
-use Rattle.abl_storage.specs.declared.disk.Disk.{Ghosts}
-use Rattle.client_database.specs.declared.event.Event.{Event}
+use Rattle.storage.specs.Disk.{Stays}
+use Rattle.storage.specs.declared.disk.Disk.{Ghosts}
+use Rattle.database_protocol.specs.declared.event.Event.{Event}
 use Rattle.database_meaning.specs.declared.contents.Contents.{Contents}
 use Rattle.database_meaning.specs.Setting.{Setting}
 use Rattle.database_meaning.specs.Traces.{IsLegal}
 use Rattle.bi_log.specs.Lengths.{IsShort}
-use Rattle.disk_steps.specs.Steps.{Image}
+use Rattle.log_meaning.specs.steps.Steps.{Image}
 use Rattle.disk_database.specs.declared.refusals.OpenRefusal.{OpenRefusal}
 use Rattle.disk_database.specs.declared.refusals.OpenRefusal.TheVariants as opening
 use Rattle.disk_database.specs.Answers.{IsBornOf, IsRefused, is_judgement}

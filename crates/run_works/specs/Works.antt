@@ -1,16 +1,16 @@
 -- A run of works over the database of a disk, and its report.
 use Rattle.std.specs.Prelude.{◌≡◌, ◌<◌, ℕ, All, length, List}
 use Rattle.abl_values.specs.Schema.{SchemaData}
-use Rattle.abl_outside.specs.Out.{OutState}
-use Rattle.client_database.specs.declared.ends.ClientEnd.{ClientEnd}
-use Rattle.client_database.specs.declared.event.Event.{Event}
+use Rattle.host_io.specs.Out.{OutState}
+use Rattle.database_protocol.specs.declared.ends.ClientEnd.{ClientEnd}
+use Rattle.database_protocol.specs.declared.event.Event.{Event}
 use Rattle.client_output.specs.declared.section.Section.{Section}
-use Rattle.abl_arguments.specs.declared.parts.Mode.{Mode}
+use Rattle.command_arguments.specs.declared.parts.Mode.{Mode}
 use Rattle.run_report.specs.declared.ending.Report.{Report}
 use Rattle.run_report.specs.declared.refusal.Refusal.{Refusal}
 use Rattle.run_report.specs.declared.refusal.Refusal.TheVariants.{NoMemory}
 use Rattle.run_report.specs.Ending.{IsRefused, IsReported}
-use Rattle.served_works.specs.Works.{DidAsMeant, Work}
+use Rattle.client_threads.specs.served.Works.{DidAsMeant, Work}
 use Rattle.run_works.specs.Disks.{DiskState, IsDurable, IsNotOpened, KeepsContents, ReadsAsDatabase}
 
 -- A RUN of the clients of these names and works in this mode over the database of this schema that the disk has, and its report. Each client

@@ -4,21 +4,21 @@ ghost use Rattle.std.specs.Prelude.{◌≡◌, ◌≤◌, [], ℕ};
 ghost use Rattle.database_meaning.specs.declared.contents.Contents.{Contents};
 ghost use Rattle.database_meaning.specs.Setting.{Setting};
 ghost use Rattle.database_meaning.specs.Traces.{IsLegal};
-ghost use Rattle.disk_steps.specs.Steps.{Image};
+ghost use Rattle.log_meaning.specs.steps.Steps.{Image};
 ghost use Rattle.disk_database.specs.Images.{AllAreOf, IsImageOf, SurvivesCrashes};
 ghost use Rattle.run_report.specs.declared.refusal.Refusal.TheVariants.{NoMemory};
 ghost use Rattle.run_works.specs.Disks.{LogStaysShort};
 
 use crate::opening::NotRun;
 use crate::timed::Timed;
-use abl_rows::RowStore;
-use abl_storage::Disk;
-use client_database::Trace;
+use crate::watched::{Start, Watched};
+use client_threads::served::{EndedClient, Served};
 use database_interface::Database;
+use database_protocol::Trace;
 use disk_database::{DiskDatabase, DiskStore, Opening, close};
+use row_store::RowStore;
 use run_report::Refusal;
-use served_works::{EndedClient, Served};
-use watched_disk::{Start, Watched};
+use storage::Disk;
 
 /// The disk of a run.
 pub type RunDisk<D, K> = Watched<D, K>;

@@ -3,27 +3,27 @@
 
 ghost use Rattle.std.specs.Prelude.{◌≡◌, ◌+◌, ◌<◌, ◌≤◌, ℕ, All, IfErr, IfOk, length};
 ghost use Rattle.abl_values.specs.Schema.{SchemaData};
-ghost use Rattle.client_database.specs.declared.event.Event.{Event};
-ghost use Rattle.block_clients.specs.Phases.{AreThreePhases};
-ghost use Rattle.disk_steps.specs.Steps.{Image};
+ghost use Rattle.database_protocol.specs.declared.event.Event.{Event};
+ghost use Rattle.client_threads.specs.clients.Phases.{AreThreePhases};
+ghost use Rattle.log_meaning.specs.steps.Steps.{Image};
 ghost use Rattle.source_files.specs.Compiled.{schema_in};
 ghost use Rattle.run_report.specs.declared.refusal.Refusal.TheVariants.{NoMemory};
 ghost use Rattle.run_works.specs.Disks.{IsDurable, IsNotOpened, KeepsContents, KeepsLogShort, ReadsAsDatabase, state_of};
-ghost use Rattle.served_works.specs.Served.{HaveEnded, HaveEndedOrNot};
+ghost use Rattle.client_threads.specs.served.Served.{HaveEnded, HaveEndedOrNot};
 
 use crate::closing::{Ran, RunDatabase, RunDisk, close_after_run, close_unused, unwatched};
 use crate::opening::{NotRun, open_database};
 use crate::serving::{serve, serve_phases};
 use crate::timed::Timed;
-use abl_outside::Gate;
-use abl_storage::Disk;
-use block_vm::Client;
+use crate::watched::{Start, Watched};
+use client_core::Client;
 use disk_database::Opening;
+use host_io::Gate;
 use std::alloc::Global;
 use std::marker::{Brand, PhantomData};
 use std::sync::Wait;
 use std::thread::Threads;
-use watched_disk::{Start, Watched};
+use storage::Disk;
 
 /// Opens the database of the schema of this text on the disk, runs each client on a thread of its own
 /// to its end, and closes the database. The client at place k has the number k in the trace. The text

@@ -1,19 +1,19 @@
 //! Writing the rows of a table of the database that a disk has.
 
 ghost use Rattle.std.specs.Prelude.{◌≡◌, ◌<◌, ◌≤◌, length, not, true, false, IfErr, IsTrue, OnOk};
-ghost use Rattle.fault_count.specs.Faults.{Rose};
-ghost use Rattle.disk_steps.specs.Steps.{Image};
+ghost use Rattle.storage.specs.faults.Faults.{Rose};
+ghost use Rattle.log_meaning.specs.steps.Steps.{Image};
 ghost use Rattle.disk_database.specs.Answers.{HasText, IsDumped, IsNotDumped, is_disk, is_judged, is_output};
 ghost use Rattle.run_works.specs.Disks.{IsUntouched, KeepsContents, KeepsLogShort, ReadsAsDatabase, state_of};
 
 use crate::closing::RunDisk;
-use abl_outside::Out;
-use abl_storage::Disk;
+use crate::watched::{Start, Watched};
 use abl_values::Schema;
 use disk_database::{DumpRefusal, dump};
+use host_io::Out;
 use std::alloc::Global;
 use std::marker::{Brand, PhantomData};
-use watched_disk::{Start, Watched};
+use storage::Disk;
 
 /// Writes the committed rows of a table of the database of this schema that the disk has to standard
 /// output: a line as EXPORT writes it for each row, in the order of the table's primary index, or of

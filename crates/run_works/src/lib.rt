@@ -1,6 +1,6 @@
 //! Runs of works (a work is a source with its inputs) over the database of a disk: what opens the
 //! database, serves it to the clients on threads and closes it, and what reports how they ended. It
-//! joins `served_works`, `disk_database` and `run_report`. The layer above relies on `execute`: each
+//! joins `client_threads::served`, `disk_database` and `run_report`. The layer above relies on `execute`: each
 //! client did as its source means under its own answers (`HasRun` in specs/Works.antt), the trace is
 //! legal from the contents of the disk, and these survive a crash at any moment (`IsDurable` in
 //! specs/Disks.antt).
@@ -14,6 +14,7 @@ pub mod outcome;
 mod serving;
 pub mod text;
 mod timed;
+pub mod watched;
 pub mod works;
 
 pub use closing::Ran;

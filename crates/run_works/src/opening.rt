@@ -3,19 +3,19 @@
 ghost use Rattle.std.specs.Prelude.{◌≡◌, ◌<◌, ◌≤◌, [], ℕ, IfErr, IfOk};
 ghost use Rattle.database_meaning.specs.declared.contents.Contents.{Contents};
 ghost use Rattle.source_files.specs.Compiled.{schema_in};
-ghost use Rattle.disk_steps.specs.Steps.{Image};
+ghost use Rattle.log_meaning.specs.steps.Steps.{Image};
 ghost use Rattle.disk_database.specs.Images.{RecoversAsBefore};
 ghost use Rattle.bi_log.specs.Lengths.{StayShort};
-ghost use Rattle.logged_slots.specs.Stops.{StayRecoverable};
+ghost use Rattle.slot_txn.specs.logged.Stops.{StayRecoverable};
 ghost use Rattle.run_works.specs.Disks.{HoldsContents, IsNotOpened, ReadsAsDatabase, opening_refusal, state_of};
 
-use abl_rows::RowStore;
-use abl_storage::Disk;
 use database_interface::Database;
 use disk_database::{DiskDatabase, DiskStore, OpenRefusal, Opening, open};
+use row_store::RowStore;
 use run_report::Refusal;
 use source_files::schema_of;
 use std::alloc::Global;
+use storage::Disk;
 
 /// A run that did not begin: the disk, and why.
 #[derive(Drop)]

@@ -1,23 +1,23 @@
 //! The clients of a run on threads over its database, whatever the store of that database is.
 
 ghost use Rattle.std.specs.Prelude.{◌≡◌, ◌<◌, ◌+◌, ◌≤◌, [], ℕ, All, IfErr, IfOk, length};
-ghost use Rattle.client_database.specs.declared.event.Event.{Event};
+ghost use Rattle.database_protocol.specs.declared.event.Event.{Event};
 ghost use Rattle.database_meaning.specs.declared.contents.Contents.{Contents};
 ghost use Rattle.database_meaning.specs.Setting.{Setting};
-ghost use Rattle.block_clients.specs.Phases.{AreThreePhases};
-ghost use Rattle.served_works.specs.Served.{HaveEnded, HaveEndedOrNot};
+ghost use Rattle.client_threads.specs.clients.Phases.{AreThreePhases};
+ghost use Rattle.client_threads.specs.served.Served.{HaveEnded, HaveEndedOrNot};
 
 use crate::timed::Timed;
-use abl_outside::Gate;
-use abl_rows::RowStore;
-use block_vm::Client;
+use crate::watched::Start;
+use client_core::Client;
+use client_threads::served::{Served, serve_in_phases, serve_together};
 use database_interface::Database;
 use db_machine::Db;
-use served_works::{Served, serve_in_phases, serve_together};
+use host_io::Gate;
+use row_store::RowStore;
 use std::alloc::Global;
 use std::sync::Wait;
 use std::thread::Threads;
-use watched_disk::Start;
 
 /// Runs each client on a thread of its own to its end over the database, in which nothing has
 /// happened. An error means out of memory: the database is as it was, and no client has begun.

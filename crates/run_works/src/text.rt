@@ -2,18 +2,18 @@
 
 ghost use Rattle.std.specs.Prelude.{List, is_ok};
 ghost use Rattle.client_output.specs.declared.section.Section.{Section as Written};
-ghost use Rattle.abl_outside.specs.declared.out.Stream.{Stream};
-ghost use Rattle.abl_outside.specs.Out.{Writes};
+ghost use Rattle.host_io.specs.declared.out.Stream.{Stream};
+ghost use Rattle.host_io.specs.Out.{Writes};
 ghost use Rattle.run_report.specs.Report.{reports, run_text};
-ghost use Rattle.served_works.specs.Served.{AreReported, HaveSections};
+ghost use Rattle.client_threads.specs.served.Served.{AreReported, HaveSections};
 
-use abl_arguments::Mode;
 use abl_base::Bytes;
-use abl_outside::{Out, OutFailed};
-use client_database::Event;
 use client_output::Section;
+use client_threads::served::EndedClient;
+use command_arguments::Mode;
+use database_protocol::Event;
+use host_io::{Out, OutFailed};
 use run_report::{ReportForm, write_report, write_trace};
-use served_works::EndedClient;
 
 /// Writes the text of a run: the part of each client, and in mode trace the trace.
 pub fn write_run<O: Out>(

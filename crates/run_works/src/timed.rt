@@ -2,12 +2,12 @@
 
 ghost use Rattle.std.specs.Prelude.{◌≡◌};
 
-use abl_rows::RowStore;
-use client_database::{Answer, Op};
+use crate::watched::Start;
 use database_interface::Database;
+use database_protocol::{Answer, Op};
 use db_machine::Db;
+use row_store::RowStore;
 use std::marker::PhantomData;
-use watched_disk::Start;
 
 /// A database whose stops are known from the beginning of a run on. What runs clients says of the
 /// database that it hands back that it was opened with the same contents, and this type that it was

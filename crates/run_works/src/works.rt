@@ -5,8 +5,8 @@ ghost use Rattle.client_output.specs.declared.section.Section.{Section};
 ghost use Rattle.source_files.specs.Compiled.{schema_in};
 ghost use Rattle.run_works.specs.Disks.{KeepsLogShort, state_of};
 ghost use Rattle.run_works.specs.Works.{HasNotRun, HasRun};
-ghost use Rattle.served_works.specs.Served.{AreToDo, HaveSections, end_or_none};
-ghost use Rattle.served_works.specs.Works.{Work};
+ghost use Rattle.client_threads.specs.served.Served.{AreToDo, HaveSections, end_or_none};
+ghost use Rattle.client_threads.specs.served.Works.{Work};
 ghost use Rattle.run_report.specs.Ending.{IsReported};
 
 use crate::closing::Ran;
@@ -14,17 +14,17 @@ use crate::database::run_together;
 use crate::opening::NotRun;
 use crate::outcome::Outcome;
 use crate::text::write_run;
-use abl_outside::{Gate, Out};
-use abl_storage::Disk;
-use block_vm::Client;
-use client_database::{ClientEnd, Trace};
+use client_core::Client;
+use client_threads::served::EndedClient;
+use database_protocol::{ClientEnd, Trace};
+use host_io::{Gate, Out};
 use run_report::{
     Ends, Refusal, Report, ReportForm, has_closed, refusal_after, refused, status_of, write_refusal,
 };
-use served_works::EndedClient;
 use std::alloc::Global;
 use std::sync::Wait;
 use std::thread::Threads;
+use storage::Disk;
 
 /// Runs each client on a thread of its own over the database that the disk has of the schema of this
 /// text, and writes the report and the lines of the status. All memory that a run needs before a client

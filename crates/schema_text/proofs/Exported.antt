@@ -5,11 +5,11 @@ use Rattle.abl_base.specs.declared.value.Value.{Value}
 use Rattle.abl_base.specs.declared.value.Kind.{Kind}
 use Rattle.abl_values.specs.Fit.{IsOfKind}
 use Rattle.abl_values.specs.Texts.{export_text}
-use Rattle.abl_masks.specs.Export.{export}
-use Rattle.text_forms.specs.TextForms.{Elements}
-use Rattle.abl_format.specs.Imports.{line_at}
-use Rattle.abl_format.specs.Laws.{AreOfKinds}
-use Rattle.abl_format.proofs.Exported.{row_back}
+use Rattle.value_masks.specs.Export.{export}
+use Rattle.abl_base.specs.text_forms.TextForms.{Elements}
+use Rattle.value_formats.specs.Imports.{line_at}
+use Rattle.value_formats.specs.Laws.{AreOfKinds}
+use Rattle.value_formats.proofs.Exported.{row_back}
 
 -- what is read of a row that a text begins with
 pub record IsReadBack (kinds : List Kind) (row : List Value) (text rest : List ℕ) : Type 0 where

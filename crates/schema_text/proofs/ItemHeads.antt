@@ -12,7 +12,7 @@ use Rattle.abl_values.specs.Names.{is_name}
 use Rattle.abl_values.specs.Order.{folded}
 use Rattle.abl_values.specs.Schema.{field_line, index_lines, sequence_line, table_lines}
 use Rattle.abl_values.specs.Texts.{export_text, plain_text}
-use Rattle.abl_masks.specs.Export.{export}
+use Rattle.value_masks.specs.Export.{export}
 use Rattle.schema_text.specs.Words.{begins, name_after}
 use Rattle.schema_text.proofs.HeadLines.{name_before-name, word_is}
 

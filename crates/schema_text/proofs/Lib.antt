@@ -1,3 +1,4 @@
+pub mod HeldLemmas
 pub mod Fitting
 pub mod Exported
 pub mod ToCome

@@ -12,7 +12,7 @@ use Rattle.abl_values.specs.declared.schema.SequenceDef.{SequenceDef}
 use Rattle.abl_values.specs.Order.{folded}
 use Rattle.abl_values.specs.Schema.{field_line, index_line, index_lines, part_text, sequence_line, table_lines}
 use Rattle.abl_values.specs.Texts.{export_text}
-use Rattle.abl_masks.specs.Export.{export}
+use Rattle.value_masks.specs.Export.{export}
 use Rattle.abl_base.specs.declared.value.Value.TheVariants.{Int64}
 use Rattle.schema_text.specs.Words.{FieldHead, IndexHead, Part, Word, field_head, index_head, name_after, part_at}
 use Rattle.schema_text.specs.Written.{AreFields, IsWrittenField, IsWrittenIndex, IsWrittenSequence, IsWrittenTable, told_field, told_index, told_sequence, told_table}

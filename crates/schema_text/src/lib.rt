@@ -1,5 +1,5 @@
 //! Reads the canonical text of a schema back. It depends on `abl_values`, whose `Schema` it makes, and
-//! on `abl_format`, whose IMPORT reads the values of a line. The layer above may rely on
+//! on `value_formats`, whose IMPORT reads the values of a line. The layer above may rely on
 //! `read_canonical`: it finds a schema exactly where the text is the canonical text of a sound schema
 //! that a `Schema` can hold.
 #![tactic(auto)]
@@ -7,6 +7,7 @@
 mod adding;
 mod entries;
 mod fields;
+pub mod held;
 mod indexes;
 mod reading;
 mod sequences;

@@ -5,15 +5,15 @@ ghost use Rattle.abl_base.specs.declared.value.Value.{Value};
 ghost use Rattle.abl_values.specs.declared.arithmetic.ArithFault.{ArithFault};
 ghost use Rattle.abl_values.specs.Fit.{IsOfField, IsOfKind};
 ghost use Rattle.abl_values.specs.Texts.{export_text};
-ghost use Rattle.abl_format.specs.Imports.{line_at};
-ghost use Rattle.text_forms.specs.TextForms.{Elements};
+ghost use Rattle.value_formats.specs.Imports.{line_at};
+ghost use Rattle.abl_base.specs.text_forms.TextForms.{Elements};
 ghost use Rattle.schema_text.specs.declared.unread.Unread.TheVariants.{NoMemory};
 
 use crate::unread::Unread;
 use abl_base::{Items, Kind, Value};
-use abl_format::{ImportFault, import_line};
 use abl_values::{ArithFault, fit};
 use std::alloc::Global;
+use value_formats::{ImportFault, import_line};
 
 /// Values, and what follows their line.
 #[derive(Drop)]

@@ -6,7 +6,7 @@ use Rattle.std.specs.Int.{w64, cast_unsigned}
 use borrow.Rule.Slice.PartMut.{put_mid, mid_of}
 use Rattle.abl_values.specs.Rows.{number_bytes}
 use Rattle.abl_values.proofs.Numbers.{length-number_bytes}
-use Rattle.row_chain.specs.Fragments.{fragment_bytes, head_bytes, row_bytes}
+use Rattle.row_fragments.specs.Fragments.{fragment_bytes, head_bytes, row_bytes}
 use Rattle.sequence_slots.specs.Values.{bytes_of, slot_bytes}
 
 pub length_bytes : (values : List ℤ) → length (bytes_of values) ≡ 8 * length values

@@ -1,2 +1,4 @@
+pub mod WritesLemmas
+pub mod ReadsLemmas
 pub mod Laid
 pub mod Reading

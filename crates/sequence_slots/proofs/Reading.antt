@@ -10,8 +10,8 @@ use Rattle.abl_values.specs.Arithmetic.{fits_bits}
 use Rattle.abl_values.specs.Rows.{number_at_head, number_bytes}
 use Rattle.abl_values.proofs.Numbers.{drop-number_bytes, number_at_head-bytes}
 use Rattle.abl_values.proofs.RowLaws.{fits_signed}
-use Rattle.row_chain.specs.Fragments.{content_in}
-use Rattle.row_chain.proofs.Encoded.{content_read}
+use Rattle.row_fragments.specs.Fragments.{content_in}
+use Rattle.row_fragments.proofs.Encoded.{content_read}
 use Rattle.sequence_slots.specs.Values.{Have64Bits, HoldValues, bytes_of, contents_from, part, slot_bytes, values_in, values_of}
 use Rattle.sequence_slots.proofs.Laid.{length_bytes}
 

@@ -1,2 +1,3 @@
+pub mod writes
 pub mod Values
 pub mod Examples

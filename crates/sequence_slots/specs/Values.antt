@@ -4,7 +4,7 @@ use Rattle.std.specs.List.{AllByRecursion, flat_map}
 use Rattle.std.specs.Int.{w64, cast_signed, cast_unsigned}
 use Rattle.abl_values.specs.Arithmetic.{fits_bits}
 use Rattle.abl_values.specs.Rows.{number_at_head, number_bytes}
-use Rattle.row_chain.specs.Fragments.{content_in, fragment_bytes}
+use Rattle.row_fragments.specs.Fragments.{content_in, fragment_bytes}
 
 -- ---- holding
 

@@ -1,7 +1,7 @@
 //! The bytes of a slot of sequence values.
 
 ghost use Rattle.std.specs.Prelude.{◌≡◌, ◌≤◌, ◌*◌, ◌++◌, length, drop};
-ghost use Rattle.row_chain.specs.Fragments.{head_bytes};
+ghost use Rattle.row_fragments.specs.Fragments.{head_bytes};
 ghost use Rattle.sequence_slots.specs.Values.{Have64Bits, bytes_of, slot_bytes};
 
 use byteorder::{BigEndian, ByteOrder};

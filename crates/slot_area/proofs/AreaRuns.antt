@@ -2,10 +2,10 @@
 use Rattle.std.proofs.Common.{◌≡◌, ◌≢◌, ◌⊎◌, ⊎_elim, inl, inr, ℕ, ◌+◌, ◌*◌, ◌<◌, ◌≤◌, Bool, List, length, Result, Ok, Err, OnOk, OnErr, sym, ◌∙◌, subst, arith}
 use Rattle.std.proofs.lemmas.Bool.{cases_eq, cases_lt, cond-true, cond-false, lt-ltb, le-ltb}
 use Rattle.std.proofs.lemmas.List.{ext_get_or}
-use Rattle.abl_storage.specs.Disk.{Reads, Torn, Stays, Others, HasCause}
-use Rattle.abl_storage.specs.Slots.{put}
-use Rattle.disk_steps.specs.Steps.{Image, Run}
-use Rattle.disk_steps.proofs.Runs.{joined, holds}
+use Rattle.storage.specs.Disk.{Reads, Torn, Stays, Others, HasCause}
+use Rattle.storage.specs.Slots.{put}
+use Rattle.log_meaning.specs.steps.Steps.{Image, Run}
+use Rattle.log_meaning.proofs.StepsLemmas.Runs.{joined, holds}
 use Rattle.log_meaning.specs.declared.note.Note.{Note}
 use Rattle.log_meaning.specs.Images.{slot_of}
 use Rattle.log_meaning.specs.LogState.{MayWrite, HasNotesTo, WritesNoted}

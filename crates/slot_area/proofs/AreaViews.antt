@@ -3,7 +3,7 @@ use Rattle.std.proofs.Common.{◌≡◌, ◌≢◌, inl, inr, ⊎_elim, ℕ, ◌
 use Rattle.std.specs.Option.{option_map}
 use Rattle.std.proofs.lemmas.Bool.{cases_eq, true≢false}
 use Rattle.std.proofs.lemmas.Option.{none-some, same_Some}
-use Rattle.abl_storage.specs.Slots.{put}
+use Rattle.storage.specs.Slots.{put}
 use Rattle.log_meaning.proofs.Undone.{put-here, put-other}
 use Rattle.slot_area.specs.declared.frame.Frame.{Frame}
 use Rattle.slot_area.specs.Frames.{note_of, Sets}

@@ -1,15 +1,15 @@
 //! Slots written to area 0.
 
 ghost use Rattle.std.specs.Prelude.{◌≡◌, ◌≢◌, ◌⊎◌, ◌+◌, ◌*◌, ◌<◌, ◌≤◌, ◌^◌, ℕ, List, length, IsTrue, IfOk, OnOk, OnErr, is_ok};
-ghost use Rattle.abl_storage.specs.Disk.{Others, HasCause};
-ghost use Rattle.abl_storage.specs.Slots.{put};
-ghost use Rattle.disk_steps.specs.Steps.{Image, Run};
+ghost use Rattle.storage.specs.Disk.{Others, HasCause};
+ghost use Rattle.storage.specs.Slots.{put};
+ghost use Rattle.log_meaning.specs.steps.Steps.{Image, Run};
 ghost use Rattle.log_meaning.specs.declared.note.Note.{Note as LogNote};
 ghost use Rattle.log_meaning.specs.Images.{slot_of};
 ghost use Rattle.log_meaning.specs.LogState.{MayWrite, HasNotesTo, WritesNoted};
 ghost use Rattle.slot_area.specs.Area.{below, zeros, IsWhole};
 
-use abl_storage::{Disk, DiskFailed};
+use storage::{Disk, DiskFailed};
 
 /// Writes a slot to area 0, which has all slots before it.
 fn write_slot<D: Disk>(disk: &mut D, slot: u32, bytes: &[u8; 256]) -> Result<(), DiskFailed>

@@ -1,15 +1,15 @@
 //! Area 0 made longer.
 
 ghost use Rattle.std.specs.Prelude.{◌≡◌, ◌⊎◌, ◌*◌, ◌<◌, ◌≤◌, ◌^◌, ℕ, List, None, length, IsTrue, OnOk, is_ok};
-ghost use Rattle.abl_storage.specs.Disk.{Others, HasCause};
-ghost use Rattle.disk_steps.specs.Steps.{Image, Run};
+ghost use Rattle.storage.specs.Disk.{Others, HasCause};
+ghost use Rattle.log_meaning.specs.steps.Steps.{Image, Run};
 ghost use Rattle.log_meaning.specs.declared.note.Note.{Note as LogNote};
 ghost use Rattle.log_meaning.specs.LogState.{HasNotesTo, WritesNoted};
 ghost use Rattle.slot_area.specs.Area.{view, unwritten, IsKept, IsWhole};
 
 use crate::area_writes::extend;
 use crate::slot_area::SlotArea;
-use abl_storage::{Disk, DiskFailed};
+use storage::{Disk, DiskFailed};
 
 /// The greater of two ends.
 fn later_end(end: u32, next: u32) -> u32

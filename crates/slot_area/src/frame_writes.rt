@@ -2,9 +2,9 @@
 
 ghost use Rattle.std.specs.Prelude.{◌≡◌, ◌≢◌, ◌*◌, ◌<◌, ◌≤◌, ◌^◌, ℕ, List, true, Some, None, length, slice_get, IsTrue, IfOk, OnOk, OnErr, is_ok};
 ghost use Rattle.std.specs.List.{list_any};
-ghost use Rattle.abl_storage.specs.Disk.{Stays, Others, HasCause};
-ghost use Rattle.abl_storage.specs.Slots.{put};
-ghost use Rattle.disk_steps.specs.Steps.{Image, Run};
+ghost use Rattle.storage.specs.Disk.{Stays, Others, HasCause};
+ghost use Rattle.storage.specs.Slots.{put};
+ghost use Rattle.log_meaning.specs.steps.Steps.{Image, Run};
 ghost use Rattle.log_meaning.specs.declared.note.Note.{Note as LogNote};
 ghost use Rattle.log_meaning.specs.LogState.{WritesNoted, HasNotesTo};
 ghost use Rattle.slot_area.specs.declared.frame.Frame.{Frame as OneFrame};
@@ -15,7 +15,7 @@ ghost use Rattle.slot_area.specs.Area.{below, view, unwritten, IsKept, IsWhole, 
 use crate::area_writes::write_within;
 use crate::frame::Frame;
 use crate::slot_area::SlotArea;
-use abl_storage::{Disk, DiskFailed};
+use storage::{Disk, DiskFailed};
 
 impl SlotArea {
     /// The bytes of a slot that has no frame.

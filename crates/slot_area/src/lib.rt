@@ -1,5 +1,5 @@
 //! The slots of area 0 of a disk, a fixed number of them in memory. A changed slot reaches area 0
-//! only when its note is settled (`specs/Area.antt`). It depends on `abl_storage`, `disk_steps` and
+//! only when its note is settled (`specs/Area.antt`). It depends on `storage`, `log_meaning::steps` and
 //! `log_meaning`.
 #![tactic(auto)]
 

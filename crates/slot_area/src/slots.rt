@@ -1,16 +1,16 @@
 //! Slots read and changed.
 
 ghost use Rattle.std.specs.Prelude.{◌≡◌, ◌≢◌, ◌*◌, ◌<◌, ◌≤◌, ◌^◌, ℕ, List, true, Some, None, length, IsTrue, OnOk, OnErr, is_ok};
-ghost use Rattle.abl_storage.specs.Disk.{Others, HasCause};
-ghost use Rattle.abl_storage.specs.Slots.{put};
-ghost use Rattle.disk_steps.specs.Steps.{Image, Run};
+ghost use Rattle.storage.specs.Disk.{Others, HasCause};
+ghost use Rattle.storage.specs.Slots.{put};
+ghost use Rattle.log_meaning.specs.steps.Steps.{Image, Run};
 ghost use Rattle.log_meaning.specs.declared.note.Note.{Note as LogNote};
 ghost use Rattle.log_meaning.specs.LogState.{WritesNoted};
 ghost use Rattle.slot_area.specs.Area.{view, unwritten, IsKept, IsWhole, is_ready, AreNoted, StaysOrEnds};
 
 use crate::frame::Frame;
 use crate::slot_area::SlotArea;
-use abl_storage::{Disk, DiskFailed};
+use storage::{Disk, DiskFailed};
 
 impl SlotArea {
     /// Reads the slot's bytes. Where another slot's frame is needed for it, and is changed, its bytes

@@ -1,3 +1,4 @@
+pub mod LoggedLemmas
 pub mod Recovered
 pub mod Torn
 pub mod Opened

@@ -2,9 +2,9 @@
 use Rattle.std.proofs.Common.{◌≡◌, ◌⊎◌, ⊎_elim, ℕ, zero, suc, ◌*◌, ◌<◌, ◌≤◌, Bool, List, [], ◌∷◌, ◌++◌, length, drop, None, refl, sym, ◌∙◌, ap, subst, arith}
 use Rattle.std.proofs.Math.Logic.{∥∥₁_map}
 use Rattle.std.proofs.lemmas.Bool.{cases_lt}
-use Rattle.abl_storage.specs.declared.slots.Undo.{Undo}
-use Rattle.abl_storage.specs.Slots.{undone}
-use Rattle.disk_steps.specs.Steps.{Image, Run}
+use Rattle.storage.specs.declared.slots.Undo.{Undo}
+use Rattle.storage.specs.Slots.{undone}
+use Rattle.log_meaning.specs.steps.Steps.{Image, Run}
 use Rattle.log_meaning.specs.Images.{Recovers}
 use Rattle.bi_log.specs.declared.log.Log.{Log}
 use Rattle.bi_log.specs.Appending.{RestsAt}
@@ -16,10 +16,10 @@ use Rattle.open_transactions.specs.Clients.{list_in, list_of, lists, due, number
 use Rattle.slot_area.specs.declared.slot_area.SlotArea.{SlotArea}
 use Rattle.slot_area.specs.Area.{below, view, unwritten, IsKept, IsWhole}
 use Rattle.slot_area.proofs.AreaRuns.{below_in, below_out}
-use Rattle.kept_log.specs.KeptLog.{KeptLog}
-use Rattle.next_log.proofs.Opened.{opened_log, reads_slots, rests_fresh, narrowed}
-use Rattle.logged_slots.specs.Stops.{Stops, HasSlots, StayRecoverable}
-use Rattle.logged_slots.proofs.Recoverable.{has_slots}
+use Rattle.checkpoint.specs.kept.KeptLog.{KeptLog}
+use Rattle.checkpoint.proofs.NextLemmas.Opened.{opened_log, reads_slots, rests_fresh, narrowed}
+use Rattle.slot_txn.specs.logged.Stops.{Stops, HasSlots, StayRecoverable}
+use Rattle.slot_txn.proofs.LoggedLemmas.Recoverable.{has_slots}
 use Rattle.slot_txn.specs.Opening.{AllRecoverTo, IsFresh}
 use Rattle.slot_txn.proofs.Recovered.{only_slots, fewer_left}
 

@@ -1,15 +1,15 @@
 -- What the calls of recovery say one after the other.
 use Rattle.std.proofs.Common.{◌≡◌, ℕ, Bool, List, Result, Ok, Err, sym, ◌∙◌, ap, subst}
 use Rattle.std.specs.Prelude.{IfOk, IsErrOf, IsTrue}
-use Rattle.abl_storage.specs.Disk.{Stays}
-use Rattle.disk_steps.specs.Steps.{Image, Run}
-use Rattle.disk_steps.proofs.Runs.{holds}
+use Rattle.storage.specs.Disk.{Stays}
+use Rattle.log_meaning.specs.steps.Steps.{Image, Run}
+use Rattle.log_meaning.proofs.StepsLemmas.Runs.{holds}
 use Rattle.log_meaning.specs.Recovered.{is_committed}
 use Rattle.log_meaning.specs.Images.{Recovers}
 use Rattle.log_meaning.specs.LogState.{notes_in}
 use Rattle.log_meaning.proofs.LogStates.{one_recovery, stands_for}
 use Rattle.bi_recovery.specs.Reopening.{SameRecovery, NewLog, Reopens}
-use Rattle.kept_log.proofs.Flushed.{slots_of}
+use Rattle.checkpoint.proofs.KeptLemmas.Flushed.{slots_of}
 
 pub ok_map : {T E : Type 0} (r : Result T E) (P Q : T → Type 0) → IfOk r P → ((x : T) → P x → Q x) → IfOk r Q
 ok_map (Ok x) P Q p f = f x p

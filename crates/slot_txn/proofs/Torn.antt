@@ -2,9 +2,9 @@
 use Rattle.std.proofs.Common.{◌≡◌, ◌≢◌, inl, inr, ⊎_elim, ℕ, ◌+◌, ◌≤◌, ◌<◌, ◌^◌, ◌⊎◌, Bool, IsTrue, None, List, [], ◌∷◌, ◌++◌, length, refl, sym, ◌∙◌, ap, subst, arith}
 use Rattle.std.proofs.lemmas.Bool.{cases_eq}
 use Rattle.std.proofs.lemmas.List.{append-nil}
-use Rattle.abl_storage.specs.Disk.{Stays}
-use Rattle.disk_steps.specs.Steps.{Image, Run, Any}
-use Rattle.disk_steps.proofs.Runs.{wider}
+use Rattle.storage.specs.Disk.{Stays}
+use Rattle.log_meaning.specs.steps.Steps.{Image, Run, Any}
+use Rattle.log_meaning.proofs.StepsLemmas.Runs.{wider}
 use Rattle.log_meaning.specs.declared.note.Change.{Change}
 use Rattle.log_meaning.specs.declared.note.Note.{Note}
 use Rattle.log_meaning.specs.declared.note.Note.TheVariants.{Change as Changed}
@@ -25,8 +25,8 @@ use Rattle.bi_recovery.specs.ReadNotes.{HoldsNotes}
 use Rattle.bi_recovery.specs.Reopening.{SameRecovery, NewLog, Reopens}
 use Rattle.bi_recovery.proofs.Reopening.{keeps_same, state_keeps}
 use Rattle.bi_recovery.proofs.Recovery.{run_if, after_stay}
-use Rattle.kept_log.proofs.Noted.{notes-more}
-use Rattle.next_log.proofs.Opened.{rests_fresh}
+use Rattle.checkpoint.proofs.KeptLemmas.Noted.{notes-more}
+use Rattle.checkpoint.proofs.NextLemmas.Opened.{rests_fresh}
 use Rattle.slot_txn.proofs.Recovered.{fewer_left}
 
 -- the note counts nowhere

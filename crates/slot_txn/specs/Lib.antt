@@ -1,1 +1,2 @@
+pub mod logged
 pub mod Opening

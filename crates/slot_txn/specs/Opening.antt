@@ -1,7 +1,7 @@
 -- What opening does.
 use Rattle.std.specs.Prelude.{◌≡◌, ℕ, ◌*◌, Bool, false, List, [], length, IsTrue}
-use Rattle.abl_storage.specs.Slots.{SlotState}
-use Rattle.disk_steps.specs.Steps.{Image}
+use Rattle.storage.specs.Slots.{SlotState}
+use Rattle.log_meaning.specs.steps.Steps.{Image}
 use Rattle.log_meaning.specs.Images.{Recovers}
 use Rattle.bi_recovery.specs.Reopening.{NewLog}
 

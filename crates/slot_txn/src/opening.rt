@@ -1,8 +1,8 @@
 //! Opening and closing.
 
 ghost use Rattle.std.specs.Prelude.{◌≡◌, ◌⊎◌, ◌≤◌, ◌^◌, [], None, ℕ, List, IsTrue, IfOk, IfErr, IsErrOf};
-ghost use Rattle.fault_count.specs.Faults.{Rose};
-ghost use Rattle.disk_steps.specs.Steps.{Image, Run};
+ghost use Rattle.storage.specs.faults.Faults.{Rose};
+ghost use Rattle.log_meaning.specs.steps.Steps.{Image, Run};
 ghost use Rattle.log_meaning.specs.Images.{Recovers};
 ghost use Rattle.bi_log.specs.Logs.{HasNotes};
 ghost use Rattle.bi_log.specs.Lengths.{WithinLog, StayShort};
@@ -10,20 +10,20 @@ ghost use Rattle.bi_recovery.specs.Reopening.{SameRecovery};
 ghost use Rattle.bi_recovery.specs.Causes.{HasOpenCause};
 ghost use Rattle.open_transactions.specs.Clients.{idle, transaction_in, list_in, number_in};
 ghost use Rattle.slot_area.specs.Area.{below, view, unwritten};
-ghost use Rattle.logged_slots.specs.Stops.{StayRecoverable};
+ghost use Rattle.slot_txn.specs.logged.Stops.{StayRecoverable};
 ghost use Rattle.slot_txn.specs.Opening.{IsOpenedOver, IsFresh};
 
 use crate::log_area::log_area;
+use crate::logged::{Generation, LoggedSlots};
 use crate::recovering::recover_whole;
 use crate::slot_txn::SlotTxn;
-use abl_storage::{Disk, Slots};
 use bi_log::Log;
 use bi_recovery::OpenFault;
 use bi_recovery::recovery_run::Reopened;
-use logged_slots::{Generation, LoggedSlots};
 use open_transactions::Transactions;
 use slot_area::{FRAMES, SlotArea};
 use std::alloc::{AllocError, Global};
+use storage::{Disk, Slots};
 
 /// The parts in memory of slots that are opened: no note, no frame in use, no transaction.
 #[derive(Drop)]

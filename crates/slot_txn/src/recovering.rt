@@ -1,17 +1,17 @@
 //! The disk recovered.
 
 ghost use Rattle.std.specs.Prelude.{◌≡◌, ◌*◌, ◌<◌, ◌≤◌, ◌^◌, ℕ, List, length, IsTrue, IfOk, IsErrOf};
-ghost use Rattle.disk_steps.specs.Steps.{Run};
+ghost use Rattle.log_meaning.specs.steps.Steps.{Run};
 ghost use Rattle.log_meaning.specs.Images.{Recovers};
 ghost use Rattle.bi_log.specs.Lengths.{WithinLog};
 ghost use Rattle.bi_recovery.specs.Reopening.{SameRecovery, Reopens};
 ghost use Rattle.bi_recovery.specs.Causes.{HasOpenCause};
 
 use crate::torn_slot::{MOST_BYTES, note_slot, torn_slot};
-use abl_storage::Disk;
 use bi_recovery::OpenFault;
 use bi_recovery::recovery_run::{Reopened, recover};
 use std::alloc::Global;
+use storage::Disk;
 
 /// The place of the first gate of a log: after its header.
 const FIRST_GATE: u64 = 32;

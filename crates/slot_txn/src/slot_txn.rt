@@ -1,7 +1,7 @@
 //! Slots with transactions over a disk.
 
-use abl_storage::Disk;
-use logged_slots::LoggedSlots;
+use crate::logged::LoggedSlots;
+use storage::Disk;
 
 /// Slots with transactions over a disk.
 #[derive(Drop)]

@@ -1,15 +1,15 @@
 //! `SlotTxn` is `Slots`.
 
 ghost use Rattle.std.specs.Prelude.{◌≡◌, ◌<◌, ◌≤◌, ◌^◌, ℕ, List, true, false};
-ghost use Rattle.abl_storage.specs.Slots.{is_low};
+ghost use Rattle.storage.specs.Slots.{is_low};
 ghost use Rattle.open_transactions.specs.Clients.{transaction_in};
 ghost use Rattle.slot_area.specs.Area.{view};
-ghost use Rattle.logged_slots.specs.State.{state_of, faults_of};
-ghost use Rattle.logged_slots.specs.Stops.{Stops};
+ghost use Rattle.slot_txn.specs.logged.State.{state_of, faults_of};
+ghost use Rattle.slot_txn.specs.logged.Stops.{Stops};
 
 use crate::slot_txn::SlotTxn;
-use abl_storage::{Disk, Mark, SlotFault, Slots};
 use open_transactions::has_low_number;
+use storage::{Disk, Mark, SlotFault, Slots};
 
 /// The most slots that a transaction may write, those of low numbers aside.
 const MAX_SLOT_WRITES: u32 = 7989;

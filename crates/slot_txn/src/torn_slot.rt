@@ -1,7 +1,7 @@
 //! The slot within which area 0 ends, as in a file that was cut.
 
 ghost use Rattle.std.specs.Prelude.{◌≡◌, ◌+◌, ◌*◌, ◌%◌, ◌<◌, ◌≤◌, ◌^◌, [], ◌∷◌, IsTrue, IfSome, IfNone, OnOk, IsErrOf};
-ghost use Rattle.disk_steps.specs.Steps.{Image, Run};
+ghost use Rattle.log_meaning.specs.steps.Steps.{Image, Run};
 ghost use Rattle.log_meaning.specs.Images.{slot_of};
 ghost use Rattle.bi_log.specs.Lengths.{WithinLog};
 ghost use Rattle.bi_recovery.specs.Carried.{still};
@@ -10,13 +10,13 @@ ghost use Rattle.bi_recovery.specs.Reopening.{SameRecovery, Reopens};
 ghost use Rattle.bi_recovery.specs.Causes.{HasOpenCause};
 
 use crate::log_area::log_area;
-use abl_storage::Disk;
 use bi_log::Log;
 use bi_recovery::OpenFault;
 use bi_recovery::carried_slots::slot_bytes;
 use bi_recovery::recovery_run::Reopened;
 use log_meaning::{Change, Note};
 use std::alloc::Global;
+use storage::Disk;
 
 /// The most bytes that area 0 has: 1,048,576 slots.
 pub const MOST_BYTES: u64 = 268_435_456;

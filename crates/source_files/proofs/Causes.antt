@@ -2,11 +2,11 @@
 use Rattle.std.proofs.Common.{◌≡◌, ◌<◌, ℕ, zero, suc, List, [], ◌∷◌, ◌++◌, Option, Some, None, Result, Err, refl, sym, ap, ◌∙◌, subst, length, take, get_or, arith}
 use Rattle.std.specs.Prelude.{IsTrue, IfErr, Ok, OnOk}
 use Rattle.std.specs.List.{flat_map}
-use Rattle.fault_count.specs.Faults.{Rose}
-use Rattle.abl_outside.specs.Files.{IsLonger, FileState}
+use Rattle.storage.specs.faults.Faults.{Rose}
+use Rattle.host_io.specs.Files.{IsLonger, FileState}
 use Rattle.source_files.specs.declared.files.TheConstants.{MAX_FILE_BYTES}
 use Rattle.run_report.specs.declared.refusal.Refusal.{Refusal}
-use Rattle.abl_arguments.specs.CommandLine.{ClientFiles}
+use Rattle.command_arguments.specs.CommandLine.{ClientFiles}
 use Rattle.source_files.specs.declared.files.ClientTexts.{ClientTexts}
 use Rattle.source_files.specs.Files.{HasText, HasInput, HaveTexts, HaveClients, IsNotRead, is_missing, is_too_long, reading_wants, OneIsNotRead, this_one, later_one, AreSame, client_files, input_file}
 

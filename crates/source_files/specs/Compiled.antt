@@ -3,13 +3,13 @@ use Rattle.std.specs.Prelude.{◌≡◌, ◌+◌, ℕ, List, [], ◌∷◌, Some
 use Rattle.abl_base.specs.declared.rule.Rule.{Rule}
 use Rattle.abl_base.specs.declared.place.Place.{Place}
 use Rattle.abl_values.specs.Schema.{SchemaData}
-use Rattle.abl_schema.specs.Rules.{violation_of}
-use Rattle.abl_schema.specs.Meaning.{schema_of}
+use Rattle.schema_reader.specs.Rules.{violation_of}
+use Rattle.schema_reader.specs.Meaning.{schema_of}
 use Rattle.schema_lines.specs.Files.{items_of}
 use Rattle.bound_tree.specs.Tree.{Source as Tree}
 use Rattle.bound_tree.specs.Bound.{source_of}
 use Rattle.bound_tree.specs.declared.procedure.Bound.{Bound}
-use Rattle.abl_source.specs.Sources.{BreaksRule, IsTreeOf}
+use Rattle.source_reader.specs.Sources.{BreaksRule, IsTreeOf}
 use Rattle.block_code.specs.declared.code.Code.{Code}
 use Rattle.block_code.specs.Code.{IsCompiled}
 use Rattle.run_report.specs.declared.refusal.Refusal.{Refusal}

@@ -1,8 +1,8 @@
 -- The files that a command reads: their texts, and why one was not read.
 use Rattle.std.specs.Prelude.{◌≡◌, ◌≤◌, ℕ, IsTrue, List, [], ◌∷◌, length, Option, Some, None}
-use Rattle.fault_count.specs.Faults.{Rose}
-use Rattle.abl_outside.specs.Files.{FileState, IsLonger}
-use Rattle.abl_arguments.specs.CommandLine.{ClientFiles}
+use Rattle.storage.specs.faults.Faults.{Rose}
+use Rattle.host_io.specs.Files.{FileState, IsLonger}
+use Rattle.command_arguments.specs.CommandLine.{ClientFiles}
 use Rattle.run_report.specs.declared.refusal.Refusal.{Refusal}
 use Rattle.run_report.specs.declared.refusal.Refusal.TheVariants.{File, TooLong, NoMemory}
 use Rattle.source_files.specs.declared.files.TheConstants.{MAX_FILE_BYTES}

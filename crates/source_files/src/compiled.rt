@@ -1,18 +1,18 @@
 //! The schema and the codes that texts denote.
 
 ghost use Rattle.std.specs.Prelude.{◌≡◌, ◌≤◌, ◌⊎◌, ◌++◌, ◌+◌, All, List, None, IfErr, IfOk, OnOk, length};
-ghost use Rattle.abl_schema.specs.Rules.{violation_of};
+ghost use Rattle.schema_reader.specs.Rules.{violation_of};
 ghost use Rattle.block_code.specs.declared.code.Code.{Code as TheCode};
 ghost use Rattle.run_report.specs.declared.refusal.Refusal.TheVariants.{NoMemory};
 ghost use Rattle.source_files.specs.Compiled.{BreaksSchema, BreaksSource, HaveCodes, IsCodeOf, OneSourceBreaks, schema_in};
 
 use crate::files::{ClientTexts, MAX_FILE_BYTES};
 use crate::source::compile_source;
-use abl_schema::{SchemaRefusal, read_df};
-use abl_source::SourceFault;
 use abl_values::Schema;
 use block_code::Code;
 use run_report::Refusal;
+use schema_reader::{SchemaRefusal, read_df};
+use source_reader::SourceFault;
 use std::alloc::Global;
 
 /// The schema of a run, and the codes of its sources.

@@ -2,13 +2,13 @@
 
 ghost use Rattle.std.specs.Prelude.{◌≡◌, ◌⊎◌, ◌++◌, List, IfErr, IfOk, OnOk, map, option_copied};
 ghost use Rattle.std.specs.List.{flat_map};
-ghost use Rattle.abl_arguments.specs.CommandLine.{client_in};
+ghost use Rattle.command_arguments.specs.CommandLine.{client_in};
 ghost use Rattle.run_report.specs.declared.refusal.Refusal.TheVariants.{NoMemory};
 ghost use Rattle.source_files.specs.Files.{AreSame, HasInput, HasText, HaveClients, HaveTexts, IsNotRead, OneIsNotRead, client_files, input_file};
 
-use abl_arguments::ClientArgument;
 use abl_base::Bytes;
-use abl_outside::{FileFault, Files};
+use command_arguments::ClientArgument;
+use host_io::{FileFault, Files};
 use run_report::Refusal;
 use std::alloc::Global;
 

@@ -3,12 +3,12 @@
 ghost use Rattle.std.specs.Prelude.{◌+◌, ◌<◌, ◌≡◌, ◌^◌, Err, IfOk, length};
 ghost use Rattle.abl_base.specs.declared.place.Place.{Place as ThePlace};
 ghost use Rattle.abl_base.specs.declared.rule.Rule.{Rule as TheRule};
-ghost use Rattle.abl_source.specs.Sources.{BreaksRule};
+ghost use Rattle.source_reader.specs.Sources.{BreaksRule};
 ghost use Rattle.source_files.specs.Compiled.{IsCodeOf};
 
-use abl_source::{SourceFault, read_source};
 use abl_values::Schema;
 use block_code::{Code, compile};
+use source_reader::{SourceFault, read_source};
 use std::alloc::Global;
 
 /// The code of a source over the schema, or the first rule that the text breaks, and its place: a

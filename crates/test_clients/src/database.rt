@@ -1,13 +1,13 @@
 //! The database that the clients run over.
 
 ghost use Rattle.std.specs.Prelude.{◌≡◌, ◌<◌, ◌≤◌, [], ℕ, IfOk};
-ghost use Rattle.abl_schema.specs.Meaning.{schema_of};
+ghost use Rattle.schema_reader.specs.Meaning.{schema_of};
 ghost use Rattle.schema_lines.specs.Files.{items_of};
 
-use abl_schema::read_df;
 use abl_values::Schema;
 use database_interface::Database;
 use new_database::{NewDatabase, open};
+use schema_reader::read_df;
 use std::alloc::{AllocError, Global};
 
 /// The schema file: one table, in which no two records have one code.

@@ -1,14 +1,14 @@
 //! One run of a number of clients, at any gate.
 
 ghost use Rattle.std.specs.Prelude.{◌≡◌, ◌<◌, ◌≤◌, [], ℕ};
-ghost use Rattle.client_database.specs.declared.operation.Op.{Op};
+ghost use Rattle.database_protocol.specs.declared.operation.Op.{Op};
 
 use crate::database::empty;
 use crate::script::{Script, Work};
-use abl_outside::{Gate, MeetGate, OpenGate};
-use client_database::ClientEnd;
 use client_runner::{Task, run_clients};
 use database_interface::Database;
+use database_protocol::ClientEnd;
+use host_io::{Gate, MeetGate, OpenGate};
 use std::alloc::{AllocError, Global};
 use std::sync::Wait;
 use std::thread::Threads;

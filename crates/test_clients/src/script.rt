@@ -1,13 +1,13 @@
 //! A client that enters and leaves a level, a number of times.
 
 ghost use Rattle.std.specs.Prelude.{◌≡◌};
-ghost use Rattle.client_database.specs.declared.next_step.NextStep.{NextStep as Step};
-ghost use Rattle.client_database.specs.declared.operation.Op.{Op as Operation};
+ghost use Rattle.database_protocol.specs.declared.next_step.NextStep.{NextStep as Step};
+ghost use Rattle.database_protocol.specs.declared.operation.Op.{Op as Operation};
 ghost use Rattle.test_clients.specs.declared.script.Stage.{Stage as At};
 
 use abl_base::{Items, Row, Value};
-use client_database::{Answer, ClientEnd, NextStep, Op, RowIds};
 use client_runner::Session;
+use database_protocol::{Answer, ClientEnd, NextStep, Op, RowIds};
 use std::alloc::{AllocError, Global};
 
 /// What a client does in each level that it enters.

@@ -1,14 +1,14 @@
 //! Steps performed on slots over a disk. A step that has no meaning there is passed over.
 
 ghost use Rattle.std.specs.Prelude.{◌≡◌, ◌≢◌, ◌<◌, ℕ, true, false, IsTrue};
-ghost use Rattle.abl_storage.specs.Slots.{IsAlone, is_low};
+ghost use Rattle.storage.specs.Slots.{IsAlone, is_low};
 ghost use Rattle.open_transactions.specs.Clients.{transaction_in};
 ghost use Rattle.open_transactions.specs.Written.{has_written};
 
 use crate::steps::Step;
-use abl_storage::{Disk, Mark, SlotFault, Slots};
 use open_transactions::{Transactions, has_low_number};
 use slot_txn::SlotTxn;
+use storage::{Disk, Mark, SlotFault, Slots};
 
 /// How many writes of low slots a transaction has at most.
 const MOST_LOW: u32 = 10;

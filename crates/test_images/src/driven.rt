@@ -5,10 +5,10 @@ use crate::histories::History;
 use crate::model::Model;
 use crate::reopened::mark;
 use crate::steps::Step;
-use abl_storage::{Disk, SlotFault, Slots};
 use mem_disk::MemDisk;
 use slot_txn::SlotTxn;
 use std::alloc::{AllocError, Global};
+use storage::{Disk, SlotFault, Slots};
 
 /// Slots, and what the model says of them.
 #[derive(Drop)]

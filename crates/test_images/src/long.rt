@@ -5,10 +5,10 @@ use crate::calling::{Answer, abandon, back, begin, commit, write};
 use crate::histories::History;
 use crate::reopened::{disk_over, images_recovered, shown};
 use crate::sweeps::{Run, is_right};
-use abl_storage::{Disk, SlotFault, Slots};
 use mem_disk::MemDisk;
 use slot_txn::SlotTxn;
 use std::alloc::{AllocError, Global};
+use storage::{Disk, SlotFault, Slots};
 
 /// The most writes of a transaction.
 const MOST_WRITES: u32 = 7_989;

@@ -3,11 +3,11 @@
 ghost use Rattle.std.specs.Prelude.{◌<◌, ◌≤◌, ◌^◌, length};
 
 use crate::areas::Areas;
-use abl_storage::{Disk, Slots};
 use bi_recovery::recovery_run::recover;
 use mem_disk::{Images, MemDisk, Room};
 use slot_txn::{OpenFault, SlotTxn};
 use std::alloc::{AllocError, Global};
+use storage::{Disk, Slots};
 
 /// The most bytes of an area.
 const MOST: usize = 1 << 30;

@@ -8,10 +8,10 @@ use crate::model::SLOTS;
 use crate::reopened::{Reopened, disk_of_steps, images_recovered};
 use crate::steps::Step;
 use crate::sweeps::{first_bytes, first_slots, stopped};
-use abl_storage::Disk;
 use mem_disk::{MemDisk, Torn};
 use slot_txn::SlotTxn;
 use std::alloc::{AllocError, Global};
+use storage::Disk;
 
 /// Numbers that look random.
 #[derive(Clone, Copy)]

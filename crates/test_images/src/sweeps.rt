@@ -9,10 +9,10 @@ use crate::model::SLOTS;
 use crate::reopened::{Reopened, disk_of_steps, images_recovered, marks_of};
 use crate::steps::Step;
 use crate::words::{byte_of, u32_of};
-use abl_storage::Disk;
 use mem_disk::{Images, MemDisk, Torn};
 use slot_txn::SlotTxn;
 use std::alloc::{AllocError, Global};
+use storage::Disk;
 
 /// The most writes that are not synced at a stop.
 const MOST_WRITES: usize = 8_400;

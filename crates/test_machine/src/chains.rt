@@ -3,8 +3,8 @@
 
 mod calls;
 
-use chain_store::Chains;
-use mem_slots::MemSlots;
+use byte_rows::Chains;
+use new_database::slots::MemSlots;
 use std::alloc::{AllocError, Global};
 
 /// Rows over slots, with a mark of each client.

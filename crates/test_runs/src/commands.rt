@@ -7,7 +7,7 @@ use crate::rows::Row;
 use crate::texts::{shown, whole};
 use crate::unnamed::unnamed;
 use abl_cli::{Arg, run_abl};
-use abl_outside::{MemOut, OpenGate, Stream};
+use host_io::{MemOut, OpenGate, Stream};
 use std::alloc::{AllocError, Global};
 use std::sync::Wait;
 use std::thread::Threads;

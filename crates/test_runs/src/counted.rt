@@ -2,7 +2,7 @@
 
 ghost use Rattle.std.specs.Prelude.{◌≡◌};
 
-use abl_storage::{Disk, DiskFailed};
+use storage::{Disk, DiskFailed};
 
 /// A disk, and how many reads, writes, syncs and questions for a length it was asked. The count stays at
 /// 2^64 - 1.

@@ -7,12 +7,12 @@ use crate::disk_edits::DiskStep;
 use crate::rows::Row;
 use abl_base::Bytes;
 use abl_cli::run_abl;
-use abl_outside::{MemOut, OpenGate};
-use abl_storage::Disk;
+use host_io::{MemOut, OpenGate};
 use mem_disk::{Images, MemDisk, Room, Torn};
 use std::alloc::{AllocError, Global};
 use std::sync::Wait;
 use std::thread::Threads;
+use storage::Disk;
 
 /// The disk of a row.
 pub type RowDisk = Counted<MemDisk>;

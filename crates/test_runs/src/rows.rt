@@ -3,8 +3,8 @@
 use crate::texts::text_of;
 use abl_base::{Bytes, Items};
 use abl_cli::Arg;
-use abl_outside::{MemFiles, NamedFile};
-use bank_inputs::BANK_SCHEMA;
+use bank_run::inputs::BANK_SCHEMA;
+use host_io::{MemFiles, NamedFile};
 use std::alloc::{AllocError, Global};
 
 /// The fields of a row: the commands, the source, the schema file, the faults, and other files.

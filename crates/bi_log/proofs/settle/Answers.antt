@@ -1,7 +1,7 @@
 use Rattle.std.proofs.Common.{inl, ℕ, ◌+◌, List, length, Bool, IsTrue, Result, Ok, Err, OnOk, sym, ◌∙◌, ap, subst, arith}
-use Rattle.abl_storage.specs.Disk.{TornIn}
-use Rattle.disk_steps.specs.Steps.{Image, Has, Any}
-use Rattle.disk_steps.proofs.Runs.{joined, wider, holds}
+use Rattle.storage.specs.Disk.{TornIn}
+use Rattle.log_meaning.specs.steps.Steps.{Image, Has, Any}
+use Rattle.log_meaning.proofs.StepsLemmas.Runs.{joined, wider, holds}
 use Rattle.bi_log.specs.Appending.{with_batch, RestsAt, Appends}
 use Rattle.bi_log.proofs.Batches.{Laid, rests_torn, laid_from, laid_torn, laid_either, laid_open}
 use Rattle.bi_log.proofs.Lengths.{run_torn, run_twice}

@@ -2,8 +2,8 @@
 
 use crate::mode::TurnData;
 use abl_base::{Row, RowId};
-use client_database::Cursor;
 use client_memory::buffer::Held;
+use database_protocol::Cursor;
 
 /// The search of the reading at the place, with the values that bracket it.
 #[derive(Drop)]

@@ -3,8 +3,8 @@
 ghost use Rattle.std.specs.Prelude.{◌<◌};
 
 use crate::files::many;
-use abl_storage::{Disk, DiskFailed};
 use std::alloc::{AllocError, Global};
+use storage::{Disk, DiskFailed};
 use test_words::{bytes_of, push_bytes};
 
 /// The most bytes that a row reads or writes, and the end of its range.

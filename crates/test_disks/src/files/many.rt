@@ -3,8 +3,8 @@
 ghost use Rattle.std.specs.Prelude.{◌<◌};
 
 use crate::files::calls::done;
-use abl_storage::{Disk, DiskFailed};
 use std::alloc::{AllocError, Global};
+use storage::{Disk, DiskFailed};
 
 /// How many bytes a piece has.
 const PIECE_BYTES: u64 = 256;

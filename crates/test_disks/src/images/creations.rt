@@ -1,10 +1,10 @@
 //! A database created over the areas, with calls of the disk stopped and failed.
 
 use crate::images::schema::{CUSTOMERS, schema};
-use abl_storage::Disk;
 use disk_database::{CreateRefusal, create};
 use mem_disk::MemDisk;
 use std::alloc::{AllocError, Global};
+use storage::Disk;
 use test_images::{
     Areas, Reopened, WAYS, disk_over, images_recovered, is_multiple, reads, stopped, torn,
 };

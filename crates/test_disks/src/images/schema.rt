@@ -1,11 +1,11 @@
 //! The two schemas of the rows.
 
 ghost use Rattle.std.specs.Prelude.{◌≡◌, IfSome};
-ghost use Rattle.abl_schema.specs.Meaning.{schema_of};
+ghost use Rattle.schema_reader.specs.Meaning.{schema_of};
 ghost use Rattle.schema_lines.specs.Files.{items_of};
 
-use abl_schema::read_df;
 use abl_values::Schema;
+use schema_reader::read_df;
 use std::alloc::Global;
 
 /// One table with a unique index, and a sequence.

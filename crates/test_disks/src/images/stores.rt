@@ -1,16 +1,16 @@
 //! Databases of the areas: created, opened, and a table of one dumped.
 
 ghost use Rattle.std.specs.Prelude.{◌≡◌, ◌<◌};
-ghost use Rattle.disk_steps.specs.Steps.{Image};
+ghost use Rattle.log_meaning.specs.steps.Steps.{Image};
 
 use crate::images::schema::{CUSTOMERS, PLAIN, schema};
-use abl_outside::{MemOut, Stream};
-use abl_storage::Disk;
 use abl_values::Schema;
 use disk_database::{CreateRefusal, DumpRefusal, OpenRefusal, Opening, close, create, dump, open};
+use host_io::{MemOut, Stream};
 use mem_disk::MemDisk;
 use std::alloc::{AllocError, Global};
 use std::marker::Brand;
+use storage::Disk;
 use test_images::{Areas, disk_over};
 use test_words::push_bytes;
 

@@ -3,11 +3,11 @@
 ghost use Rattle.std.specs.Prelude.{◌≡◌, ◌<◌, ◌≤◌, length, true, false};
 
 use abl_base::RowId;
-use abl_storage::{Mark, SlotFault, Slots};
-use chain_store::{ChainFault, Chains};
-use mem_slots::MemSlots;
-use row_chain::StoredRow;
+use byte_rows::{ChainFault, Chains};
+use new_database::slots::MemSlots;
+use row_fragments::StoredRow;
 use std::alloc::{AllocError, Global};
+use storage::{Mark, SlotFault, Slots};
 
 /// The answer to a call: its name and its numbers, with a blank between.
 pub fn answer(

@@ -3,7 +3,7 @@
 ghost use Rattle.std.specs.Prelude.{◌≡◌};
 
 use abl_base::{Bytes, RowId};
-use client_database::Cursor;
+use database_protocol::Cursor;
 use key_index::Index;
 use std::alloc::{AllocError, Global};
 

@@ -2,7 +2,7 @@
 
 use abl_base::{Bytes, Items, Row, Value};
 use abl_values::{IndexDef, KeyPart};
-use key_codec::{KeyFault, key, part};
+use row_keys::codec::{KeyFault, key, part};
 use std::alloc::{AllocError, Global};
 use test_words::{push_bytes, value_of};
 

@@ -3,7 +3,7 @@
 use crate::containers::entries::{empty, enter, fill, forget, leave, walk};
 use crate::containers::words::{Words, done, place, yes_or_no};
 use abl_base::RowId;
-use client_database::Cursor;
+use database_protocol::Cursor;
 use key_index::Index;
 use std::alloc::{AllocError, Global};
 

@@ -1,7 +1,7 @@
 //! The words of a step.
 
 use abl_base::Bytes;
-use client_database::Cursor;
+use database_protocol::Cursor;
 use std::alloc::{AllocError, Global};
 use test_words::{bytes_of, push_bytes};
 

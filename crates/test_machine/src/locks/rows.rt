@@ -2,7 +2,7 @@
 
 use crate::locks::written::{freed_text, lock_text, numbered};
 use abl_base::{Items, RowId};
-use client_database::RowIds;
+use database_protocol::RowIds;
 use record_locks::{BlockedLock, KeyWait, KeyWaits, Locks};
 use std::alloc::{AllocError, Global};
 

@@ -2,7 +2,7 @@
 
 use crate::steps::values::values_of;
 use abl_base::{Items, RowId};
-use client_database::{Cursor, Op};
+use database_protocol::{Cursor, Op};
 use std::alloc::{AllocError, Global};
 
 /// The operation of a verb and its argument, the text after it; None where the row has no meaning.

@@ -4,9 +4,9 @@ use crate::steps::asked::op_of;
 use crate::steps::shop::customer;
 use crate::steps::written::answer_text;
 use abl_base::Value;
-use abl_rows::RowStore;
-use client_database::{Answer, Cursor, Op};
+use database_protocol::{Answer, Cursor, Op};
 use db_machine::Db;
+use row_store::RowStore;
 use std::alloc::{AllocError, Global};
 
 /// The rows, each with its answer.

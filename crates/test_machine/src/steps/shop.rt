@@ -2,17 +2,17 @@
 //! of num 1, 2 and 3, each named Ann, in the rows 8192, 8193 and 8194.
 
 ghost use Rattle.std.specs.Prelude.{◌≡◌, IfOk};
-ghost use Rattle.abl_schema.specs.Meaning.{schema_of};
+ghost use Rattle.schema_reader.specs.Meaning.{schema_of};
 ghost use Rattle.schema_lines.specs.Files.{items_of};
 
 use crate::steps::rows::{answers, request};
 use abl_base::{Items, Row, Value};
-use abl_rows::RowStore;
-use abl_schema::read_df;
 use abl_values::Schema;
-use client_database::Op;
+use database_protocol::Op;
 use db_machine::Db;
 use new_database::{NewDatabase, open};
+use row_store::RowStore;
+use schema_reader::read_df;
 use std::alloc::{AllocError, Global};
 
 /// The schema file.

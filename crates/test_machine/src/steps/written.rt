@@ -1,7 +1,7 @@
 //! The text of an answer.
 
 use crate::steps::values::with_values;
-use client_database::Answer;
+use database_protocol::Answer;
 use std::alloc::{AllocError, Global};
 
 /// The answer's name, and the numbers and values in it. The key of a row that was found, and the moment

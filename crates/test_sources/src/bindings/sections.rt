@@ -1,10 +1,10 @@
 //! Sections of rows: a schema, and what is asked of the sources that follow it.
 
 use abl_base::Bytes;
-use abl_schema::read_df;
-use abl_source::{SourceFault, judge_names, read_scopes};
 use abl_values::Schema;
-use block_listing::listing;
+use schema_reader::read_df;
+use source_reader::listing::listing;
+use source_reader::{SourceFault, judge_names, read_scopes};
 use std::alloc::{AllocError, Global};
 
 /// The most bytes of a source that are read.

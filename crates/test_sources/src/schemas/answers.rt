@@ -1,7 +1,7 @@
 //! The answer to a schema file.
 
-use abl_schema::{SchemaRefusal, read_df};
 use abl_values::Schema;
+use schema_reader::{SchemaRefusal, read_df};
 use std::alloc::{AllocError, Global};
 use test_words::push_lines;
 

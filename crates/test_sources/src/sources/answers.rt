@@ -5,9 +5,9 @@ ghost use Rattle.std.specs.Prelude.{◌<◌, ◌+◌, ◌^◌, length};
 use crate::sources::outline::{tokens_shown, tree_shown, uses};
 use crate::sources::source::source_of;
 use abl_base::{Place, Rule};
-use abl_lex::{LexRefusal, lex};
-use abl_parse::{SyntaxRefusal, parse};
-use abl_tree::{Tokens, Tree};
+use lexer::{LexRefusal, lex};
+use parse_tree::{Tokens, Tree};
+use parser::{SyntaxRefusal, parse};
 use std::alloc::{AllocError, Global};
 
 /// The answer for a source: what was asked for, or the answer that says which rule it breaks.

@@ -1,7 +1,7 @@
 //! Tokens and trees as words.
 
 use crate::sources::names::NAMES;
-use abl_tree::{CivilDate, Meaning, Token, Tree};
+use parse_tree::{CivilDate, Meaning, Token, Tree};
 use std::alloc::{AllocError, Global};
 use test_words::push_bytes;
 

@@ -3,8 +3,8 @@
 ghost use Rattle.std.specs.Prelude.{◌≡◌};
 
 use abl_base::{Bytes, Items, Value};
-use abl_eval::Surroundings;
 use bound_tree::Variable;
+use evaluator::Surroundings;
 use std::alloc::{AllocError, Global};
 
 /// Four variables, a record with two fields in buffer 0, and the state of a client. Any other

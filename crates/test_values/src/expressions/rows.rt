@@ -3,8 +3,8 @@
 use crate::expressions::expressions::expression;
 use crate::expressions::known::Known;
 use abl_base::Value;
-use abl_eval::{EvalFault, at_least, at_most, evaluate, holds};
-use abl_expr::RunFault;
+use evaluator::{EvalFault, at_least, at_most, evaluate, holds};
+use expression_meaning::RunFault;
 use std::alloc::{AllocError, Global};
 use test_words::{value_of, word_of};
 

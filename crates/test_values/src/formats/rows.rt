@@ -4,9 +4,9 @@ ghost use Rattle.std.specs.Prelude.{◌≤◌, length};
 
 use crate::formats::shown;
 use abl_base::{Items, Kind};
-use abl_format::{ImportFault, export_line, import_line, masked, number_in, plain};
 use std::alloc::{AllocError, Global};
 use test_words::{bytes_of, kind_of, push_bytes, value_of};
+use value_formats::{ImportFault, export_line, import_line, masked, number_in, plain};
 
 /// The answer of a row: the name of a call and its arguments, with a blank between.
 pub fn answer(alloc: Global, row: &str) -> Result<String, AllocError> {

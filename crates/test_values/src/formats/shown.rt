@@ -1,8 +1,8 @@
 //! Answers as words.
 
-use abl_format::Imported;
 use std::alloc::{AllocError, Global};
 use test_words::word_of;
+use value_formats::Imported;
 
 /// What is written of a line that was read: a word for each target, `-` where it gets no value, and
 /// where the next line begins.

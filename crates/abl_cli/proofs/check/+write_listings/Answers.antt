@@ -1,6 +1,6 @@
 -- The part of a source, and then those of the others.
 use Rattle.std.proofs.lemmas.Result.{err_from_is_err_and}
-use Rattle.abl_outside.specs.declared.out.Stream.TheVariants.{Output}
+use Rattle.host_io.specs.declared.out.Stream.TheVariants.{Output}
 use Rattle.run_report.proofs.Writing.{writes_part, writes_then}
 use Rattle.abl_cli.proofs.check.+write_listings.Goals as goal
 

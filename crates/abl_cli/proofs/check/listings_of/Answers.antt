@@ -2,9 +2,9 @@
 use Rattle.std.proofs.Common.{◌≡◌, ◌≤◌, ◌⊎◌, Err, None, List, ℕ, arith, length, subst, sym}
 use Rattle.std.specs.Prelude.{All}
 use Rattle.std.proofs.lemmas.Result.{err_from_is_err_and}
-use Rattle.abl_schema.specs.Rules.{violation_of}
-use Rattle.abl_outside.specs.Files.{FileState}
-use Rattle.abl_arguments.specs.CommandLine.{check_of}
+use Rattle.schema_reader.specs.Rules.{violation_of}
+use Rattle.host_io.specs.Files.{FileState}
+use Rattle.command_arguments.specs.CommandLine.{check_of}
 use Rattle.source_files.specs.declared.files.TheConstants.{MAX_FILE_BYTES}
 use Rattle.abl_cli.specs.Check.{HaveListings, OneBreaks}
 use Rattle.source_files.specs.Compiled.{BreaksSchema, schema_in}

@@ -1,6 +1,6 @@
 use Rattle.std.proofs.Common.{◌≡◌, ◌++◌, sym, ◌∙◌}
 use Rattle.std.specs.Prelude.{map}
-use Rattle.abl_arguments.specs.CommandLine.{client_in}
+use Rattle.command_arguments.specs.CommandLine.{client_in}
 use Rattle.abl_cli.proofs.Named.{parted, one_more}
 use Rattle.source_files.proofs.Causes.{on_ok}
 use Rattle.abl_cli.proofs.clients.+add_clients.Goals as goal

@@ -1,6 +1,6 @@
 -- The bank that was read is the one that the arguments name.
 use Rattle.std.proofs.Common.{subst}
-use Rattle.bank_inputs.specs.declared.bank.Bank.{Bank}
+use Rattle.bank_run.specs.declared.inputs.bank.Bank.{Bank}
 use Rattle.bank_run.specs.Result.{BankResult}
 use Rattle.run_works.specs.Disks.{state_of}
 use Rattle.abl_cli.specs.Command.{Banked}

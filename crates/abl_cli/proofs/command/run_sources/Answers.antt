@@ -1,8 +1,8 @@
 -- A run is refused by what prevents it; else its clients run.
 use Rattle.std.proofs.Common.{◌≡◌, List, refl, sym, ℕ, ap, ◌∙◌, length, arith}
 use Rattle.std.specs.Prelude.{map}
-use Rattle.abl_arguments.specs.CommandLine.{ClientFiles, client_in}
-use Rattle.abl_arguments.specs.declared.client.ClientArgument.{ClientArgument}
+use Rattle.command_arguments.specs.CommandLine.{ClientFiles, client_in}
+use Rattle.command_arguments.specs.declared.client.ClientArgument.{ClientArgument}
 use Rattle.run_works.specs.Disks.{state_of}
 use Rattle.source_files.specs.Compiled.{schema_in}
 use Rattle.abl_cli.specs.Command.{client_names}

@@ -2,7 +2,7 @@
 use Rattle.std.proofs.Common.{refl}
 use Rattle.run_works.specs.Disks.{state_of}
 use Rattle.run_works.proofs.Disks.{short_untouched}
-use Rattle.abl_arguments.specs.CommandLine.{dump_of}
+use Rattle.command_arguments.specs.CommandLine.{dump_of}
 use Rattle.abl_cli.specs.Command.{Dumped, Refused, dump_prevented}
 use Rattle.abl_cli.proofs.dumping.dump_table.Goals as goal
 

@@ -4,7 +4,7 @@ use Rattle.std.proofs.lemmas.Result.{err_from_is_err_and}
 use Rattle.run_report.specs.declared.refusal.Refusal.TheVariants.{NoTable}
 use Rattle.source_files.specs.Compiled.{BreaksSchema, schema_in}
 use Rattle.source_files.proofs.Causes.{of_error}
-use Rattle.abl_arguments.specs.CommandLine.{dump_of}
+use Rattle.command_arguments.specs.CommandLine.{dump_of}
 use Rattle.abl_cli.specs.Stored.{PreventsDump, df_breaks, dump_wants, no_df, no_schema, no_table}
 use Rattle.abl_cli.proofs.Creations.{schema_from}
 use Rattle.abl_cli.proofs.Dumps.{table_is_within}

@@ -1,7 +1,7 @@
 use Rattle.abl_cli.proofs.Prevented.{run_is_done}
 use Rattle.abl_cli.proofs.Undisturbed.{run_is_ended}
-use Rattle.abl_schema.proofs.ObservableSound.{files-sound}
-use Rattle.held_schemas.proofs.Held.{files-held}
+use Rattle.schema_reader.proofs.ObservableSound.{files-sound}
+use Rattle.schema_text.proofs.HeldLemmas.Held.{files-held}
 use Rattle.source_files.specs.Compiled.{schema_in}
 use Rattle.run_works.specs.Disks.{state_of}
 use Rattle.abl_cli.proofs.laws.a_run_over_its_database_ends.Goals as goal

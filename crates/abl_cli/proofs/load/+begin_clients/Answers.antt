@@ -1,9 +1,9 @@
 -- A client is begun, and then the others.
 use Rattle.std.proofs.Common.{◌≡◌, ◌⊎◌, inl, inr, ◌<◌, ◌++◌, ◌∷◌, [], Err, List, sym, ap, ◌∙◌, subst, append_assoc, rules, length}
 use Rattle.std.proofs.lemmas.Result.{err_from_is_err_and}
-use Rattle.abl_outside.specs.Files.{FileState}
+use Rattle.host_io.specs.Files.{FileState}
 use Rattle.block_code.specs.declared.code.Code.{Code}
-use Rattle.block_vm.specs.ClientView.{ClientView}
+use Rattle.client_core.specs.ClientView.{ClientView}
 use Rattle.source_files.specs.declared.files.ClientTexts.{ClientTexts}
 use Rattle.run_report.specs.declared.refusal.Refusal.{Refusal}
 use Rattle.run_report.specs.declared.refusal.Refusal.TheVariants.{NoMemory}
@@ -11,7 +11,7 @@ use Rattle.source_files.specs.Files.{OneIsNotRead}
 use Rattle.source_files.specs.Compiled.{schema_in}
 use Rattle.abl_cli.specs.Inside.{AreBegun, inputs_of}
 use Rattle.source_files.proofs.Causes.{of_error, still_one, unread_first, unread_later}
-use Rattle.served_works.proofs.Vectors.{first_removed}
+use Rattle.client_threads.proofs.ServedLemmas.Vectors.{first_removed}
 use Rattle.abl_cli.proofs.Loads.{still_begun}
 use Rattle.source_files.proofs.Causes.{on_ok, if_err}
 use Rattle.abl_cli.proofs.load.+begin_clients.Goals as goal

@@ -1,5 +1,5 @@
 use Rattle.std.proofs.Common.{List, ◌++◌, ◌∷◌, [], ap, ◌∙◌}
-use Rattle.block_vm.specs.ClientView.{ClientView}
+use Rattle.client_core.specs.ClientView.{ClientView}
 use Rattle.abl_cli.proofs.load.add_client.Goals as goal
 
 -- room was taken before, which leaves the clients as they were

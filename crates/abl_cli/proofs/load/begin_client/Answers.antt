@@ -2,7 +2,7 @@ use Rattle.std.proofs.Common.{List, ℕ, ap, subst}
 use Rattle.abl_values.specs.declared.schema.TableDef.{TableDef}
 use Rattle.abl_values.specs.Schema.{SchemaData}
 use Rattle.source_files.specs.Files.{HaveTexts}
-use Rattle.served_works.specs.Served.{IsClientOf}
+use Rattle.client_threads.specs.served.Served.{IsClientOf}
 use Rattle.abl_cli.proofs.load.begin_client.Goals as goal
 
 pub returns-in-Ok-client_to_run-clause-begun : goal.returns-in-Ok-client_to_run-clause-begun

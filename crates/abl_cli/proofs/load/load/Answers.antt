@@ -3,10 +3,10 @@ use Rattle.std.proofs.Common.{◌≡◌, ◌⊎◌, inl, inr, ◌≤◌, ◌++�
 use Rattle.std.specs.Prelude.{All, map}
 use Rattle.std.proofs.lemmas.List.{length-map}
 use Rattle.std.proofs.lemmas.Result.{err_from_is_err_and}
-use Rattle.abl_schema.specs.Rules.{violation_of}
-use Rattle.abl_outside.specs.Files.{FileState}
-use Rattle.abl_arguments.specs.CommandLine.{ClientFiles, client_in}
-use Rattle.block_vm.specs.ClientView.{ClientView}
+use Rattle.schema_reader.specs.Rules.{violation_of}
+use Rattle.host_io.specs.Files.{FileState}
+use Rattle.command_arguments.specs.CommandLine.{ClientFiles, client_in}
+use Rattle.client_core.specs.ClientView.{ClientView}
 use Rattle.source_files.specs.declared.files.ClientTexts.{ClientTexts}
 use Rattle.source_files.specs.declared.files.TheConstants.{MAX_FILE_BYTES}
 use Rattle.run_report.specs.declared.refusal.Refusal.TheVariants.{NoMemory}

@@ -1,10 +1,10 @@
 -- A client is begun, and then the others.
 use Rattle.std.proofs.Common.{◌≡◌, ◌<◌, ◌++◌, ◌∷◌, [], List, sym, ap, ◌∙◌, subst, append_assoc, rules, length}
 use Rattle.block_code.specs.declared.code.Code.{Code}
-use Rattle.block_vm.specs.ClientView.{ClientView}
+use Rattle.client_core.specs.ClientView.{ClientView}
 use Rattle.source_files.specs.declared.files.ClientTexts.{ClientTexts}
 use Rattle.source_files.proofs.Causes.{on_ok}
-use Rattle.served_works.proofs.Vectors.{first_removed}
+use Rattle.client_threads.proofs.ServedLemmas.Vectors.{first_removed}
 use Rattle.bank_run.specs.declared.bank.TheConstants.{BANK_UNITS}
 use Rattle.bank_run.specs.Inside.{AreClientsOf}
 use Rattle.bank_run.specs.Result.{bank_schema}

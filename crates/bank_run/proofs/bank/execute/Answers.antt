@@ -1,12 +1,12 @@
 -- The clients have run in three phases, and their report is written; or the run did not begin.
 use Rattle.std.proofs.Common.{◌≡◌, ◌+◌, inl, inr, ℕ, List, sym, subst, arith, rules, length}
 use Rattle.std.specs.Prelude.{map}
-use Rattle.client_database.specs.declared.event.Event.{Event}
-use Rattle.client_database.specs.declared.ends.ClientEnd.{ClientEnd}
+use Rattle.database_protocol.specs.declared.event.Event.{Event}
+use Rattle.database_protocol.specs.declared.ends.ClientEnd.{ClientEnd}
 use Rattle.abl_values.specs.Schema.{SchemaData}
-use Rattle.block_clients.specs.Phases.{AreThreePhases}
-use Rattle.served_works.specs.declared.clients.EndedClient.{EndedClient}
-use Rattle.served_works.specs.Served.{end_or_none}
+use Rattle.client_threads.specs.clients.Phases.{AreThreePhases}
+use Rattle.client_threads.specs.declared.served.clients.EndedClient.{EndedClient}
+use Rattle.client_threads.specs.served.Served.{end_or_none}
 use Rattle.run_works.specs.Disks.{IsDurable, ReadsAsDatabase, state_of}
 use Rattle.run_works.specs.Works.{HasNotRun}
 use Rattle.run_works.proofs.Runs.{as_many_ended_or_not}

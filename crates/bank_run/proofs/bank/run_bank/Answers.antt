@@ -1,7 +1,7 @@
 -- A bank is refused by what prevents it; else its clients run, or the database is not opened.
 use Rattle.std.proofs.Common.{◌≡◌, ◌⊎◌, ⊎_elim, List, ℕ, refl, ◌∙◌, subst}
 use Rattle.abl_values.specs.Schema.{SchemaData}
-use Rattle.abl_arguments.specs.declared.parts.Mode.TheVariants.{Quiet}
+use Rattle.command_arguments.specs.declared.parts.Mode.TheVariants.{Quiet}
 use Rattle.run_report.specs.declared.refusal.Refusal.TheVariants.{NoMemory}
 use Rattle.run_report.specs.Ending.{IsRefused}
 use Rattle.run_works.specs.Disks.{state_of}

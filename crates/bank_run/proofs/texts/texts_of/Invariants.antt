@@ -1,6 +1,6 @@
 use Rattle.std.proofs.Common.{◌≡◌, ◌∷◌}
-use Rattle.bank_inputs.specs.declared.sources.TheConstants.{SETUP_SOURCE}
-use Rattle.bank_inputs.specs.Bank.{setup_input}
+use Rattle.bank_run.specs.declared.inputs.sources.TheConstants.{SETUP_SOURCE}
+use Rattle.bank_run.specs.inputs.Bank.{setup_input}
 use Rattle.bank_run.specs.Texts.{transfer_texts, with_input}
 use Rattle.bank_run.proofs.texts.texts_of.Given as goal
 

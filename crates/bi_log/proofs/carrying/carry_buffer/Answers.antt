@@ -2,7 +2,7 @@ use Rattle.std.proofs.Common.{◌≡◌, ◌≢◌, ℕ, ◌+◌, ◌≤◌, Lis
 use Rattle.std.proofs.lemmas.List.{append-nil}
 use Rattle.std.proofs.lemmas.List.Concat.{flat_map-append}
 use Rattle.std.proofs.lemmas.List.Elements.{All-nil}
-use Rattle.disk_steps.proofs.Runs.{started}
+use Rattle.log_meaning.proofs.StepsLemmas.Runs.{started}
 use Rattle.log_meaning.specs.declared.note.Note.{Note}
 use Rattle.std.specs.List.{flat_map}
 use Rattle.log_meaning.specs.Bytes.{four, note_bytes, IsNote}

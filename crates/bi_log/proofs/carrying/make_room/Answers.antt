@@ -1,5 +1,5 @@
 use Rattle.std.proofs.Common.{◌+◌, length}
-use Rattle.disk_steps.proofs.Runs.{started}
+use Rattle.log_meaning.proofs.StepsLemmas.Runs.{started}
 use Rattle.bi_log.specs.Buffer.{content}
 use Rattle.bi_log.specs.Generations.{AfterGate}
 use Rattle.bi_log.proofs.Lengths.{run_none}

@@ -1,7 +1,7 @@
 use Rattle.std.proofs.Common.{inr, ◌≤◌, ℕ, ◌+◌, length, Bool, IsTrue, refl, sym, ◌∙◌, ap, subst, arith}
-use Rattle.disk_steps.specs.Steps.{Image, Run}
-use Rattle.disk_steps.proofs.Runs.{joined, wider, traced}
-use Rattle.disk_steps.proofs.Writes.{has_torn, torn_none, torn_keeps_below}
+use Rattle.log_meaning.specs.steps.Steps.{Image, Run}
+use Rattle.log_meaning.proofs.StepsLemmas.Runs.{joined, wider, traced}
+use Rattle.log_meaning.proofs.StepsLemmas.Writes.{has_torn, torn_none, torn_keeps_below}
 use Rattle.bi_log.specs.Appending.{with_batch}
 use Rattle.bi_log.specs.Generations.{AfterGate, IsPrepared}
 use Rattle.bi_log.proofs.Preparing.{ok_then, after_none, after_twice, prepared_more, torn_both, batch_there, length-batch_after}

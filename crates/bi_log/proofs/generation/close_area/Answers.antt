@@ -1,7 +1,7 @@
 use Rattle.std.proofs.Common.{ℕ, ◌≡◌, ◌⊎◌, List, [], ◌∷◌, Bool, IsTrue, get_or, length, sym, ◌∙◌, ap, subst, arith}
-use Rattle.disk_steps.specs.Steps.{Image, Has}
-use Rattle.disk_steps.proofs.Runs.{joined, stayed}
-use Rattle.abl_storage.specs.Disk.{TornIn, Stays}
+use Rattle.log_meaning.specs.steps.Steps.{Image, Has}
+use Rattle.log_meaning.proofs.StepsLemmas.Runs.{joined, stayed}
+use Rattle.storage.specs.Disk.{TornIn, Stays}
 use Rattle.log_meaning.proofs.Areas.{torn_closing, torn_gate}
 use Rattle.bi_log.specs.Generations.{Closes, IsClosed}
 use Rattle.bi_log.proofs.Preparing.{ok_then}

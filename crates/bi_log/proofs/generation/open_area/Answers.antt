@@ -1,6 +1,6 @@
 use Rattle.std.proofs.Common.{ℕ, get_or, refl, sym, ◌∙◌, ap, arith}
-use Rattle.disk_steps.proofs.Runs.{wider, traced}
-use Rattle.disk_steps.proofs.Writes.{torn_none}
+use Rattle.log_meaning.proofs.StepsLemmas.Runs.{wider, traced}
+use Rattle.log_meaning.proofs.StepsLemmas.Writes.{torn_none}
 use Rattle.bi_log.proofs.Preparing.{ok_then, opens_to, either_opens}
 use Rattle.bi_log.proofs.Lengths.{run_torn}
 use Rattle.bi_log.proofs.generation.open_area.Goals as goal

@@ -1,7 +1,7 @@
 use Rattle.std.proofs.Common.{ℕ, List, length, refl, sym, ◌∙◌, subst, arith}
-use Rattle.disk_steps.specs.Steps.{Has}
-use Rattle.disk_steps.proofs.Runs.{wider, traced}
-use Rattle.disk_steps.proofs.Writes.{torn_none, torn_keeps_below}
+use Rattle.log_meaning.specs.steps.Steps.{Has}
+use Rattle.log_meaning.proofs.StepsLemmas.Runs.{wider, traced}
+use Rattle.log_meaning.proofs.StepsLemmas.Writes.{torn_none, torn_keeps_below}
 use Rattle.bi_log.specs.Appending.{fresh}
 use Rattle.bi_log.proofs.Preparing.{ok_then, prepared_head}
 use Rattle.bi_log.proofs.Lengths.{run_torn}

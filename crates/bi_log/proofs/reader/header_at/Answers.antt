@@ -1,6 +1,6 @@
 use Rattle.std.proofs.Common.{ℕ, ◌≡◌, List, length, get_or, sym, ◌∙◌, ap, arith, Option, Some, None}
 use Rattle.std.specs.Prelude.{IfSome, IfNone}
-use Rattle.abl_storage.specs.Disk.{Reads}
+use Rattle.storage.specs.Disk.{Reads}
 use Rattle.log_meaning.specs.Images.{IsOpened}
 use Rattle.log_meaning.proofs.Areas.{same_header}
 use Rattle.bi_log.specs.declared.header.Header.{Header}

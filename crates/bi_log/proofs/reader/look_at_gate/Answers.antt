@@ -1,5 +1,5 @@
 use Rattle.std.proofs.Common.{ℕ, inl, inr, subst, arith}
-use Rattle.abl_storage.specs.Disk.{Reads}
+use Rattle.storage.specs.Disk.{Reads}
 use Rattle.bi_log.specs.Reading.{gate_of}
 use Rattle.bi_log.proofs.ReadSteps.{enters, broken_head, head_number, gate_byte}
 use Rattle.bi_log.proofs.reader.look_at_gate.Goals as goal

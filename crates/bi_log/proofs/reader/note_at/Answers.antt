@@ -1,6 +1,6 @@
 use Rattle.std.proofs.Common.{ℕ, ◌≡◌, ◌≤◌, List, length, arith, Option, Some, None}
 use Rattle.std.specs.Prelude.{IfSome, IfNone}
-use Rattle.abl_storage.specs.Disk.{Reads}
+use Rattle.storage.specs.Disk.{Reads}
 use Rattle.log_meaning.specs.declared.note.Note.{Note}
 use Rattle.log_meaning.specs.declared.note.Note.TheVariants.{Change as Changed, Commit}
 use Rattle.log_meaning.specs.Bytes.{note_bytes, IsNote}

@@ -1,8 +1,8 @@
 use Rattle.std.proofs.Common.{◌≡◌, ◌≢◌, ℕ, Bool, IsTrue, List, sym, ◌∙◌, subst, arith}
-use Rattle.abl_storage.specs.Disk.{Others}
-use Rattle.abl_storage.specs.Slots.{undone}
-use Rattle.disk_steps.specs.Steps.{Image, Run}
-use Rattle.disk_steps.proofs.Runs.{joined, wider}
+use Rattle.storage.specs.Disk.{Others}
+use Rattle.storage.specs.Slots.{undone}
+use Rattle.log_meaning.specs.steps.Steps.{Image, Run}
+use Rattle.log_meaning.proofs.StepsLemmas.Runs.{joined, wider}
 use Rattle.log_meaning.specs.declared.note.Note.{Note}
 use Rattle.log_meaning.specs.Images.{slot_of}
 use Rattle.bi_log.specs.Generations.{Closes, AfterGate}

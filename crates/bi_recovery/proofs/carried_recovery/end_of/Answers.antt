@@ -1,7 +1,7 @@
 use Rattle.std.proofs.Common.{◌≡◌, ⊎_elim, List, [], true, take, get_or, ◌∙◌, ap, arith}
 use Rattle.std.proofs.lemmas.List.{take_all}
-use Rattle.abl_storage.specs.declared.slots.Undo.{Undo}
-use Rattle.abl_storage.specs.Slots.{wrote}
+use Rattle.storage.specs.declared.slots.Undo.{Undo}
+use Rattle.storage.specs.Slots.{wrote}
 use Rattle.bi_recovery.proofs.Filled.{wrote_either}
 use Rattle.bi_recovery.proofs.Writing.{wrote_at}
 use Rattle.bi_recovery.proofs.carried_recovery.end_of.Goals as goal

@@ -1,5 +1,5 @@
 use Rattle.std.proofs.Common.{◌≡◌, ◌<◌, ◌≤◌, ◌^◌, ℕ, true, take}
-use Rattle.abl_storage.specs.Slots.{wrote}
+use Rattle.storage.specs.Slots.{wrote}
 use Rattle.bi_recovery.proofs.carried_recovery.end_of.Given as goal
 
 abbrev pub invariant-loop-u : goal.invariant-loop-u

@@ -1,9 +1,9 @@
 use Rattle.std.specs.Prelude.{IfOk, IfSome, Option}
 use Rattle.std.proofs.Common.{◌≡◌, ◌+◌, ◌-◌, ◌<◌, ◌≤◌, ℕ, Result, Ok, Err, true, subst, arith}
-use Rattle.abl_storage.specs.Disk.{Others}
-use Rattle.abl_storage.specs.Slots.{undone, wrote}
-use Rattle.disk_steps.specs.Steps.{Any}
-use Rattle.disk_steps.proofs.Runs.{started, wider}
+use Rattle.storage.specs.Disk.{Others}
+use Rattle.storage.specs.Slots.{undone, wrote}
+use Rattle.log_meaning.specs.steps.Steps.{Any}
+use Rattle.log_meaning.proofs.StepsLemmas.Runs.{started, wider}
 use Rattle.log_meaning.specs.Images.{slot_of}
 use Rattle.bi_log.proofs.Lengths.{run_none}
 use Rattle.bi_recovery.specs.Carried.{stills, CarriesTo}

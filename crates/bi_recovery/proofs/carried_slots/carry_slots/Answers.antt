@@ -1,7 +1,7 @@
 use Rattle.std.proofs.Common.{◌≡◌, ◌≢◌, ℕ, ◌+◌, ◌*◌, ◌≤◌, List, length, Bool, IsTrue, refl, sym, ◌∙◌, ap, subst, arith, length-append}
-use Rattle.abl_storage.specs.Slots.{undone}
-use Rattle.disk_steps.specs.Steps.{Image, Run}
-use Rattle.disk_steps.proofs.Runs.{started, joined, stayed, traced}
+use Rattle.storage.specs.Slots.{undone}
+use Rattle.log_meaning.specs.steps.Steps.{Image, Run}
+use Rattle.log_meaning.proofs.StepsLemmas.Runs.{started, joined, stayed, traced}
 use Rattle.log_meaning.specs.declared.note.Note.TheVariants.{Change as Changed}
 use Rattle.log_meaning.specs.Bytes.{note_bytes, IsNote}
 use Rattle.log_meaning.specs.Images.{slot_of}

@@ -1,7 +1,7 @@
 use Rattle.std.proofs.Common.{◌≡◌, ◌+◌, ◌*◌, ◌-◌, ◌≤◌, ℕ, length, IsTrue}
-use Rattle.abl_storage.specs.Disk.{Others}
-use Rattle.abl_storage.specs.Slots.{undone}
-use Rattle.disk_steps.specs.Steps.{Image, Run}
+use Rattle.storage.specs.Disk.{Others}
+use Rattle.storage.specs.Slots.{undone}
+use Rattle.log_meaning.specs.steps.Steps.{Image, Run}
 use Rattle.log_meaning.specs.Images.{slot_of}
 use Rattle.bi_log.specs.Appending.{fresh}
 use Rattle.bi_log.specs.Buffer.{content}

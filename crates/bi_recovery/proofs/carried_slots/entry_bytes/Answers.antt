@@ -1,7 +1,7 @@
 use Rattle.std.proofs.Common.{◌≡◌, ℕ, List, [], false, get_or, Result, IfOk, IfErr, subst, rules}
 use Rattle.std.proofs.lemmas.List.Sorted.{answers_always}
-use Rattle.abl_storage.specs.declared.slots.Undo.{Undo}
-use Rattle.abl_storage.specs.Slots.{wrote, undone}
+use Rattle.storage.specs.declared.slots.Undo.{Undo}
+use Rattle.storage.specs.Slots.{wrote, undone}
 use Rattle.bi_recovery.proofs.Filled.{searched}
 use Rattle.bi_recovery.proofs.carried_slots.entry_bytes.Goals as goal
 

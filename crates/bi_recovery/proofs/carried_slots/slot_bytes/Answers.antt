@@ -1,6 +1,6 @@
 use Rattle.std.proofs.Common.{◌≡◌, ℕ, List, false, Result, Ok, Err, sym, ◌∙◌, subst}
 use Rattle.std.specs.Prelude.{Option, IfOk, IfSome, IfNone}
-use Rattle.abl_storage.specs.Slots.{wrote, undone}
+use Rattle.storage.specs.Slots.{wrote, undone}
 use Rattle.log_meaning.specs.Images.{slot_of}
 use Rattle.log_meaning.proofs.Undone.{undone-not}
 use Rattle.bi_recovery.proofs.carried_slots.slot_bytes.Goals as goal

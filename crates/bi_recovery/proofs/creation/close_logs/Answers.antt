@@ -1,5 +1,5 @@
 use Rattle.std.proofs.Common.{◌≡◌, ℕ, ◌-◌, ◌≤◌, refl, sym, subst, arith}
-use Rattle.disk_steps.proofs.Runs.{traced}
+use Rattle.log_meaning.proofs.StepsLemmas.Runs.{traced}
 use Rattle.log_meaning.specs.Images.{IsOpened}
 use Rattle.bi_log.specs.Generations.{IsClosed}
 use Rattle.bi_log.proofs.Preparing.{ok_then}

@@ -1,8 +1,8 @@
 use Rattle.std.proofs.Common.{◌≡◌, inl, ℕ, ◌<◌, ◌^◌, List, refl, sym, ◌∙◌, ap, subst, arith}
-use Rattle.abl_storage.specs.Disk.{Others}
-use Rattle.abl_storage.specs.Slots.{undone}
-use Rattle.disk_steps.specs.Steps.{Image}
-use Rattle.disk_steps.proofs.Runs.{wider, holds, traced}
+use Rattle.storage.specs.Disk.{Others}
+use Rattle.storage.specs.Slots.{undone}
+use Rattle.log_meaning.specs.steps.Steps.{Image}
+use Rattle.log_meaning.proofs.StepsLemmas.Runs.{wider, holds, traced}
 use Rattle.log_meaning.specs.Images.{slot_of}
 use Rattle.bi_log.specs.Appending.{fresh}
 use Rattle.bi_log.specs.Generations.{IsClosed, AfterGate, Opens}

@@ -1,5 +1,5 @@
 use Rattle.std.proofs.Common.{ℕ, List, Bool, IsTrue, ◌∙◌, ap, subst}
-use Rattle.disk_steps.specs.Steps.{Image}
+use Rattle.log_meaning.specs.steps.Steps.{Image}
 use Rattle.log_meaning.specs.Images.{slot_of}
 use Rattle.bi_log.proofs.Preparing.{ok_both}
 use Rattle.bi_recovery.proofs.Creating.{zeros_all}

@@ -1,6 +1,6 @@
 use Rattle.std.proofs.Common.{◌≡◌, ◌-◌, ◌<◌, ◌≤◌, ℕ, IsTrue}
-use Rattle.abl_storage.specs.Disk.{Others}
-use Rattle.disk_steps.specs.Steps.{Run}
+use Rattle.storage.specs.Disk.{Others}
+use Rattle.log_meaning.specs.steps.Steps.{Run}
 use Rattle.log_meaning.specs.Images.{slot_of}
 use Rattle.bi_recovery.specs.Creating.{zeros}
 use Rattle.bi_recovery.proofs.creation.write_zeros.Given as goal

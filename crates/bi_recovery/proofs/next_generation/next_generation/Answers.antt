@@ -1,6 +1,6 @@
 use Rattle.std.proofs.Common.{inr, ℕ, Bool, IsTrue, sym, ◌∙◌, subst, arith}
-use Rattle.disk_steps.specs.Steps.{Image, Run}
-use Rattle.disk_steps.proofs.Runs.{joined, wider}
+use Rattle.log_meaning.specs.steps.Steps.{Image, Run}
+use Rattle.log_meaning.proofs.StepsLemmas.Runs.{joined, wider}
 use Rattle.bi_log.specs.Appending.{fresh}
 use Rattle.bi_log.specs.Generations.{Closes, IsClosed, AfterGate, Opens}
 use Rattle.bi_log.proofs.Preparing.{ok_then}

@@ -2,8 +2,8 @@ use Rattle.std.proofs.Common.{◌≡◌, ◌+◌, ◌-◌, ◌≤◌, ◌^◌, �
 use Rattle.std.proofs.lemmas.List.{get_or_past}
 use Rattle.std.proofs.lemmas.List.Elements.{All-nil, All-push}
 use Rattle.std.specs.Prelude.{All, Option, Some, None, IfSome}
-use Rattle.disk_steps.specs.Steps.{Image}
-use Rattle.disk_steps.proofs.Runs.{stays_twice}
+use Rattle.log_meaning.specs.steps.Steps.{Image}
+use Rattle.log_meaning.proofs.StepsLemmas.Runs.{stays_twice}
 use Rattle.log_meaning.specs.declared.note.Note.{Note}
 use Rattle.log_meaning.specs.Bytes.{note_bytes, IsNote}
 use Rattle.bi_log.specs.declared.reader.AtGate.{AtGate}

@@ -1,7 +1,7 @@
 use Rattle.std.specs.Prelude.{All}
 use Rattle.log_meaning.specs.Bytes.{IsNote}
 use Rattle.std.proofs.Common.{◌≡◌, ◌+◌, ◌≤◌, ◌^◌, ℕ, IsTrue, ◌-◌}
-use Rattle.abl_storage.specs.Disk.{Stays}
+use Rattle.storage.specs.Disk.{Stays}
 use Rattle.log_meaning.specs.Images.{IsOpened}
 use Rattle.bi_recovery.specs.ReadNotes.{HasReadTo}
 use Rattle.bi_recovery.proofs.notes_read.read_notes.Given as goal

@@ -1,7 +1,7 @@
 use Rattle.std.proofs.Common.{◌≢◌, ◌+◌, ◌-◌, Bool, IsTrue, refl, sym, ◌∙◌, subst, arith}
-use Rattle.abl_storage.specs.Disk.{Others}
-use Rattle.disk_steps.specs.Steps.{Any}
-use Rattle.disk_steps.proofs.Runs.{joined, wider, traced}
+use Rattle.storage.specs.Disk.{Others}
+use Rattle.log_meaning.specs.steps.Steps.{Any}
+use Rattle.log_meaning.proofs.StepsLemmas.Runs.{joined, wider, traced}
 use Rattle.bi_log.proofs.Preparing.{ok_then}
 use Rattle.bi_recovery.specs.Reopening.{StepsTo}
 use Rattle.bi_recovery.proofs.Reopening.{put_same, rebuilt, reopened}

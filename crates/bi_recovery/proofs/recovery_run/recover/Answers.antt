@@ -1,7 +1,7 @@
 use Rattle.std.proofs.Common.{◌≡◌, ◌≤◌, ℕ, List, Bool, IsTrue, Result, Ok, Err, sym, ◌∙◌, subst}
 use Rattle.std.specs.Prelude.{Option, Some, None, IfOk, IfSome}
-use Rattle.disk_steps.specs.Steps.{Image}
-use Rattle.disk_steps.proofs.Runs.{wider, stayed}
+use Rattle.log_meaning.specs.steps.Steps.{Image}
+use Rattle.log_meaning.proofs.StepsLemmas.Runs.{wider, stayed}
 use Rattle.log_meaning.specs.Images.{IsNewest, IsOpened, Recovers}
 use Rattle.bi_log.specs.declared.header.Header.{Header}
 use Rattle.bi_log.specs.Outcomes.{FindAnswer}

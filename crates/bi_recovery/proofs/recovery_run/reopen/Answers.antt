@@ -3,7 +3,7 @@ use Rattle.std.specs.Prelude.{All, Option, Some, IfSome, Vec}
 use Rattle.log_meaning.specs.Bytes.{IsNote}
 use Rattle.bi_recovery.proofs.Recovery.{no_recovery}
 use Rattle.std.specs.declared.alloc.Global.{Global}
-use Rattle.disk_steps.specs.Steps.{Image}
+use Rattle.log_meaning.specs.steps.Steps.{Image}
 use Rattle.log_meaning.specs.declared.note.Note.{Note}
 use Rattle.bi_recovery.specs.ReadNotes.{ReadAnswer, HoldsNotes}
 use Rattle.bi_recovery.specs.Reopening.{LogIs}

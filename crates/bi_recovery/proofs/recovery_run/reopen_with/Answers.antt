@@ -1,6 +1,6 @@
 use Rattle.std.proofs.Common.{◌/◌, ◌+◌, ◌-◌, ℕ, Bool, IsTrue, [], length, refl, sym, ◌∙◌, ap, subst, arith}
-use Rattle.abl_storage.specs.Slots.{undone}
-use Rattle.disk_steps.specs.Steps.{Image}
+use Rattle.storage.specs.Slots.{undone}
+use Rattle.log_meaning.specs.steps.Steps.{Image}
 use Rattle.log_meaning.specs.Images.{slot_of, Recovers}
 use Rattle.log_meaning.proofs.Filling.{filled_none}
 use Rattle.bi_recovery.specs.NoteSlots.{IsAscending}

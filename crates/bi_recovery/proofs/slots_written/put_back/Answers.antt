@@ -1,7 +1,7 @@
 use Rattle.std.proofs.Common.{◌≡◌, Bool, IsTrue, sym, ◌∙◌, ap, subst}
-use Rattle.abl_storage.specs.Disk.{Others}
-use Rattle.disk_steps.specs.Steps.{Image}
-use Rattle.disk_steps.proofs.Runs.{call, joined}
+use Rattle.storage.specs.Disk.{Others}
+use Rattle.log_meaning.specs.steps.Steps.{Image}
+use Rattle.log_meaning.proofs.StepsLemmas.Runs.{call, joined}
 use Rattle.log_meaning.specs.Images.{slot_of}
 use Rattle.log_meaning.specs.LogState.{WritesNoted}
 use Rattle.log_meaning.proofs.Filling.{writes_none, writes_twice}

@@ -1,6 +1,6 @@
 use Rattle.std.proofs.Common.{Bool, IsTrue, refl, sym, ◌∙◌, ap, subst}
-use Rattle.disk_steps.specs.Steps.{Image}
-use Rattle.disk_steps.proofs.Runs.{call, traced}
+use Rattle.log_meaning.specs.steps.Steps.{Image}
+use Rattle.log_meaning.proofs.StepsLemmas.Runs.{call, traced}
 use Rattle.bi_log.proofs.Preparing.{ok_then}
 use Rattle.bi_recovery.proofs.Writing.{same_twice, three_areas}
 use Rattle.bi_recovery.proofs.slots_written.sync_all.Goals as goal

@@ -1,6 +1,6 @@
 use Rattle.std.proofs.Common.{◌≡◌, ◌*◌, ℕ, List, length, ◌∙◌, ap, subst, arith}
-use Rattle.abl_storage.specs.Disk.{TornIn}
-use Rattle.disk_steps.proofs.Runs.{call, wider}
+use Rattle.storage.specs.Disk.{TornIn}
+use Rattle.log_meaning.proofs.StepsLemmas.Runs.{call, wider}
 use Rattle.log_meaning.specs.Images.{slot_of}
 use Rattle.log_meaning.proofs.Filling.{writes_one, slot_overlaid}
 use Rattle.bi_log.proofs.Preparing.{ok_then}

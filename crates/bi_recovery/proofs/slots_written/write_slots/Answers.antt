@@ -1,6 +1,6 @@
 use Rattle.std.proofs.Common.{◌≡◌, ◌+◌, ◌-◌, ◌<◌, ℕ, [], length, drop, Bool, IsTrue, refl, sym, ◌∙◌, subst, arith}
-use Rattle.abl_storage.specs.declared.slots.Undo.{Undo}
-use Rattle.abl_storage.specs.Slots.{undone}
+use Rattle.storage.specs.declared.slots.Undo.{Undo}
+use Rattle.storage.specs.Slots.{undone}
 use Rattle.log_meaning.specs.Images.{slot_of}
 use Rattle.bi_recovery.proofs.Writing.{wrote_at, more_written, more_past, reads_more}
 use Rattle.bi_recovery.proofs.slots_written.write_slots.Goals as goal

@@ -1,7 +1,7 @@
 use Rattle.std.proofs.Common.{◌≡◌, ◌*◌, ◌≤◌, ℕ, List, length, drop, true, IsTrue}
-use Rattle.abl_storage.specs.Disk.{Others}
-use Rattle.abl_storage.specs.Slots.{wrote, undone}
-use Rattle.disk_steps.specs.Steps.{Image, Run}
+use Rattle.storage.specs.Disk.{Others}
+use Rattle.storage.specs.Slots.{wrote, undone}
+use Rattle.log_meaning.specs.steps.Steps.{Image, Run}
 use Rattle.log_meaning.specs.declared.note.Note.{Note}
 use Rattle.log_meaning.specs.Images.{slot_of}
 use Rattle.log_meaning.specs.LogState.{MayWrite, WritesNoted}

@@ -1,7 +1,7 @@
 use Rattle.std.proofs.Common.{◌∙◌, ap, refl, sym, arith}
 use Rattle.bound_tree.specs.Bound.{maybe_expr_of}
-use Rattle.abl_syntax.specs.declared.expression.Expression.{Expression as TypedExpression}
-use Rattle.abl_syntax.specs.Typed.{expression_of}
+use Rattle.syntax_tree.specs.declared.expression.Expression.{Expression as TypedExpression}
+use Rattle.syntax_tree.specs.Typed.{expression_of}
 use Rattle.bind_names.specs.Views.{buffer_of, scene_of}
 use Rattle.bind_blocks.specs.Views.{lone_name, name_in}
 use Rattle.bind_blocks.proofs.Anding.{chain_says, links_say_all, one_more_says, said_with_and}

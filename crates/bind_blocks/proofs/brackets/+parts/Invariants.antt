@@ -1,6 +1,6 @@
 use Rattle.std.proofs.Common.{◌≡◌}
 use Rattle.bound_tree.specs.Bound.{maybe_expr_of}
-use Rattle.abl_syntax.specs.Syntax.{Expression}
+use Rattle.syntax_tree.specs.Syntax.{Expression}
 use Rattle.bind_names.specs.Views.{buffer_of, scene_of}
 use Rattle.bind_blocks.specs.Records.{and_parts, first_said}
 use Rattle.bind_blocks.specs.Views.{lone_name, name_in}

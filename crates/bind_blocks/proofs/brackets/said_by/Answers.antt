@@ -1,7 +1,7 @@
 use Rattle.std.proofs.Common.{◌≡◌, ◌∙◌, ap, sym, true}
 use Rattle.std.specs.List.{list_any}
 use Rattle.abl_values.specs.Schema.{same_name}
-use Rattle.abl_syntax.specs.Typed.{expression_of}
+use Rattle.syntax_tree.specs.Typed.{expression_of}
 use Rattle.bind_names.specs.declared.names.Naming.{Naming}
 use Rattle.bind_names.specs.Views.{buffer_of, scene_of}
 use Rattle.bind_expressions.specs.Views.{typed_of}

@@ -1,6 +1,6 @@
 use Rattle.std.proofs.Common.{◌≡◌, ◌++◌, drop, map}
 use Rattle.bound_tree.specs.Bound.{bracket_value_of}
-use Rattle.abl_syntax.specs.Typed.{expression_of}
+use Rattle.syntax_tree.specs.Typed.{expression_of}
 use Rattle.bind_names.specs.Views.{buffer_of, scene_of}
 use Rattle.bind_blocks.specs.Records.{and_parts, bracket_of}
 use Rattle.bind_blocks.proofs.brackets.values_of.Given as goal

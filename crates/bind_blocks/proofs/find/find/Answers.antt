@@ -1,5 +1,5 @@
 use Rattle.std.proofs.Common.{◌∙◌, ap, map, true, Option}
-use Rattle.abl_syntax.specs.Typed.{record_option_of}
+use Rattle.syntax_tree.specs.Typed.{record_option_of}
 use Rattle.bind_names.specs.declared.names.NamingKind.TheVariants.{Free}
 use Rattle.bind_names.specs.Names.{buffer}
 use Rattle.bound_tree.specs.Bound.{stmt_of}

@@ -1,8 +1,8 @@
 use Rattle.std.proofs.Common.{◌∙◌, List, ap, map, subst}
 use Rattle.std.specs.List.{list_any}
 use Rattle.bound_tree.specs.Bound.{fetch_of, header_of, to_of}
-use Rattle.abl_syntax.specs.Typed.{maybe_counting_of, opening_of, phrase_of}
-use Rattle.abl_syntax.specs.declared.block.Phrase.{Phrase as TypedPhrase}
+use Rattle.syntax_tree.specs.Typed.{maybe_counting_of, opening_of, phrase_of}
+use Rattle.syntax_tree.specs.declared.block.Phrase.{Phrase as TypedPhrase}
 use Rattle.bind_names.specs.Views.{IsJudged, scene_of}
 use Rattle.bind_blocks.specs.Headers.{block_kind_of, counts, header, is_transaction, opening, phrases}
 use Rattle.bind_blocks.specs.Views.{phrases_of}

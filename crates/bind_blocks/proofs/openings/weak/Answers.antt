@@ -1,5 +1,5 @@
 use Rattle.std.proofs.Common.{map, true}
-use Rattle.abl_syntax.specs.Typed.{record_option_of}
+use Rattle.syntax_tree.specs.Typed.{record_option_of}
 use Rattle.bind_names.specs.declared.names.NamingKind.TheVariants.{Weak}
 use Rattle.bind_names.specs.Names.{buffer}
 use Rattle.bind_names.specs.Views.{scene_of}

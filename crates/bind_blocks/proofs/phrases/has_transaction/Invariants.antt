@@ -1,6 +1,6 @@
 use Rattle.std.proofs.Common.{◌≡◌, drop, map}
 use Rattle.std.specs.List.{list_any}
-use Rattle.abl_syntax.specs.Typed.{phrase_of}
+use Rattle.syntax_tree.specs.Typed.{phrase_of}
 use Rattle.bind_blocks.specs.Headers.{is_transaction}
 use Rattle.bind_blocks.proofs.phrases.has_transaction.Given as goal
 

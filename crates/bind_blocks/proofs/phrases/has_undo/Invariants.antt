@@ -1,7 +1,7 @@
 use Rattle.std.proofs.Common.{◌≡◌, drop, map}
 use Rattle.std.specs.Prelude.{not}
 use Rattle.std.specs.List.{list_any}
-use Rattle.abl_syntax.specs.Typed.{phrase_of}
+use Rattle.syntax_tree.specs.Typed.{phrase_of}
 use Rattle.bind_blocks.specs.Headers.{is_while}
 use Rattle.bind_blocks.proofs.phrases.has_undo.Given as goal
 

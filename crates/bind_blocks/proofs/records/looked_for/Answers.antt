@@ -1,6 +1,6 @@
 use Rattle.std.proofs.Common.{◌∙◌, ap, map, true, None, Option}
-use Rattle.abl_syntax.specs.Syntax.{Expression}
-use Rattle.abl_syntax.specs.Typed.{record_option_of}
+use Rattle.syntax_tree.specs.Syntax.{Expression}
+use Rattle.syntax_tree.specs.Typed.{record_option_of}
 use Rattle.bind_names.specs.Names.{buffer}
 use Rattle.bind_names.specs.Views.{maybe_buffer_of, scene_of}
 use Rattle.bind_blocks.specs.Views.{asked_of, selected, selection_of, where_from}

@@ -1,5 +1,5 @@
 use Rattle.std.proofs.Common.{◌≡◌, None, drop, map}
-use Rattle.abl_syntax.specs.Typed.{record_option_of}
+use Rattle.syntax_tree.specs.Typed.{record_option_of}
 use Rattle.bind_blocks.specs.Views.{maybe_test_of, where_from}
 use Rattle.bind_blocks.proofs.records.where_of.Given as goal
 

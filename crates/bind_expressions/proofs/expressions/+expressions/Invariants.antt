@@ -1,5 +1,5 @@
 use Rattle.bound_tree.specs.Bound.{chain_of, expr_of}
-use Rattle.abl_syntax.specs.Syntax.{Expression}
+use Rattle.syntax_tree.specs.Syntax.{Expression}
 use Rattle.bind_names.specs.declared.notes.Notes.{Notes}
 use Rattle.bind_names.specs.Views.{IsJudged, scene_of}
 use Rattle.bind_expressions.specs.Expressions.{expression, typed}

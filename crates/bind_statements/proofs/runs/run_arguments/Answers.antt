@@ -1,5 +1,5 @@
 use Rattle.std.proofs.Common.{map}
-use Rattle.abl_syntax.specs.Typed.{argument_of as syntax_argument_of}
+use Rattle.syntax_tree.specs.Typed.{argument_of as syntax_argument_of}
 use Rattle.bound_tree.specs.Bound.{argument_of}
 use Rattle.bind_names.specs.Views.{scene_of}
 use Rattle.bind_statements.proofs.Arguments.{run_judged}

@@ -1,5 +1,5 @@
 use Rattle.std.proofs.Common.{map}
-use Rattle.abl_syntax.specs.Typed.{argument_of as syntax_argument_of}
+use Rattle.syntax_tree.specs.Typed.{argument_of as syntax_argument_of}
 use Rattle.bind_names.specs.Views.{scene_of}
 use Rattle.bind_statements.proofs.Arguments.{run_unknown_judged}
 use Rattle.bind_statements.proofs.runs.run_unknown.Goals as goal

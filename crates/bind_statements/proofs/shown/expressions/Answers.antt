@@ -1,5 +1,5 @@
 use Rattle.std.proofs.Common.{arith, map}
-use Rattle.abl_syntax.specs.Typed.{expression_of}
+use Rattle.syntax_tree.specs.Typed.{expression_of}
 use Rattle.bound_tree.specs.Bound.{expr_of}
 use Rattle.bind_names.specs.Views.{scene_of}
 use Rattle.bind_expressions.specs.Views.{typed_of}

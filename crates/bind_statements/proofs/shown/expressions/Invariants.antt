@@ -1,5 +1,5 @@
 use Rattle.std.proofs.Common.{drop, map}
-use Rattle.abl_syntax.specs.Typed.{expression_of}
+use Rattle.syntax_tree.specs.Typed.{expression_of}
 use Rattle.bound_tree.specs.Bound.{expr_of}
 use Rattle.bind_names.specs.Views.{scene_of}
 use Rattle.bind_statements.specs.Views.{expr_in}

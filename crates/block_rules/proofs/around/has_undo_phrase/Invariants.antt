@@ -1,5 +1,5 @@
 use Rattle.std.proofs.Common.{◌≡◌, drop, map}
-use Rattle.abl_syntax.specs.Typed.{phrase_of}
+use Rattle.syntax_tree.specs.Typed.{phrase_of}
 use Rattle.block_rules.specs.Blocks.{has_undo_phrase}
 use Rattle.block_rules.proofs.around.has_undo_phrase.Given as goal
 

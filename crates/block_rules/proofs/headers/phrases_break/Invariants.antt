@@ -1,6 +1,6 @@
 use Rattle.std.proofs.Common.{◌≡◌, drop, map}
 use Rattle.bind_names.specs.Judged.{first_of}
-use Rattle.abl_syntax.specs.Typed.{phrase_of}
+use Rattle.syntax_tree.specs.Typed.{phrase_of}
 use Rattle.block_rules.specs.Around.{heads_of}
 use Rattle.block_rules.specs.Rules.{phrases_break}
 use Rattle.block_rules.proofs.headers.phrases_break.Given as goal

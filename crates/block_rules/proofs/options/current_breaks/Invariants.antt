@@ -1,6 +1,6 @@
 use Rattle.std.proofs.Common.{◌≡◌, drop, map}
 use Rattle.bind_names.specs.Judged.{first_of}
-use Rattle.abl_syntax.specs.Typed.{record_option_of}
+use Rattle.syntax_tree.specs.Typed.{record_option_of}
 use Rattle.block_rules.specs.Rules.{current_breaks}
 use Rattle.block_rules.proofs.options.current_breaks.Given as goal
 

@@ -1,6 +1,6 @@
 use Rattle.std.proofs.Common.{◌≡◌, drop}
 use Rattle.bind_names.specs.Judged.{first_of}
-use Rattle.abl_syntax.specs.Typed.{statements_of}
+use Rattle.syntax_tree.specs.Typed.{statements_of}
 use Rattle.block_rules.specs.Around.{heads_of}
 use Rattle.block_rules.specs.Rules.{statements_break}
 use Rattle.block_rules.proofs.rules.+rules.Given as goal

@@ -1,6 +1,6 @@
 use Rattle.std.proofs.Common.{◌≡◌, drop, map}
 use Rattle.bind_names.specs.Judged.{first_of}
-use Rattle.abl_syntax.specs.Typed.{item_of}
+use Rattle.syntax_tree.specs.Typed.{item_of}
 use Rattle.block_rules.specs.Rules.{program_breaks}
 use Rattle.block_rules.proofs.rules.program_breaks.Given as goal
 

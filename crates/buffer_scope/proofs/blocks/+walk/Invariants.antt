@@ -1,5 +1,5 @@
 use Rattle.std.proofs.Common.{◌≡◌, drop}
-use Rattle.abl_syntax.specs.Typed.{statements_of}
+use Rattle.syntax_tree.specs.Typed.{statements_of}
 use Rattle.buffer_scope.specs.Blocks.{through_all}
 use Rattle.buffer_scope.specs.Views.{all_of}
 use Rattle.buffer_scope.proofs.blocks.+walk.Given as goal

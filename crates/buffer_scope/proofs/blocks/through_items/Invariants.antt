@@ -1,5 +1,5 @@
 use Rattle.std.proofs.Common.{◌≡◌, drop, map}
-use Rattle.abl_syntax.specs.Typed.{item_of}
+use Rattle.syntax_tree.specs.Typed.{item_of}
 use Rattle.buffer_scope.specs.Blocks.{through_items}
 use Rattle.buffer_scope.specs.Views.{all_of}
 use Rattle.buffer_scope.proofs.blocks.through_items.Given as goal

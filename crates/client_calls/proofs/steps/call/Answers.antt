@@ -4,7 +4,7 @@ use Rattle.client_machine.specs.declared.machine.Machine.{Machine}
 use Rattle.client_machine.specs.declared.mode.Mode.TheVariants as mode
 use Rattle.client_machine.specs.declared.mode.Task.TheVariants as task
 use Rattle.client_machine.specs.declared.mode.StackEntry.TheVariants as stack
-use Rattle.block_flat.specs.Flat as flat
+use Rattle.flat_machine.specs.Flat as flat
 use Rattle.client_machine.specs.Config.{instr_at, run_arguments, run_procedure}
 use Rattle.client_machine.specs.Machine.{stack_in, state_in}
 use Rattle.client_machine.specs.Step.{KeepsTask, code_in}

@@ -1,5 +1,5 @@
 use Rattle.std.proofs.Common.{◌≡◌, List, Option, Some, None, sym, ap, ◌∙◌}
-use Rattle.block_flat.specs.Flat as flat
+use Rattle.flat_machine.specs.Flat as flat
 use Rattle.client_memory.specs.Buffers.{denoted_place}
 use Rattle.client_machine.specs.declared.mode.Completion.TheVariants as completion
 use Rattle.client_machine.specs.declared.mode.Mode.TheVariants as mode
@@ -16,7 +16,7 @@ use Rattle.client_values.proofs.Assigned.{same_shape}
 use Rattle.client_machine.specs.declared.machine.Machine.{Machine}
 use Rattle.client_machine.specs.declared.mode.LineFault.TheVariants as line_fault
 use Rattle.client_machine.specs.Statements.{inserted_table, inserted_values}
-use Rattle.complaint_lines.specs.Complaints.{complaint_in, complaint_if}
+use Rattle.record_rules.specs.lines.Complaints.{complaint_in, complaint_if}
 use Rattle.client_ends.proofs.Buffers.{holding_here, shape_held}
 use Rattle.client_ends.proofs.Moved.{answer_moved}
 use Rattle.client_ends.proofs.answers.was_inserted.Goals as goal

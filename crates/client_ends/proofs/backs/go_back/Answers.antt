@@ -1,5 +1,5 @@
 use Rattle.std.proofs.Common.{ℕ, Option, Some, None, refl, sym, ap, subst, ◌-◌}
-use Rattle.block_flat.specs.Flat as flat
+use Rattle.flat_machine.specs.Flat as flat
 use Rattle.client_machine.specs.declared.mode.Completion.TheVariants as completion
 use Rattle.client_machine.specs.declared.mode.Mode.TheVariants as mode
 use Rattle.client_machine.specs.declared.mode.OnAnswer.TheVariants as on_answer
@@ -9,7 +9,7 @@ use Rattle.client_machine.specs.declared.mode.ends.EndTask.TheVariants as end_ta
 use Rattle.client_machine.specs.Config.{buffers_of, no_copy}
 use Rattle.client_machine.specs.Machine.{stack_in, state_in}
 use Rattle.client_machine.specs.Step.{KeepsTask}
-use Rattle.client_database.specs.declared.operation.Op.TheVariants as op
+use Rattle.database_protocol.specs.declared.operation.Op.TheVariants as op
 use Rattle.std.specs.Prelude.{slice_index_or}
 use Rattle.client_ends.proofs.Closing.{level_depth}
 use Rattle.client_ends.proofs.Moved.{mode_moved, asks_kept}

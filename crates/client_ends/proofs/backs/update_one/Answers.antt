@@ -1,5 +1,5 @@
 use Rattle.std.proofs.Common.{[], refl, ap, ◌∙◌}
-use Rattle.block_flat.specs.Flat as flat
+use Rattle.flat_machine.specs.Flat as flat
 use Rattle.client_memory.specs.Buffers.{denoted_place}
 use Rattle.client_machine.specs.declared.mode.Completion.TheVariants as completion
 use Rattle.client_machine.specs.declared.mode.Mode.TheVariants as mode
@@ -8,7 +8,7 @@ use Rattle.client_machine.specs.declared.mode.Task.TheVariants as task
 use Rattle.client_machine.specs.declared.mode.ends.EndAnswer.TheVariants as end_answer
 use Rattle.client_machine.specs.declared.mode.ends.EndTask.TheVariants as end_task
 use Rattle.client_machine.specs.Machine.{stack_in}
-use Rattle.client_database.specs.declared.operation.Op.TheVariants as op
+use Rattle.database_protocol.specs.declared.operation.Op.TheVariants as op
 use Rattle.block_meaning.specs.State.{State, Empty, Normal}
 use Rattle.client_memory.specs.Memory.{Remembered, holding}
 use Rattle.client_machine.specs.declared.machine.Machine.{Machine}

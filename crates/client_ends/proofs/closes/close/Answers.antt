@@ -1,5 +1,5 @@
 use Rattle.std.proofs.Common.{◌≡◌, List, [], ◌∷◌, ap, ◌∙◌, map}
-use Rattle.block_flat.specs.Flat as flat
+use Rattle.flat_machine.specs.Flat as flat
 use Rattle.client_memory.specs.Buffers.{denoted_place}
 use Rattle.client_machine.specs.declared.mode.Mode.TheVariants as mode
 use Rattle.client_machine.specs.declared.mode.StackEntry.TheVariants as stack

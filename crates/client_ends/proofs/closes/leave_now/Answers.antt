@@ -1,11 +1,11 @@
 use Rattle.std.proofs.Common.{sym, ap, ◌∙◌, length}
-use Rattle.block_flat.specs.Flat as flat
+use Rattle.flat_machine.specs.Flat as flat
 use Rattle.client_machine.specs.declared.mode.OnAnswer.TheVariants as on_answer
 use Rattle.client_machine.specs.declared.mode.Task.TheVariants as task
 use Rattle.client_machine.specs.declared.mode.ends.EndTask.TheVariants as end_task
 use Rattle.client_machine.specs.Config.{buffers_of}
 use Rattle.client_machine.specs.Machine.{stack_in, state_in}
-use Rattle.client_database.specs.declared.operation.Op.TheVariants as op
+use Rattle.database_protocol.specs.declared.operation.Op.TheVariants as op
 use Rattle.client_memory.proofs.FramesOut.{rows_are}
 use Rattle.client_ends.proofs.Moved.{asks_kept}
 use Rattle.client_ends.proofs.closes.leave_now.Goals as goal

@@ -7,7 +7,7 @@ use Rattle.client_machine.specs.declared.mode.Task.TheVariants as task
 use Rattle.client_machine.specs.declared.mode.ends.EndAnswer.TheVariants as end_answer
 use Rattle.client_machine.specs.declared.mode.ends.EndTask.TheVariants as end_task
 use Rattle.client_machine.specs.Machine.{stack_in}
-use Rattle.client_database.specs.declared.operation.Op.TheVariants as op
+use Rattle.database_protocol.specs.declared.operation.Op.TheVariants as op
 use Rattle.client_machine.specs.declared.mode.LineFault.TheVariants as line_fault
 use Rattle.client_ends.specs.declared.insertion.Insertion.TheVariants as insertion
 use Rattle.client_ends.proofs.Entered.{enters_here}

@@ -1,6 +1,6 @@
 use Rattle.std.proofs.Common.{ap, ◌∙◌}
 use Rattle.std.proofs.lemmas.Result.{IfOk-weaker}
-use Rattle.block_flat.specs.Steps.{enter_step}
+use Rattle.flat_machine.specs.Steps.{enter_step}
 use Rattle.client_memory.specs.Buffers.{denoted_content}
 use Rattle.client_ends.proofs.insertion.insertion_of.Goals as goal
 

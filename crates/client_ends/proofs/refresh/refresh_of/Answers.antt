@@ -2,9 +2,9 @@ use Rattle.std.proofs.Common.{sym, ap, ◌∙◌}
 use Rattle.std.proofs.lemmas.Bool.{lt-ltb, le-ltb}
 use Rattle.block_meaning.specs.State.{Empty, Normal}
 use Rattle.block_meaning.specs.Buffers.{holding_in}
-use Rattle.client_database.specs.declared.operation.Op.TheVariants as op
-use Rattle.block_flat.specs.Config.{Unwind, WasGot}
-use Rattle.block_flat.specs.Steps.{ask, config, config_if, update_step}
+use Rattle.database_protocol.specs.declared.operation.Op.TheVariants as op
+use Rattle.flat_machine.specs.Config.{Unwind, WasGot}
+use Rattle.flat_machine.specs.Steps.{ask, config, config_if, update_step}
 use Rattle.client_memory.specs.Buffers.{denoted_content, denoted_held}
 use Rattle.client_ends.proofs.refresh.refresh_of.Goals as goal
 

@@ -1,6 +1,6 @@
 use Rattle.std.proofs.Common.{◌≡◌, [], refl, sym, ap, ◌∙◌}
 use Rattle.std.specs.Prelude.{reverse}
-use Rattle.block_flat.specs.Flat as flat
+use Rattle.flat_machine.specs.Flat as flat
 use Rattle.client_memory.specs.Buffers.{denoted_place}
 use Rattle.client_machine.specs.declared.mode.Completion.TheVariants as completion
 use Rattle.client_machine.specs.declared.mode.Mode.TheVariants as mode
@@ -10,7 +10,7 @@ use Rattle.client_machine.specs.declared.mode.ends.EndAnswer.TheVariants as end_
 use Rattle.client_machine.specs.declared.mode.ends.EndTask.TheVariants as end_task
 use Rattle.client_machine.specs.Config.{stack_of, state_of}
 use Rattle.client_machine.specs.Machine.{stack_in, state_in}
-use Rattle.client_database.specs.declared.operation.Op.TheVariants as op
+use Rattle.database_protocol.specs.declared.operation.Op.TheVariants as op
 use Rattle.block_meaning.specs.State.{State, Empty, Normal}
 use Rattle.block_meaning.specs.Buffers.{own}
 use Rattle.client_memory.specs.declared.buffer.Place.{Place}

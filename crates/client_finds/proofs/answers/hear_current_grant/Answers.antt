@@ -1,7 +1,7 @@
 use Rattle.std.proofs.Common.{Option, List, ap, sym, subst}
 use Rattle.abl_base.specs.declared.value.Value.{Value}
 use Rattle.block_meaning.specs.Views as views
-use Rattle.block_flat.specs.Flat as flat
+use Rattle.flat_machine.specs.Flat as flat
 use Rattle.client_machine.specs.declared.mode.OnAnswer.TheVariants as on_answer
 use Rattle.client_machine.specs.declared.mode.reads.ReadAnswer.TheVariants as read_answer
 use Rattle.client_machine.specs.Config.{reading_at, search_of}

@@ -1,6 +1,6 @@
 use Rattle.std.proofs.Common.{sym, subst}
 use Rattle.std.specs.Prelude.{OnOk}
-use Rattle.block_flat.specs.Flat as flat
+use Rattle.flat_machine.specs.Flat as flat
 use Rattle.record_rules.specs.declared.answers.Grant.{Grant}
 use Rattle.record_rules.specs.Answers.{grant_of}
 use Rattle.client_machine.specs.Config.{reading_at}

@@ -1,8 +1,8 @@
 use Rattle.std.proofs.Common.{Bool, ap, ◌∙◌}
 use Rattle.block_meaning.specs.Frames.{table_of}
 use Rattle.block_meaning.specs.Reads.{is_exclusive}
-use Rattle.block_flat.specs.Flat as flat
-use Rattle.client_database.specs.declared.operation.Op.TheVariants as op
+use Rattle.flat_machine.specs.Flat as flat
+use Rattle.database_protocol.specs.declared.operation.Op.TheVariants as op
 use Rattle.client_machine.specs.Config.{instr_at, reading_at}
 use Rattle.client_machine.specs.Statements.{wait_in}
 use Rattle.client_finds.specs.Stays.{state_under}

@@ -1,6 +1,6 @@
 use Rattle.block_meaning.specs.Frames.{table_of}
-use Rattle.block_flat.specs.Flat as flat
-use Rattle.client_database.specs.declared.operation.Op.TheVariants as op
+use Rattle.flat_machine.specs.Flat as flat
+use Rattle.database_protocol.specs.declared.operation.Op.TheVariants as op
 use Rattle.client_machine.specs.Config.{reading_at}
 use Rattle.client_finds.proofs.Kept.{asked_kept}
 use Rattle.client_finds.proofs.current.read_row.Goals as goal

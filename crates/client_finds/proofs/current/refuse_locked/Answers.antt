@@ -1,7 +1,7 @@
 use Rattle.std.proofs.Common.{false}
 use Rattle.block_meaning.specs.Lines.{IsLocked}
 use Rattle.block_meaning.specs.Views.{IsBusy}
-use Rattle.block_flat.specs.Flat as flat
+use Rattle.flat_machine.specs.Flat as flat
 use Rattle.client_machine.specs.Config.{reading_at}
 use Rattle.client_machine.specs.Machine.{stack_in}
 use Rattle.client_finds.proofs.Kept.{refused_kept}

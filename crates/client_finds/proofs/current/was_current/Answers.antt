@@ -1,6 +1,6 @@
 use Rattle.block_meaning.specs.Lines.{NoRecordFound}
 use Rattle.block_meaning.specs.State as state
-use Rattle.block_flat.specs.Flat as flat
+use Rattle.flat_machine.specs.Flat as flat
 use Rattle.client_machine.specs.Config.{reading_at}
 use Rattle.client_machine.specs.Machine.{stack_in}
 use Rattle.client_finds.proofs.Kept.{memory_goes, refused_kept}

@@ -4,7 +4,7 @@ use Rattle.block_meaning.specs.Reads.{is_forward}
 use Rattle.bound_tree.specs.declared.block.FetchWord.{FetchWord}
 use Rattle.block_meaning.specs.State as state
 use Rattle.block_meaning.specs.State.{State}
-use Rattle.block_flat.specs.Flat as flat
+use Rattle.flat_machine.specs.Flat as flat
 use Rattle.client_machine.specs.declared.mode.Task.TheVariants as task
 use Rattle.client_machine.specs.declared.mode.reads.ReadTask.TheVariants as read_task
 use Rattle.client_machine.specs.Config.{fetch_at, reading_at}

@@ -2,7 +2,7 @@ use Rattle.std.proofs.Common.{ℕ, false, ◌∷◌, refl, sym, ap, ◌∙◌}
 use Rattle.block_meaning.specs.Buffers.{own}
 use Rattle.block_meaning.specs.Frames.{marked_locked}
 use Rattle.block_meaning.specs.State.{State}
-use Rattle.block_flat.specs.Flat as flat
+use Rattle.flat_machine.specs.Flat as flat
 use Rattle.client_machine.specs.declared.mode.Task.TheVariants as task
 use Rattle.client_machine.specs.declared.mode.reads.ReadTask.TheVariants as read_task
 use Rattle.bound_tree.specs.Tree.{Reading}

@@ -1,7 +1,7 @@
 use Rattle.std.proofs.Common.{ℕ, sym, ap, ◌∙◌}
 use Rattle.std.specs.Prelude.{reverse}
 use Rattle.bound_tree.specs.declared.statement.FindWord.{FindWord}
-use Rattle.block_flat.specs.Flat as flat
+use Rattle.flat_machine.specs.Flat as flat
 use Rattle.client_machine.specs.declared.mode.StackEntry.TheVariants as stack
 use Rattle.client_machine.specs.declared.mode.reads.ReadEntry.TheVariants as read_entry
 use Rattle.client_machine.specs.Config.{completion_of, reading_at}

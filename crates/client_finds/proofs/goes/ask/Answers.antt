@@ -1,5 +1,5 @@
 use Rattle.std.proofs.Common.{sym, ap, ◌∙◌}
-use Rattle.block_flat.specs.Flat as flat
+use Rattle.flat_machine.specs.Flat as flat
 use Rattle.client_machine.specs.declared.machine.Machine.{Machine}
 use Rattle.client_machine.specs.declared.mode.OnAnswer.TheVariants as on_answer
 use Rattle.client_machine.specs.Config.{read_answer_of}

@@ -1,7 +1,7 @@
 use Rattle.std.proofs.Common.{refl}
 use Rattle.block_meaning.specs.State as state
-use Rattle.block_flat.specs.Flat as flat
-use Rattle.client_database.specs.declared.ends.StopWhy.TheVariants as why
+use Rattle.flat_machine.specs.Flat as flat
+use Rattle.database_protocol.specs.declared.ends.StopWhy.TheVariants as why
 use Rattle.client_machine.specs.declared.mode.Completion.TheVariants as completion
 use Rattle.client_machine.specs.declared.mode.Mode.TheVariants as mode
 use Rattle.client_machine.specs.Machine.{stack_in}

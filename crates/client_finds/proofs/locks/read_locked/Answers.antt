@@ -2,8 +2,8 @@ use Rattle.std.proofs.Common.{ap, ◌∙◌, subst}
 use Rattle.block_meaning.specs.Frames.{table_of}
 use Rattle.block_meaning.specs.Reads.{held_as}
 use Rattle.block_meaning.specs.State.{Held}
-use Rattle.block_flat.specs.Flat as flat
-use Rattle.client_database.specs.declared.operation.Op.TheVariants as op
+use Rattle.flat_machine.specs.Flat as flat
+use Rattle.database_protocol.specs.declared.operation.Op.TheVariants as op
 use Rattle.client_machine.specs.Config.{reading_at}
 use Rattle.client_machine.specs.KeepsFrom.{KeepsFrom}
 use Rattle.client_machine.specs.Machine.{stack_in}

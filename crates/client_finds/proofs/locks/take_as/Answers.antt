@@ -3,8 +3,8 @@ use Rattle.bound_tree.specs.declared.block.LockWanted.TheVariants as wanted
 use Rattle.block_meaning.specs.Frames.{table_of}
 use Rattle.block_meaning.specs.Reads.{is_exclusive}
 use Rattle.block_meaning.specs.State as state
-use Rattle.block_flat.specs.Flat as flat
-use Rattle.client_database.specs.declared.operation.Op.TheVariants as op
+use Rattle.flat_machine.specs.Flat as flat
+use Rattle.database_protocol.specs.declared.operation.Op.TheVariants as op
 use Rattle.client_machine.specs.Config.{reading_at}
 use Rattle.client_machine.specs.Machine.{stack_in}
 use Rattle.client_finds.proofs.Kept.{on_ok}

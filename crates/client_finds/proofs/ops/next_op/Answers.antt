@@ -1,7 +1,7 @@
 use Rattle.std.proofs.Common.{ap, ◌∙◌}
 use Rattle.bound_tree.specs.Tree.{Reading}
 use Rattle.block_meaning.specs.Frames.{table_of}
-use Rattle.client_database.specs.declared.operation.Op.TheVariants as op
+use Rattle.database_protocol.specs.declared.operation.Op.TheVariants as op
 use Rattle.client_machine.specs.Config.{reading_at}
 use Rattle.client_finds.specs.Stays.{state_under}
 use Rattle.client_finds.specs.Steps.{instrs_in}

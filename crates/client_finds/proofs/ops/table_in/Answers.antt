@@ -1,6 +1,6 @@
 use Rattle.std.proofs.Common.{ap}
 use Rattle.block_meaning.specs.State.{Buffer}
-use Rattle.client_buffers.proofs.Own.{own_is, own_none}
+use Rattle.buffer_steps.proofs.BuffersLemmas.Own.{own_is, own_none}
 use Rattle.client_finds.proofs.ops.table_in.Goals as goal
 
 pub returns-in-Some : goal.returns-in-Some

@@ -2,7 +2,7 @@ use Rattle.std.proofs.Common.{◌≡◌, ap}
 use Rattle.block_meaning.specs.Reads.{shows}
 use Rattle.block_meaning.specs.Program.{Program}
 use Rattle.block_meaning.specs.State.{State}
-use Rattle.client_reads.specs.Fixed.{Fixed}
+use Rattle.buffer_steps.specs.reads.Fixed.{Fixed}
 use Rattle.client_finds.proofs.Buffers.{still_goes, still_stays}
 use Rattle.client_finds.proofs.readings.show.Goals as goal
 

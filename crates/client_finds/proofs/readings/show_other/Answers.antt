@@ -1,5 +1,5 @@
 use Rattle.std.proofs.Common.{ap, subst}
-use Rattle.client_reads.specs.Steps.{SecondGoes}
+use Rattle.buffer_steps.specs.reads.Steps.{SecondGoes}
 use Rattle.record_rules.specs.Answers.{found_row_in}
 use Rattle.block_meaning.specs.Program.{Program}
 use Rattle.block_meaning.specs.State.{State}
@@ -7,7 +7,7 @@ use Rattle.bound_tree.specs.Tree.{Reading}
 use Rattle.client_machine.specs.Config.{reading_at}
 use Rattle.client_finds.specs.Steps.{instrs_in}
 use Rattle.client_memory.specs.Frames.{state_with}
-use Rattle.client_reads.specs.Fixed.{Fixed}
+use Rattle.buffer_steps.specs.reads.Fixed.{Fixed}
 use Rattle.client_finds.proofs.Buffers.{still_goes, still_stays}
 use Rattle.client_finds.proofs.readings.show_other.Goals as goal
 

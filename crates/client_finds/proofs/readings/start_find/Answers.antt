@@ -2,9 +2,9 @@ use Rattle.std.proofs.Common.{◌≡◌, refl, subst}
 use Rattle.bound_tree.specs.Tree.{Reading}
 use Rattle.block_meaning.specs.Program.{Program}
 use Rattle.block_meaning.specs.State.{State}
-use Rattle.block_flat.specs.Flat as flat
+use Rattle.flat_machine.specs.Flat as flat
 use Rattle.client_memory.specs.Frames.{state_with}
-use Rattle.client_reads.specs.declared.starts.FindStart.{FindStart}
+use Rattle.buffer_steps.specs.declared.reads.starts.FindStart.{FindStart}
 use Rattle.client_machine.specs.Config.{reading_at}
 use Rattle.client_finds.specs.Steps.{instrs_in}
 use Rattle.client_finds.proofs.Buffers.{of_value, still_goes}

@@ -2,7 +2,7 @@ use Rattle.std.proofs.Common.{None, sym, ap, ◌∙◌}
 use Rattle.block_meaning.specs.State as state
 use Rattle.block_meaning.specs.State.{State}
 use Rattle.block_meaning.specs.Frames.{with_spot}
-use Rattle.block_flat.specs.Flat as flat
+use Rattle.flat_machine.specs.Flat as flat
 use Rattle.client_machine.specs.Config.{reading_at}
 use Rattle.client_machine.specs.Machine.{stack_in}
 use Rattle.client_finds.specs.Stays.{state_under}

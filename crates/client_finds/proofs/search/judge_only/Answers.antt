@@ -1,6 +1,6 @@
 use Rattle.std.proofs.Common.{Some, ◌∷◌, List, subst}
 use Rattle.abl_base.specs.declared.value.Value.{Value}
-use Rattle.block_flat.specs.Flat as flat
+use Rattle.flat_machine.specs.Flat as flat
 use Rattle.record_rules.specs.Answers.{found_row_in}
 use Rattle.client_machine.specs.Config.{search_of}
 use Rattle.client_machine.specs.KeepsFrom.{KeepsFrom}

@@ -1,6 +1,6 @@
 use Rattle.std.proofs.Common.{Option, sym, subst}
 use Rattle.std.specs.Prelude.{OnOk}
-use Rattle.block_flat.specs.Flat as flat
+use Rattle.flat_machine.specs.Flat as flat
 use Rattle.record_rules.specs.Answers.{found_if}
 use Rattle.record_rules.specs.declared.answers.FoundRow.{FoundRow}
 use Rattle.client_machine.specs.Config.{search_of}

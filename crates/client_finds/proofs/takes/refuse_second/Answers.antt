@@ -1,6 +1,6 @@
 use Rattle.std.proofs.Common.{subst}
 use Rattle.block_meaning.specs.Lines.{MoreThanOne}
-use Rattle.block_flat.specs.Flat as flat
+use Rattle.flat_machine.specs.Flat as flat
 use Rattle.client_machine.specs.KeepsFrom.{KeepsFrom}
 use Rattle.client_machine.specs.Machine.{stack_in}
 use Rattle.client_finds.proofs.takes.refuse_second.Goals as goal

@@ -1,5 +1,5 @@
 use Rattle.std.proofs.Common.{Some, ap}
-use Rattle.block_flat.specs.Flat as flat
+use Rattle.flat_machine.specs.Flat as flat
 use Rattle.block_meaning.specs.Changes.{stored}
 use Rattle.block_meaning.specs.State.{Completed}
 use Rattle.client_machine.specs.Machine.{stack_in}

@@ -1,5 +1,5 @@
 use Rattle.std.proofs.Common.{◌∷◌, Some, refl}
-use Rattle.block_flat.specs.Flat as flat
+use Rattle.flat_machine.specs.Flat as flat
 use Rattle.block_meaning.specs.Lines.{complaint_of}
 use Rattle.block_meaning.specs.State as state
 use Rattle.block_meaning.specs.State.{State}

@@ -1,6 +1,6 @@
 use Rattle.std.proofs.Common.{◌∷◌, sym, subst}
 use Rattle.std.specs.Prelude.{OnOk}
-use Rattle.block_flat.specs.Flat as flat
+use Rattle.flat_machine.specs.Flat as flat
 use Rattle.client_machine.specs.Config.{assignments_of}
 use Rattle.client_machine.specs.KeepsFrom.{KeepsFrom}
 use Rattle.client_machine.specs.Machine.{stack_in}

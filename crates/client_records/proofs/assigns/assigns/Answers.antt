@@ -1,6 +1,6 @@
 use Rattle.std.proofs.Common.{◌≡◌, ap, sym, ◌∙◌, refl, ℕ, List}
 use Rattle.std.specs.Prelude.{reverse}
-use Rattle.block_flat.specs.Flat as flat
+use Rattle.flat_machine.specs.Flat as flat
 use Rattle.block_meaning.specs.Changes.{buffers_in}
 use Rattle.client_machine.specs.Config.{assignments_of, stack_of}
 use Rattle.client_machine.specs.Machine.{stack_in, state_in}

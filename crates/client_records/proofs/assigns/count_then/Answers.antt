@@ -1,5 +1,5 @@
 use Rattle.std.proofs.Common.{◌∷◌, ap, refl, sym, subst}
-use Rattle.block_flat.specs.Flat as flat
+use Rattle.flat_machine.specs.Flat as flat
 use Rattle.client_machine.specs.Config.{assignments_of, stack_of}
 use Rattle.client_machine.specs.Machine.{stack_in, state_in}
 use Rattle.client_machine.specs.Order.{InOrder, nesting_of}

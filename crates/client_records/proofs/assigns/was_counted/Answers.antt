@@ -1,5 +1,5 @@
 use Rattle.std.proofs.Common.{Some, ap, refl, sym, ◌∙◌}
-use Rattle.block_flat.specs.Flat as flat
+use Rattle.flat_machine.specs.Flat as flat
 use Rattle.block_meaning.specs.Changes.{stored}
 use Rattle.block_meaning.specs.Lines.{OutOfRange}
 use Rattle.abl_base.specs.declared.value.Value.{Value}
@@ -8,7 +8,7 @@ use Rattle.client_machine.specs.declared.mode.Completion.TheVariants as completi
 use Rattle.client_machine.specs.declared.mode.LineFault.TheVariants as line_fault
 use Rattle.client_machine.specs.declared.mode.Mode.TheVariants as mode
 use Rattle.client_machine.specs.declared.mode.changes.ChangeAnswer.TheVariants as change_answer
-use Rattle.complaint_lines.specs.declared.complaint.Complaint.TheVariants as complaint
+use Rattle.record_rules.specs.declared.lines.complaint.Complaint.TheVariants as complaint
 use Rattle.client_records.proofs.Kept.{answer_from, mode_kept, on_ok}
 use Rattle.client_records.proofs.assigns.was_counted.Goals as goal
 

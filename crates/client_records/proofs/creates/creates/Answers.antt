@@ -1,6 +1,6 @@
 use Rattle.std.proofs.Common.{◌∷◌, ap, refl, sym, subst, ◌∙◌}
 use Rattle.std.specs.Prelude.{reverse}
-use Rattle.block_flat.specs.Flat as flat
+use Rattle.flat_machine.specs.Flat as flat
 use Rattle.block_meaning.specs.Buffers.{own}
 use Rattle.block_meaning.specs.Program.{Program}
 use Rattle.block_meaning.specs.State.{State}

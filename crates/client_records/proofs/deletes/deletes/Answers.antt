@@ -1,6 +1,6 @@
 use Rattle.std.proofs.Common.{◌≡◌, ◌∷◌, List, Some, ap, refl, sym, subst, ◌∙◌}
 use Rattle.std.specs.Prelude.{reverse}
-use Rattle.block_flat.specs.Flat as flat
+use Rattle.flat_machine.specs.Flat as flat
 use Rattle.block_meaning.specs.Frames.{content_of, table_of}
 use Rattle.block_meaning.specs.Program.{Program}
 use Rattle.block_meaning.specs.State.{State}
@@ -14,7 +14,7 @@ use Rattle.client_machine.specs.declared.mode.StackEntry.{StackEntry}
 use Rattle.client_machine.specs.declared.mode.StackEntry.TheVariants as stack
 use Rattle.client_machine.specs.declared.mode.Task.TheVariants as task
 use Rattle.client_machine.specs.declared.mode.changes.ChangeTask.TheVariants as change_task
-use Rattle.complaint_lines.specs.declared.complaint.Complaint.TheVariants as complaint
+use Rattle.record_rules.specs.declared.lines.complaint.Complaint.TheVariants as complaint
 use Rattle.client_records.proofs.Kept.{after_kept, begun_mode, memory_kept, on_ok, reads_of, task_step_from}
 use Rattle.client_records.proofs.Pushed.{pushed, same_stack}
 use Rattle.client_records.proofs.deletes.deletes.Goals as goal

@@ -1,8 +1,8 @@
 use Rattle.std.proofs.Common.{refl}
-use Rattle.block_flat.specs.Flat as flat
+use Rattle.flat_machine.specs.Flat as flat
 use Rattle.block_meaning.specs.Program.{Program}
 use Rattle.block_meaning.specs.State.{State}
-use Rattle.client_database.specs.declared.operation.Op.TheVariants as op
+use Rattle.database_protocol.specs.declared.operation.Op.TheVariants as op
 use Rattle.client_machine.specs.Machine.{stack_in}
 use Rattle.client_machine.specs.declared.mode.changes.ChangeAnswer.TheVariants as change_answer
 use Rattle.client_machine.specs.declared.mode.changes.ChangeTask.TheVariants as change_task

@@ -1,6 +1,6 @@
 use Rattle.std.proofs.Common.{◌∷◌, [], ap, subst, sym, List, ◌∙◌}
 use Rattle.std.specs.Prelude.{reverse}
-use Rattle.block_flat.specs.Flat as flat
+use Rattle.flat_machine.specs.Flat as flat
 use Rattle.block_meaning.specs.State.{Content}
 use Rattle.client_machine.specs.Config.{stack_of}
 use Rattle.client_machine.specs.Order.{InOrder}

@@ -1,5 +1,5 @@
 use Rattle.std.proofs.Common.{Some, sym, subst}
-use Rattle.block_flat.specs.Flat as flat
+use Rattle.flat_machine.specs.Flat as flat
 use Rattle.block_meaning.specs.Frames.{content_of, table_of}
 use Rattle.block_meaning.specs.Program.{Program}
 use Rattle.block_meaning.specs.State.{State}
@@ -9,7 +9,7 @@ use Rattle.client_machine.specs.declared.machine.Machine.{Machine}
 use Rattle.client_machine.specs.declared.mode.Completion.TheVariants as completion
 use Rattle.client_machine.specs.declared.mode.LineFault.TheVariants as line_fault
 use Rattle.client_machine.specs.declared.mode.Mode.TheVariants as mode
-use Rattle.complaint_lines.specs.declared.complaint.Complaint.TheVariants as complaint
+use Rattle.record_rules.specs.declared.lines.complaint.Complaint.TheVariants as complaint
 use Rattle.client_machine.specs.declared.mode.changes.ChangeAnswer.TheVariants as change_answer
 use Rattle.client_records.specs.Locks.{LockIs}
 use Rattle.client_records.specs.Reads.{ReadsOf}

@@ -1,6 +1,6 @@
 use Rattle.std.proofs.Common.{refl}
 use Rattle.block_meaning.specs.Frames.{content_of, table_of}
-use Rattle.block_flat.specs.Flat as flat
+use Rattle.flat_machine.specs.Flat as flat
 use Rattle.client_machine.specs.Machine.{stack_in}
 use Rattle.client_machine.specs.declared.mode.changes.ChangeTask.TheVariants as change_task
 use Rattle.client_records.proofs.Kept.{on_ok, task_step_from}

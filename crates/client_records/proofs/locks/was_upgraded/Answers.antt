@@ -1,5 +1,5 @@
 use Rattle.std.proofs.Common.{Some, ap, refl, sym, ◌∙◌}
-use Rattle.block_flat.specs.Flat as flat
+use Rattle.flat_machine.specs.Flat as flat
 use Rattle.block_meaning.specs.Frames.{holding}
 use Rattle.block_meaning.specs.Lines.{RecordIsGone}
 use Rattle.block_meaning.specs.Program.{Program}
@@ -10,7 +10,7 @@ use Rattle.client_machine.specs.declared.mode.Completion.TheVariants as completi
 use Rattle.client_machine.specs.declared.mode.LineFault.TheVariants as line_fault
 use Rattle.client_machine.specs.declared.mode.Mode.TheVariants as mode
 use Rattle.client_machine.specs.declared.mode.changes.ChangeAnswer.TheVariants as change_answer
-use Rattle.complaint_lines.specs.declared.complaint.Complaint.TheVariants as complaint
+use Rattle.record_rules.specs.declared.lines.complaint.Complaint.TheVariants as complaint
 use Rattle.client_records.proofs.Kept.{answer_from, begun_mode, memory_kept, mode_kept, reads_of}
 use Rattle.client_records.proofs.locks.was_upgraded.Goals as goal
 

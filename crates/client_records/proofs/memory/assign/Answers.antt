@@ -5,7 +5,7 @@ use Rattle.block_meaning.specs.Changes.{stored, stored_in}
 use Rattle.block_meaning.specs.Frames.{content_of}
 use Rattle.block_meaning.specs.State.{Copy, State}
 use Rattle.client_machine.specs.Machine.{state_in}
-use Rattle.client_reads.specs.Fixed.{Fixed}
+use Rattle.buffer_steps.specs.reads.Fixed.{Fixed}
 use Rattle.client_values.proofs.Assigned.{even_after}
 use Rattle.client_values.specs.Ends.{Assigns}
 use Rattle.client_values.specs.Variables.{state_with}

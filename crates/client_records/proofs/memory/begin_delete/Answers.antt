@@ -1,7 +1,7 @@
 use Rattle.std.proofs.Common.{ap, refl, sym, subst}
 use Rattle.block_meaning.specs.State.{State}
-use Rattle.client_changes.specs.Steps.{DeleteGoes}
-use Rattle.client_reads.specs.Fixed.{Fixed}
+use Rattle.buffer_steps.specs.changes.Steps.{DeleteGoes}
+use Rattle.buffer_steps.specs.reads.Fixed.{Fixed}
 use Rattle.client_machine.specs.Machine.{state_in}
 use Rattle.client_values.specs.Variables.{state_with}
 use Rattle.client_records.proofs.Lent.{lent, lent_now, lent_reads, lent_state, rest_at}

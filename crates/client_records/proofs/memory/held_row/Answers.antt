@@ -2,8 +2,8 @@ use Rattle.std.proofs.Common.{◌≡◌, ap, sym, ◌∙◌}
 use Rattle.block_meaning.specs.Frames.{buffer_at}
 use Rattle.block_meaning.specs.State.{Buffer, Content, Empty, Pending, Record}
 use Rattle.client_memory.specs.Buffers.{denoted_held}
-use Rattle.client_changes.specs.Buffers.{state_of}
-use Rattle.client_changes.proofs.Contents.{content_is}
+use Rattle.buffer_steps.specs.changes.Buffers.{state_of}
+use Rattle.buffer_steps.proofs.ChangesLemmas.Contents.{content_is}
 use Rattle.client_records.proofs.memory.held_row.Goals as goal
 
 pub returns-in_default : goal.returns-in_default

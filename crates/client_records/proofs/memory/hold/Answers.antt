@@ -1,6 +1,6 @@
 use Rattle.std.proofs.Common.{ap}
 use Rattle.client_memory.specs.Buffers.{denoted_content}
-use Rattle.client_reads.specs.Fixed.{Fixed}
+use Rattle.buffer_steps.specs.reads.Fixed.{Fixed}
 use Rattle.block_meaning.specs.Frames.{holding}
 use Rattle.client_records.proofs.Lent.{lent, lent_reads, lent_state, rest_at}
 use Rattle.client_records.proofs.memory.hold.Goals as goal

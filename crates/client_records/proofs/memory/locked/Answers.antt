@@ -1,8 +1,8 @@
 use Rattle.std.proofs.Common.{[], ap, sym, ◌∙◌}
-use Rattle.block_flat.specs.Flat as flat
+use Rattle.flat_machine.specs.Flat as flat
 use Rattle.block_meaning.specs.Frames.{content_of, table_of}
 use Rattle.block_meaning.specs.State.{Share}
-use Rattle.client_changes.specs.Buffers.{state_of}
+use Rattle.buffer_steps.specs.changes.Buffers.{state_of}
 use Rattle.client_records.proofs.Asked.{lock_asks, more_units, one_unit}
 use Rattle.client_records.proofs.memory.locked.Goals as goal
 

@@ -3,7 +3,7 @@ use Rattle.block_meaning.specs.Changes.{initial_values}
 use Rattle.block_meaning.specs.Frames.{holding, table_of}
 use Rattle.block_meaning.specs.Program.{table_at}
 use Rattle.block_meaning.specs.State.{Pending, State}
-use Rattle.client_reads.specs.Fixed.{Fixed}
+use Rattle.buffer_steps.specs.reads.Fixed.{Fixed}
 use Rattle.client_records.proofs.Kept.{on_ok}
 use Rattle.client_records.proofs.Lent.{lent, lent_reads, lent_state, rest_at}
 use Rattle.client_records.proofs.memory.new_record.Goals as goal

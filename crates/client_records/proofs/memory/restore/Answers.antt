@@ -2,9 +2,9 @@ use Rattle.std.proofs.Common.{ap, sym, ◌∙◌}
 use Rattle.block_meaning.specs.Changes.{as_before}
 use Rattle.block_meaning.specs.Frames.{content_of, holding}
 use Rattle.block_meaning.specs.State.{Content, Empty, State}
-use Rattle.client_buffers.proofs.Held.{holding_twice}
+use Rattle.buffer_steps.proofs.BuffersLemmas.Held.{holding_twice}
 use Rattle.client_memory.specs.Buffers.{denoted_content}
-use Rattle.client_reads.specs.Fixed.{Fixed}
+use Rattle.buffer_steps.specs.reads.Fixed.{Fixed}
 use Rattle.client_values.specs.Variables.{state_with}
 use Rattle.client_records.proofs.Lent.{lent, lent_reads, lent_state, rest_at}
 use Rattle.client_records.proofs.memory.restore.Goals as goal

@@ -1,6 +1,6 @@
 use Rattle.block_meaning.specs.State.{State}
 use Rattle.std.proofs.Common.{subst}
-use Rattle.client_changes.specs.Steps.{SettleGoes}
+use Rattle.buffer_steps.specs.changes.Steps.{SettleGoes}
 use Rattle.client_values.specs.Variables.{state_with}
 use Rattle.client_records.proofs.Asked.{more_units, one_unit, stores_row}
 use Rattle.client_records.proofs.Lent.{if_ok, lent, lent_now, rest_at}

@@ -1,6 +1,6 @@
 use Rattle.std.proofs.Common.{◌≡◌, ◌+◌, ◌<◌, ◌∷◌, List, Err, arith, drop, length, rules, subst, sym, ap, ◌∙◌}
 use Rattle.std.specs.Prelude.{Option, Result}
-use Rattle.abl_eval.specs.declared.fault.EvalFault.{EvalFault}
+use Rattle.evaluator.specs.declared.fault.EvalFault.{EvalFault}
 use Rattle.bound_tree.specs.Bound.{assignment_of, right_of}
 use Rattle.bound_tree.specs.Tree.{Assignment}
 use Rattle.client_machine.specs.Config.{instr_at}

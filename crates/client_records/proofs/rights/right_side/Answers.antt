@@ -1,6 +1,6 @@
 use Rattle.std.proofs.Common.{◌≡◌, Err, rules, refl, ap, sym, subst}
 use Rattle.std.specs.Prelude.{Result}
-use Rattle.abl_eval.specs.declared.fault.EvalFault.{EvalFault}
+use Rattle.evaluator.specs.declared.fault.EvalFault.{EvalFault}
 use Rattle.bound_tree.specs.Bound.{expr_of, right_of}
 use Rattle.client_machine.specs.Machine.{state_in}
 use Rattle.client_records.specs.Rights.{IsRightSide}

@@ -1,10 +1,10 @@
 use Rattle.std.proofs.Common.{◌≡◌, Some, ap, refl, sym, subst, ◌∙◌}
-use Rattle.block_flat.specs.Flat as flat
+use Rattle.flat_machine.specs.Flat as flat
 use Rattle.block_meaning.specs.Frames.{content_of, table_of}
 use Rattle.block_meaning.specs.Program.{Program}
 use Rattle.block_meaning.specs.State.{State}
-use Rattle.client_changes.specs.Buffers.{HasTables}
-use Rattle.client_changes.specs.Steps.{SettleGoes}
+use Rattle.buffer_steps.specs.changes.Buffers.{HasTables}
+use Rattle.buffer_steps.specs.changes.Steps.{SettleGoes}
 use Rattle.client_machine.specs.Machine.{stack_in, state_in}
 use Rattle.client_machine.specs.Step.{KeepsTask}
 use Rattle.client_machine.specs.declared.machine.Machine.{Machine}

@@ -1,5 +1,5 @@
 use Rattle.std.proofs.Common.{Some, ap, refl, sym}
-use Rattle.block_flat.specs.Flat as flat
+use Rattle.flat_machine.specs.Flat as flat
 use Rattle.block_meaning.specs.Program.{Program}
 use Rattle.block_meaning.specs.State as state
 use Rattle.block_meaning.specs.State.{State}
@@ -8,7 +8,7 @@ use Rattle.client_machine.specs.declared.mode.Completion.TheVariants as completi
 use Rattle.client_machine.specs.declared.mode.LineFault.TheVariants as line_fault
 use Rattle.client_machine.specs.declared.mode.Mode.TheVariants as mode
 use Rattle.client_machine.specs.declared.mode.changes.ChangeAnswer.TheVariants as change_answer
-use Rattle.complaint_lines.specs.Complaints.{complaint_in}
+use Rattle.record_rules.specs.lines.Complaints.{complaint_in}
 use Rattle.client_records.proofs.Kept.{answer_from, mode_kept}
 use Rattle.client_records.proofs.stores.was_put.Goals as goal
 

@@ -1,7 +1,7 @@
 use Rattle.std.proofs.Common.{◌≡◌, ◌+◌, length, slice_index_or, sym, ap, ◌∙◌, subst, arith, All}
 use mathlib.Core.List.{IsPrefix}
 use Rattle.std.proofs.lemmas.List.{get_or-map, length-map}
-use Rattle.client_database.specs.declared.event.Event.{Event}
+use Rattle.database_protocol.specs.declared.event.Event.{Event}
 use Rattle.turn_lock.specs.Journal.{own_entries}
 use Rattle.turn_lock.specs.Passes.{ClientPass}
 use Rattle.client_runner.specs.declared.start.Start.{Start}

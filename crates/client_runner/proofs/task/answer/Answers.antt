@@ -1,6 +1,6 @@
 use Rattle.std.proofs.Common.{rules, ◌≡◌, List, sym, ap, ◌∙◌, subst}
 use mathlib.Core.List.{IsPrefix}
-use Rattle.client_database.specs.declared.event.Event.{Event}
+use Rattle.database_protocol.specs.declared.event.Event.{Event}
 use Rattle.turn_lock.specs.Journal.{own_entries}
 use Rattle.client_runner.specs.Meant.{IsSureOf, client_in}
 use Rattle.client_runner.proofs.Runs.{began_told}

@@ -1,5 +1,5 @@
 use Rattle.std.proofs.Common.{refl, sym, ap, ◌∙◌, subst}
-use Rattle.block_flat.specs.Flat as flat
+use Rattle.flat_machine.specs.Flat as flat
 use Rattle.block_meaning.specs.Streams.{pairs_of}
 use Rattle.client_machine.specs.Config.{instr_at}
 use Rattle.client_machine.specs.KeepsFrom.{KeepsFrom}

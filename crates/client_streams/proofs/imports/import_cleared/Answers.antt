@@ -1,5 +1,5 @@
 use Rattle.std.proofs.Common.{sym, ap, ◌∙◌}
-use Rattle.text_forms.specs.TextForms.{AtInputEnd, BadElement, Elements}
+use Rattle.abl_base.specs.text_forms.TextForms.{AtInputEnd, BadElement, Elements}
 use Rattle.client_machine.specs.Config.{instr_at}
 use Rattle.client_machine.proofs.RunKept.{on_ok}
 use Rattle.client_streams.specs.Imports.{targets_in}

@@ -3,7 +3,7 @@ use Rattle.client_machine.specs.declared.machine.Machine.{Machine}
 use Rattle.client_machine.specs.declared.mode.Mode.TheVariants as mode
 use Rattle.client_machine.specs.declared.mode.Task.TheVariants as task
 use Rattle.client_machine.specs.declared.mode.Completion.TheVariants as completion
-use Rattle.client_database.specs.declared.ends.StopWhy.TheVariants as why
+use Rattle.database_protocol.specs.declared.ends.StopWhy.TheVariants as why
 use Rattle.client_streams.specs.Statements.{with_output}
 use Rattle.client_streams.proofs.Effects.{opened_kept, not_opened_kept}
 use Rattle.client_streams.proofs.outputs.redirect.Goals as goal

@@ -1,6 +1,6 @@
 use Rattle.std.proofs.Common.{sym, ap, ◌∙◌, subst}
 use Rattle.block_meaning.specs.State.{Buffer, Content}
-use Rattle.client_texts.specs.Writes.{WritesText}
+use Rattle.client_streams.specs.lines.Writes.{WritesText}
 use Rattle.client_streams.specs.Records.{record_text}
 use Rattle.client_streams.proofs.Exported.{content_is}
 use Rattle.client_streams.proofs.records.record_line.Goals as goal

@@ -1,9 +1,9 @@
 use Rattle.std.proofs.Common.{subst}
 use Rattle.std.specs.Prelude.{Err}
-use Rattle.abl_eval.specs.declared.fault.EvalFault.{EvalFault}
+use Rattle.evaluator.specs.declared.fault.EvalFault.{EvalFault}
 use Rattle.client_machine.specs.Machine.{state_in}
 use Rattle.client_machine.proofs.RunKept.{on_ok}
-use Rattle.client_texts.specs.Writes.{WritesText}
+use Rattle.client_streams.specs.lines.Writes.{WritesText}
 use Rattle.client_streams.proofs.Effects.{text_fails}
 use Rattle.client_streams.proofs.statement.fail_without_text.Goals as goal
 

@@ -1,10 +1,10 @@
 use Rattle.std.proofs.Common.{ℕ, List, sym, ap, ◌∙◌, subst}
 use Rattle.std.specs.Prelude.{Result}
-use Rattle.abl_eval.specs.declared.fault.EvalFault.{EvalFault}
+use Rattle.evaluator.specs.declared.fault.EvalFault.{EvalFault}
 use Rattle.block_meaning.specs.Values.{IsText}
 use Rattle.client_machine.specs.Machine.{state_in}
 use Rattle.client_machine.proofs.RunKept.{on_ok}
-use Rattle.client_texts.specs.Writes.{WritesText}
+use Rattle.client_streams.specs.lines.Writes.{WritesText}
 use Rattle.client_streams.proofs.Effects.{text_known}
 use Rattle.client_streams.proofs.statement.write_or_fail.Goals as goal
 

@@ -1,7 +1,7 @@
 use Rattle.std.proofs.Common.{List, sym, subst}
 use Rattle.bound_tree.specs.Tree.{Expr}
 use Rattle.block_meaning.specs.Values.{values_now, message_line}
-use Rattle.client_texts.specs.Writes.{WritesText, line_text}
+use Rattle.client_streams.specs.lines.Writes.{WritesText, line_text}
 use Rattle.client_machine.specs.Machine.{state_in}
 use Rattle.client_streams.proofs.StateRead.{is_read}
 use Rattle.client_streams.proofs.texts.message_line_at.Goals as goal

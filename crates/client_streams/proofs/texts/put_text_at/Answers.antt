@@ -1,7 +1,7 @@
 use Rattle.std.proofs.Common.{List, sym, subst}
 use Rattle.bound_tree.specs.Tree.{Item}
 use Rattle.block_meaning.specs.Values.{put_text}
-use Rattle.client_texts.specs.Writes.{WritesText}
+use Rattle.client_streams.specs.lines.Writes.{WritesText}
 use Rattle.client_machine.specs.Machine.{state_in}
 use Rattle.client_streams.proofs.StateRead.{is_read}
 use Rattle.client_streams.proofs.texts.put_text_at.Goals as goal

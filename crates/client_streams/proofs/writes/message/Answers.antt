@@ -3,7 +3,7 @@ use Rattle.bound_tree.specs.Tree.{Message}
 use Rattle.block_meaning.specs.Program.{Program}
 use Rattle.block_meaning.specs.State.{State}
 use Rattle.block_meaning.specs.Values.{values_now, message_line}
-use Rattle.client_texts.specs.Writes.{WritesText, line_text}
+use Rattle.client_streams.specs.lines.Writes.{WritesText, line_text}
 use Rattle.client_machine.specs.declared.machine.Machine.{Machine}
 use Rattle.client_machine.specs.declared.mode.Mode.TheVariants as mode
 use Rattle.client_machine.specs.declared.mode.Completion.TheVariants as completion

@@ -3,7 +3,7 @@ use Rattle.bound_tree.specs.Tree.{PutItems}
 use Rattle.block_meaning.specs.Program.{Program}
 use Rattle.block_meaning.specs.State.{State}
 use Rattle.block_meaning.specs.Values.{put_text}
-use Rattle.client_texts.specs.Writes.{WritesText}
+use Rattle.client_streams.specs.lines.Writes.{WritesText}
 use Rattle.client_machine.specs.declared.machine.Machine.{Machine}
 use Rattle.client_machine.specs.declared.mode.Mode.TheVariants as mode
 use Rattle.client_machine.specs.declared.mode.Completion.TheVariants as completion

@@ -1,6 +1,6 @@
 use Rattle.std.proofs.Common.{rules, sym, ap, ◌∙◌, subst}
-use Rattle.block_flat.specs.Config.{Config}
-use Rattle.block_flat.specs.Steps.{set_step}
+use Rattle.flat_machine.specs.Config.{Config}
+use Rattle.flat_machine.specs.Steps.{set_step}
 use Rattle.client_values.specs.Ends.{Judges}
 use Rattle.client_values.specs.Loops.{phrase_of, value_to_set}
 use Rattle.client_values.specs.Variables.{state_with}

@@ -1,5 +1,5 @@
 use Rattle.std.proofs.Common.{rules, sym, ap, ◌∙◌, subst}
-use Rattle.block_flat.specs.Steps.{block_step}
+use Rattle.flat_machine.specs.Steps.{block_step}
 use Rattle.bound_tree.specs.Bound.{to_of}
 use Rattle.client_values.specs.Loops.{BeginsWith, phrase_of}
 use Rattle.client_values.specs.Variables.{state_with}

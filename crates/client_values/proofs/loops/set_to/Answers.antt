@@ -1,7 +1,7 @@
 use Rattle.std.proofs.Common.{rules, sym, subst}
 use Rattle.block_meaning.specs.Values.{fit}
-use Rattle.block_flat.specs.Config.{Config}
-use Rattle.block_flat.specs.Steps.{reach_step}
+use Rattle.flat_machine.specs.Config.{Config}
+use Rattle.flat_machine.specs.Steps.{reach_step}
 use Rattle.client_values.specs.Ends.{Judges}
 use Rattle.client_values.specs.Loops.{phrase_of}
 use Rattle.client_values.specs.Variables.{state_with}

@@ -1,6 +1,6 @@
 use Rattle.std.proofs.Common.{◌≢◌, ℕ, List, length, ◌∙◌, sym, subst}
 use Rattle.record_locks.specs.declared.locks.KeyWait.{KeyWait}
-use Rattle.abl_rows.specs.Rows.{RowState, IsObservable}
+use Rattle.row_store.specs.Rows.{RowState, IsObservable}
 use Rattle.db_core.specs.Waits.{ListsWaits}
 use Rattle.db_core.proofs.LockRows.{found_none, found_some}
 use Rattle.db_core.proofs.KeyRows.{none_conflict, no_conflict, key_blocked, key_deadlock}

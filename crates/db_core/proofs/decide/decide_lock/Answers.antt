@@ -1,7 +1,7 @@
 use Rattle.std.proofs.Common.{◌≡◌, ◌≢◌, ℕ, List, length, inl, inr, ◌∙◌, sym, subst}
-use Rattle.client_database.specs.declared.operation.Op.TheVariants.{Lock}
-use Rattle.client_database.specs.declared.answer.Answer.{Answer}
-use Rattle.client_database.specs.declared.answer.Answer.TheVariants.{Gone, Granted}
+use Rattle.database_protocol.specs.declared.operation.Op.TheVariants.{Lock}
+use Rattle.database_protocol.specs.declared.answer.Answer.{Answer}
+use Rattle.database_protocol.specs.declared.answer.Answer.TheVariants.{Gone, Granted}
 use Rattle.database_meaning.specs.Answers.{FromGone}
 use Rattle.record_locks.specs.declared.locks.KeyWait.{KeyWait}
 use Rattle.db_core.specs.Waits.{ListsWaits}

@@ -1,5 +1,5 @@
 use Rattle.std.proofs.Common.{sym, subst}
-use Rattle.client_database.specs.declared.operation.Op.{Op}
+use Rattle.database_protocol.specs.declared.operation.Op.{Op}
 use Rattle.database_meaning.specs.Waiting.{ListsAll}
 use Rattle.db_core.specs.Waits.{MeetsReserved}
 use Rattle.db_core.proofs.Crashes.{asked}

@@ -1,7 +1,7 @@
 use Rattle.std.proofs.Common.{◌∙◌, Option, sym, subst, refl, inl}
-use Rattle.client_database.specs.declared.operation.Op.TheVariants.{Delete}
-use Rattle.client_database.specs.declared.answer.Answer.{Answer}
-use Rattle.client_database.specs.declared.answer.Answer.TheVariants.{Done}
+use Rattle.database_protocol.specs.declared.operation.Op.TheVariants.{Delete}
+use Rattle.database_protocol.specs.declared.answer.Answer.{Answer}
+use Rattle.database_protocol.specs.declared.answer.Answer.TheVariants.{Done}
 use Rattle.db_core.specs.Writes.{AnswersRoom}
 use Rattle.db_core.proofs.WriteRows.{at_rows, delete_keys, from_room, from_success, is_there, never_ends, not_so, not_there, old_fragments, seen_rows, so_if}
 use Rattle.db_core.proofs.Crashes.{asked}

@@ -1,10 +1,10 @@
 use Rattle.std.proofs.Common.{ℕ, MatchOption, refl, subst, inl, inr}
 use Rattle.abl_base.specs.declared.row.RowId.{RowId}
 use Rattle.database_meaning.specs.Waiting.{row_in}
-use Rattle.abl_rows.specs.Questions.{IsLeastDuplicate}
-use Rattle.abl_rows.specs.Rows.{IsObservable, RowState}
-use Rattle.abl_rows.specs.declared.store.Duplicate.{Duplicate}
-use Rattle.answer_table.proofs.TableLaws.{found_at, none_at_all}
+use Rattle.row_store.specs.Questions.{IsLeastDuplicate}
+use Rattle.row_store.specs.Rows.{IsObservable, RowState}
+use Rattle.row_store.specs.declared.store.Duplicate.{Duplicate}
+use Rattle.row_store.proofs.AnswersLemmas.TableLaws.{found_at, none_at_all}
 use Rattle.db_core.proofs.WriteRows.{first_duplicate, no_duplicates, none_long}
 use Rattle.db_core.proofs.Crashes.{asked}
 use Rattle.db_core.proofs.decide_writes.decide_entry.Goals as goal

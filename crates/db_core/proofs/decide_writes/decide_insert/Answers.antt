@@ -1,11 +1,11 @@
 use Rattle.std.proofs.Common.{◌≡◌, Option, None, Some, sym, subst, refl}
 use Rattle.abl_base.specs.declared.row.RowId.{RowId}
-use Rattle.client_database.specs.declared.operation.Op.{Op}
-use Rattle.client_database.specs.declared.operation.Op.TheVariants.{Insert}
-use Rattle.client_database.specs.declared.answer.Answer.{Answer}
-use Rattle.client_database.specs.declared.answer.Answer.TheVariants.{Inserted}
+use Rattle.database_protocol.specs.declared.operation.Op.{Op}
+use Rattle.database_protocol.specs.declared.operation.Op.TheVariants.{Insert}
+use Rattle.database_protocol.specs.declared.answer.Answer.{Answer}
+use Rattle.database_protocol.specs.declared.answer.Answer.TheVariants.{Inserted}
 use Rattle.database_meaning.specs.Answers.{FromGone}
-use Rattle.abl_rows.specs.Rows.{IsFree, RowState}
+use Rattle.row_store.specs.Rows.{IsFree, RowState}
 use Rattle.db_core.specs.Writes.{AnswersKeys, AnswersRoom}
 use Rattle.db_core.proofs.Inserts.{free_is_fresh}
 use Rattle.db_core.proofs.WriteRows.{at_rows, from_keys, from_room, from_success, insert_draws, insert_writes, never_ends, never_inserted, seen_rows, some_at}

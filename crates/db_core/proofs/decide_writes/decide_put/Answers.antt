@@ -1,8 +1,8 @@
 use Rattle.std.proofs.Common.{◌∙◌, Option, None, Some, sym, subst, refl, inl}
-use Rattle.client_database.specs.declared.operation.Op.{Op}
-use Rattle.client_database.specs.declared.operation.Op.TheVariants.{Put}
-use Rattle.client_database.specs.declared.answer.Answer.{Answer}
-use Rattle.client_database.specs.declared.answer.Answer.TheVariants.{Done, Gone}
+use Rattle.database_protocol.specs.declared.operation.Op.{Op}
+use Rattle.database_protocol.specs.declared.operation.Op.TheVariants.{Put}
+use Rattle.database_protocol.specs.declared.answer.Answer.{Answer}
+use Rattle.database_protocol.specs.declared.answer.Answer.TheVariants.{Done, Gone}
 use Rattle.database_meaning.specs.Answers.{FromGone}
 use Rattle.db_core.specs.Writes.{AnswersKeys, AnswersRoom}
 use Rattle.db_core.proofs.WriteRows.{at_rows, from_keys, from_room, from_success, is_there, never_ends, not_so, not_there, old_fragments, put_draws, put_writes, seen_rows, so_if}

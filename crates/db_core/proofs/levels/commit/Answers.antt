@@ -1,7 +1,7 @@
 use Rattle.std.proofs.Common.{◌≡◌, List, refl, sym, subst}
 use Rattle.std.specs.Prelude.{ℤ}
-use Rattle.abl_rows.specs.Rows.{Commits, commit_of, durable_of}
-use Rattle.abl_rows.specs.Times.{IsInDoubt}
+use Rattle.row_store.specs.Rows.{Commits, commit_of, durable_of}
+use Rattle.row_store.specs.Times.{IsInDoubt}
 use Rattle.db_core.proofs.Crashes.{commit_stands, doubt_stands, failed_by, on_err}
 use Rattle.db_core.specs.declared.control.Control.{Control}
 use Rattle.db_core.specs.Represents.{IsSound}
@@ -9,8 +9,8 @@ use Rattle.db_core.proofs.Commits.{commit_counted, commit_sound}
 use Rattle.db_core.proofs.Sound.{sound_counted}
 use Rattle.std.proofs.Common.{◌||◌}
 use Rattle.db_core.proofs.StayLaws.{counts_more}
-use Rattle.client_database.specs.declared.operation.Op.TheVariants.{Leave}
-use Rattle.client_database.specs.declared.answer.Answer.TheVariants.{Committed}
+use Rattle.database_protocol.specs.declared.operation.Op.TheVariants.{Leave}
+use Rattle.database_protocol.specs.declared.answer.Answer.TheVariants.{Committed}
 use Rattle.database_meaning.specs.Steps.{after}
 use Rattle.db_core.specs.Known.{known}
 use Rattle.db_core.specs.Levels.{SameLevels}

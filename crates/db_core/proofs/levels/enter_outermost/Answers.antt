@@ -1,5 +1,5 @@
 use Rattle.std.proofs.Common.{length, sym, ap, ◌∙◌}
-use Rattle.abl_rows.specs.Rows.{RowTransaction}
+use Rattle.row_store.specs.Rows.{RowTransaction}
 use Rattle.db_core.specs.Represents.{is_open}
 use Rattle.db_core.proofs.LevelMoves.{begins_opens, enter_represents, enter_sound, enters_of, popped_same}
 use Rattle.db_core.proofs.StayLaws.{counts_of, keeps_based, next_of, stays_same}

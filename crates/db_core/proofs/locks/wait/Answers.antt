@@ -1,5 +1,5 @@
 use Rattle.std.proofs.Common.{refl}
-use Rattle.client_database.specs.declared.operation.Op.TheVariants.{Lock}
+use Rattle.database_protocol.specs.declared.operation.Op.TheVariants.{Lock}
 use Rattle.db_core.proofs.LockMoves.{waiting_represents, waiting_sound}
 use Rattle.db_core.proofs.StayLaws.{counts_of}
 use Rattle.db_core.proofs.locks.wait.Goals as goal

@@ -1,6 +1,6 @@
 use Rattle.std.proofs.Common.{◌∙◌, ℕ, ◌<◌, sym, subst, refl, inl, inr}
 use Rattle.abl_base.specs.declared.limits.TheConstants.{MAX_FRAGMENTS, MAX_SLOT_WRITES}
-use Rattle.answer_table.proofs.TableLaws.{false_no}
+use Rattle.row_store.proofs.AnswersLemmas.TableLaws.{false_no}
 use Rattle.db_core.proofs.WriteRows.{draws_path, drawing_writes, writes_path}
 use Rattle.db_core.proofs.room.decide_room.Goals as goal
 

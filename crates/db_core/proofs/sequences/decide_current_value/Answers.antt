@@ -1,8 +1,8 @@
 use Rattle.std.proofs.Common.{◌≡◌, rules, sym, ◌∙◌, subst, w64}
 use Rattle.std.specs.Prelude.{ℤ}
 use Rattle.std.proofs.lemmas.Int.{to_z-of_z}
-use Rattle.client_database.specs.declared.operation.Op.TheVariants.{CurrentValue}
-use Rattle.client_database.specs.declared.answer.Answer.TheVariants.{Value as ValueAnswer}
+use Rattle.database_protocol.specs.declared.operation.Op.TheVariants.{CurrentValue}
+use Rattle.database_protocol.specs.declared.answer.Answer.TheVariants.{Value as ValueAnswer}
 use Rattle.database_meaning.specs.Answers.{FromGone, current_value}
 use Rattle.db_core.proofs.SequenceRows.{sequence_read, value_stays}
 use Rattle.db_core.proofs.sequences.decide_current_value.Goals as goal

@@ -1,8 +1,8 @@
 use Rattle.std.proofs.Common.{◌≡◌, rules, sym, ◌∙◌, subst, w64, to_z, of_z}
 use Rattle.std.specs.Prelude.{ℤ, FitsSigned}
 use Rattle.std.proofs.lemmas.Int.{to_z-of_z}
-use Rattle.client_database.specs.declared.operation.Op.TheVariants.{NextValue}
-use Rattle.client_database.specs.declared.answer.Answer.TheVariants.{Value as ValueAnswer}
+use Rattle.database_protocol.specs.declared.operation.Op.TheVariants.{NextValue}
+use Rattle.database_protocol.specs.declared.answer.Answer.TheVariants.{Value as ValueAnswer}
 use Rattle.database_meaning.specs.Answers.{FromGone, current_value}
 use Rattle.db_core.proofs.SequenceRows.{sequence_read, sum_is, value_ends, value_moves}
 use Rattle.db_core.proofs.sequences.decide_next_value.Goals as goal

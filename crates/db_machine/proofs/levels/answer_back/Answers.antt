@@ -1,6 +1,6 @@
 use Rattle.std.proofs.Common.{refl, inl}
-use Rattle.client_database.specs.declared.operation.Op.TheVariants.{Back}
-use Rattle.client_database.specs.declared.answer.Answer.TheVariants.{Done}
+use Rattle.database_protocol.specs.declared.operation.Op.TheVariants.{Back}
+use Rattle.database_protocol.specs.declared.answer.Answer.TheVariants.{Done}
 use Rattle.db_core.proofs.WriteRows.{not_so}
 use Rattle.db_machine.proofs.Replying.{after_as, from_op, reply_of, still_reply}
 use Rattle.db_machine.proofs.Rooms.{back_row, fitted_is, refusal_ends, refusal_fails}

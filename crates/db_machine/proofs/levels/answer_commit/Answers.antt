@@ -1,8 +1,8 @@
 use Rattle.std.proofs.Common.{rules, sym, subst, refl, inl, inr}
-use Rattle.client_database.specs.declared.operation.Op.{Op}
-use Rattle.client_database.specs.declared.operation.Op.TheVariants.{Leave}
-use Rattle.client_database.specs.declared.answer.Answer.TheVariants.{Closed, Committed}
-use Rattle.abl_rows.specs.Rows.{RowState}
+use Rattle.database_protocol.specs.declared.operation.Op.{Op}
+use Rattle.database_protocol.specs.declared.operation.Op.TheVariants.{Leave}
+use Rattle.database_protocol.specs.declared.answer.Answer.TheVariants.{Closed, Committed}
+use Rattle.row_store.specs.Rows.{RowState}
 use Rattle.db_core.specs.Keeps.{Keeps}
 use Rattle.database_meaning.specs.Steps.{after}
 use Rattle.db_core.specs.Known.{known}

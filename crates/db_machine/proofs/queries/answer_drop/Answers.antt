@@ -1,6 +1,6 @@
 use Rattle.std.proofs.Common.{refl, inl}
-use Rattle.client_database.specs.declared.operation.Op.TheVariants.{Drop as DropLock}
-use Rattle.client_database.specs.declared.answer.Answer.TheVariants.{Done}
+use Rattle.database_protocol.specs.declared.operation.Op.TheVariants.{Drop as DropLock}
+use Rattle.database_protocol.specs.declared.answer.Answer.TheVariants.{Done}
 use Rattle.db_core.proofs.WriteRows.{not_so}
 use Rattle.db_machine.proofs.Replying.{after_as, from_op, keeps_next, reply_of, still_reply}
 use Rattle.db_machine.proofs.Rooms.{drop_row, fitted_is, refusal_ends, refusal_fails}

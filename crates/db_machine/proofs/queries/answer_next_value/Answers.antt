@@ -1,7 +1,7 @@
 use Rattle.std.proofs.lemmas.Int.{to_z-of_z}
 use Rattle.std.proofs.Common.{rules, w64, ◌∙◌, sym, ap, refl, inl}
-use Rattle.client_database.specs.declared.operation.Op.TheVariants.{NextValue}
-use Rattle.client_database.specs.declared.answer.Answer.TheVariants.{Value as ValueAnswer}
+use Rattle.database_protocol.specs.declared.operation.Op.TheVariants.{NextValue}
+use Rattle.database_protocol.specs.declared.answer.Answer.TheVariants.{Value as ValueAnswer}
 use Rattle.abl_values.specs.Schema.{SchemaData}
 use Rattle.database_meaning.specs.Setting.{increment_of}
 use Rattle.db_core.proofs.WriteRows.{not_so}

@@ -2,10 +2,10 @@ use Rattle.db_machine.proofs.Replying.{still_reply, question_is}
 use Rattle.db_machine.proofs.Rooms.{fitted_quiet}
 use Rattle.std.proofs.Common.{◌≡◌, false, refl, ap, inl, inr}
 use Rattle.abl_values.specs.Schema.{SchemaData}
-use Rattle.client_database.specs.declared.operation.Op.{Op}
-use Rattle.client_database.specs.declared.operation.Op.TheVariants.{CurrentValue, Get, Next}
-use Rattle.client_database.specs.declared.answer.Answer.{Answer}
-use Rattle.client_database.specs.declared.answer.Answer.TheVariants.{Committed}
+use Rattle.database_protocol.specs.declared.operation.Op.{Op}
+use Rattle.database_protocol.specs.declared.operation.Op.TheVariants.{CurrentValue, Get, Next}
+use Rattle.database_protocol.specs.declared.answer.Answer.{Answer}
+use Rattle.database_protocol.specs.declared.answer.Answer.TheVariants.{Committed}
 use Rattle.database_meaning.specs.Fits.{IsOwnAnswer}
 use Rattle.database_meaning.specs.Traces.{is_committed}
 use Rattle.db_core.specs.declared.control.Control.{Control}

@@ -1,6 +1,6 @@
 use Rattle.std.proofs.Common.{Option, subst}
-use Rattle.client_database.specs.declared.row_order.Cursor.{Cursor}
-use Rattle.client_database.specs.declared.operation.Op.TheVariants.{CurrentValue, Get, Next}
+use Rattle.database_protocol.specs.declared.row_order.Cursor.{Cursor}
+use Rattle.database_protocol.specs.declared.operation.Op.TheVariants.{CurrentValue, Get, Next}
 use Rattle.database_meaning.specs.Answers.{FromGone}
 use Rattle.db_core.proofs.LockRows.{ok_more}
 use Rattle.db_machine.proofs.Replying.{from_op}

@@ -1,7 +1,7 @@
 use Rattle.std.proofs.Common.{◌∙◌, refl}
-use Rattle.client_database.specs.declared.operation.Op.TheVariants.{End}
-use Rattle.client_database.specs.declared.answer.Answer.TheVariants.{Done}
-use Rattle.answer_table.proofs.TableLaws.{end_row}
+use Rattle.database_protocol.specs.declared.operation.Op.TheVariants.{End}
+use Rattle.database_protocol.specs.declared.answer.Answer.TheVariants.{Done}
+use Rattle.row_store.proofs.AnswersLemmas.TableLaws.{end_row}
 use Rattle.db_machine.proofs.Replying.{levels_by}
 use Rattle.db_core.proofs.Crashes.{grows_quietly}
 use Rattle.db_machine.proofs.steps.answer_end.Goals as goal

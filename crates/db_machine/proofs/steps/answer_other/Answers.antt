@@ -1,4 +1,4 @@
-use Rattle.client_database.specs.declared.answer.Answer.TheVariants.{Closed, NoMemory}
+use Rattle.database_protocol.specs.declared.answer.Answer.TheVariants.{Closed, NoMemory}
 use Rattle.db_machine.proofs.OwnAnswers.{not_end}
 use Rattle.db_machine.proofs.Replying.{counts_then, step_failed}
 use Rattle.db_machine.proofs.steps.answer_other.Goals as goal

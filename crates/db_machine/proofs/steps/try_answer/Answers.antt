@@ -1,5 +1,5 @@
 use Rattle.std.proofs.Common.{◌∙◌, refl, sym, inl, false}
-use Rattle.client_database.specs.declared.answer.Answer.TheVariants.{Closed}
+use Rattle.database_protocol.specs.declared.answer.Answer.TheVariants.{Closed}
 use Rattle.db_core.proofs.LockRows.{ok_more}
 use Rattle.db_core.proofs.WriteRows.{not_so}
 use Rattle.db_machine.proofs.OwnAnswers.{not_end, open_fits, open_unclosed, open_unrefused}

@@ -1,7 +1,7 @@
 use Rattle.std.proofs.Common.{sym, subst, inl}
-use Rattle.client_database.specs.declared.operation.Op.TheVariants.{Delete}
-use Rattle.client_database.specs.declared.answer.Answer.TheVariants.{Done}
-use Rattle.abl_rows.specs.Rows.{RowState}
+use Rattle.database_protocol.specs.declared.operation.Op.TheVariants.{Delete}
+use Rattle.database_protocol.specs.declared.answer.Answer.TheVariants.{Done}
+use Rattle.row_store.specs.Rows.{RowState}
 use Rattle.db_core.specs.Keeps.{Keeps}
 use Rattle.db_core.specs.Represents.{Represents}
 use Rattle.db_machine.proofs.Replying.{after_as, from_op, holds_in, reply_of, still_reply}

@@ -1,8 +1,8 @@
 use Rattle.std.proofs.Common.{◌∙◌, sym, subst, refl, inl}
-use Rattle.client_database.specs.declared.operation.Op.{Op}
-use Rattle.client_database.specs.declared.operation.Op.TheVariants.{Insert}
-use Rattle.client_database.specs.declared.answer.Answer.TheVariants.{Inserted}
-use Rattle.abl_rows.specs.Rows.{IsFree, RowState}
+use Rattle.database_protocol.specs.declared.operation.Op.{Op}
+use Rattle.database_protocol.specs.declared.operation.Op.TheVariants.{Insert}
+use Rattle.database_protocol.specs.declared.answer.Answer.TheVariants.{Inserted}
+use Rattle.row_store.specs.Rows.{IsFree, RowState}
 use Rattle.db_core.specs.Keeps.{Keeps}
 use Rattle.db_core.specs.Represents.{FitsOp, Represents}
 use Rattle.db_core.proofs.WriteRows.{not_so}

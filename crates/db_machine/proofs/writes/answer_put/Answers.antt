@@ -1,8 +1,8 @@
 use Rattle.std.proofs.Common.{sym, subst, refl, inl}
-use Rattle.client_database.specs.declared.operation.Op.{Op}
-use Rattle.client_database.specs.declared.operation.Op.TheVariants.{Put}
-use Rattle.client_database.specs.declared.answer.Answer.TheVariants.{Done}
-use Rattle.abl_rows.specs.Rows.{RowState}
+use Rattle.database_protocol.specs.declared.operation.Op.{Op}
+use Rattle.database_protocol.specs.declared.operation.Op.TheVariants.{Put}
+use Rattle.database_protocol.specs.declared.answer.Answer.TheVariants.{Done}
+use Rattle.row_store.specs.Rows.{RowState}
 use Rattle.db_core.specs.Keeps.{Keeps}
 use Rattle.db_core.specs.Represents.{FitsOp, Represents}
 use Rattle.db_machine.proofs.Replying.{after_as, holds_in, reply_of, still_reply}

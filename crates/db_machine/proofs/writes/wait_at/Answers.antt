@@ -1,6 +1,6 @@
 use Rattle.std.proofs.Common.{subst}
-use Rattle.client_database.specs.declared.operation.Op.{Op}
-use Rattle.client_database.specs.declared.answer.Answer.TheVariants.{Blocked}
+use Rattle.database_protocol.specs.declared.operation.Op.{Op}
+use Rattle.database_protocol.specs.declared.answer.Answer.TheVariants.{Blocked}
 use Rattle.database_meaning.specs.Steps.{after}
 use Rattle.db_core.specs.Represents.{Represents}
 use Rattle.db_machine.proofs.writes.wait_at.Goals as goal

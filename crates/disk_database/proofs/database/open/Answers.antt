@@ -2,7 +2,7 @@
 use Rattle.std.proofs.Common.{sym, subst, Bool, ℕ, List}
 use Rattle.std.specs.Prelude.{IsTrue}
 use Rattle.abl_values.specs.Schema.{canonical_text}
-use Rattle.stored_text.specs.Held.{HoldText}
+use Rattle.database_layout.specs.stored_text.Held.{HoldText}
 use Rattle.disk_database.proofs.Openings.{opened_images}
 use Rattle.disk_database.proofs.Starts.{born_over, starts}
 use Rattle.disk_database.proofs.Survivals.{one_array}

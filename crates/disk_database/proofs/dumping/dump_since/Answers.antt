@@ -2,9 +2,9 @@
 use Rattle.std.proofs.Common.{ap, sym, subst, ◌∙◌, refl, Bool, true, false, ℕ, List, arith}
 use Rattle.std.specs.Prelude.{IsTrue, not}
 use Rattle.bi_log.specs.Lengths.{StayShort}
-use Rattle.logged_slots.specs.Stops.{StayRecoverable}
+use Rattle.slot_txn.specs.logged.Stops.{StayRecoverable}
 use Rattle.abl_values.specs.Schema.{SchemaData, canonical_text}
-use Rattle.stored_text.specs.Held.{HoldText}
+use Rattle.database_layout.specs.stored_text.Held.{HoldText}
 use Rattle.disk_database.specs.Answers.{IsDumped}
 use Rattle.disk_database.specs.Images.{RecoversToChains}
 use Rattle.disk_database.specs.Parts.{AllHoldParts, HoldParts}

@@ -1,5 +1,5 @@
 -- The rows over slots in memory, and why there are none.
-use Rattle.record_store.proofs.Refused.{can_still}
+use Rattle.indexed_store.proofs.Refused.{can_still}
 use Rattle.recovered_view.specs.View.{viewed}
 use Rattle.disk_database.proofs.Judgements.{can_at_rest, judged_after, refused_by_store, slot_refusal_still, stays_at_rest}
 use Rattle.disk_database.proofs.judging.rows_of_view.Goals as goal

@@ -1,7 +1,7 @@
 -- A disk that is judged, and then recovered.
 use Rattle.std.proofs.Common.{sym, subst}
 use Rattle.abl_values.specs.Schema.{canonical_text}
-use Rattle.stored_text.specs.Held.{HoldText}
+use Rattle.database_layout.specs.stored_text.Held.{HoldText}
 use Rattle.disk_database.specs.Parts.{LeaveUnused}
 use Rattle.disk_database.proofs.Judgements.{back_before, back_untouched, image_before, known_then, opened_before, recovers_then, refused_unjudged}
 use Rattle.disk_database.proofs.Recognitions.{if_err_map, if_ok_map}

@@ -1,8 +1,8 @@
 -- The slots of the recovered disk, guarded, and the rows over them.
 use Rattle.std.proofs.Common.{◌∙◌, sym, subst}
-use Rattle.logged_slots.specs.Stops.{Stops}
+use Rattle.slot_txn.specs.logged.Stops.{Stops}
 use Rattle.recovered_view.specs.View.{viewed}
-use Rattle.stored_rows.specs.Chained.{StayChains}
+use Rattle.slot_rows.specs.Chained.{StayChains}
 use Rattle.disk_database.proofs.Causes.{back_by_run}
 use Rattle.disk_database.proofs.Guards.{can_open_as, committed_kept, committed_same, doubt_kept, opened_as, reads_kept, same_reads, stops_kept, store_over}
 use Rattle.disk_database.proofs.Judgements.{late_fault_judges_not, late_fault_of_disk}

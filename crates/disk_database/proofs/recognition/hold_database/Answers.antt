@@ -1,6 +1,6 @@
 -- What the slots hold after their text was read, they held before.
 use Rattle.std.proofs.Common.{ℕ, List}
-use Rattle.chain_store.proofs.Reading.{looked_still}
+use Rattle.byte_rows.proofs.Reading.{looked_still}
 use Rattle.disk_database.specs.Inside.{HoldDatabase}
 use Rattle.disk_database.proofs.Recognitions.{held_first, if_ok_map, stops_then}
 use Rattle.disk_database.proofs.recognition.hold_database.Goals as goal

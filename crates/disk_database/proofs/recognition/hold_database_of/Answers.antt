@@ -1,8 +1,8 @@
 -- The text is held; the rest is what the two tests say.
 use Rattle.std.proofs.Common.{ℕ, sym, subst}
-use Rattle.chain_store.specs.Still.{Still}
-use Rattle.chain_store.proofs.Reading.{looked_still}
-use Rattle.record_store.specs.Opened.{HoldStore}
+use Rattle.byte_rows.specs.Still.{Still}
+use Rattle.byte_rows.proofs.Reading.{looked_still}
+use Rattle.indexed_store.specs.Opened.{HoldStore}
 use Rattle.disk_database.specs.Parts.{AreUnusedLeft}
 use Rattle.disk_database.proofs.Recognitions.{database_held, if_ok_map, none_stored, none_unused, readable_then, stops_then}
 use Rattle.disk_database.proofs.recognition.hold_database_of.Goals as goal

@@ -1,6 +1,6 @@
 -- Another text, and what the slots hold with it.
 use Rattle.std.proofs.Common.{◌≢◌, ℕ, List, rules}
-use Rattle.chain_store.proofs.Reading.{looked_still}
+use Rattle.byte_rows.proofs.Reading.{looked_still}
 use Rattle.disk_database.specs.Inside.{HoldDatabaseWith}
 use Rattle.disk_database.proofs.Recognitions.{held_first, stops_then}
 use Rattle.disk_database.proofs.text.compare_text.Goals as goal

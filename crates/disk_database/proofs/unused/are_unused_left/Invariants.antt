@@ -1,7 +1,7 @@
 use Rattle.std.proofs.Common.{◌≡◌, ℕ, ◌<◌}
-use Rattle.abl_storage.specs.Slots.{IsReadable}
-use Rattle.chain_store.specs.Still.{Still}
-use Rattle.slot_contents.specs.Contents.{zeros}
+use Rattle.storage.specs.Slots.{IsReadable}
+use Rattle.byte_rows.specs.Still.{Still}
+use Rattle.database_layout.specs.contents.Contents.{zeros}
 use Rattle.disk_database.specs.Parts.{IsUnused}
 use Rattle.disk_database.proofs.unused.are_unused_left.Given as goal
 

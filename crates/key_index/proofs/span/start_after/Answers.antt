@@ -1,6 +1,6 @@
 use Rattle.std.proofs.Common.{ℕ, List, true, Option, Bor, sym, subst}
 use Rattle.std.specs.Option.{option_copied}
-use Rattle.client_database.specs.declared.row_order.Cursor.{Cursor}
+use Rattle.database_protocol.specs.declared.row_order.Cursor.{Cursor}
 use Rattle.key_index.specs.Search.{IsKeyBefore, IsKeyBeyond}
 use Rattle.key_index.specs.Span.{IsKeyUpTo}
 use Rattle.key_index.proofs.Orders.{before_upto, prefix_upto}

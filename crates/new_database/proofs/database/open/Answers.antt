@@ -1,9 +1,9 @@
 -- The store and the machine are those of the new contents.
 use Rattle.std.proofs.Common.{◌≡◌, ◌∙◌, List, [], refl, sym, ap, subst}
 use Rattle.std.specs.Prelude.{map}
-use Rattle.abl_storage.specs.Slots.{SlotState}
+use Rattle.storage.specs.Slots.{SlotState}
 use Rattle.abl_values.specs.declared.schema.SequenceDef.{SequenceDef}
-use Rattle.chain_store.specs.Places.{HoldNothing}
+use Rattle.byte_rows.specs.Places.{HoldNothing}
 use Rattle.new_database.specs.Contents.{new_contents}
 use Rattle.sequence_slots.specs.Values.{HoldValues}
 use Rattle.new_database.proofs.Empty.{hold_no_value, hold_nothing, is_opened, sound}

@@ -1,7 +1,7 @@
 use Rattle.std.proofs.Common.{List, Bool, IsTrue, sym, ◌∙◌, ap, subst}
 use Rattle.std.specs.Prelude.{All, IfSome, Option, Some, Vec}
 use Rattle.std.specs.declared.alloc.Global.{Global}
-use Rattle.disk_steps.specs.Steps.{Image}
+use Rattle.log_meaning.specs.steps.Steps.{Image}
 use Rattle.log_meaning.specs.declared.note.Note.{Note}
 use Rattle.log_meaning.specs.Bytes.{IsNote}
 use Rattle.log_meaning.specs.Images.{slot_of}

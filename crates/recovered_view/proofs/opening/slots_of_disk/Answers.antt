@@ -1,6 +1,6 @@
 use Rattle.std.proofs.Common.{ℕ, List, Bool, IsTrue, sym, subst}
 use Rattle.std.specs.Prelude.{Option, None}
-use Rattle.disk_steps.specs.Steps.{Image}
+use Rattle.log_meaning.specs.steps.Steps.{Image}
 use Rattle.log_meaning.specs.Images.{Recovers}
 use Rattle.bi_log.specs.declared.header.Header.{Header}
 use Rattle.bi_log.specs.Outcomes.{FindAnswer}

@@ -1,7 +1,7 @@
 use Rattle.std.proofs.Common.{◌≡◌, ◌*◌, ◌<◌, ◌≤◌, ℕ, List, length, Bool, IsTrue, sym, ◌∙◌, ap, subst}
-use Rattle.abl_storage.specs.declared.slots.Undo.{Undo}
-use Rattle.abl_storage.specs.Slots.{undone}
-use Rattle.disk_steps.specs.Steps.{Image}
+use Rattle.storage.specs.declared.slots.Undo.{Undo}
+use Rattle.storage.specs.Slots.{undone}
+use Rattle.log_meaning.specs.steps.Steps.{Image}
 use Rattle.log_meaning.specs.Images.{slot_of}
 use Rattle.bi_recovery.proofs.NoteSlots.{slots_small}
 use Rattle.recovered_view.specs.View.{slot_in}

@@ -1,5 +1,5 @@
 use Rattle.std.proofs.Common.{◌-◌, [], arith}
-use Rattle.abl_storage.specs.declared.slots.Undo.{Undo}
+use Rattle.storage.specs.declared.slots.Undo.{Undo}
 use Rattle.bi_recovery.proofs.Writing.{wrote_at}
 use Rattle.recovered_view.proofs.stored.put_slots.Goals as goal
 

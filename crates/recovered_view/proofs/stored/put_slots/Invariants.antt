@@ -1,5 +1,5 @@
 use Rattle.std.proofs.Common.{◌≡◌, ◌≤◌, ◌^◌, ℕ, length, drop}
-use Rattle.abl_storage.specs.Slots.{undone}
+use Rattle.storage.specs.Slots.{undone}
 use Rattle.recovered_view.specs.View.{slot_in}
 use Rattle.recovered_view.proofs.stored.put_slots.Given as goal
 

@@ -1,5 +1,5 @@
 use Rattle.std.proofs.Common.{◌≡◌, ◌-◌, ◌<◌, ◌≤◌, ℕ, length, IsTrue}
-use Rattle.abl_storage.specs.Disk.{Stays}
+use Rattle.storage.specs.Disk.{Stays}
 use Rattle.log_meaning.specs.Images.{slot_of}
 use Rattle.recovered_view.specs.View.{slot_in}
 use Rattle.recovered_view.proofs.stored.stored_slots.Given as goal

@@ -1,5 +1,5 @@
 use Rattle.std.proofs.Common.{ℕ, ◌<◌}
-use Rattle.abl_rows.specs.Questions.{setting_of}
+use Rattle.row_store.specs.Questions.{setting_of}
 use Rattle.database_meaning.specs.Answers.{HasLongKey}
 use Rattle.row_keys.proofs.keys.long_key.Given as goal
 

@@ -1,6 +1,6 @@
 -- The line of a client, and then those of the others.
 use Rattle.std.proofs.lemmas.Result.{err_from_is_err_and}
-use Rattle.abl_outside.specs.declared.out.Stream.TheVariants.{Diagnostics}
+use Rattle.host_io.specs.declared.out.Stream.TheVariants.{Diagnostics}
 use Rattle.run_report.proofs.Writing.{writes_part, writes_then}
 use Rattle.run_report.proofs.report.+write_ends.Goals as goal
 

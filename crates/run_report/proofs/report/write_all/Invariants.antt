@@ -1,6 +1,6 @@
 use Rattle.std.proofs.Common.{true, take}
 use Rattle.std.specs.List.{flat_map}
-use Rattle.abl_outside.specs.Out.{Writes}
+use Rattle.host_io.specs.Out.{Writes}
 use Rattle.run_report.proofs.report.write_all.Given as goal
 
 -- the pieces so far were written whole

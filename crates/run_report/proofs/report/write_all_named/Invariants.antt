@@ -1,8 +1,8 @@
 use Rattle.std.proofs.Common.{true, take, ◌++◌, ◌∷◌}
 use Rattle.std.specs.List.{flat_map}
-use Rattle.abl_outside.specs.declared.out.Stream.TheVariants.{Output}
+use Rattle.host_io.specs.declared.out.Stream.TheVariants.{Output}
 use Rattle.run_report.specs.Report.{part_of}
-use Rattle.abl_outside.specs.Out.{Writes}
+use Rattle.host_io.specs.Out.{Writes}
 use Rattle.run_report.proofs.report.write_all_named.Given as goal
 
 -- what comes before was written whole

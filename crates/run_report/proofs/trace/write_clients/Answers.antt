@@ -1,6 +1,6 @@
 use Rattle.std.proofs.Common.{ℕ, [], ◌∷◌, slice_index_or}
 use Rattle.std.proofs.lemmas.Result.{err_from_is_err_and}
-use Rattle.abl_outside.specs.declared.out.Stream.TheVariants.{Output}
+use Rattle.host_io.specs.declared.out.Stream.TheVariants.{Output}
 use Rattle.run_report.proofs.Writing.{writes_within}
 use Rattle.run_report.proofs.trace.write_clients.Goals as goal
 

@@ -1,6 +1,6 @@
 use Rattle.std.proofs.Common.{true, take}
-use Rattle.abl_outside.specs.declared.out.Stream.TheVariants.{Output}
-use Rattle.abl_outside.specs.Out.{Writes}
+use Rattle.host_io.specs.declared.out.Stream.TheVariants.{Output}
+use Rattle.host_io.specs.Out.{Writes}
 use Rattle.run_report.specs.Trace.{client_names}
 use Rattle.run_report.proofs.trace.write_clients.Given as goal
 

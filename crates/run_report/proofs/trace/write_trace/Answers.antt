@@ -1,7 +1,7 @@
 use Rattle.std.proofs.Common.{◌≤◌, ◌++◌, ◌∷◌, [], codes, length, arith}
 use Rattle.std.proofs.lemmas.List.{take_all}
 use Rattle.std.proofs.lemmas.Result.{err_from_is_err_and}
-use Rattle.abl_outside.specs.declared.out.Stream.TheVariants.{Output}
+use Rattle.host_io.specs.declared.out.Stream.TheVariants.{Output}
 use Rattle.run_report.specs.Trace.{trace_lines}
 use Rattle.run_report.proofs.TraceLines.{writes_more, writes_some}
 use Rattle.run_report.proofs.Writing.{writes_part}

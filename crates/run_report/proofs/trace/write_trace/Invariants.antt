@@ -1,7 +1,7 @@
 use Rattle.std.proofs.Common.{true, take}
-use Rattle.abl_outside.specs.declared.out.Stream.TheVariants.{Output}
+use Rattle.host_io.specs.declared.out.Stream.TheVariants.{Output}
 use Rattle.run_report.specs.Trace.{trace_part}
-use Rattle.abl_outside.specs.Out.{Writes}
+use Rattle.host_io.specs.Out.{Writes}
 use Rattle.run_report.proofs.trace.write_trace.Given as goal
 
 -- what comes before was written whole

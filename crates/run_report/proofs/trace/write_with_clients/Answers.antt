@@ -1,6 +1,6 @@
 use Rattle.std.proofs.Common.{[], ◌∷◌, ◌++◌}
 use Rattle.std.proofs.lemmas.Result.{err_from_is_err_and}
-use Rattle.abl_outside.specs.declared.out.Stream.TheVariants.{Output}
+use Rattle.host_io.specs.declared.out.Stream.TheVariants.{Output}
 use Rattle.run_report.specs.Trace.{client_names}
 use Rattle.run_report.proofs.Writing.{writes_part, writes_then}
 use Rattle.run_report.proofs.trace.write_with_clients.Goals as goal

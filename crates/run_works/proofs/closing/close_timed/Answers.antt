@@ -1,6 +1,6 @@
 -- The disk of the run tells of its beginning, so what survives since the database was opened survives since then.
 use Rattle.std.proofs.Common.{ℕ, sym, subst}
-use Rattle.disk_steps.specs.Steps.{Image}
+use Rattle.log_meaning.specs.steps.Steps.{Image}
 use Rattle.bi_log.specs.Lengths.{StayShort}
 use Rattle.disk_database.specs.Images.{AllAreOf, SurvivesCrashes}
 use Rattle.run_works.proofs.Disks.{all_are, all_short}

@@ -1,15 +1,15 @@
 -- A run that did not begin leaves the contents of the disk, and one that did survives.
 use Rattle.std.proofs.Common.{◌≡◌, ◌≤◌, ◌∙◌, ℕ, sym, subst, length}
 use denote.Param.Send.{sendable}
-use Rattle.watched_disk.proofs.watched.Watched.TheSendSync as watched
+use Rattle.run_works.proofs.watched.watched.Watched.TheSendSync as watched
 use Rattle.guarded_slots.proofs.guarded.Guarded.TheSendSync as guarded
 use Rattle.disk_database.proofs.guard.SlotGuard.TheSendSync as guard
 use Rattle.bi_log.specs.Lengths.{StayShort}
-use Rattle.logged_slots.specs.Stops.{StayRecoverable}
+use Rattle.slot_txn.specs.logged.Stops.{StayRecoverable}
 use Rattle.disk_database.specs.declared.refusals.OpenRefusal.TheVariants as opening
 use Rattle.disk_database.specs.Images.{RecoversAsBefore, SurvivesCrashes}
 use Rattle.source_files.specs.Compiled.{schema_in}
-use Rattle.served_works.specs.Served.{HaveEndedOrNot}
+use Rattle.client_threads.specs.served.Served.{HaveEndedOrNot}
 use Rattle.run_works.specs.Disks.{IsDurable, state_of}
 use Rattle.run_works.proofs.Disks.{kept, short_kept, short_since}
 use Rattle.run_works.proofs.Sends.{store_send, txn_send}

@@ -1,10 +1,10 @@
 -- The part of a client, and then those of the others.
 use Rattle.std.proofs.Common.{◌∷◌, [], List, ℕ, sym, subst, true}
 use Rattle.std.proofs.lemmas.Result.{err_from_is_err_and}
-use Rattle.abl_outside.specs.declared.out.Stream.TheVariants.{Output}
-use Rattle.abl_outside.specs.Out.{Writes}
-use Rattle.served_works.specs.declared.clients.EndedClient.{EndedClient}
-use Rattle.served_works.specs.Served.{HaveSections}
+use Rattle.host_io.specs.declared.out.Stream.TheVariants.{Output}
+use Rattle.host_io.specs.Out.{Writes}
+use Rattle.client_threads.specs.declared.served.clients.EndedClient.{EndedClient}
+use Rattle.client_threads.specs.served.Served.{HaveSections}
 use Rattle.run_report.specs.Report.{reports}
 use Rattle.run_works.proofs.Runs.{have_sections, no_reports, none_of}
 use Rattle.run_report.proofs.Writing.{writes_nothing, writes_part, writes_then}

@@ -2,12 +2,12 @@
 use Rattle.std.proofs.Common.{◌≡◌, ◌<◌, inl, inr, ℕ, List, sym, subst, arith, rules, length}
 use Rattle.std.specs.Prelude.{All, map}
 use Rattle.abl_values.specs.Schema.{SchemaData}
-use Rattle.client_database.specs.declared.event.Event.{Event}
-use Rattle.client_database.specs.declared.ends.ClientEnd.{ClientEnd}
+use Rattle.database_protocol.specs.declared.event.Event.{Event}
+use Rattle.database_protocol.specs.declared.ends.ClientEnd.{ClientEnd}
 use Rattle.source_files.specs.Compiled.{schema_in}
-use Rattle.served_works.specs.declared.clients.EndedClient.{EndedClient}
-use Rattle.served_works.specs.Served.{end_or_none}
-use Rattle.served_works.specs.Works.{DidAsMeant}
+use Rattle.client_threads.specs.declared.served.clients.EndedClient.{EndedClient}
+use Rattle.client_threads.specs.served.Served.{end_or_none}
+use Rattle.client_threads.specs.served.Works.{DidAsMeant}
 use Rattle.run_works.specs.Disks.{IsDurable, ReadsAsDatabase, state_of}
 use Rattle.run_works.specs.Works.{HasNotRun}
 use Rattle.run_works.proofs.Runs.{as_many_clients, as_many_ended, did_as_meant}

@@ -1,6 +1,6 @@
 use Rattle.std.proofs.Common.{◌≡◌, ◌-◌, ◌*◌, ◌<◌, ◌≤◌, ℕ, List, length, IsTrue}
-use Rattle.abl_storage.specs.Disk.{Others}
-use Rattle.disk_steps.specs.Steps.{Image, Run}
+use Rattle.storage.specs.Disk.{Others}
+use Rattle.log_meaning.specs.steps.Steps.{Image, Run}
 use Rattle.log_meaning.specs.declared.note.Note.{Note}
 use Rattle.log_meaning.specs.Images.{slot_of}
 use Rattle.log_meaning.specs.LogState.{MayWrite, WritesNoted}

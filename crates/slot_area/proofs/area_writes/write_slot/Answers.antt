@@ -1,7 +1,7 @@
 use Rattle.std.proofs.Common.{◌≡◌, ◌*◌, ℕ, List, length, ◌∙◌, ap, subst, arith}
-use Rattle.abl_storage.specs.Disk.{TornIn}
-use Rattle.disk_steps.proofs.Runs.{call, wider}
-use Rattle.disk_steps.proofs.Writes.{length-overlaid}
+use Rattle.storage.specs.Disk.{TornIn}
+use Rattle.log_meaning.proofs.StepsLemmas.Runs.{call, wider}
+use Rattle.log_meaning.proofs.StepsLemmas.Writes.{length-overlaid}
 use Rattle.log_meaning.specs.Images.{slot_of}
 use Rattle.log_meaning.proofs.Filling.{writes_one, slot_overlaid}
 use Rattle.slot_area.proofs.AreaRuns.{torn_elsewhere, ok_then}

@@ -1,6 +1,6 @@
 use Rattle.std.proofs.Common.{◌≡◌, ◌∙◌, Bool, IsTrue, Err, length, sym, ap, subst}
 use Rattle.std.proofs.lemmas.Result.{err_from_is_err_and}
-use Rattle.disk_steps.specs.Steps.{Image}
+use Rattle.log_meaning.specs.steps.Steps.{Image}
 use Rattle.bi_recovery.specs.Reopening.{SameRecovery}
 use Rattle.bi_recovery.proofs.Reopening.{stage}
 use Rattle.bi_recovery.proofs.Recovery.{then_stay}

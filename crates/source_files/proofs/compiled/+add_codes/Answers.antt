@@ -5,7 +5,7 @@ use Rattle.std.proofs.lemmas.Result.{err_from_is_err_and}
 use Rattle.source_files.specs.declared.files.ClientTexts.{ClientTexts}
 use Rattle.run_report.specs.declared.refusal.Refusal.{Refusal}
 use Rattle.run_report.specs.declared.refusal.Refusal.TheVariants.{NoMemory}
-use Rattle.abl_source.specs.Sources.{IsTreeOf}
+use Rattle.source_reader.specs.Sources.{IsTreeOf}
 use Rattle.source_files.specs.Compiled.{BreaksSource, OneSourceBreaks, later_source, this_source}
 use Rattle.source_files.proofs.Causes.{of_error}
 use Rattle.source_files.proofs.compiled.+add_codes.Goals as goal

@@ -3,9 +3,9 @@ use Rattle.std.proofs.Common.{◌≡◌, ◌⊎◌, inl, inr, ◌++◌, ◌∷�
 use Rattle.std.specs.List.{flat_map}
 use Rattle.std.specs.Prelude.{map}
 use Rattle.std.proofs.lemmas.Result.{err_from_is_err_and}
-use Rattle.abl_outside.specs.Files.{FileState}
-use Rattle.abl_arguments.specs.CommandLine.{client_in}
-use Rattle.abl_arguments.specs.declared.client.ClientArgument.{ClientArgument}
+use Rattle.host_io.specs.Files.{FileState}
+use Rattle.command_arguments.specs.CommandLine.{client_in}
+use Rattle.command_arguments.specs.declared.client.ClientArgument.{ClientArgument}
 use Rattle.source_files.specs.declared.files.ClientTexts.{ClientTexts}
 use Rattle.run_report.specs.declared.refusal.Refusal.{Refusal}
 use Rattle.run_report.specs.declared.refusal.Refusal.TheVariants.{NoMemory}

@@ -1,7 +1,7 @@
 use Rattle.std.proofs.Common.{◌≡◌, None, rules}
 use Rattle.std.specs.Prelude.{IsTrue}
-use Rattle.fault_count.specs.Faults.{Rose}
-use Rattle.abl_outside.specs.Files.{IsLonger}
+use Rattle.storage.specs.faults.Faults.{Rose}
+use Rattle.host_io.specs.Files.{IsLonger}
 use Rattle.source_files.specs.declared.files.TheConstants.{MAX_FILE_BYTES}
 use Rattle.source_files.specs.Files.{is_missing, is_too_long, reading_wants}
 use Rattle.source_files.proofs.files.read.Goals as goal

@@ -1,6 +1,6 @@
 use Rattle.std.proofs.Common.{◌≡◌, Err}
 use Rattle.std.proofs.lemmas.Result.{err_from_is_err_and}
-use Rattle.abl_outside.specs.Files.{FileState}
+use Rattle.host_io.specs.Files.{FileState}
 use Rattle.source_files.specs.Files.{this_one, later_one}
 use Rattle.source_files.proofs.Causes.{of_error, still_one}
 use Rattle.source_files.proofs.files.read_client.Goals as goal

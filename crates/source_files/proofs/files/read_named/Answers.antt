@@ -1,6 +1,6 @@
 -- The files are read one after the other.
 use Rattle.std.proofs.Common.{◌++◌, ◌∷◌, [], suc, sym, subst, take, add-one}
-use Rattle.abl_outside.specs.Files.{FileState}
+use Rattle.host_io.specs.Files.{FileState}
 use Rattle.run_report.specs.declared.refusal.Refusal.TheVariants.{NoMemory}
 use Rattle.source_files.specs.Files.{HasText, HaveTexts, IsNotRead, reading_wants}
 use Rattle.source_files.proofs.Causes.{same_further, still_has, still_not_read, have_more, one_unread}

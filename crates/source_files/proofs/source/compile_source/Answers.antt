@@ -1,6 +1,6 @@
 use Rattle.std.proofs.Common.{◌≡◌, Err, ap}
 use Rattle.std.proofs.lemmas.Result.{err_from_is_err_and}
-use Rattle.abl_source.specs.declared.source.SourceFault.TheVariants.{Broken}
+use Rattle.source_reader.specs.declared.source.SourceFault.TheVariants.{Broken}
 use Rattle.source_files.proofs.source.compile_source.Goals as goal
 
 pub returns-in_err-bound-clause-broken : goal.returns-in_err-bound-clause-broken

@@ -1,5 +1,5 @@
 use Rattle.std.proofs.Common.{sym, ap, arith}
-use Rattle.abl_storage.specs.Slots.{Transaction}
+use Rattle.storage.specs.Slots.{Transaction}
 use Rattle.open_transactions.specs.Clients.{idle, transaction_of}
 use Rattle.open_transactions.proofs.Parts.{part_here}
 use Rattle.test_images.proofs.calling.low_count.Goals as goal

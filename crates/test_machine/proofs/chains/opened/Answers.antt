@@ -1,5 +1,5 @@
 use Rattle.std.proofs.Common.{ap}
-use Rattle.abl_storage.specs.Slots.{SlotState}
+use Rattle.storage.specs.Slots.{SlotState}
 use Rattle.test_machine.proofs.chains.opened.Goals as goal
 
 pub open-requires-clause-idle : goal.open-requires-clause-idle

@@ -4,7 +4,7 @@ use Rattle.log_meaning.specs.declared.note.Note.{Note}
 use Rattle.log_meaning.specs.Bytes.{four, IsNote}
 use Rattle.log_meaning.proofs.Areas.{length-after_gate}
 use Rattle.bi_log.specs.Appending.{Held, RestsAt, with_batch, IsToBe}
-use Rattle.disk_steps.specs.Steps.{Image}
+use Rattle.log_meaning.specs.steps.Steps.{Image}
 use Rattle.bi_log.specs.declared.log.Log.{Log}
 use Rattle.log_meaning.proofs.OneLog.{length-four}
 use Rattle.bi_log.specs.Buffer.{content}

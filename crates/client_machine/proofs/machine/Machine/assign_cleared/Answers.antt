@@ -1,5 +1,5 @@
 use Rattle.std.proofs.Common.{◌∷◌, sym, ap, ◌∙◌, subst}
-use Rattle.block_flat.specs.Flat as flat
+use Rattle.flat_machine.specs.Flat as flat
 use Rattle.client_machine.specs.Config.{instr_at}
 use Rattle.client_machine.specs.KeepsFrom.{KeepsFrom, pairs_in}
 use Rattle.client_machine.specs.Machine.{stack_in}

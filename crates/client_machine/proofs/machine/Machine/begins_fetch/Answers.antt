@@ -1,6 +1,6 @@
 use Rattle.std.proofs.Common.{◌≡◌, ◌∷◌, None, sym, ap, ◌∙◌, refl, subst}
 use Rattle.std.specs.Prelude.{reverse}
-use Rattle.block_flat.specs.Flat as flat
+use Rattle.flat_machine.specs.Flat as flat
 use Rattle.client_machine.specs.Config.{header_at, body_at, fetch_at, copy_in, turn_of, stack_of, task_of}
 use Rattle.client_machine.specs.Machine.{stack_in, state_in}
 use Rattle.client_machine.specs.Order.{nesting_of, TaskInOrder}

@@ -1,5 +1,5 @@
 use Rattle.std.proofs.Common.{sym, subst, ap, refl}
-use Rattle.block_flat.specs.Flat as flat
+use Rattle.flat_machine.specs.Flat as flat
 use Rattle.client_machine.specs.Machine.{stack_in, state_in}
 use Rattle.client_machine.specs.declared.mode.Task.TheVariants as task
 use Rattle.client_machine.specs.Step.{KeepsTask}

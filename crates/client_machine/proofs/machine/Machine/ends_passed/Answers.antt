@@ -1,6 +1,6 @@
 use Rattle.std.proofs.Common.{◌≡◌, List, ◌∷◌, sym, ap, ◌∙◌, subst}
 use Rattle.std.specs.Prelude.{reverse}
-use Rattle.block_flat.specs.Flat as flat
+use Rattle.flat_machine.specs.Flat as flat
 use Rattle.client_machine.specs.Config.{header_at, completion_of, stack_of}
 use Rattle.client_machine.specs.Machine.{config_of, stack_in, state_in}
 use Rattle.client_machine.specs.Order.{ModeInOrder}

@@ -1,6 +1,6 @@
 use Rattle.std.proofs.Common.{◌-◌, [], None, Some, sym, ap, ◌∙◌, subst, refl, slice_index_or}
-use Rattle.client_database.specs.declared.operation.Op.TheVariants as op
-use Rattle.block_flat.specs.Flat as flat
+use Rattle.database_protocol.specs.declared.operation.Op.TheVariants as op
+use Rattle.flat_machine.specs.Flat as flat
 use Rattle.client_machine.specs.Config.{no_copy}
 use Rattle.client_machine.specs.Machine.{stack_in, state_in}
 use Rattle.client_machine.proofs.Nestings.{depth_is}

@@ -1,5 +1,5 @@
 use Rattle.std.proofs.Common.{sym, ap, ◌∙◌, subst, None}
-use Rattle.block_flat.specs.Flat as flat
+use Rattle.flat_machine.specs.Flat as flat
 use Rattle.client_machine.specs.Config.{header_at, body_at, turn_of}
 use Rattle.client_machine.specs.KeepsFrom.{KeepsFrom, mode_if}
 use Rattle.client_machine.specs.Machine.{stack_in}

@@ -1,7 +1,7 @@
 use Rattle.std.proofs.Common.{◌≡◌, ◌∙◌, ap, sym, subst}
 use Rattle.bound_tree.specs.Bound.{header_of}
 use Rattle.bound_tree.specs.Tree.{Header}
-use Rattle.block_flat.specs.Flat as flat
+use Rattle.flat_machine.specs.Flat as flat
 use Rattle.client_values.specs.Ends.{Judges}
 use Rattle.client_values.specs.Reads.{Reads}
 use Rattle.client_values.specs.Variables.{state_with}

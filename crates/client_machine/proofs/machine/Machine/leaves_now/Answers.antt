@@ -1,6 +1,6 @@
 use Rattle.std.proofs.Common.{sym, ap, ◌∙◌, subst, refl}
-use Rattle.client_database.specs.declared.operation.Op.TheVariants as op
-use Rattle.block_flat.specs.Flat as flat
+use Rattle.database_protocol.specs.declared.operation.Op.TheVariants as op
+use Rattle.flat_machine.specs.Flat as flat
 use Rattle.client_machine.specs.declared.mode.Task.TheVariants as task
 use Rattle.client_machine.specs.declared.mode.OnAnswer.TheVariants as on_answer
 use Rattle.client_machine.specs.Machine.{stack_in, state_in}

@@ -1,5 +1,5 @@
 use Rattle.std.proofs.Common.{sym, ap, subst}
-use Rattle.client_database.specs.declared.next_step.NextStep.TheVariants.{Ask}
+use Rattle.database_protocol.specs.declared.next_step.NextStep.TheVariants.{Ask}
 use Rattle.client_machine.specs.Shows.{Shows}
 use Rattle.client_machine.specs.declared.mode.Mode.{Mode}
 use Rattle.client_machine.specs.Step.{NextStepIs, AsksOpenLevels}

@@ -1,6 +1,6 @@
 use Rattle.std.proofs.Common.{◌≡◌, sym, ap, ◌∙◌, subst}
 use Rattle.std.specs.Prelude.{reverse}
-use Rattle.block_flat.specs.Flat as flat
+use Rattle.flat_machine.specs.Flat as flat
 use Rattle.client_values.proofs.Assigned.{same_shape}
 use Rattle.client_machine.specs.Config.{task_of, stack_of}
 use Rattle.client_machine.specs.KeepsFrom.{KeepsFrom}

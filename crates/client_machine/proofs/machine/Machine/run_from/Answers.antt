@@ -1,5 +1,5 @@
 use Rattle.std.proofs.Common.{sym, ap, ◌∙◌, subst, refl}
-use Rattle.block_flat.specs.Flat as flat
+use Rattle.flat_machine.specs.Flat as flat
 use Rattle.bound_tree.specs.Tree.{UndoBlock, LeaveBlock, NextBlock, Return, ReturnError, Stop}
 use Rattle.client_machine.specs.Config.{header_at, body_at, instr_at, after_undo_of}
 use Rattle.client_machine.specs.InstrClasses.{IsOfClass}

@@ -1,7 +1,7 @@
 use Rattle.std.proofs.Common.{◌≡◌, ◌∷◌, sym, ap, ◌∙◌, refl, subst}
 use Rattle.std.specs.Prelude.{reverse}
 use Rattle.std.proofs.lemmas.Bool.{eq-eqb}
-use Rattle.block_flat.specs.Flat as flat
+use Rattle.flat_machine.specs.Flat as flat
 use Rattle.client_machine.specs.Config.{header_at, iteration_of, passed_of, after_undo_of, stack_of, task_of}
 use Rattle.client_machine.specs.Machine.{stack_in, state_in}
 use Rattle.client_machine.specs.Order.{nesting_of, TaskInOrder}

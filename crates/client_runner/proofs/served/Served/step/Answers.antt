@@ -1,5 +1,5 @@
 use Rattle.std.proofs.Common.{◌≢◌, IfSome, sym, subst}
-use Rattle.client_database.specs.declared.answer.Answer.TheVariants.{Refused}
+use Rattle.database_protocol.specs.declared.answer.Answer.TheVariants.{Refused}
 use Rattle.turn_lock.specs.Journal.{own_entries}
 use Rattle.client_runner.specs.Meant.{IsSureOf, client_in}
 use Rattle.client_runner.specs.Served.{Serving, IsOneOf}

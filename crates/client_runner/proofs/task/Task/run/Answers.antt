@@ -1,12 +1,12 @@
 use Rattle.std.proofs.Common.{◌≡◌, ◌≢◌, IfSome, List, [], ◌∷◌, ◌++◌, Option, Some, refl, sym, ap, ◌∙◌, subst}
-use Rattle.client_database.specs.declared.event.Event.{Event}
-use Rattle.client_database.specs.declared.ends.ClientEnd.TheVariants.{NoMemory}
+use Rattle.database_protocol.specs.declared.event.Event.{Event}
+use Rattle.database_protocol.specs.declared.ends.ClientEnd.TheVariants.{NoMemory}
 use Rattle.database_interface.specs.Step.{event_of}
-use Rattle.client_database.specs.declared.operation.Op.TheVariants.{End}
-use Rattle.client_database.specs.declared.answer.Answer.{Answer}
-use Rattle.client_database.specs.declared.answer.Answer.TheVariants.{Refused}
-use Rattle.client_database.specs.declared.next_step.NextStep.{NextStep}
-use Rattle.client_database.specs.declared.next_step.NextStep.TheVariants.{Ask}
+use Rattle.database_protocol.specs.declared.operation.Op.TheVariants.{End}
+use Rattle.database_protocol.specs.declared.answer.Answer.{Answer}
+use Rattle.database_protocol.specs.declared.answer.Answer.TheVariants.{Refused}
+use Rattle.database_protocol.specs.declared.next_step.NextStep.{NextStep}
+use Rattle.database_protocol.specs.declared.next_step.NextStep.TheVariants.{Ask}
 use Rattle.database_meaning.specs.Setting.{Setting}
 use Rattle.database_meaning.specs.Fits.{Fits}
 use Rattle.client_runner.specs.Meant.{IsSureOf}

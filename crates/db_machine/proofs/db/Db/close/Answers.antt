@@ -1,5 +1,5 @@
 use Rattle.std.proofs.Common.{List, sym, ap, ◌∙◌, subst}
-use Rattle.client_database.specs.declared.event.Event.{Event}
+use Rattle.database_protocol.specs.declared.event.Event.{Event}
 use Rattle.database_meaning.specs.Traces.{left_by}
 use Rattle.database_meaning.specs.Waiting.{HasNoCycle, WaitsFor}
 use Rattle.db_core.specs.Crashes.{Survives}

@@ -3,7 +3,7 @@ use Rattle.std.proofs.lemmas.List.{length-replicate}
 use Rattle.db_core.specs.Known.{known}
 use Rattle.db_core.specs.Levels.{SameLevels}
 use Rattle.db_machine.specs.Running.{IsRunning, running_in}
-use Rattle.client_database.specs.declared.event.Event.{Event}
+use Rattle.database_protocol.specs.declared.event.Event.{Event}
 use Rattle.database_meaning.specs.Setting.{Setting}
 use Rattle.database_meaning.specs.Traces.{Follows, left_by, opened}
 use Rattle.db_core.specs.Crashes.{IsDurable}

@@ -1,6 +1,6 @@
 use Rattle.std.proofs.Common.{◌≡◌, ◌<◌, inl, inr, ℕ, List, length, slice_set, sym, ◌∙◌, ap, subst, arith}
 use Rattle.std.proofs.lemmas.Bool.{cases_eq}
-use Rattle.abl_storage.specs.Disk.{overlaid}
+use Rattle.storage.specs.Disk.{overlaid}
 use Rattle.mem_disk.specs.declared.call.Effect.TheVariants.{Written}
 use Rattle.mem_disk.specs.Notes.{Note, notes_of, held, bytes_in}
 use Rattle.mem_disk.specs.Crash.{area_of}

@@ -1,5 +1,5 @@
 use Rattle.std.proofs.Common.{true, false, length, refl, arith}
-use Rattle.abl_storage.specs.Disk.{TornIn}
+use Rattle.storage.specs.Disk.{TornIn}
 use Rattle.mem_disk.proofs.Moments.{passes_not, torn_not}
 use Rattle.mem_disk.proofs.Passing.{many_notes, torn_same, seen_still, seen_here_now, torn_now, write_moves, same_held, same_seen, same_spent, same_moves}
 use Rattle.mem_disk.proofs.mem_disk.MemDiskDisk.write.Goals as goal

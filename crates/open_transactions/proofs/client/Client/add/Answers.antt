@@ -1,7 +1,7 @@
 use Rattle.std.proofs.Common.{◌≡◌, ◌<◌, ◌^◌, true, ℕ, rules, List, [], ◌∷◌, ◌++◌, Option, None, is_some, ap, ◌∙◌, sym}
 use Rattle.std.proofs.lemmas.Bool.{true≢false}
-use Rattle.abl_storage.specs.declared.slots.Undo.{Undo}
-use Rattle.abl_storage.specs.Slots.{wrote}
+use Rattle.storage.specs.declared.slots.Undo.{Undo}
+use Rattle.storage.specs.Slots.{wrote}
 use Rattle.open_transactions.specs.declared.client.Client.{Client}
 use Rattle.open_transactions.specs.Written.{has_written}
 use Rattle.open_transactions.proofs.Changed.{noted_push, small_push}

@@ -1,7 +1,7 @@
 use Rattle.std.proofs.Common.{◌≤◌, List, length, Option, Some, None, ap, ◌∙◌, sym, arith, length-append}
 use Rattle.std.specs.Option.{option_to_list}
-use Rattle.abl_storage.specs.declared.slots.Undo.{Undo}
-use Rattle.abl_storage.specs.Slots.{wrote}
+use Rattle.storage.specs.declared.slots.Undo.{Undo}
+use Rattle.storage.specs.Slots.{wrote}
 use Rattle.open_transactions.proofs.Changed.{take_within}
 use Rattle.open_transactions.proofs.client.Client.pop.Goals as goal
 

@@ -1,7 +1,7 @@
 use Rattle.std.proofs.Common.{◌≡◌, ℕ, ◌<◌, true, List, [], ◌∷◌, length, drop, None, refl, sym, ◌∙◌, ap, arith, length-drop}
 use Rattle.std.proofs.lemmas.List.{length-set}
-use Rattle.abl_storage.specs.declared.slots.Undo.{Undo}
-use Rattle.abl_storage.specs.Slots.{Transaction}
+use Rattle.storage.specs.declared.slots.Undo.{Undo}
+use Rattle.storage.specs.Slots.{Transaction}
 use Rattle.open_transactions.specs.declared.client.Client.{Client}
 use Rattle.open_transactions.specs.Clients.{idle, transaction_of, list_of, list_in, due_of}
 use Rattle.open_transactions.proofs.Parts.{part_here, part_set, part_same, flat_same, becomes_as}

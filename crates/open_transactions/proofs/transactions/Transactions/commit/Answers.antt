@@ -1,7 +1,7 @@
 use Rattle.std.proofs.Common.{◌≡◌, ℕ, ◌<◌, true, false, List, [], ◌∷◌, length, drop, slice_set, None, refl, sym, ◌∙◌, ap, arith, length-drop}
 use Rattle.std.proofs.lemmas.List.{length-set}
-use Rattle.abl_storage.specs.declared.slots.Undo.{Undo}
-use Rattle.abl_storage.specs.Slots.{wrote}
+use Rattle.storage.specs.declared.slots.Undo.{Undo}
+use Rattle.storage.specs.Slots.{wrote}
 use Rattle.open_transactions.specs.declared.client.Client.{Client}
 use Rattle.open_transactions.specs.Clients.{idle, list_of}
 use Rattle.open_transactions.proofs.Parts.{part_set, part_other, but_one, becomes_as}

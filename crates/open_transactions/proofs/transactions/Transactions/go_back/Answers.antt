@@ -1,7 +1,7 @@
 use Rattle.std.proofs.Common.{◌≡◌, ℕ, ◌<◌, ◌≤◌, List, [], ◌++◌, length, take, drop, slice_set, refl, sym, ◌∙◌, ap, arith}
 use Rattle.std.proofs.lemmas.List.{length-set, length-take-le, take-append-le, drop-append-le, take-append-drop}
-use Rattle.abl_storage.specs.declared.slots.Undo.{Undo}
-use Rattle.abl_storage.specs.Slots.{Transaction}
+use Rattle.storage.specs.declared.slots.Undo.{Undo}
+use Rattle.storage.specs.Slots.{Transaction}
 use Rattle.open_transactions.specs.Clients.{idle, transaction_of, transaction_in, list_of, due_of}
 use Rattle.open_transactions.proofs.Parts.{part_here, part_set, part_other, becomes_as}
 use Rattle.open_transactions.proofs.Lists.{falls_due}

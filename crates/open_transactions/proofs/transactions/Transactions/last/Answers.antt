@@ -1,6 +1,6 @@
 use Rattle.std.proofs.Common.{◌≡◌, ◌-◌, List, [], ◌∷◌, get_or, length, ◌∙◌, ap, arith, length-append}
 use Rattle.std.proofs.lemmas.List.{get_or_push}
-use Rattle.abl_storage.specs.declared.slots.Undo.{Undo}
+use Rattle.storage.specs.declared.slots.Undo.{Undo}
 use Rattle.open_transactions.proofs.transactions.Transactions.last.Goals as goal
 
 pub returns-clause-last : goal.returns-clause-last

@@ -1,5 +1,5 @@
 use Rattle.std.proofs.Common.{List, [], length, ap, arith}
-use Rattle.abl_storage.specs.declared.slots.Undo.{Undo}
+use Rattle.storage.specs.declared.slots.Undo.{Undo}
 use Rattle.open_transactions.specs.Clients.{list_of}
 use Rattle.open_transactions.proofs.Parts.{part_here}
 use Rattle.open_transactions.proofs.transactions.Transactions.len.Goals as goal

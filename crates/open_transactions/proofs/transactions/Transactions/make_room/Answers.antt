@@ -1,6 +1,6 @@
 use Rattle.std.proofs.Common.{◌<◌, length, refl, sym, ◌∙◌, ap, arith}
 use Rattle.std.proofs.lemmas.List.{length-set}
-use Rattle.abl_storage.specs.Slots.{Transaction}
+use Rattle.storage.specs.Slots.{Transaction}
 use Rattle.open_transactions.specs.Clients.{idle, transaction_of, transaction_in}
 use Rattle.open_transactions.proofs.Parts.{part_here, part_same, becomes_as}
 use Rattle.open_transactions.proofs.Changed.{lists_stay, apart_same, due_stays}

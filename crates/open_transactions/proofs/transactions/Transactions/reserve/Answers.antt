@@ -1,6 +1,6 @@
 use Rattle.std.proofs.Common.{ℕ, ◌<◌, length, sym, ◌∙◌, subst, arith}
 use Rattle.std.proofs.lemmas.List.{length-set}
-use Rattle.abl_storage.specs.Slots.{Transaction}
+use Rattle.storage.specs.Slots.{Transaction}
 use Rattle.open_transactions.specs.Clients.{idle, transaction_of, memory_of}
 use Rattle.open_transactions.proofs.Parts.{part_here, part_set, part_same}
 use Rattle.open_transactions.proofs.Changed.{lists_stay, apart_same, due_stays, due_in_stays}

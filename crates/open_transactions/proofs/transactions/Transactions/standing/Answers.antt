@@ -1,6 +1,6 @@
 use Rattle.std.proofs.Common.{length, sym, ◌∙◌, ap, arith}
 use Rattle.std.proofs.lemmas.List.{length-take-le}
-use Rattle.abl_storage.specs.Slots.{Transaction}
+use Rattle.storage.specs.Slots.{Transaction}
 use Rattle.open_transactions.specs.Clients.{idle, transaction_of}
 use Rattle.open_transactions.proofs.Parts.{part_here}
 use Rattle.open_transactions.proofs.transactions.Transactions.standing.Goals as goal

@@ -1,5 +1,5 @@
 use Rattle.std.proofs.Common.{List, [], get_or, length, sym, ◌∙◌, ap, arith}
-use Rattle.abl_storage.specs.declared.slots.Undo.{Undo}
+use Rattle.storage.specs.declared.slots.Undo.{Undo}
 use Rattle.open_transactions.specs.Clients.{list_of, list_in}
 use Rattle.open_transactions.proofs.Parts.{part_here}
 use Rattle.open_transactions.proofs.Changed.{small_in, wrote_at}

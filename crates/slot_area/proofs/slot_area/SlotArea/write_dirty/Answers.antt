@@ -2,8 +2,8 @@ use Rattle.std.proofs.Common.{◌≡◌, inl, inr, ⊎_elim, ◌<◌, ◌≤◌,
 use Rattle.std.specs.List.{slice_get}
 use Rattle.std.proofs.lemmas.Bool.{cases_eq, cases_lt, true≢false}
 use Rattle.std.proofs.lemmas.Option.{none-some, slice_get_within}
-use Rattle.abl_storage.specs.Disk.{Others}
-use Rattle.disk_steps.proofs.Runs.{started}
+use Rattle.storage.specs.Disk.{Others}
+use Rattle.log_meaning.proofs.StepsLemmas.Runs.{started}
 use Rattle.log_meaning.specs.LogState.{WritesNoted}
 use Rattle.slot_area.specs.Frames.{note_of}
 use Rattle.slot_area.specs.Area.{unwritten}

@@ -1,13 +1,13 @@
 use Rattle.std.proofs.Common.{◌≡◌, ◌∙◌, ℕ, Bool, IsTrue, List, [], Some, None, Err, refl, sym, ap, subst, arith}
 use Rattle.std.proofs.Math.Logic.{∥∥₁_map}
-use Rattle.abl_storage.specs.declared.slots.Undo.{Undo}
-use Rattle.abl_storage.specs.Slots.{Transaction, undone}
+use Rattle.storage.specs.declared.slots.Undo.{Undo}
+use Rattle.storage.specs.Slots.{Transaction, undone}
 use Rattle.bi_log.specs.Logs.{HasNotes}
 use Rattle.bi_recovery.specs.declared.open_fault.OpenFault.{OpenFault}
 use Rattle.open_transactions.specs.Clients.{lists, list_in, number_in}
 use Rattle.slot_area.specs.Area.{view, unwritten}
-use Rattle.kept_log.specs.KeptLog.{KeptLog}
-use Rattle.logged_slots.specs.Stops.{StayRecoverable}
+use Rattle.checkpoint.specs.kept.KeptLog.{KeptLog}
+use Rattle.slot_txn.specs.logged.Stops.{StayRecoverable}
 use Rattle.slot_txn.proofs.Opened.{none_listed, none_is_due, is_whole, is_kept, fresh_log, recovered_slots, stop_now, stop_then, recoverable_opened}
 use Rattle.bi_log.specs.Lengths.{StayShort}
 use Rattle.bi_log.proofs.Lengths.{short_now, short_run}

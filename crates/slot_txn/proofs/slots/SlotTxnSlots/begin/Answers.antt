@@ -1,10 +1,10 @@
 use Rattle.std.proofs.Common.{ℕ, Bool, IsTrue, Option, sym, ◌∙◌, ap, subst, rules}
 use Rattle.std.proofs.lemmas.Result.{on_ok_weaker, on_err_weaker}
-use Rattle.abl_storage.specs.Slots.{Transaction, undone}
+use Rattle.storage.specs.Slots.{Transaction, undone}
 use Rattle.slot_area.specs.Area.{view}
-use Rattle.logged_slots.specs.State.{state_of, faults_of, in_doubt}
-use Rattle.logged_slots.proofs.Composing.{rests_twice, goes_twice, cause_twice}
-use Rattle.logged_slots.proofs.Afterwards.{then_begins}
+use Rattle.slot_txn.specs.logged.State.{state_of, faults_of, in_doubt}
+use Rattle.slot_txn.proofs.LoggedLemmas.Composing.{rests_twice, goes_twice, cause_twice}
+use Rattle.slot_txn.proofs.LoggedLemmas.Afterwards.{then_begins}
 use Rattle.slot_txn.proofs.slots.SlotTxnSlots.begin.Goals as goal
 
 pub begin-requires-clause-idle : goal.begin-requires-clause-idle

@@ -1,10 +1,10 @@
 use Rattle.std.proofs.Common.{ℕ, Bool, IsTrue, Option, sym, ◌∙◌, ap, subst, rules}
 use Rattle.std.proofs.lemmas.Result.{on_ok_weaker, on_err_weaker}
-use Rattle.abl_storage.specs.Slots.{Transaction, undone}
+use Rattle.storage.specs.Slots.{Transaction, undone}
 use Rattle.slot_area.specs.Area.{view}
-use Rattle.logged_slots.specs.State.{state_of, faults_of, in_doubt}
-use Rattle.logged_slots.proofs.Composing.{goes_twice, cause_twice}
-use Rattle.logged_slots.proofs.Afterwards.{then_commits, then_fails, fails_resting}
+use Rattle.slot_txn.specs.logged.State.{state_of, faults_of, in_doubt}
+use Rattle.slot_txn.proofs.LoggedLemmas.Composing.{goes_twice, cause_twice}
+use Rattle.slot_txn.proofs.LoggedLemmas.Afterwards.{then_commits, then_fails, fails_resting}
 use Rattle.slot_txn.proofs.slots.SlotTxnSlots.commit.Goals as goal
 
 pub settle_commit-requires-clause-begun : goal.settle_commit-requires-clause-begun

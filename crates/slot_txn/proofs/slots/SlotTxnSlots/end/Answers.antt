@@ -1,6 +1,6 @@
 use Rattle.std.proofs.Common.{List, ap, ◌∙◌, arith}
-use Rattle.abl_storage.specs.Slots.{undone}
-use Rattle.abl_storage.specs.declared.slots.Undo.{Undo}
+use Rattle.storage.specs.Slots.{undone}
+use Rattle.storage.specs.declared.slots.Undo.{Undo}
 use Rattle.slot_area.specs.Area.{view}
 use Rattle.open_transactions.proofs.Changed.{nothing_due}
 use Rattle.slot_txn.proofs.slots.SlotTxnSlots.end.Goals as goal

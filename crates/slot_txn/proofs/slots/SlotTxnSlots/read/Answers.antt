@@ -1,9 +1,9 @@
 use Rattle.std.proofs.Common.{ℕ, Bool, IsTrue, List, Option, sym, ◌∙◌, ap, subst, rules}
 use Rattle.std.proofs.lemmas.Result.{on_ok_weaker}
-use Rattle.abl_storage.specs.Slots.{undone}
+use Rattle.storage.specs.Slots.{undone}
 use Rattle.slot_area.specs.Area.{view}
-use Rattle.logged_slots.specs.State.{state_of, faults_of, in_doubt}
-use Rattle.logged_slots.proofs.Composing.{rests_twice, goes_twice, cause_twice}
+use Rattle.slot_txn.specs.logged.State.{state_of, faults_of, in_doubt}
+use Rattle.slot_txn.proofs.LoggedLemmas.Composing.{rests_twice, goes_twice, cause_twice}
 use Rattle.slot_txn.proofs.slots.SlotTxnSlots.read.Goals as goal
 
 pub returns-in-Ok-clause-bytes : goal.returns-in-Ok-clause-bytes

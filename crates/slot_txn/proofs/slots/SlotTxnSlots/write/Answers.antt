@@ -1,11 +1,11 @@
 use Rattle.std.proofs.Common.{◌≡◌, ◌≢◌, ◌<◌, ℕ, Bool, IsTrue, Option, true, false, sym, ◌∙◌, ap, subst, rules}
 use Rattle.std.proofs.lemmas.Result.{on_ok_weaker, on_err_weaker}
-use Rattle.abl_storage.specs.Slots.{Transaction, undone, is_low}
+use Rattle.storage.specs.Slots.{Transaction, undone, is_low}
 use Rattle.open_transactions.proofs.Changed.{alone_lists}
 use Rattle.slot_area.specs.Area.{view}
-use Rattle.logged_slots.specs.State.{state_of, faults_of, in_doubt}
-use Rattle.logged_slots.proofs.Composing.{rests_twice, goes_twice, cause_twice}
-use Rattle.logged_slots.proofs.Afterwards.{then_writes}
+use Rattle.slot_txn.specs.logged.State.{state_of, faults_of, in_doubt}
+use Rattle.slot_txn.proofs.LoggedLemmas.Composing.{rests_twice, goes_twice, cause_twice}
+use Rattle.slot_txn.proofs.LoggedLemmas.Afterwards.{then_writes}
 use Rattle.slot_txn.proofs.slots.SlotTxnSlots.write.Goals as goal
 
 pub put-requires-clause-begun : goal.put-requires-clause-begun

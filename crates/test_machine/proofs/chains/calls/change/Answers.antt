@@ -1,5 +1,5 @@
 use Rattle.std.proofs.Common.{ℕ, List, sym, ap, ◌∙◌}
-use Rattle.row_chain.specs.Fragments.{begins}
+use Rattle.row_fragments.specs.Fragments.{begins}
 use Rattle.test_machine.proofs.chains.calls.change.Goals as goal
 
 pub put-requires-clause-there : goal.put-requires-clause-there

@@ -1,7 +1,0 @@
-use Rattle.std.proofs.Common.{take}
-use Rattle.abl_arguments.specs.Places.{FitBank, bank_form}
-use Rattle.abl_arguments.proofs.bank.first_misfit.Given as goal
-
--- the arguments so far fit their places
-abbrev pub invariant-loop-place : goal.invariant-loop-place
-invariant-loop-place l = FitBank bank_form (take l.place l.arguments)

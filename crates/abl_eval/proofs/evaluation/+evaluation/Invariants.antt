@@ -1,9 +1,0 @@
-use Rattle.std.proofs.Common.{◌≡◌, drop, Ok}
-use Rattle.abl_eval.specs.Chains.{chain_from}
-use Rattle.abl_eval.specs.Gives.{held_value}
-use Rattle.abl_eval.proofs.evaluation.+evaluation.Given as goal
-
-abbrev pub invariant-links-loop-link : goal.invariant-links-loop-link
-invariant-links-loop-link g l =
-    chain_from (g.S.Surroundings.env l.surroundings) (Ok (held_value l.value)) (drop l.link-index l.rest)
-    ≡ chain_from (g.S.Surroundings.env l.surroundings) (Ok (held_value l.initial.value)) l.rest

@@ -1,7 +1,0 @@
--- The forms that programs use are those of the contract.
-use Rattle.std.specs.Prelude.{refl}
-use Rattle.abl_format.specs.Imports.{text_forms}
-use Rattle.abl_eval.specs.Forms.{AreForms}
-
-pub forms_of_programs : AreForms text_forms
-forms_of_programs = record { numbers = refl; masks = refl }

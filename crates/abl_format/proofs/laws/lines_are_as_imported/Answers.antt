@@ -1,5 +1,0 @@
-use Rattle.abl_format.proofs.LineAnswers.{line_at_is}
-use Rattle.abl_format.proofs.laws.lines_are_as_imported.Goals as goal
-
-pub returns : goal.returns
-returns c = line_at_is

@@ -1,5 +1,0 @@
-use Rattle.abl_lex.proofs.Runs.{tokens_one}
-use Rattle.abl_lex.proofs.laws.tokens_are_one.Goals as goal
-
-pub returns : goal.returns
-returns c = λ one other a b. tokens_one c.args.text.now one other a b

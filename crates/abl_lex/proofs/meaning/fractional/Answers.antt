@@ -1,5 +1,0 @@
-use Rattle.abl_lex.proofs.Values.{leading_all}
-use Rattle.abl_lex.proofs.meaning.fractional.Goals as goal
-
-pub scaled-requires-clause-digits_before : goal.scaled-requires-clause-digits_before
-scaled-requires-clause-digits_before c = leading_all _ _ _ c.digits_len-n.ensures.is c.piece.ensures

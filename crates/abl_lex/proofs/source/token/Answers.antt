@@ -1,5 +1,0 @@
-use Rattle.abl_lex.proofs.Runs.{token_known}
-use Rattle.abl_lex.proofs.source.token.Goals as goal
-
-pub returns : goal.returns
-returns c = token_known _ _ _ _ _ _ _ _ c.piece.ensures c.in_ok-kind.ensures.kind c.in_ok-kind.ensures.meaning c.requires.known

@@ -1,4 +1,0 @@
-use Rattle.abl_masks.proofs.filled.+push_wide_digits.Given as goal
-
-abbrev pub decreases-push_wide_digits : goal.decreases-push_wide_digits
-decreases-push_wide_digits l = l.digits

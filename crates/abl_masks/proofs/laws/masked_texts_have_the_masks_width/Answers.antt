@@ -1,5 +1,0 @@
-use Rattle.abl_masks.proofs.PutLaws.{length_put}
-use Rattle.abl_masks.proofs.laws.masked_texts_have_the_masks_width.Goals as goal
-
-pub returns : goal.returns
-returns c = length_put

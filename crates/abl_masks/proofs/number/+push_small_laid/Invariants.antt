@@ -1,5 +1,0 @@
-use Rattle.std.proofs.Common.{length}
-use Rattle.abl_masks.proofs.number.+push_small_laid.Given as goal
-
-abbrev pub decreases-push_small_laid : goal.decreases-push_small_laid
-decreases-push_small_laid l = length l.part.now

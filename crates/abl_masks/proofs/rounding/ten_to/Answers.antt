@@ -1,6 +1,0 @@
-use Rattle.std.proofs.Common.{arith}
-use Rattle.abl_masks.proofs.Rounds.{ten_positive}
-use Rattle.abl_masks.proofs.rounding.ten_to.Goals as goal
-
-pub returns-clause-positive : goal.returns-clause-positive
-returns-clause-positive c = omega (arith, ten_positive c.args.power, c.pow.ensures)

@@ -1,5 +1,0 @@
-use Rattle.abl_parse.proofs.Sound.{starts_are, starts_begin}
-use Rattle.abl_parse.proofs.laws.starts_are_first_tokens.Goals as goal
-
-pub returns : goal.returns
-returns c = λ r kind h. (λ e. starts_begin r kind h e, λ b. starts_are r kind h b)

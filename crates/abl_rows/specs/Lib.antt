@@ -1,4 +1,0 @@
-pub mod Changes
-pub mod Rows
-pub mod Questions
-pub mod Times

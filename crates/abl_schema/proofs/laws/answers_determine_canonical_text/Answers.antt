@@ -1,5 +1,0 @@
-use Rattle.abl_schema.proofs.Alike.{canonical_text-tells_no_more}
-use Rattle.abl_schema.proofs.laws.answers_determine_canonical_text.Goals as goal
-
-pub returns : goal.returns
-returns c = canonical_text-tells_no_more c.args.a.now c.args.b.now c.requires

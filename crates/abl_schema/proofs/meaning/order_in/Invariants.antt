@@ -1,7 +1,0 @@
-use Rattle.std.proofs.Common.{◌≡◌, take}
-use Rattle.std.specs.List.{flat_map}
-use Rattle.abl_schema.specs.Meaning.{order_said}
-use Rattle.abl_schema.proofs.meaning.order_in.Given as goal
-
-abbrev pub invariant-loop-item : goal.invariant-loop-item
-invariant-loop-item l = l.order ≡ flat_map (λ i. order_said i.head) (take l.item-index l.items)

@@ -1,6 +1,0 @@
-pub mod BlockLists
-pub mod Headers
-pub mod Numbers
-pub mod Placed
-pub mod Tokens
-pub mod Violations

@@ -1,5 +1,0 @@
-use Rattle.abl_source.proofs.Headers.{buffers_as_defined}
-use Rattle.abl_source.proofs.laws.buffers_are_as_defined.Goals as goal
-
-pub returns : goal.returns
-returns c = λ schema text tree is number procedure at header body block syntax_of has. buffers_as_defined schema text tree is number procedure at header body block syntax_of has

@@ -1,5 +1,0 @@
-use Rattle.abl_source.proofs.Placed.{one_header_in_tree}
-use Rattle.abl_source.proofs.laws.each_block_has_one_header.Goals as goal
-
-pub returns : goal.returns
-returns c = λ schema text tree is syntax_of has number block at. one_header_in_tree schema text tree is syntax_of has number block at

@@ -1,5 +1,0 @@
-use Rattle.abl_source.proofs.Violations.{one_rule}
-use Rattle.abl_source.proofs.laws.one_rule_is_first.Goals as goal
-
-pub returns : goal.returns
-returns c = λ schema text rule other place spot a b. let same = one_rule schema text a b in (same.rules, same.places)

@@ -1,5 +1,0 @@
-use Rattle.abl_source.proofs.Violations.{trees_break_none}
-use Rattle.abl_source.proofs.laws.trees_break_no_rule.Goals as goal
-
-pub returns : goal.returns
-returns c = λ schema text tree rule place is breaks. trees_break_none schema text is breaks

@@ -1,5 +1,0 @@
-pub mod Sources
-pub mod Headers
-pub mod TextBlocks
-pub mod Numbered
-pub mod Verdicts

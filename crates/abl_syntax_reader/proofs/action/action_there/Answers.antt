@@ -1,8 +1,0 @@
-use Rattle.abl_syntax_reader.specs.Headers as a
-use Rattle.abl_syntax_reader.proofs.action.action_there.Goals as goal
-
-pub returns-in-Some-clause-is : goal.returns-in-Some-clause-is
-returns-in-Some-clause-is c = a.action_there c.in-Some.ensures.is c.in_ok-action.ensures.is
-
-pub returns-clause-is : goal.returns-clause-is
-returns-clause-is c = a.no_action c.in_ok-k.ensures.is

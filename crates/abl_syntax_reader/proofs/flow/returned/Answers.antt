@@ -1,5 +1,0 @@
-use Rattle.abl_syntax_reader.specs.Plain as a
-use Rattle.abl_syntax_reader.proofs.flow.returned.Goals as goal
-
-pub returns-clause-is : goal.returns-clause-is
-returns-clause-is c = rw c.in_ok-value.ensures (a.return c.requires.uses c.in_ok-at.ensures c.in_ok-error.ensures c.in_ok-found.ensures.is)

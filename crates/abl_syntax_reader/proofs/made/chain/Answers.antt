@@ -1,8 +1,0 @@
-use Rattle.std.proofs.Common.{ap, ◌∙◌}
-use Rattle.abl_syntax.specs.declared.expression.Expression.{Expression as TypedExpression}
-use Rattle.abl_syntax.specs.Typed.{expression_of, linked_of}
-use Rattle.abl_syntax.proofs.Chains.{chain_is}
-use Rattle.abl_syntax_reader.proofs.made.chain.Goals as goal
-
-pub returns : goal.returns
-returns c = chain_is c.in_ok-first.first c.args.rest ∙ ap (λ (x : TypedExpression). linked_of c.args.rest.items (expression_of x)) c.in_ok-first.ensures.ok

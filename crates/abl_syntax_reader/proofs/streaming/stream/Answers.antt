@@ -1,5 +1,0 @@
-use Rattle.abl_syntax_reader.specs.Streaming as a
-use Rattle.abl_syntax_reader.proofs.streaming.stream.Goals as goal
-
-pub returns : goal.returns
-returns c = a.choice c.in_ok-k.ensures.is c.in_ok-word.ensures.is

@@ -1,7 +1,0 @@
-use Rattle.std.proofs.Common.{refl}
-use Rattle.abl_tree.specs.Keywords.{reserved}
-use Rattle.abl_tree.proofs.keyword.reserved.Goals as goal
-
-pub returns : goal.returns
-unfolding reserved
-returns c = refl

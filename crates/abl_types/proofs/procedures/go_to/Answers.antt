@@ -1,7 +1,0 @@
-use Rattle.abl_types.proofs.procedures.go_to.Goals as goal
-
-pub returns-clause-scene : goal.returns-clause-scene
-returns-clause-scene c = cc
-
-pub returns-clause-before : goal.returns-clause-before
-returns-clause-before c = cc

@@ -1,4 +1,0 @@
-use Rattle.abl_types.proofs.statements.left.Goals as goal
-
-pub returns : goal.returns
-returns c = c.leave.ensures c.args.notes.now

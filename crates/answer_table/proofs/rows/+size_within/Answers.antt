@@ -1,6 +1,0 @@
-use Rattle.std.proofs.Common.{arith}
-use Rattle.answer_table.proofs.Sizes.{row_size-empty}
-use Rattle.answer_table.proofs.rows.+size_within.Goals as goal
-
-pub returns-in-None : goal.returns-in-None
-returns-in-None t c = (row_size-empty _ c.in-None.ensures.cases, omega arith)

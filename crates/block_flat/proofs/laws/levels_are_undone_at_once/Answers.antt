@@ -1,5 +1,0 @@
-use Rattle.block_flat.proofs.Fused.{after_back_at_once}
-use Rattle.block_flat.proofs.laws.levels_are_undone_at_once.Goals as goal
-
-pub returns : goal.returns
-returns c = after_back_at_once

@@ -1,9 +1,0 @@
-//! The listing of a source, which the command `check` prints: a line for each block with its
-//! properties and the buffers scoped to it. `specs/Listing.antt` says which text it is. It reads the
-//! flags of `txn_infer` and the scopes of `buffer_scope` in the headers of the bound tree.
-#![tactic(auto)]
-
-pub mod line;
-pub mod text;
-
-pub use text::listing;

@@ -1,7 +1,0 @@
-use Rattle.std.proofs.Common.{◌≡◌, ◌++◌}
-use Rattle.std.specs.Prelude.{replicate}
-use Rattle.block_vm.specs.Begins.{no_stream}
-use Rattle.block_vm.proofs.begin.push_streams.Given as goal
-
-abbrev pub invariant-loop : goal.invariant-loop
-invariant-loop l = l.streams.items ≡ l.fn.streams.items ++ replicate l.counter no_stream

@@ -1,0 +1,3 @@
+pub mod ReadsLemmas
+pub mod BuffersLemmas
+pub mod ChangesLemmas

@@ -1,0 +1,3 @@
+pub mod reads
+pub mod buffers
+pub mod changes

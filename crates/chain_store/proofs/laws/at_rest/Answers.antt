@@ -1,5 +1,0 @@
-use Rattle.chain_store.proofs.Turns.{rests_kept}
-use Rattle.chain_store.proofs.laws.at_rest.Goals as goal
-
-pub returns : goal.returns
-returns g c = rests_kept (g.S.Slots.state c.args.old.now) (g.S.Slots.state c.args.new.now) c.args.places.now

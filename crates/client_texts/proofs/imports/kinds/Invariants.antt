@@ -1,7 +1,0 @@
-use Rattle.std.proofs.Common.{◌≡◌, take}
-use Rattle.std.specs.Prelude.{map}
-use Rattle.client_texts.specs.Imports.{kind_if}
-use Rattle.client_texts.proofs.imports.kinds.Given as goal
-
-abbrev pub invariant-loop-target : goal.invariant-loop-target
-invariant-loop-target l = l.kinds.items ≡ map kind_if (take l.target-index l.targets)

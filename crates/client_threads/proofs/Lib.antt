@@ -1,0 +1,4 @@
+pub mod SessionLemmas
+pub mod RunsLemmas
+pub mod ClientsLemmas
+pub mod ServedLemmas

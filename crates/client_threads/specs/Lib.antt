@@ -1,0 +1,4 @@
+pub mod session
+pub mod runs
+pub mod clients
+pub mod served

@@ -1,6 +1,0 @@
--- The canonical text decides all that rows depend on in a schema.
-use Rattle.database_laws.proofs.Held.{text_decides_held}
-use Rattle.database_laws.proofs.laws.the_text_decides_what_slots_hold.Goals as goal
-
-pub returns : goal.returns
-returns c = text_decides_held

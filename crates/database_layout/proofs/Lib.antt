@@ -1,0 +1,4 @@
+pub mod ContentsLemmas
+pub mod FreshLemmas
+pub mod CreationLemmas
+pub mod StoredTextLemmas

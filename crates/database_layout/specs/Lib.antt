@@ -1,0 +1,4 @@
+pub mod contents
+pub mod fresh
+pub mod creation
+pub mod stored_text

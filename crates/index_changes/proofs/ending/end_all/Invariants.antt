@@ -1,5 +1,0 @@
-use Rattle.index_changes.proofs.Ended.{IsEndedUpTo}
-use Rattle.index_changes.proofs.ending.end_all.Given as goal
-
-abbrev pub invariant-loop-index : goal.invariant-loop-index
-invariant-loop-index l = IsEndedUpTo l.client l.index-index l.initial.index-items l.index-items

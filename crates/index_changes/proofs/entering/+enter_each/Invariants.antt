@@ -1,5 +1,0 @@
-use Rattle.std.proofs.Common.{length}
-use Rattle.index_changes.proofs.entering.+enter_each.Given as goal
-
-abbrev pub decreases-enter_each : goal.decreases-enter_each
-decreases-enter_each l = length l.moves.now

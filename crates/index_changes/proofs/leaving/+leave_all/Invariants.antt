@@ -1,5 +1,0 @@
-use Rattle.std.proofs.Common.{length}
-use Rattle.index_changes.proofs.leaving.+leave_all.Given as goal
-
-abbrev pub decreases-leave_all : goal.decreases-leave_all
-decreases-leave_all l = length l.moves.now

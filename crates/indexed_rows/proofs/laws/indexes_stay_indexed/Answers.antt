@@ -1,8 +1,0 @@
-use Rattle.indexed_rows.proofs.Kept.{begun_indexed, failed_indexed}
-use Rattle.indexed_rows.proofs.laws.indexes_stay_indexed.Goals as goal
-
-pub returns-clause-begins : goal.returns-clause-begins
-returns-clause-begins c = begun_indexed
-
-pub returns-clause-fails : goal.returns-clause-fails
-returns-clause-fails c = failed_indexed

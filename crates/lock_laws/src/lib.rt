@@ -1,4 +1,0 @@
-//! What a client's own events tell of its locks, whatever the other clients do.
-#![tactic(auto)]
-
-pub mod laws;

@@ -1,6 +1,0 @@
-use Rattle.std.proofs.Common.{◌*◌, ℕ, length, drop, ap, arith}
-use Rattle.std.proofs.lemmas.List.{length-take}
-use Rattle.new_slots.proofs.text_slots.text_slot.Goals as goal
-
-pub fragment-requires : goal.fragment-requires
-fragment-requires c = omega (arith, ap (length {A = ℕ}) c.part_of-content.ensures, length-take 240 (drop (240 * c.args.i) c.args.text.now))

@@ -1,0 +1,30 @@
+use Rattle.std.proofs.Common.{arith}
+use Rattle.parser.proofs.Cuts.{starts_cut, starts_are}
+use Rattle.parser.proofs.table.starts_at.Goals as goal
+
+pub offset_bounds-from-r : goal.offset_bounds-from-r
+offset_bounds-from-r c = let g = starts_cut _ _ _ c.starts_from-from.ensures c.starts-all.ensures c.requires in omega arith
+
+pub bounds-from-r : goal.bounds-from-r
+bounds-from-r c = let g = starts_cut _ _ _ c.starts_from-from.ensures c.starts-all.ensures c.requires in omega arith
+
+pub overflow_add-result : goal.overflow_add-result
+overflow_add-result c = let g = starts_cut _ _ _ c.starts_from-from.ensures c.starts-all.ensures c.requires in omega arith
+
+pub offset_bounds-from-r-2 : goal.offset_bounds-from-r-2
+offset_bounds-from-r-2 c = let g = starts_cut _ _ _ c.starts_from-from.ensures c.starts-all.ensures c.requires in omega arith
+
+pub bounds-from-r-2 : goal.bounds-from-r-2
+bounds-from-r-2 c = let g = starts_cut _ _ _ c.starts_from-from.ensures c.starts-all.ensures c.requires in omega arith
+
+pub slice_bounds-result-count : goal.slice_bounds-result-count
+slice_bounds-result-count c = let g = starts_cut _ _ _ c.starts_from-from.ensures c.starts-all.ensures c.requires in omega arith
+
+pub slice_bounds-result-start : goal.slice_bounds-result-start
+slice_bounds-result-start c = let g = starts_cut _ _ _ c.starts_from-from.ensures c.starts-all.ensures c.requires in omega arith
+
+pub slice_bounds-result-end : goal.slice_bounds-result-end
+slice_bounds-result-end c = let g = starts_cut _ _ _ c.starts_from-from.ensures c.starts-all.ensures c.requires in omega arith
+
+pub returns : goal.returns
+returns c = starts_are _ _ _ c.starts_from-from.ensures c.starts-all.ensures c.requires

@@ -1,7 +1,0 @@
-use Rattle.std.proofs.Common.{sym, ◌∙◌}
-use Rattle.stored_rows.specs.Opens.{log_in}
-use Rattle.record_store.proofs.Known.{length_changes}
-use Rattle.record_store.proofs.row_store.RecordStoreRowStore.mark.Goals as goal
-
-pub returns : goal.returns
-returns g c = c.mark.ensures ∙ sym (length_changes (log_in c.args.self.now.rows.opens.items c.args.client))

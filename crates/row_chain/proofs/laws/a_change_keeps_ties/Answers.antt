@@ -1,5 +1,0 @@
-use Rattle.row_chain.proofs.Ties.{change_tied}
-use Rattle.row_chain.proofs.laws.a_change_keeps_ties.Goals as goal
-
-pub returns : goal.returns
-returns g c = change_tied (g.S.Slots.state c.args.old.now) (g.S.Slots.state c.args.new.now)

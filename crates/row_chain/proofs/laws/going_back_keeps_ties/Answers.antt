@@ -1,5 +1,0 @@
-use Rattle.row_chain.proofs.Ties.{back_tied}
-use Rattle.row_chain.proofs.laws.going_back_keeps_ties.Goals as goal
-
-pub returns : goal.returns
-returns g c = back_tied (g.S.Slots.state c.args.old.now) (g.S.Slots.state c.args.new.now)

@@ -1,5 +1,0 @@
-use Rattle.row_chain.proofs.Ties.{other_stays}
-use Rattle.row_chain.proofs.laws.other_rows_stay.Goals as goal
-
-pub returns : goal.returns
-returns g c = other_stays (g.S.Slots.state c.args.old.now) (g.S.Slots.state c.args.new.now)

@@ -1,4 +1,0 @@
-use Rattle.row_chain.proofs.measure.+length_from.Given as goal
-
-abbrev pub decreases-length_from : goal.decreases-length_from
-decreases-length_from g l = l.most

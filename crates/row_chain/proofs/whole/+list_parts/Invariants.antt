@@ -1,4 +1,0 @@
-use Rattle.row_chain.proofs.whole.+list_parts.Given as goal
-
-abbrev pub decreases-list_parts : goal.decreases-list_parts
-decreases-list_parts g l = l.left

@@ -1,0 +1,5 @@
+pub mod answers
+pub mod Changes
+pub mod Rows
+pub mod Questions
+pub mod Times

@@ -1,0 +1,7 @@
+use Rattle.std.proofs.Common.{◌≡◌, take}
+use Rattle.std.specs.List.{flat_map}
+use Rattle.row_fragments.specs.Fragments.{content_in}
+use Rattle.sequence_slots.proofs.reads.decode.contents.Given as goal
+
+abbrev pub invariant-loop-slot : goal.invariant-loop-slot
+invariant-loop-slot l = l.bytes.items ≡ flat_map content_in (take l.slot-index l.slots)

@@ -1,5 +1,0 @@
-use Rattle.std.proofs.Common.{length}
-use Rattle.served_works.proofs.clients.+add_tasks.Given as goal
-
-abbrev pub decreases-add_tasks : goal.decreases-add_tasks
-decreases-add_tasks g l = length l.clients.items

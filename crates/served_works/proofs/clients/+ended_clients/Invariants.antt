@@ -1,5 +1,0 @@
-use Rattle.std.proofs.Common.{length}
-use Rattle.served_works.proofs.clients.+ended_clients.Given as goal
-
-abbrev pub decreases-ended_clients : goal.decreases-ended_clients
-decreases-ended_clients g l = length l.tasks.items

@@ -1,0 +1,74 @@
+use Rattle.std.proofs.Common.{Err, refl, sym, ap, ◌∙◌, subst}
+use Rattle.row_store.specs.Rows.{AfterError}
+use Rattle.row_store.specs.declared.store.RowFault.{RowFault}
+use Rattle.row_store.specs.Changes.{RowsById}
+use Rattle.abl_base.specs.declared.row.RowId.{RowId}
+use Rattle.byte_rows.proofs.Rewrites.{high_bound, low_bound}
+use Rattle.slot_rows.specs.Decoded.{decoded}
+use Rattle.slot_rows.specs.State.{state_of}
+use Rattle.slot_rows.specs.Opens.{log_in, touched_in}
+use Rattle.slot_rows.proofs.Chaining.{chains_go}
+use Rattle.slot_rows.proofs.Changed.{rows_known}
+use Rattle.slot_rows.proofs.Errors.{after_refusal, state_rests}
+use Rattle.slot_rows.proofs.Known.{untouched_free}
+use Rattle.slot_rows.proofs.Looked.{looked_stored}
+use Rattle.slot_rows.proofs.Methods.{begun_rests, vacant_none}
+use Rattle.slot_rows.proofs.Counting.{counted_keeps, failed_before}
+use Rattle.slot_rows.proofs.Quiet.{quiet_looked}
+use Rattle.slot_rows.proofs.rows.StoredRows.fresh.Goals as goal
+
+pub invariant_of-self-clause-stored : goal.invariant_of-self-clause-stored
+invariant_of-self-clause-stored g c =
+    let rows = c.args.self.now in
+    let old = rows.chains in
+    let new = c.fresh.new.self in
+    looked_stored rows.schema (g.S.Slots.state old.slots) (g.S.Slots.state new.slots) (g.S.Slots.stop old.slots) (g.S.Slots.stop new.slots) rows.opens.items rows.stored c.fresh.result c.fresh.ensures.looked
+
+pub returns-in-Ok-clause-same : goal.returns-in-Ok-clause-same
+returns-in-Ok-clause-same g c = λ reserved sequences.
+    let rows = c.args.self.now in
+    let l = c.in-Ok.ensures.looked in
+    state_rests rows.schema reserved sequences (g.S.Slots.state rows.chains.slots) (g.S.Slots.state c.fresh.new.self.slots) rows.opens.items rows.opens.items (λ d. refl) l.rests (l.cause.stays (λ e. cc e))
+
+pub returns-in-Ok-clause-free : goal.returns-in-Ok-clause-free
+returns-in-Ok-clause-free g c = λ reserved sequences.
+    let rows = c.args.self.now in
+    let s = g.S.Slots.state rows.chains.slots in
+    let e = c.in-Ok.ensures in
+    let row = c.in-Ok.row.0 in
+    let fine = sym (e.looked.cause.stays (λ q. cc q)) ∙ e.fine in
+    record {
+      from = low_bound row e.identity;
+      below = high_bound row e.identity;
+      empty = λ readable. ap (λ (f : RowsById). f row) (rows_known s (decoded rows.schema s.reads) readable) ∙ sym (vacant_none rows.schema s row (e.vacant readable));
+      untouched = untouched_free rows.schema s (log_in rows.opens.items) (touched_in rows.opens.items) rows.stored fine row e.unwritten;
+    }
+
+pub returns-in-Err-clause-err : goal.returns-in-Err-clause-err
+returns-in-Err-clause-err g c = λ reserved sequences.
+    let rows = c.args.self.now in
+    let s = g.S.Slots.state rows.chains.slots in
+    let t = g.S.Slots.state c.fresh.new.self.slots in
+    let l = c.in-Err.ensures.looked in
+    subst (λ (x : RowFault). AfterError {T = RowId} (state_of rows.schema reserved sequences s rows.opens.items) (state_of rows.schema reserved sequences t rows.opens.items) (Err x)) (sym c.error_of.ensures)
+    (after_refusal rows.schema reserved sequences s t rows.opens.items rows.opens.items (λ d. refl) c.in-Err.fault l.rests.keeps (begun_rests s t l.rests) (λ q. l.rests) l.cause)
+
+pub invariant_of-self-clause-counted : goal.invariant_of-self-clause-counted
+invariant_of-self-clause-counted g c =
+    let rows = c.args.self.now in
+    let s = g.S.Slots.state rows.chains.slots in
+    let t = g.S.Slots.state c.fresh.new.self.slots in
+    let l = c.fresh.ensures.looked in
+    counted_keeps rows.schema s t rows.used l.rests.keeps (failed_before s t _ l.cause) rows.counted
+
+pub invariant_of-self-clause-quiet : goal.invariant_of-self-clause-quiet
+invariant_of-self-clause-quiet g c =
+    let rows = c.args.self.now in
+    quiet_looked (g.S.Slots.state rows.chains.slots) (g.S.Slots.state c.fresh.new.self.slots) (g.S.Slots.stop rows.chains.slots) (g.S.Slots.stop c.fresh.new.self.slots) c.fresh.result c.fresh.ensures.looked rows.quiet
+
+pub invariant_of-self-clause-laid : goal.invariant_of-self-clause-laid
+invariant_of-self-clause-laid g c =
+    let old = c.args.self.now.chains in
+    let new = c.fresh.new.self in
+    let l = c.fresh.ensures.looked in
+    chains_go (g.S.Slots.state old.slots) (g.S.Slots.state new.slots) (g.S.Slots.stop old.slots) (g.S.Slots.stop new.slots) (g.met.S.Slots.stop_known new.slots) (g.met.S.Slots.since_past old.slots) l.rests.keeps l.time c.args.self.now.laid

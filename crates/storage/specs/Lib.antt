@@ -1,0 +1,3 @@
+pub mod faults
+pub mod Slots
+pub mod Disk

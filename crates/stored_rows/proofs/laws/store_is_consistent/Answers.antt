@@ -1,7 +1,0 @@
-use Rattle.stored_rows.proofs.Consistent.{consistent}
-use Rattle.stored_rows.proofs.laws.store_is_consistent.Goals as goal
-
-pub returns : goal.returns
-returns g c = λ reserved sequences none.
-    let rows = c.args.rows.now in
-    consistent rows.schema reserved sequences (g.S.Slots.state rows.chains.slots) rows.opens.items rows.stored none

@@ -1,6 +1,0 @@
-use Rattle.std.proofs.Common.{◌≡◌, ℕ, ◌<◌, [], length, get_or}
-use Rattle.slot_contents.specs.Chains.{chain_slot, counted}
-use Rattle.stored_text.proofs.texts.are_of.Given as goal
-
-abbrev pub invariant-loop-i : goal.invariant-loop-i
-invariant-loop-i l = (k : ℕ) → k < l.i → get_or l.slots k [] ≡ chain_slot 3 3 0 (counted 1 (length l.slots)) l.text k

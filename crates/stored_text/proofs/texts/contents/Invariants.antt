@@ -1,7 +1,0 @@
-use Rattle.std.proofs.Common.{◌≡◌, take}
-use Rattle.std.specs.List.{flat_map}
-use Rattle.row_chain.specs.Fragments.{content_in}
-use Rattle.stored_text.proofs.texts.contents.Given as goal
-
-abbrev pub invariant-loop-slot : goal.invariant-loop-slot
-invariant-loop-slot l = l.bytes.items ≡ flat_map content_in (take l.slot-index l.slots)

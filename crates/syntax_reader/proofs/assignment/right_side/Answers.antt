@@ -1,0 +1,11 @@
+use Rattle.syntax_reader.specs.Plain as a
+use Rattle.syntax_reader.proofs.assignment.right_side.Goals as goal
+
+pub returns-in-Some-clause-is : goal.returns-in-Some-clause-is
+returns-in-Some-clause-is c = a.value c.in-Some.ensures.is c.in_ok-value.ensures.is
+
+pub returns-in-Some-uses-clause-is : goal.returns-in-Some-uses-clause-is
+returns-in-Some-uses-clause-is c = a.next_value c.in_ok-k.ensures.is c.in_ok-at.ensures c.in-Some-uses.ensures.is c.in_ok-sequence.ensures
+
+pub returns-clause-is : goal.returns-clause-is
+returns-clause-is c = a.current_value c.in_ok-k.ensures.is c.in_ok-at.ensures c.in_ok-j.ensures.is c.in_ok-sequence.ensures

@@ -1,0 +1,14 @@
+use Rattle.std.proofs.Common.{arith}
+use Rattle.syntax_reader.specs.Definitions.{AreVariableOptions}
+use Rattle.syntax_reader.specs.Views.{source_of}
+use Rattle.syntax_reader.proofs.Rows.{all_done, all_more, row_starts}
+use Rattle.syntax_reader.proofs.definition.variable_options.Goals as goal
+
+pub loop-k-init : goal.loop-k-init
+loop-k-init c = row_starts (AreVariableOptions (source_of c.args.reader.now)) c.args.begun c.new-found.result.items c.new-found.ensures.items
+
+pub loop-k-preserved : goal.loop-k-preserved
+loop-k-preserved c = all_more c.push.new.self.items c.in_ok-one.one c.loop-k.invariant c.in-Some.ensures.is c.in_ok-one.ensures.is (omega (arith, c.in_ok-one.ensures.after)) c.in_ok-push.ensures.items
+
+pub returns-clause-is : goal.returns-clause-is
+returns-clause-is c = all_done c.loop-k.invariant c.in_ok-k.ensures.is

@@ -1,8 +1,0 @@
-//! The rows of a table as lines: `write_table`, over any store of rows and any output. It depends on
-//! `abl_rows` for the search of rows and on `abl_masks` for the line of a row. The layer above relies
-//! on the exact text (`HasWritten` in specs/Calls.antt, over `AreAll` of specs/Order.antt).
-#![tactic(auto)]
-
-pub mod writing;
-
-pub use writing::{TableError, write_table};
