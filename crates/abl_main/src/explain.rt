@@ -1,6 +1,6 @@
 //! What the program says about itself, without a command.
 
-use command_help::{names, place_of, summaries, texts};
+use command_help::{SPELLINGS, names, place_of, summaries, text};
 use std::io;
 
 /// The line on standard error where standard output does not take the text.
@@ -10,7 +10,7 @@ const NO_OUTPUT: &str = "abl: output\n";
 const NO_PAGE: &str = "abl: there is no page of that name; abl --explain lists them\n";
 
 /// How wide the names of the list are.
-const BLANKS: &str = "             ";
+const BLANKS: &str = "               ";
 
 /// Writes the text to standard output; the status that the program then ends with.
 pub fn print(output: &mut impl Print, diagnostics: &mut impl Print, text: &str) -> u8 {
@@ -20,7 +20,7 @@ pub fn print(output: &mut impl Print, diagnostics: &mut impl Print, text: &str) 
 /// Writes the page of that name; the status that the program then ends with.
 pub fn explain(output: &mut impl Print, diagnostics: &mut impl Print, name: &[u8]) -> u8 {
     match page(name) {
-        Some(text) => print(output, diagnostics, text),
+        Some(page) => print(output, diagnostics, page),
         None => {
             let _ = diagnostics.write_all(NO_PAGE.as_bytes());
             1
@@ -28,11 +28,22 @@ pub fn explain(output: &mut impl Print, diagnostics: &mut impl Print, name: &[u8
     }
 }
 
-/// The page of that name, if there is one.
+/// The page of that name or of the word that is spelt so, if there is one.
 fn page(name: &[u8]) -> Option<&'static str> {
     let name = str::from_utf8(name).ok()?;
-    let place = place_of(names(), name)?;
-    texts().get(place).copied()
+    let place = place_of(names(), spelt_name(name).unwrap_or(name))?;
+    text(place)
+}
+
+/// The name of the page of a word that is spelt in another way than its page, if it is such a word.
+fn spelt_name(spelling: &str) -> Option<&'static str> {
+    for line in SPELLINGS.lines() {
+        match line.split_once('=') {
+            Some((known, name)) if known.eq_ignore_ascii_case(spelling) => return Some(name),
+            _ => {}
+        }
+    }
+    None
 }
 
 /// Writes a line for each page; the status that the program then ends with.

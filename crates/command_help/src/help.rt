@@ -8,8 +8,9 @@ abl DATABASE check SCHEMA PROG...
 abl DATABASE bank START CLIENTS ACCOUNTS TRANSFERS
 
 A database is three files: DATABASE.d0, DATABASE.b1 and DATABASE.b2. One command at
-a time uses it. What was committed is kept, also where the command is killed or the
-machine stops: the next command recovers it.
+a time uses it; another one ends with status 5 and `in use by another process`.
+What was committed is kept, also where the command is killed or the machine stops:
+the next command recovers it. Copy the three files while no command uses them.
 
 create makes a database of the schema file SCHEMA. It has no record, and each
 sequence has its initial value.
@@ -21,9 +22,9 @@ NAME=PROG<INPUT, and no two have one NAME. Each client may spend STEPS units (1 
 may have 1 MiB (1048576 bytes). Put an argument with < in quotation marks, so that
 a shell does not take it.
 
-The output of each client goes to standard output, in the order of the arguments,
-and in MODE trace the lines of what they requested of the database and were
-answered too; in MODE quiet nothing else.
+Once all clients have ended, the output of each goes to standard output, in the
+order of the arguments, and in MODE trace the lines of what they requested of the
+database and were answered too; in MODE quiet nothing else.
 
 dump writes the committed records of TABLE, a line each as EXPORT writes it, in
 the order of the primary index of the table.
@@ -57,8 +58,10 @@ a letter and a number, and the line or the line:column where it is broken first:
   L  the tokens of the source  S   the scopes of its buffers
   G  its grammar               U   its labels and blocks
 
-abl --explain        the rules, statuses and stops, a line each
-abl --explain NAME   the page of one: L1, 4 for a status, Deadlock for a stop
+abl --explain        the rules, statuses, stops and words of OpenEdge ABL that a
+                     source cannot have, a line each
+abl --explain NAME   the page of one: L1, 4 for a status, Deadlock for a stop,
+                     CASE or can-find for a word, with how it is written here
 abl --help           this text
 abl --version        the version
 ";

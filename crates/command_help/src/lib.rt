@@ -1,6 +1,7 @@
 //! What the program says about itself: the text of `--help`, and a page for each rule, status and
-//! stop that a command can print. The texts are written by `tools/explanations` from `tools/help.txt`
-//! and `tools/explanations.txt`, which also makes `docs/refusals.md` and the man page of them.
+//! stop that a command can print, and for each word of OpenEdge ABL that a source cannot have. The
+//! texts are written by `tools/explanations` from `tools/help.txt`, `tools/explanations.txt` and
+//! `tools/words.txt`, which also makes `docs/refusals.md`, `docs/words.md` and the man page of them.
 #![tactic(auto)]
 
 pub mod help;
@@ -9,4 +10,4 @@ pub mod pages;
 
 pub use help::HELP;
 pub use page::place_of;
-pub use pages::{names, summaries, texts};
+pub use pages::{SPELLINGS, names, summaries, text};

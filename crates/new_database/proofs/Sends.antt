@@ -6,7 +6,7 @@ use denote.Struct.Struct.{Struct}
 use denote.Struct.Declared.{shape}
 use denote.Param.Send.{IsSend, sendable, recorded_send, struct_send}
 use Rattle.storage.specs.declared.slots.Slots.{Ghosts}
-use Rattle.new_database.specs.slots.contracts.mem_slots.MemSlots as slots
+use Rattle.new_database.specs.contracts.slots.mem_slots.MemSlots as slots
 use Rattle.new_database.proofs.slots.mem_slots.MemSlots.TheSendSync as slots_sends
 use Rattle.key_index.specs.contracts.index.Index as index
 use Rattle.key_index.proofs.chain.Links.TheLaws.TheKnot.{crosses as links}

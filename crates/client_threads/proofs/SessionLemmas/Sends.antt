@@ -33,7 +33,7 @@ use Rattle.client_machine.proofs.inputs.Stream.TheSendSync as stream
 use Rattle.client_machine.specs.contracts.machine.Machine as machine
 use Rattle.client_core.proofs.client.Phase.TheSendSync as phase
 use Rattle.client_core.specs.contracts.client.Client as client
-use Rattle.client_threads.specs.session.contracts.session.ClientSession.{the_row}
+use Rattle.client_threads.specs.contracts.session.session.ClientSession.{the_row}
 
 -- what refers to no expression
 ruleset plain = (items.the_send, kind.the_field_send, value.the_field_send, variable.the_field_send, flags.the_field_send, block_kind.the_field_send, fetch_word.the_field_send, lock_wanted.the_field_send, buffer_def.the_field_send, buffer_def.the_send)
