@@ -279,7 +279,7 @@ field_in-back (Some kind) (suc (suc b) ∷ bytes) v rest h e =
     let is : suc (suc b) ≡ 1 = eq_from_test (suc (suc b)) 1 (found_if (suc (suc b) == 1) (value_in kind bytes) (v, rest) other).0 in
     absurd (omega arith)
 
-rest_are_bytes : (xs ys : List ℕ) → AreBytes (xs ++ ys) → AreBytes ys
+pub rest_are_bytes : (xs ys : List ℕ) → AreBytes (xs ++ ys) → AreBytes ys
 rest_are_bytes [] ys h = h
 rest_are_bytes (x ∷ xs) ys h = rest_are_bytes xs ys h.1
 

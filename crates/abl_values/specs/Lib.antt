@@ -11,5 +11,6 @@ pub mod Digits
 pub mod Names
 pub mod Schema
 pub mod Sound
+pub mod Held
 pub mod SoundExamples
 pub mod Examples

@@ -61,7 +61,7 @@ fn push_fields(alloc: Global, text: &mut Vec<u8>, fields: &[FieldDef]) -> Result
 }
 
 /// Writes the line of a field.
-fn push_field(alloc: Global, text: &mut Vec<u8>, field: &FieldDef) -> Result<(), AllocError>
+pub fn push_field(alloc: Global, text: &mut Vec<u8>, field: &FieldDef) -> Result<(), AllocError>
     ensures { OnOk result (text.new.items ≡ text.old.items ++ field_line field.now) }
 {
     text.extend_from_slice(b"F ")?;
@@ -77,7 +77,7 @@ fn push_field(alloc: Global, text: &mut Vec<u8>, field: &FieldDef) -> Result<(),
 }
 
 /// The name of a kind, `-` for an unsupported one.
-fn kind_text(kind: Option<Kind>) -> &'static [u8]
+pub fn kind_text(kind: Option<Kind>) -> &'static [u8]
     ensures { result.now ≡ kind_text kind }
 {
     match kind {
@@ -92,7 +92,7 @@ fn kind_text(kind: Option<Kind>) -> &'static [u8]
 }
 
 /// Writes the lines of a table's indexes.
-fn push_indexes(text: &mut Vec<u8>, table: &TableDef) -> Result<(), AllocError>
+pub fn push_indexes(text: &mut Vec<u8>, table: &TableDef) -> Result<(), AllocError>
     ensures { OnOk result (text.new.items
         ≡ text.old.items ++ index_lines table.now.fields table.now.primary 0 table.now.indexes) }
 {
@@ -157,7 +157,7 @@ fn push_part(text: &mut Vec<u8>, fields: &[FieldDef], part: KeyPart) -> Result<(
 }
 
 /// Writes the line of a sequence.
-fn push_sequence(
+pub fn push_sequence(
     alloc: Global,
     text: &mut Vec<u8>,
     sequence: &SequenceDef,
@@ -189,7 +189,7 @@ fn push_letter(text: &mut Vec<u8>, choice: bool, on: u8, off: u8) -> Result<(), 
 }
 
 /// Writes a name with its ASCII letters small.
-fn push_folded(text: &mut Vec<u8>, name: &[u8]) -> Result<(), AllocError>
+pub fn push_folded(text: &mut Vec<u8>, name: &[u8]) -> Result<(), AllocError>
     ensures { OnOk result (text.new.items ≡ text.old.items ++ folded name.now) }
 {
     for byte in name {

@@ -6,7 +6,7 @@
 #![tactic(auto)]
 
 pub mod arithmetic;
-mod canonical;
+pub mod canonical;
 pub mod dates;
 pub mod fitting;
 pub mod keys;

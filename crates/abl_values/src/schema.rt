@@ -5,7 +5,7 @@ ghost use Rattle.std.specs.Prelude.{◌≡◌, ◌<◌, ◌≤◌, length, IfOk}
 use crate::canonical::lines_in_order;
 use crate::named::{HasName, Named};
 use abl_base::{Bytes, Items, Kind, Value};
-use std::alloc::AllocError;
+use std::alloc::{AllocError, Global};
 use std::marker::Model;
 
 /// A field of a table. A field of an unsupported kind has none, and always holds `?`.
@@ -210,6 +210,25 @@ impl Schema {
             self.sequences.as_slice(),
         )?;
         Ok(Items::from_vec(lines))
+    }
+
+    /// The tables in order.
+    pub fn table_defs(&self) -> &[TableDef]
+        ensures { result.now ≡ self.now.tables }
+    {
+        self.tables.as_slice()
+    }
+
+    /// For each table true and for each sequence false, in the order of the file.
+    pub fn order(&self) -> &[bool]
+        ensures { result.now ≡ self.now.order }
+    {
+        self.order.as_slice()
+    }
+
+    /// The allocator that the schema takes its memory from.
+    pub fn allocator(&self) -> Global {
+        self.tables.allocator()
     }
 
     /// The sequences in order.

@@ -46,8 +46,9 @@ fn field_room(value: &Value) -> usize {
     }
 }
 
-/// Writes the bytes of a field to the end of the vector.
-fn push_field(bytes: &mut Vec<u8>, value: &Value) -> Result<(), AllocError>
+/// Writes the bytes of a field to the end of the vector. Out of memory is the only error. (This
+/// project's choice.)
+pub fn push_field(bytes: &mut Vec<u8>, value: &Value) -> Result<(), AllocError>
     requires { IsShort value.now }
     ensures { OnOk result (bytes.new.items ≡ bytes.old.items ++ field_bytes value.now) }
 {

@@ -14,9 +14,9 @@ use std::alloc::{AllocError, Global};
 
 /// A value, and how many bytes it was read from.
 #[derive(Drop)]
-struct FieldRead {
-    value: Value,
-    used: usize,
+pub struct FieldRead {
+    pub value: Value,
+    pub used: usize,
 }
 
 /// The row of these fields that has these bytes: `None` exactly where the bytes are those of no
@@ -50,8 +50,9 @@ fn bytes_from(bytes: &[u8], place: usize) -> &[u8]
     &bytes[place..]
 }
 
-/// Reads what a field of the kind holds at the head of the bytes.
-fn read_field(
+/// Reads what a field of the kind holds at the head of the bytes: `None` exactly where they begin
+/// with no value of the field. Out of memory is the only error. (This project's choice.)
+pub fn read_field(
     alloc: Global,
     kind: Option<Kind>,
     bytes: &[u8],
