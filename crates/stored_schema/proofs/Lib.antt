@@ -1,0 +1,11 @@
+pub mod Names
+pub mod Values
+pub mod Lengths
+pub mod Live
+pub mod Agreed
+pub mod SeenFields
+pub mod Itself
+pub mod SeenLaid
+pub mod LaidOut
+pub mod SeenBy
+pub mod SameIndexes

@@ -1,0 +1,6 @@
+use Rattle.std.proofs.Common.{sym}
+use Rattle.stored_schema.proofs.Lengths.{sequences-differ}
+use Rattle.stored_schema.proofs.agreement.same_sequences.Goals as goal
+
+pub returns-then-a-b : goal.returns-then-a-b
+returns-then-a-b c = sym (sequences-differ c.args.a.now c.args.b.now c.if-a-b.true)
