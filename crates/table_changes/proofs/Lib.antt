@@ -1,0 +1,4 @@
+pub mod Numbers
+pub mod Dropped
+pub mod Added
+pub mod Kept
