@@ -2,6 +2,9 @@
 use Rattle.std.specs.Prelude.{◌-◌, ℕ, zero, suc, ◌==◌, nat_lt, if◌then◌else◌, List, [], ◌∷◌, ◌++◌, length, map, Option, Some, None}
 use Rattle.abl_base.specs.declared.value.Value.TheVariants.{Unknown}
 use Rattle.abl_values.specs.declared.schema.FieldDef.{FieldDef}
+use Rattle.abl_values.specs.declared.schema.IndexDef.{IndexDef}
+use Rattle.abl_values.specs.declared.schema.KeyPart.{KeyPart}
+use Rattle.abl_values.specs.declared.schema.TableDef.{TableDef}
 use Rattle.stored_fields.specs.declared.field.StoredField.{StoredField}
 use Rattle.stored_schema.specs.Laid.{stored_as}
 
@@ -41,3 +44,20 @@ stored_after n f = with_number (live_after n f.live) f
 -- the table without field `n`
 abbrev pub without_field : ℕ → StoredTable → StoredTable
 without_field n t = record { fields = without n t.fields; stored = map (stored_after n) t.stored }
+
+-- ---- the table with its indexes
+
+-- one field more
+abbrev pub table_with : FieldDef → TableDef → TableDef
+table_with f t = record t { fields = t.fields ++ f ∷ [] }
+
+-- a component where field `n` is dropped
+abbrev pub part_after : ℕ → KeyPart → KeyPart
+part_after n p = record p { field = number_after n p.field }
+
+abbrev pub index_after : ℕ → IndexDef → IndexDef
+index_after n i = record i { parts = map (part_after n) i.parts }
+
+-- one field less; the components of indexes keep their fields
+abbrev pub table_without : ℕ → TableDef → TableDef
+table_without n t = record t { fields = without n t.fields; indexes = map (index_after n) t.indexes }
