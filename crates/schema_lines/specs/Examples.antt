@@ -5,7 +5,7 @@ use Rattle.abl_base.specs.declared.value.Kind.TheVariants.{Character, Integer, L
 use Rattle.text_values.specs.TextValues.{number_in}
 use Rattle.schema_lines.specs.declared.item.Head.TheVariants.{Malformed, Table, Field, Sequence}
 use Rattle.schema_lines.specs.declared.item.Line.TheVariants.{Begins, Says, Skipped}
-use Rattle.schema_lines.specs.declared.item.Attribute.TheVariants.{Format, IndexField, Order, Primary, Word}
+use Rattle.schema_lines.specs.declared.item.Attribute.TheVariants.{Format, Increment, IndexField, Order, Primary, Word}
 use Rattle.schema_lines.specs.Lines.{lines_of, trimmed}
 use Rattle.schema_lines.specs.Numbers.{long_number, small_number}
 use Rattle.schema_lines.specs.Forms.{said}
@@ -47,6 +47,18 @@ a_component : said (codes "INDEX-FIELD \"f\" DESCENDING ABBREVIATED")
     ≡ Says (IndexField (Some (record { field = codes "f"; descending = true })))
 unfolding said
 a_component = refl
+
+an_increment : said (codes "INCREMENT -2 x") ≡ Says (Increment (Some (negsuc 1)))
+unfolding said
+an_increment = refl
+
+an_increment_in_quotation_marks : said (codes "INCREMENT \"2\"") ≡ Says (Increment (Some (pos 2)))
+unfolding said
+an_increment_in_quotation_marks = refl
+
+an_increment_with_a_blank : said (codes "INCREMENT \" 2\"") ≡ Says (Increment None)
+unfolding said
+an_increment_with_a_blank = refl
 
 a_label : said (codes "LABEL \"Items\"") ≡ Skipped
 unfolding said

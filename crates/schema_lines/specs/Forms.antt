@@ -118,7 +118,7 @@ index_or_sequence_line line =
     else if begins (codes "PRIMARY") line then Says Primary
     else if begins (codes "WORD") line then Says Word
     else if begins (codes "INDEX-FIELD") line then Says (IndexField (component (quote_of (after_word line))))
-    else if begins (codes "INCREMENT") line then Says (Increment (long_number (word_of (after_word line))))
+    else if begins (codes "INCREMENT") line then Says (Increment (long_number (text_given (given (after_word line)))))
     else Skipped
 
 -- a line that begins no item

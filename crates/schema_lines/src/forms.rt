@@ -3,6 +3,7 @@
 ghost use Rattle.std.specs.Prelude.{◌≡◌, IfOk, Some};
 ghost use Rattle.schema_lines.specs.Lines.{quote_of, quoted_bytes, word_of};
 ghost use Rattle.schema_lines.specs.Forms.{added, attribute_line, component, field_head, given, index_head, index_or_sequence_line, kind_named, quoted_given, said, sequence_head, table_head, text_given, word_given};
+ghost use Rattle.schema_lines.specs.Numbers.{long_number};
 
 use crate::item::{Attribute, Component, Given, Head, Line};
 use crate::lines::{after_quote, after_word, begins, past_word, quoted_bytes, word_of};
@@ -192,6 +193,14 @@ fn text_given(alloc: Global, rest: &[u8]) -> Result<Bytes, AllocError>
     }
 }
 
+/// The number of a sequence, in quotation marks or as a word.
+fn number_given(alloc: Global, rest: &[u8]) -> Result<Option<i64>, AllocError>
+    ensures { IfOk result (λ number. number ≡ long_number (text_given (given rest.now))) }
+{
+    let text = text_given(alloc, rest)?;
+    Ok(long_number(text.as_slice()))
+}
+
 /// A field in quotation marks and its direction.
 fn component(alloc: Global, rest: &[u8]) -> Result<Option<Component>, AllocError>
     ensures { IfOk result (λ part. part ≡ component (quote_of rest.now)) }
@@ -252,7 +261,7 @@ fn index_or_sequence_line(alloc: Global, line: &[u8]) -> Result<Line, AllocError
     } else if begins(b"INDEX-FIELD", line) {
         Ok(Line::Says(Attribute::IndexField(component(alloc, rest)?)))
     } else if begins(b"INCREMENT", line) {
-        Ok(Line::Says(Attribute::Increment(long_number(word_of(rest)))))
+        Ok(Line::Says(Attribute::Increment(number_given(alloc, rest)?)))
     } else {
         Ok(Line::Skipped)
     }
