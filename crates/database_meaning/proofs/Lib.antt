@@ -12,3 +12,4 @@ pub mod Unchanged
 pub mod RowsFit
 pub mod AnswersFit
 pub mod OneAnswer
+pub mod Moments

@@ -13,10 +13,10 @@ use Rattle.database_protocol.specs.declared.answer.Answer.{Answer}
 use Rattle.database_protocol.specs.declared.answer.Answer.TheVariants.{Row as RowAnswer, Inserted, Committed, Deadlock, TraceFull}
 use Rattle.database_meaning.specs.Setting.{Setting, has_key}
 use Rattle.database_meaning.specs.State.{State, view, lock_of, depth_of}
-use Rattle.database_meaning.specs.Waiting.{row_in}
+use Rattle.database_meaning.specs.Waiting.{HasNoCycle, WaitsFor, row_in}
 use Rattle.database_meaning.specs.Answers.{ByTable}
 use Rattle.database_meaning.specs.Fits.{Fits}
-use Rattle.database_meaning.specs.Traces.{IsLegal, left_by, is_committed}
+use Rattle.database_meaning.specs.Traces.{HasUniqueKeys, IsLegal, left_by, is_committed}
 
 -- ---- locks and overlays
 
@@ -61,6 +61,28 @@ ReadsAsCommitted f contents =
     → AllStayOpen c later
     → (get ((left_by f contents before).client c).overlay row.0 ≡ Some (row_in table values))
     ⊎ (get (left_by f contents (before ++ read_event c table row values ∷ later)).committed row.0 ≡ row_in table values)
+
+-- ---- each moment of a trace
+
+-- no client waits for itself, directly or over others; exclusive locks, overlays and reserved keys of different clients
+-- are apart; no two committed rows have one unique key
+pub record IsIsolated (f : Setting) (s : State) : Type 0 where
+  pub no_cycle : HasNoCycle (WaitsFor f s)
+  pub exclusive : IsExclusive s
+  pub overlays : HasApartOverlays s
+  pub reserved_keys : HasApartKeys s
+  pub committed : HasUniqueKeys f s.committed
+
+-- it holds at each moment of the trace, and at each moment up to its transaction's commit a locked read is as ReadsAsCommitted says
+pub record IsIsolatedThroughout (f : Setting) (contents : Contents) (trace : List Event) : Type 0 where
+  pub moments : (before later : List Event) → trace ≡ before ++ later → IsIsolated f (left_by f contents before)
+  pub reads :
+      (before open_still later : List Event) (c table : ℕ) (row : RowId) (values : List Value)
+      → trace ≡ before ++ read_event c table row values ∷ open_still ++ later
+      → HasLockInside (left_by f contents before) c row.0
+      → AllStayOpen c open_still
+      → (get ((left_by f contents before).client c).overlay row.0 ≡ Some (row_in table values))
+      ⊎ (get (left_by f contents (before ++ read_event c table row values ∷ open_still)).committed row.0 ≡ row_in table values)
 
 -- ---- answers
 

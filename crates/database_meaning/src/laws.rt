@@ -1,13 +1,13 @@
 //! Laws that hold over every legal trace of the database machine. Each is the contract of a
 //! function that does nothing.
 
-ghost use Rattle.std.specs.Prelude.{◌⊎◌, ◌≡◌, ℕ, List, false};
+ghost use Rattle.std.specs.Prelude.{◌⊎◌, ◌≡◌, ◌++◌, ℕ, List, false};
 ghost use Rattle.database_meaning.specs.Setting.{Setting};
 ghost use Rattle.database_meaning.specs.State.{State};
 ghost use Rattle.database_meaning.specs.Waiting.{HasNoCycle, WaitsFor, Closes, IsCycle};
 ghost use Rattle.database_meaning.specs.Traces.{IsLegal, left_by, HasUniqueKeys};
 ghost use Rattle.database_meaning.specs.Steps.{is_success, after};
-ghost use Rattle.database_meaning.specs.Laws.{IsExclusive, HasApartOverlays, HasApartKeys, ReadsAsCommitted, AnswersFit, IsUnchanged, HasOneAnswer};
+ghost use Rattle.database_meaning.specs.Laws.{IsIsolatedThroughout, IsExclusive, HasApartOverlays, HasApartKeys, ReadsAsCommitted, AnswersFit, IsUnchanged, HasOneAnswer};
 ghost use Rattle.database_meaning.specs.declared.contents.Contents.{Contents as Opening};
 ghost use Rattle.database_protocol.specs.declared.event.Event.{Event as TraceEvent};
 ghost use Rattle.database_protocol.specs.declared.operation.Op.{Op as Asked};
@@ -36,6 +36,18 @@ pub fn keys_are_apart()
 /// order of their commits.
 pub fn locked_reads_are_serial()
     ensures { (f : Setting) (contents : Opening) → ReadsAsCommitted f contents }
+{}
+
+/// What a trace was before some of its events is legal where the trace is.
+pub fn prefixes_are_legal()
+    ensures { (f : Setting) (contents : Opening) (before later : List TraceEvent) → IsLegal f contents (before ++ later) → IsLegal f contents before }
+{}
+
+/// At each moment of a trace no client waits for itself, exclusive locks, overlays and reserved keys of
+/// different clients are apart, and unique keys are unique. What a client reads under a lock inside a
+/// transaction is its own change, or what is committed for the row up to its commit.
+pub fn legal_traces_are_isolated()
+    ensures { (f : Setting) (contents : Opening) (trace : List TraceEvent) → IsLegal f contents trace → IsIsolatedThroughout f contents trace }
 {}
 
 /// Where waiting would close a cycle, some cycle of different clients begins with the caller, so that
