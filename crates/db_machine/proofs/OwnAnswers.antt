@@ -7,6 +7,7 @@ use Rattle.database_protocol.specs.declared.answer.Answer.TheVariants.{Refused, 
 use Rattle.abl_values.specs.Schema.{SchemaData}
 use Rattle.database_meaning.specs.Fits.{Fits, IsNoEnd, IsOwnAnswer}
 use Rattle.db_machine.specs.OwnAnswers.{IsEntryAnswer, IsOpenAnswer}
+use Rattle.db_machine.specs.Replies.{IsFitted}
 
 pub insert_entry : (schema : SchemaData) (table : ℕ) (values : _) (a : Answer) → IsEntryAnswer schema table a → IsOwnAnswer schema (Insert table values) a
 insert_entry schema table values (KeyTooLong index) h = h
@@ -90,6 +91,31 @@ open_unrefused schema op a (other, inr own) is = refused_is_not schema op (subst
 pub open_unclosed : (schema : SchemaData) (op : Op) (a : Answer) → IsOpenAnswer schema op a → a ≢ Closed
 open_unclosed schema op a (other, inl full) is = let clash : TraceFull ≡ Closed = sym full ∙ is in cc
 open_unclosed schema op a (other, inr own) is = closed_is_not schema op (subst (IsOwnAnswer schema op) is own)
+
+memory_is_not : (schema : SchemaData) (op : Op) → ¬ IsOwnAnswer schema op NoMemory
+memory_is_not schema Enter h = h
+memory_is_not schema (Leave keep) h = h
+memory_is_not schema (Back depth) h = h
+memory_is_not schema (Next table index prefix cursor forward) h = h
+memory_is_not schema (Get table row) h = h
+memory_is_not schema (Lock table row exclusive wait) h = h
+memory_is_not schema (Insert table values) h = h
+memory_is_not schema (Put table row values) h = h
+memory_is_not schema (Delete table row) h = h
+memory_is_not schema (DropLock row) h = h
+memory_is_not schema (NextValue sequence) h = h
+memory_is_not schema (CurrentValue sequence) h = h
+memory_is_not schema End h = h
+
+pub open_met : (schema : SchemaData) (op : Op) (a : Answer) → IsOpenAnswer schema op a → a ≢ NoMemory
+open_met schema op a (other, inl full) is = let clash : TraceFull ≡ NoMemory = sym full ∙ is in cc
+open_met schema op a (other, inr own) is = memory_is_not schema op (subst (IsOwnAnswer schema op) is own)
+
+-- the decided answer of an operation, or TraceFull
+pub fitted_from : (schema : SchemaData) (size : ℕ) (op o : Op) (decided a : Answer) → op ≡ o → IsNoEnd o → IsOwnAnswer schema o decided → IsFitted size op decided a → IsOpenAnswer schema op a
+fitted_from schema size op o decided a is other own (inl fitted) =
+    (subst IsNoEnd (sym is) other, inr (subst (λ (x : Answer). IsOwnAnswer schema op x) (sym fitted.1) (subst (λ (x : Op). IsOwnAnswer schema x decided) (sym is) own)))
+fitted_from schema size op o decided a is other own (inr full) = (subst IsNoEnd (sym is) other, inl full.1)
 
 -- End is not prepared: its answer is Done
 pub not_end : (op : Op) → op ≢ End → IsNoEnd op

@@ -1,4 +1,5 @@
 pub mod OwnAnswers
+pub mod Memory
 pub mod Replies
 pub mod Running
 pub mod Machine

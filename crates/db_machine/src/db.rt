@@ -1,12 +1,13 @@
 //! The database.
 
 ghost use Rattle.std.specs.Prelude.{◌≡◌, ◌≢◌, ◌⊎◌, ◌<◌, ◌≤◌, ◌+◌, ◌↔◌, ◌||◌, ◌++◌, ◌∷◌, [], ℕ, None, IfErr, IfOk, IfSome, IsTrue, false, true, length, replicate, slice_get, vec_capacity, vec_len};
-ghost use Rattle.database_protocol.specs.declared.answer.Answer.TheVariants.{Closed};
+ghost use Rattle.database_protocol.specs.declared.answer.Answer.TheVariants.{Closed, NoMemory};
 ghost use Rattle.database_interface.specs.Step.{IsRefusedRightly, event_of};
 ghost use Rattle.database_meaning.specs.declared.contents.Contents.{Contents};
 ghost use Rattle.database_meaning.specs.Fits.{Fits};
 ghost use Rattle.database_meaning.specs.Laws.{HasApartKeys, HasApartOverlays, IsExclusive, ReadsAsCommitted};
 ghost use Rattle.database_meaning.specs.Setting.{Setting};
+ghost use Rattle.database_meaning.specs.State.{depth_of};
 ghost use Rattle.database_meaning.specs.Steps.{is_closed};
 ghost use Rattle.database_meaning.specs.Waiting.{HasNoCycle, WaitsFor};
 ghost use Rattle.database_meaning.specs.Traces.{IsLegal, IsSoundContents, left_by};
@@ -15,6 +16,7 @@ ghost use Rattle.db_core.specs.Crashes.{StartsFrom, Survives};
 ghost use Rattle.db_core.specs.Opening.{IsNew, IsOpened as IsStoreOpened};
 ghost use Rattle.db_core.specs.Represents.{blocked_in, marks_in};
 ghost use Rattle.db_machine.specs.Database.{HasSetting, IsActive, IsBlocked, IsOpened};
+ghost use Rattle.db_machine.specs.Memory.{MayLackMemory};
 
 use crate::running::Running;
 use crate::steps::answer;
@@ -112,8 +114,9 @@ impl<R: RowStore + Drop> Db<R> {
     }
 
     /// Answers the operation of a client that has not ended, and adds one event to the trace. None
-    /// means that there is no memory for the event; then nothing happened. Closed is the answer only
-    /// after an earlier Closed, or where the disk has failed in this step.
+    /// means that there is no memory for the event; then nothing happened. NoMemory is never the answer
+    /// to End, Back, Drop, the Leave of an inner level, or a commit that names no row whose lock stays.
+    /// Closed is the answer only after an earlier Closed, or where the disk has failed in this step.
     pub fn execute(&mut self, client: u16, op: Op) -> Option<Answer>
         requires { IsActive self.old client }
         ensures event { IfSome result (λ answer. self.new.trace ≡ self.old.trace ++ event_of client op answer ∷ []) }
@@ -121,6 +124,7 @@ impl<R: RowStore + Drop> Db<R> {
         ensures end { result ≡ None → op ≢ Op.End }
         ensures refused { (f : Setting) → HasSetting self.old f → IfSome result (λ answer. IsRefusedRightly f self.old.trace (IsBlocked self.old client) client op answer) }
         ensures fits { (f : Setting) → HasSetting self.old f → IfSome result (λ answer. Fits f.schema op answer) }
+        ensures memory { (f : Setting) (contents : Contents) → HasSetting self.old f → IfSome result (λ answer. answer ≡ NoMemory → MayLackMemory (depth_of (left_by f contents self.old.trace) client) op) }
         ensures closed { IfSome result (λ answer. answer ≡ Closed → IsTrue self.old.closed ⊎ IsTrue (R.RowStore.state self.new.rows).failed) }
         ensures active { op ≢ Op.End → IsActive self.new client }
         ensures others { (other : ℕ) → other ≢ client → IsActive self.old other → IsActive self.new other }

@@ -1,17 +1,23 @@
 //! The answers to Enter, Leave and Back.
 
-ghost use Rattle.std.specs.Prelude.{◌≡◌, ◌<◌, ◌≤◌, ◌+◌, ◌^◌, IfOk, IsErrOf, OnErr, length, false, IsTrue};
+ghost use Rattle.std.specs.Prelude.{◌≡◌, ◌<◌, ◌≤◌, ◌+◌, ◌^◌, ℕ, [], IfOk, IsErrOf, OnErr, OnOk, length, false, true, IsTrue};
 ghost use Rattle.abl_base.specs.declared.limits.TheConstants.{MAX_TRACE_BYTES as MOST};
+ghost use Rattle.database_meaning.specs.Setting.{Setting};
+ghost use Rattle.database_meaning.specs.State.{State};
+ghost use Rattle.database_meaning.specs.Steps.{is_outermost};
 ghost use Rattle.database_meaning.specs.Traces.{is_committed};
+ghost use Rattle.row_store.specs.Rows.{AfterError, IsObservable, OnlyDisk};
 ghost use Rattle.db_core.specs.Crashes.{Continues, StaysDurable};
 ghost use Rattle.db_core.specs.Keeps.{Stays};
-ghost use Rattle.db_core.specs.Represents.{IsSound, marks_at};
+ghost use Rattle.db_core.specs.Moves.{AreStaying};
+ghost use Rattle.db_core.specs.Represents.{IsSound, Represents, marks_at};
 ghost use Rattle.db_machine.specs.Crashes.{answer_for};
 ghost use Rattle.db_machine.specs.Machine.{IsSome};
 ghost use Rattle.db_machine.specs.OwnAnswers.{IsOpenAnswer};
 ghost use Rattle.db_machine.specs.Replies.{IsReply};
 
-use crate::replies::{Reply, is_refusal, prepare};
+use crate::replies::{Reply, fit_copies, is_refusal, prepare};
+use abl_base::Items;
 use abl_values::Schema;
 use database_protocol::{Answer, Op, RowIds};
 use db_core::Control;
@@ -80,12 +86,13 @@ pub(crate) fn answer_back<R: RowStore>(
     ensures copy { IfOk result (λ reply. reply.copy ≡ reply.answer) }
     ensures own { IfOk result (λ reply. IsOpenAnswer schema.now op.now reply.answer) }
     ensures stays { OnErr result (Stays (R.RowStore.state rows.old) (R.RowStore.state rows.new) control.old control.new client) }
+    ensures only { OnlyDisk result }
     ensures memory { IsErrOf result RowFault.NoMemory → (R.RowStore.state rows.new).failed ≡ (R.RowStore.state rows.old).failed }
     ensures disk { IsErrOf result RowFault.Disk → IsTrue (R.RowStore.state rows.new).failed }
     ensures durable { StaysDurable (R.RowStore.state rows.old) (R.RowStore.state rows.new) (R.RowStore.left rows.old) (R.RowStore.left rows.new) (R.RowStore.times rows.old) (R.RowStore.times rows.new) }
     ensures since { (R.RowStore.times rows.new).since ≡ (R.RowStore.times rows.old).since }
 {
-    let reply = prepare(schema, size, op, Answer::Done)?;
+    let reply = fit_copies(size, op, Answer::Done, Answer::Done);
     if is_refusal(&reply.answer) {
         end_request(control, client);
         return Ok(reply);
@@ -117,19 +124,42 @@ pub(crate) fn answer_inner_leave<R: RowStore>(
     ensures copy { IfOk result (λ reply. reply.copy ≡ reply.answer) }
     ensures own { IfOk result (λ reply. IsOpenAnswer schema.now op.now reply.answer) }
     ensures stays { OnErr result (Stays (R.RowStore.state rows.old) (R.RowStore.state rows.new) control.old control.new client) }
+    ensures only { OnlyDisk result }
     ensures memory { IsErrOf result RowFault.NoMemory → (R.RowStore.state rows.new).failed ≡ (R.RowStore.state rows.old).failed }
     ensures disk { IsErrOf result RowFault.Disk → IsTrue (R.RowStore.state rows.new).failed }
     ensures durable { StaysDurable (R.RowStore.state rows.old) (R.RowStore.state rows.new) (R.RowStore.left rows.old) (R.RowStore.left rows.new) (R.RowStore.times rows.old) (R.RowStore.times rows.new) }
     ensures since { (R.RowStore.times rows.new).since ≡ (R.RowStore.times rows.old).since }
     ensures uncommitted { IfOk result (λ reply. is_committed reply.answer ≡ false) }
 {
-    let reply = prepare(schema, size, op, Answer::Done)?;
+    let reply = fit_copies(size, op, Answer::Done, Answer::Done);
     if is_refusal(&reply.answer) {
         end_request(control, client);
         return Ok(reply);
     }
     leave(control, client);
     Ok(reply)
+}
+
+/// Those rows of a Leave's `keep` on which the client's locks stay when it commits. Where it names
+/// none, no memory is taken.
+fn rows_to_keep<R: RowStore>(
+    alloc: Global,
+    rows: &mut R,
+    control: &Control,
+    keep: &RowIds,
+) -> Result<RowIds, RowFault>
+    ensures staying { IfOk result (λ staying. (f : Setting) (s : State) (c : ℕ) → Represents f (R.RowStore.state rows.old) control.now s → IsObservable (R.RowStore.state rows.old) →
+        is_outermost s c ≡ true → AreStaying s c keep.now staying) }
+    ensures only { keep.now ≡ [] → OnlyDisk result }
+    ensures same { OnOk result (R.RowStore.state rows.new ≡ R.RowStore.state rows.old) }
+    ensures err { AfterError (R.RowStore.state rows.old) (R.RowStore.state rows.new) result }
+    ensures durable { StaysDurable (R.RowStore.state rows.old) (R.RowStore.state rows.new) (R.RowStore.left rows.old) (R.RowStore.left rows.new) (R.RowStore.times rows.old) (R.RowStore.times rows.new) }
+    ensures since { (R.RowStore.times rows.new).since ≡ (R.RowStore.times rows.old).since }
+{
+    if keep.len() == 0 {
+        return Ok(Items::empty(alloc));
+    }
+    staying_rows(alloc, rows, control, keep)
 }
 
 /// Answers a Leave of the outermost level.
@@ -158,17 +188,23 @@ pub(crate) fn answer_commit<R: RowStore>(
     ensures copy { IfOk result (λ reply. reply.copy ≡ reply.answer) }
     ensures own { IfOk result (λ reply. IsOpenAnswer schema.now op.now reply.answer) }
     ensures stays { OnErr result (Stays (R.RowStore.state rows.old) (R.RowStore.state rows.new) control.old control.new client) }
+    ensures only { keep.now ≡ [] → OnlyDisk result }
     ensures memory { IsErrOf result RowFault.NoMemory → (R.RowStore.state rows.new).failed ≡ (R.RowStore.state rows.old).failed }
     ensures disk { IsErrOf result RowFault.Disk → IsTrue (R.RowStore.state rows.new).failed }
     ensures durable { Continues (R.RowStore.state rows.old) (R.RowStore.state rows.new) (R.RowStore.left rows.old) (R.RowStore.left rows.new) (R.RowStore.times rows.old) (R.RowStore.times rows.new) control.old client op.now (answer_for result) }
     ensures since { (R.RowStore.times rows.new).since ≡ (R.RowStore.times rows.old).since }
 {
-    let reply = prepare(schema, size, op, Answer::Committed { moment: 0 })?;
+    let reply = fit_copies(
+        size,
+        op,
+        Answer::Committed { moment: 0 },
+        Answer::Committed { moment: 0 },
+    );
     if is_refusal(&reply.answer) {
         end_request(control, client);
         return Ok(reply);
     }
-    let staying = staying_rows(alloc, rows, control, keep)?;
+    let staying = rows_to_keep(alloc, rows, control, keep)?;
     let moment = commit(rows, control, client, &staying)?;
     Ok(Reply {
         answer: Answer::Committed { moment },

@@ -9,7 +9,7 @@ ghost use Rattle.database_meaning.specs.Steps.{blocked_after};
 ghost use Rattle.database_meaning.specs.Setting.{Setting, increment_of};
 ghost use Rattle.database_meaning.specs.State.{State};
 ghost use Rattle.database_meaning.specs.Traces.{is_committed};
-ghost use Rattle.row_store.specs.Rows.{AfterError, IsObservable};
+ghost use Rattle.row_store.specs.Rows.{AfterError, IsObservable, OnlyDisk};
 ghost use Rattle.db_core.specs.Crashes.{StaysDurable};
 ghost use Rattle.db_core.specs.Keeps.{Stays};
 ghost use Rattle.db_core.specs.Represents.{IsSound, Represents};
@@ -17,7 +17,7 @@ ghost use Rattle.db_machine.specs.Machine.{IsSome};
 ghost use Rattle.db_machine.specs.OwnAnswers.{IsOpenAnswer};
 ghost use Rattle.db_machine.specs.Replies.{AsksWhatIs, IsReply};
 
-use crate::replies::{Reply, is_refusal, prepare};
+use crate::replies::{Reply, fit_copies, is_refusal, prepare};
 use abl_base::RowId;
 use abl_values::Schema;
 use database_protocol::{Answer, Op};
@@ -176,12 +176,13 @@ pub(crate) fn answer_drop<R: RowStore>(
     ensures copy { IfOk result (λ reply. reply.copy ≡ reply.answer) }
     ensures own { IfOk result (λ reply. IsOpenAnswer schema.now op.now reply.answer) }
     ensures stays { OnErr result (Stays (R.RowStore.state rows.old) (R.RowStore.state rows.new) control.old control.new client) }
+    ensures only { OnlyDisk result }
     ensures memory { IsErrOf result RowFault.NoMemory → (R.RowStore.state rows.new).failed ≡ (R.RowStore.state rows.old).failed }
     ensures disk { IsErrOf result RowFault.Disk → IsTrue (R.RowStore.state rows.new).failed }
     ensures durable { StaysDurable (R.RowStore.state rows.old) (R.RowStore.state rows.new) (R.RowStore.left rows.old) (R.RowStore.left rows.new) (R.RowStore.times rows.old) (R.RowStore.times rows.new) }
     ensures since { (R.RowStore.times rows.new).since ≡ (R.RowStore.times rows.old).since }
 {
-    let reply = prepare(schema, size, op, Answer::Done)?;
+    let reply = fit_copies(size, op, Answer::Done, Answer::Done);
     if is_refusal(&reply.answer) {
         end_request(control, client);
         return Ok(reply);

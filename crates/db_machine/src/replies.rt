@@ -55,6 +55,24 @@ pub(crate) fn prepare(
     }
 }
 
+/// The answer, of which the caller has two copies, where the trace has room for it, or TraceFull. It
+/// takes no memory.
+pub(crate) fn fit_copies(size: u64, op: &Op, answer: Answer, copy: Answer) -> Reply
+    requires size { size ≤ MOST + 1 }
+    requires copy { copy ≡ answer }
+    ensures fitted { IsFitted size op.now answer result.answer }
+    ensures copy { result.copy ≡ result.answer }
+{
+    if has_place(size, op, &answer) {
+        Reply { answer, copy }
+    } else {
+        Reply {
+            answer: Answer::TraceFull,
+            copy: Answer::TraceFull,
+        }
+    }
+}
+
 /// Whether nothing but the client's blocked request changes after the answer.
 pub(crate) fn is_refusal(answer: &Answer) -> bool
     ensures { IsTrue result ↔ IsRefusal answer.now }

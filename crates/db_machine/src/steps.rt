@@ -2,7 +2,7 @@
 
 ghost use Rattle.std.specs.Prelude.{◌≡◌, ◌≢◌, ◌<◌, ◌≤◌, ◌+◌, ◌^◌, ◌||◌, IfOk, IsErrOf, OnErr, length, false, IsTrue, ◌⊎◌};
 ghost use Rattle.abl_base.specs.declared.limits.TheConstants.{MAX_TRACE_BYTES as MOST};
-ghost use Rattle.database_protocol.specs.declared.answer.Answer.TheVariants.{Closed, Refused};
+ghost use Rattle.database_protocol.specs.declared.answer.Answer.TheVariants.{Closed, NoMemory, Refused};
 ghost use Rattle.database_protocol.specs.declared.operation.Op.TheVariants.{End};
 ghost use Rattle.database_meaning.specs.Fits.{Fits};
 ghost use Rattle.database_meaning.specs.Setting.{increment_of};
@@ -10,9 +10,10 @@ ghost use Rattle.database_meaning.specs.Steps.{is_closed};
 ghost use Rattle.db_core.specs.Crashes.{Continues};
 ghost use Rattle.db_core.specs.Keeps.{Stays};
 ghost use Rattle.db_core.specs.Known.{IsAllowed, known, setting_at};
-ghost use Rattle.db_core.specs.Represents.{IsSound};
+ghost use Rattle.db_core.specs.Represents.{IsSound, marks_at};
 ghost use Rattle.db_machine.specs.Crashes.{StepsOn, answer_for};
 ghost use Rattle.db_machine.specs.Machine.{IsSome};
+ghost use Rattle.db_machine.specs.Memory.{MayLackMemory};
 ghost use Rattle.db_machine.specs.OwnAnswers.{IsOpenAnswer};
 ghost use Rattle.db_machine.specs.Replies.{IsReply, IsStep};
 
@@ -65,6 +66,7 @@ fn answer_allowed<R: RowStore>(
     ensures own { IfOk result (λ reply. IsOpenAnswer schema.now op.now reply.answer) }
     ensures stays { OnErr result (Stays (R.RowStore.state rows.old) (R.RowStore.state rows.new) control.old control.new client) }
     ensures memory { IsErrOf result RowFault.NoMemory → (R.RowStore.state rows.new).failed ≡ (R.RowStore.state rows.old).failed }
+    ensures lacks { IsErrOf result RowFault.NoMemory → MayLackMemory (length (marks_at control.old client)) op.now }
     ensures disk { IsErrOf result RowFault.Disk → IsTrue (R.RowStore.state rows.new).failed }
     ensures durable { Continues (R.RowStore.state rows.old) (R.RowStore.state rows.new) (R.RowStore.left rows.old) (R.RowStore.left rows.new) (R.RowStore.times rows.old) (R.RowStore.times rows.new) control.old client op.now (answer_for result) }
     ensures since { (R.RowStore.times rows.new).since ≡ (R.RowStore.times rows.old).since }
@@ -143,7 +145,9 @@ fn try_answer<R: RowStore>(
     ensures stays { OnErr result (Stays (R.RowStore.state rows.old) (R.RowStore.state rows.new) control.old control.new client) }
     ensures allowed { OnErr result (IsAllowed (setting_at schema.now control.old) (known control.old) client op.now) }
     ensures memory { IsErrOf result RowFault.NoMemory → (R.RowStore.state rows.new).failed ≡ (R.RowStore.state rows.old).failed }
+    ensures lacks { IsErrOf result RowFault.NoMemory → MayLackMemory (length (marks_at control.old client)) op.now }
     ensures disk { IsErrOf result RowFault.Disk → IsTrue (R.RowStore.state rows.new).failed }
+    ensures met { IfOk result (λ reply. reply.answer ≢ NoMemory) }
     ensures unshut { OnErr result (closed ≡ false) }
     ensures shut { IfOk result (λ reply. reply.answer ≡ Closed → IsTrue closed) }
     ensures durable { StepsOn (R.RowStore.state rows.old) (R.RowStore.state rows.new) (R.RowStore.left rows.old) (R.RowStore.left rows.new) (R.RowStore.times rows.old) (R.RowStore.times rows.new) control.old closed client op.now (answer_for result) }
@@ -193,6 +197,7 @@ fn answer_other<R: RowStore>(
     ensures copy { result.copy ≡ result.answer }
     ensures fits { Fits schema.now op.now result.answer }
     ensures fine { (closed || is_closed result.answer) ≡ false → (R.RowStore.state rows.new).failed ≡ false }
+    ensures lacks { result.answer ≡ NoMemory → MayLackMemory (length (marks_at control.old client)) op.now }
     ensures cause { result.answer ≡ Closed → IsTrue closed ⊎ IsTrue (R.RowStore.state rows.new).failed }
     ensures durable { StepsOn (R.RowStore.state rows.old) (R.RowStore.state rows.new) (R.RowStore.left rows.old) (R.RowStore.left rows.new) (R.RowStore.times rows.old) (R.RowStore.times rows.new) control.old closed client op.now result.answer }
     ensures since { (R.RowStore.times rows.new).since ≡ (R.RowStore.times rows.old).since }
@@ -239,6 +244,7 @@ fn answer_end<R: RowStore>(
     ensures copy { result.copy ≡ result.answer }
     ensures fits { Fits schema.now Op.End result.answer }
     ensures fine { (closed || is_closed result.answer) ≡ false → (R.RowStore.state rows.new).failed ≡ false }
+    ensures met { result.answer ≢ NoMemory }
     ensures cause { result.answer ≡ Closed → IsTrue closed ⊎ IsTrue (R.RowStore.state rows.new).failed }
     ensures durable { StepsOn (R.RowStore.state rows.old) (R.RowStore.state rows.new) (R.RowStore.left rows.old) (R.RowStore.left rows.new) (R.RowStore.times rows.old) (R.RowStore.times rows.new) control.old closed client Op.End result.answer }
     ensures since { (R.RowStore.times rows.new).since ≡ (R.RowStore.times rows.old).since }
@@ -282,6 +288,7 @@ pub(crate) fn answer<R: RowStore>(
     ensures copy { result.copy ≡ result.answer }
     ensures fits { Fits schema.now op.now result.answer }
     ensures fine { (closed || is_closed result.answer) ≡ false → (R.RowStore.state rows.new).failed ≡ false }
+    ensures lacks { result.answer ≡ NoMemory → MayLackMemory (length (marks_at control.old client)) op.now }
     ensures cause { result.answer ≡ Closed → IsTrue closed ⊎ IsTrue (R.RowStore.state rows.new).failed }
     ensures durable { StepsOn (R.RowStore.state rows.old) (R.RowStore.state rows.new) (R.RowStore.left rows.old) (R.RowStore.left rows.new) (R.RowStore.times rows.old) (R.RowStore.times rows.new) control.old closed client op.now result.answer }
     ensures since { (R.RowStore.times rows.new).since ≡ (R.RowStore.times rows.old).since }

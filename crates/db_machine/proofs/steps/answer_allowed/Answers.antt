@@ -1,5 +1,7 @@
-use Rattle.std.proofs.Common.{ap}
+use Rattle.std.proofs.Common.{ap, length, sym, subst}
 use Rattle.database_meaning.specs.Traces.{is_leave}
+use Rattle.db_core.specs.Represents.{marks_at}
+use Rattle.db_machine.specs.Memory.{MayLackMemory}
 use Rattle.db_machine.proofs.Crashes.{continues_by, continues_inside}
 use Rattle.db_machine.proofs.steps.answer_allowed.Goals as goal
 
@@ -42,3 +44,30 @@ returns-else-depth-eq1-clause-durable g c =
 pub returns-in-Next-clause-durable : goal.returns-in-Next-clause-durable
 returns-in-Next-clause-durable g c =
     continues_inside (g.R.RowStore.state c.args.rows.now) (g.R.RowStore.state c.answer_question.new.rows) (g.R.RowStore.left c.args.rows.now) (g.R.RowStore.left c.answer_question.new.rows) (g.R.RowStore.times c.args.rows.now) (g.R.RowStore.times c.answer_question.new.rows) c.args.control.now c.args.client c.args.op.now c.answer_question.result c.answer_question.ensures.durable c.answer_question.ensures.uncommitted
+
+pub returns-in-Enter-clause-lacks : goal.returns-in-Enter-clause-lacks
+returns-in-Enter-clause-lacks g c = λ e. subst (MayLackMemory (length (marks_at c.args.control.now c.args.client))) (sym c.in-Enter.is) tt
+
+pub returns-in-Lock-clause-lacks : goal.returns-in-Lock-clause-lacks
+returns-in-Lock-clause-lacks g c = λ e. subst (MayLackMemory (length (marks_at c.args.control.now c.args.client))) (sym c.in-Lock.is) tt
+
+pub returns-in-Insert-clause-lacks : goal.returns-in-Insert-clause-lacks
+returns-in-Insert-clause-lacks g c = λ e. subst (MayLackMemory (length (marks_at c.args.control.now c.args.client))) (sym c.in-Insert.is) tt
+
+pub returns-in-Put-clause-lacks : goal.returns-in-Put-clause-lacks
+returns-in-Put-clause-lacks g c = λ e. subst (MayLackMemory (length (marks_at c.args.control.now c.args.client))) (sym c.in-Put.is) tt
+
+pub returns-in-Delete-clause-lacks : goal.returns-in-Delete-clause-lacks
+returns-in-Delete-clause-lacks g c = λ e. subst (MayLackMemory (length (marks_at c.args.control.now c.args.client))) (sym c.in-Delete.is) tt
+
+pub returns-in-NextValue-clause-lacks : goal.returns-in-NextValue-clause-lacks
+returns-in-NextValue-clause-lacks g c = λ e. subst (MayLackMemory (length (marks_at c.args.control.now c.args.client))) (sym c.in-NextValue.is) tt
+
+pub returns-in-Back-clause-lacks : goal.returns-in-Back-clause-lacks
+returns-in-Back-clause-lacks g c = λ e. absurd (c.answer_back.ensures.only e)
+
+pub returns-in-Drop-clause-lacks : goal.returns-in-Drop-clause-lacks
+returns-in-Drop-clause-lacks g c = λ e. absurd (c.answer_drop.ensures.only e)
+
+pub returns-else-depth-eq1-clause-lacks : goal.returns-else-depth-eq1-clause-lacks
+returns-else-depth-eq1-clause-lacks g c = λ e. absurd (c.answer_inner_leave.ensures.only e)

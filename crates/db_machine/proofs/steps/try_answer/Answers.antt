@@ -2,7 +2,7 @@ use Rattle.std.proofs.Common.{◌∙◌, refl, sym, inl, false}
 use Rattle.database_protocol.specs.declared.answer.Answer.TheVariants.{Closed}
 use Rattle.db_core.proofs.LockRows.{ok_more}
 use Rattle.db_core.proofs.WriteRows.{not_so}
-use Rattle.db_machine.proofs.OwnAnswers.{not_end, open_fits, open_unclosed, open_unrefused}
+use Rattle.db_machine.proofs.OwnAnswers.{not_end, open_fits, open_met, open_unclosed, open_unrefused}
 use Rattle.db_machine.proofs.Replying.{left_false, step_closed, step_refused, step_reply}
 use Rattle.db_core.proofs.Crashes.{grows_quietly}
 use Rattle.db_machine.proofs.steps.try_answer.Goals as goal
@@ -64,3 +64,6 @@ returns-then-closed-clause-durable g c =
 pub returns-clause-durable : goal.returns-clause-durable
 returns-clause-durable g c =
     λ f contents trace represents shut h. c.answer_allowed.ensures.durable f contents trace represents (sym shut ∙ c.if-closed.false) h
+
+pub returns-clause-met : goal.returns-clause-met
+returns-clause-met g c = ok_more c.answer_allowed.result _ _ (λ reply h. open_met c.args.schema.now c.args.op.now reply.answer h) c.answer_allowed.ensures.own

@@ -1,11 +1,15 @@
-use Rattle.std.proofs.Common.{◌≡◌, ◌⊎◌, List, [], ◌∷◌, ◌++◌, sym, ap, subst, ◌∙◌, arith, vec_capacity}
+use Rattle.std.proofs.Common.{◌≡◌, ◌⊎◌, ℕ, List, [], ◌∷◌, ◌++◌, sym, ap, subst, ◌∙◌, arith, vec_capacity}
 use Rattle.database_protocol.specs.declared.answer.Answer.{Answer}
-use Rattle.database_protocol.specs.declared.answer.Answer.TheVariants.{Refused}
+use Rattle.database_protocol.specs.declared.answer.Answer.TheVariants.{NoMemory, Refused}
 use Rattle.database_protocol.specs.declared.event.Event.{Event}
 use Rattle.database_interface.specs.Step.{IsIllFormed}
+use Rattle.database_meaning.specs.State.{depth_of}
+use Rattle.database_meaning.specs.Traces.{left_by}
 use Rattle.db_core.specs.Crashes.{IsDurable}
+use Rattle.db_core.proofs.RefusalLaws.{known_depth}
 use Rattle.db_machine.specs.Database.{HasSetting, IsActive, IsBlocked, IsOpened}
 use Rattle.db_machine.specs.Machine.{Machine}
+use Rattle.db_machine.specs.Memory.{MayLackMemory}
 use Rattle.db_machine.proofs.Refusing.{rightly_refused}
 use Rattle.db_machine.proofs.Stepping.{levels_more, opened_more, reserved_more, safe_more}
 use Rattle.db_machine.proofs.db.Db.execute.Goals as goal
@@ -75,3 +79,11 @@ returns-clause-opened g c = λ f contents opened.
 
 pub returns-clause-since : goal.returns-clause-since
 returns-clause-since g c = c.answer-reply.ensures.since ∙ ap (λ (m : Machine g.row.R.Denot). (g.R.RowStore.times m.rows).since) c.self.view_is
+
+pub returns-clause-memory : goal.returns-clause-memory
+returns-clause-memory g c = λ f contents has.
+    let d = c.self.inside in
+    let m : Machine g.row.R.Denot = record { rows = d.rows; control = d.control; schema = d.schema; size = d.size; closed = d.closed; running = d.running; trace = d.trace.items } in
+    let was : HasSetting m f = subst (λ (x : Machine g.row.R.Denot). HasSetting x f) (sym c.self.view_is) has in
+    subst (λ (x : Machine g.row.R.Denot). c.answer-reply.result.answer ≡ NoMemory → MayLackMemory (depth_of (left_by f contents x.trace) c.args.client) c.args.op) c.self.view_is
+    (λ lacks. subst (λ (n : ℕ). MayLackMemory n c.args.op) (sym (known_depth d.control c.args.client) ∙ (was.levels contents).depth c.args.client) (c.answer-reply.ensures.lacks lacks))
