@@ -1,0 +1,10 @@
+pub mod Counts
+pub mod Closings
+pub mod Cuts
+pub mod Branches
+pub mod Heights
+pub mod Layers
+pub mod Resumed
+pub mod Machines
+pub mod Plain
+pub mod Added

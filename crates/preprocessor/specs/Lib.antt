@@ -1,0 +1,15 @@
+pub mod Modes
+pub mod Braces
+pub mod Names
+pub mod Words
+pub mod Directives
+pub mod Parts
+pub mod References
+pub mod Texts
+pub mod Conditions
+pub mod Places
+pub mod Expansion
+pub mod Machine
+pub mod Answers
+pub mod Laws
+pub mod Examples
