@@ -1,9 +1,12 @@
 -- What is left of a stack with one layer more, and what a turn comes to.
-use Rattle.std.proofs.Common.{◌≡◌, ℕ, ◌+◌, ◌*◌, ◌<◌, ◌≤◌, List, [], ◌∷◌, ◌++◌, length, Result, Ok, Err, sym, ap, ◌∙◌, arith}
-use Rattle.std.specs.Prelude.{IfOk}
+use Rattle.std.proofs.Common.{◌≡◌, ℕ, ◌+◌, ◌-◌, ◌*◌, ◌<◌, ◌≤◌, List, [], ◌∷◌, ◌++◌, length, take, drop, Result, Ok, Err, ap, subst, ◌∙◌, arith, length-drop}
+use Rattle.std.proofs.lemmas.List.{length-take-le}
+use Rattle.std.specs.Prelude.{IfOk, IfSome, Option, Some, None}
 use Rattle.preprocessor.specs.declared.machine.Turn.{Turn}
 use Rattle.preprocessor.specs.declared.machine.Turn.TheVariants.{Next, Ends}
+use Rattle.preprocessor.specs.declared.layer.Layer.{Layer}
 use Rattle.preprocessor.specs.declared.machine.Waiting.{Waiting}
+use Rattle.preprocessor.specs.declared.machine.Waiting.TheVariants.{Inside}
 use Rattle.preprocessor.specs.declared.texts.NamedText.{NamedText}
 use Rattle.preprocessor.specs.declared.texts.Outcome.{Outcome}
 use Rattle.preprocessor.specs.declared.texts.State.{State}
@@ -33,3 +36,17 @@ below_more a b (Ends o) h k = h
 pub ok_below : {E : Type 0} (a b : ℕ) (r : Result Turn E) → IfOk r (λ t. IsBelow a t) → a ≤ b → IfOk r (λ t. IsBelow b t)
 ok_below a b (Ok t) h k = below_more a b t h k
 ok_below a b (Err x) h k = h
+
+-- The inside of a reference is read before the rest: two bytes are behind, and one layer more waits.
+pub inside_below : (stack new : List Waiting) (outer : Layer) (tail inner : List ℕ) (n total budget : ℕ) → new ≡ stack ++ Inside outer ∷ [] → inner ≡ take n tail → outer.rest.now ≡ drop (n + 1) tail → total ≡ length tail + 1 → n < length tail → height new + 4 * length inner + 4 * budget < height stack + 4 * total + 4 * budget
+inside_below stack new outer tail inner n total budget p i r t h =
+    let a : height new ≡ height stack + (4 * length outer.rest.now + 2) = height_is new stack (Inside outer) p in
+    let b : length inner ≡ length (take n tail) = ap length i in
+    let c : length outer.rest.now ≡ length (drop (n + 1) tail) = ap length r in
+    let d : length (take n tail) ≡ n = length-take-le n tail (omega (arith, h)) in
+    let e : length (drop (n + 1) tail) ≡ length tail - (n + 1) = length-drop (n + 1) tail in
+    omega (arith, a, b, c, d, e, t, h)
+
+-- a bound of a number that is there
+pub some_below : (o : Option ℕ) (n k : ℕ) → IfSome o (λ x. x < k) → o ≡ Some n → n < k
+some_below o n k h e = let P : Option ℕ → Type 0 = λ x. IfSome x (λ y. y < k) in subst P e h
