@@ -1,5 +1,5 @@
 -- One byte more on the way to the word that ends a part.
-use Rattle.std.proofs.Common.{◌≡◌, ℕ, ◌+◌, ◌-◌, ◌<◌, ◌≤◌, Bool, true, false, if◌then◌else◌, nat_lt, List, [], ◌∷◌, Option, Some, None, refl, ap, sym, ◌∙◌, arith}
+use Rattle.std.proofs.Common.{◌≡◌, ℕ, ◌+◌, ◌-◌, ◌<◌, ◌≤◌, Bool, true, false, if◌then◌else◌, nat_lt, List, [], ◌∷◌, length, Option, Some, None, refl, ap, sym, ◌∙◌, arith}
 use Rattle.std.proofs.lemmas.Bool.{lt-ltb}
 use Rattle.preprocessor.specs.declared.mode.Mode.{Mode}
 use Rattle.preprocessor.specs.Modes.{after, begins_word, beside, inner, next_byte, opens, plain}
@@ -63,3 +63,18 @@ part_here all n last d skip m rest b tail h e k o w p =
 
 pub part_nowhere : (all : Option ℕ) (n : ℕ) (last : Bool) (d skip : ℕ) (m : Mode) (rest : List ℕ) → all ≡ more n (cut last d skip m rest) → rest ≡ [] → None ≡ all
 part_nowhere all n last d skip m rest h e = sym (h ∙ ap (λ r. more n (cut last d skip m r)) e)
+
+-- ---- what holds before each byte
+
+-- the way so far: n bytes of those up to which `all` counts, the comments and the &IFs that are open, and the bytes in all
+abbrev pub Held : Option ℕ → ℕ → Bool → ℕ → ℕ → Mode → List ℕ → ℕ → Type 0
+Held all n last d skip m rest total = (all ≡ more n (cut last d skip m rest)) × (m.comments ≤ n) × (d ≤ n) × (n + length rest ≡ total)
+
+-- the same after a byte, where what is known is named anew
+pub held_after : (all : Option ℕ) (n total : ℕ) (last : Bool) (d d2 skip skip2 : ℕ) (m m2 : Mode) (rest : List ℕ) (b : ℕ) (tail : List ℕ) → all ≡ more (n + 1) (cut last d skip m tail) → n + length rest ≡ total → rest ≡ b ∷ tail → d2 ≡ d → skip2 ≡ skip → m2 ≡ m → m2.comments ≤ n + 1 → d2 ≤ n + 1 → Held all (n + 1) last d2 skip2 m2 tail total
+held_after all n total last d d2 skip skip2 m m2 rest b tail h t e p q r c g =
+    let l : length rest ≡ length (b ∷ tail) = ap length e in
+    (h
+     ∙ ap (λ x. more (n + 1) (cut last x skip m tail)) (sym p)
+     ∙ ap (λ x. more (n + 1) (cut last d2 x m tail)) (sym q)
+     ∙ ap (λ x. more (n + 1) (cut last d2 skip2 x tail)) (sym r), c, g, omega (arith, l, t))

@@ -1,12 +1,12 @@
 -- What is left of a stack with one layer more, and what a turn comes to.
-use Rattle.std.proofs.Common.{◌≡◌, ℕ, ◌+◌, ◌-◌, ◌*◌, ◌<◌, ◌≤◌, List, [], ◌∷◌, ◌++◌, length, take, drop, Result, Ok, Err, ap, subst, ◌∙◌, arith, length-drop}
+use Rattle.std.proofs.Common.{◌≡◌, Bool, ℕ, ◌+◌, ◌-◌, ◌*◌, ◌<◌, ◌≤◌, List, [], ◌∷◌, ◌++◌, length, take, drop, Result, Ok, Err, ap, subst, ◌∙◌, arith, length-drop}
 use Rattle.std.proofs.lemmas.List.{length-take-le}
 use Rattle.std.specs.Prelude.{IfOk, IfSome, Option, Some, None}
 use Rattle.preprocessor.specs.declared.machine.Turn.{Turn}
 use Rattle.preprocessor.specs.declared.machine.Turn.TheVariants.{Next, Ends}
 use Rattle.preprocessor.specs.declared.layer.Layer.{Layer}
 use Rattle.preprocessor.specs.declared.machine.Waiting.{Waiting}
-use Rattle.preprocessor.specs.declared.machine.Waiting.TheVariants.{Inside}
+use Rattle.preprocessor.specs.declared.machine.Waiting.TheVariants.{Condition, Inside, Line}
 use Rattle.preprocessor.specs.declared.texts.NamedText.{NamedText}
 use Rattle.preprocessor.specs.declared.texts.Outcome.{Outcome}
 use Rattle.preprocessor.specs.declared.texts.State.{State}
@@ -50,3 +50,22 @@ inside_below stack new outer tail inner n total budget p i r t h =
 -- a bound of a number that is there
 pub some_below : (o : Option ℕ) (n k : ℕ) → IfSome o (λ x. x < k) → o ≡ Some n → n < k
 some_below o n k h e = let P : Option ℕ → Type 0 = λ x. IfSome x (λ y. y < k) in subst P e h
+
+-- A condition, or the line of a definition, is read before the rest; its word is behind, and one layer more waits.
+pub condition_below : (stack new : List Waiting) (outer : Layer) (bytes inner : List ℕ) (k budget : ℕ) → new ≡ stack ++ Condition outer ∷ [] → inner ≡ take k bytes → outer.rest.now ≡ drop k bytes → k ≤ length bytes → height new + 4 * length inner + 4 * budget < height stack + 4 * length bytes + 4 * budget + 2
+condition_below stack new outer bytes inner k budget p i r t =
+    let a : height new ≡ height stack + (4 * length outer.rest.now + 1) = height_is new stack (Condition outer) p in
+    let b : length inner ≡ length (take k bytes) = ap length i in
+    let c : length outer.rest.now ≡ length (drop k bytes) = ap length r in
+    let d : length (take k bytes) ≡ k = length-take-le k bytes t in
+    let e : length (drop k bytes) ≡ length bytes - k = length-drop k bytes in
+    omega (arith, a, b, c, d, e, t)
+
+pub line_below : (stack new : List Waiting) (outer : Layer) (global : Bool) (bytes inner : List ℕ) (k budget : ℕ) → new ≡ stack ++ Line outer global ∷ [] → inner ≡ take k bytes → outer.rest.now ≡ drop k bytes → k ≤ length bytes → height new + 4 * length inner + 4 * budget < height stack + 4 * length bytes + 4 * budget + 2
+line_below stack new outer global bytes inner k budget p i r t =
+    let a : height new ≡ height stack + (4 * length outer.rest.now + 1) = height_is new stack (Line outer global) p in
+    let b : length inner ≡ length (take k bytes) = ap length i in
+    let c : length outer.rest.now ≡ length (drop k bytes) = ap length r in
+    let d : length (take k bytes) ≡ k = length-take-le k bytes t in
+    let e : length (drop k bytes) ≡ length bytes - k = length-drop k bytes in
+    omega (arith, a, b, c, d, e, t)

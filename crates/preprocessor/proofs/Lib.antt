@@ -8,3 +8,4 @@ pub mod Resumed
 pub mod Machines
 pub mod Plain
 pub mod Added
+pub mod Tokenings

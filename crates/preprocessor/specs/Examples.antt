@@ -1,15 +1,19 @@
 -- Worked rows of the definition.
-use Rattle.std.specs.Prelude.{ℕ, ◌≡◌, List, [], ◌∷◌, Option, Some, None, codes, map, refl}
+use Rattle.std.specs.Prelude.{ℕ, ◌≡◌, true, false, List, [], ◌∷◌, Option, Some, None, codes, map, refl}
 use Rattle.abl_base.specs.declared.place.Place.{Place}
 use Rattle.abl_base.specs.declared.rule.Rule.TheVariants.{E1, E2, E3, E4, E5, E6, E7}
 use Rattle.preprocessor.specs.declared.texts.NamedText.{NamedText}
 use Rattle.preprocessor.specs.declared.texts.Mark.{Mark}
+use Rattle.preprocessor.specs.declared.texts.State.{State}
+use Rattle.preprocessor.specs.declared.tokens.Token.TheVariants.{Close, Open, Text, Unequal, Word}
+use Rattle.preprocessor.specs.declared.texts.Here.{Here}
 use Rattle.preprocessor.specs.declared.texts.Outcome.{Outcome}
 use Rattle.preprocessor.specs.declared.texts.Outcome.TheVariants.{Gives, Breaks, Needs}
 use Rattle.preprocessor.specs.Modes.{plain}
 use Rattle.preprocessor.specs.Places.{start}
 use Rattle.preprocessor.specs.Texts.{bytes_of}
-use Rattle.preprocessor.specs.Expansion.{expansion, layer, reads, text_of}
+use Rattle.preprocessor.specs.Conditions.{truth, truth_of}
+use Rattle.preprocessor.specs.Expansion.{branched, expansion, layer, reads, text_of}
 
 text : List ℕ → List ℕ → NamedText
 text name bytes = record { name = name; bytes = bytes }
@@ -108,19 +112,47 @@ no_such_word = refl
 
 -- ---- conditionals
 
--- the part of the first condition that holds
-chosen_part : bytes_given (expansion (source (codes "&IF 0 &THEN {x} &ELSEIF 1.0=01 &THEN b &ELSE {y} &ENDIF c"))) ≡ Some (codes " b  c")
-unfolding expansion reads text_of text source
-chosen_part = refl
+-- before any definition, with room for some bytes
+fresh : State
+fresh = record { locals = []; globals = []; branches = []; budget = 1000 }
 
--- what DEFINED gives
-defined_names : bytes_given (expansion (source (codes "&global-define A\n&if defined(a) = 1 &then b &endif"))) ≡ Some (codes "\n b ")
-unfolding expansion reads text_of text source
+-- in the source
+first_text : Here
+first_text = record { text = 0; arguments = []; left = 15 }
+
+-- Zeros at either end of a number make no difference.
+compared_numbers : truth fresh (codes "1.0=01") ≡ Some true
+unfolding fresh
+compared_numbers = refl
+
+-- what DEFINED gives where nothing is defined
+defined_names : truth_of fresh (Word (codes "defined") ∷ Open ∷ Word (codes "a") ∷ Close ∷ []) ≡ Some false
+unfolding fresh
 defined_names = refl
 
-compared_texts : bytes_given (expansion (source (codes "&if not 'A ' <> \"a\" &then b &else c &endif"))) ≡ Some (codes " b ")
-unfolding expansion reads text_of text source
+-- Small and capital letters are the same, and blanks at the end make no difference.
+compared_texts : truth_of fresh (Text (codes "A ") ∷ Unequal ∷ Text (codes "a") ∷ []) ≡ Some false
+unfolding fresh
 compared_texts = refl
+
+-- A TEXT alone is no condition.
+text_alone : truth fresh (codes "'a'") ≡ None
+unfolding fresh
+text_alone = refl
+
+no_condition : branched (layer (source [])) first_text start start fresh [] (codes "&then b &endif") None ≡ Breaks E4 0 (at 1 1)
+unfolding layer reads text_of text source first_text fresh at
+no_condition = refl
+
+-- the part of a condition that holds
+chosen_part : bytes_given (branched (layer (source [])) first_text start start fresh [] (codes "&THEN b &ELSE &ENDIF") (Some true)) ≡ Some (codes " b ")
+unfolding layer reads text_of text source first_text fresh
+chosen_part = refl
+
+-- the part of &ELSE
+other_part : bytes_given (branched (layer (source [])) first_text start start fresh [] (codes "&then &else b &endif") (Some false)) ≡ Some (codes " b ")
+unfolding layer reads text_of text source first_text fresh
+other_part = refl
 
 part_alone : expansion (source (codes "a&then &else")) ≡ Breaks E3 0 (at 1 8)
 unfolding expansion reads text_of text source at
@@ -131,14 +163,10 @@ no_end : expansion (source (codes "&if 1 &then {}")) ≡ Breaks E3 0 (at 1 1)
 unfolding expansion reads text_of text source at
 no_end = refl
 
--- a second &ELSE, where the first part is chosen
-second_else : expansion (source (codes "&if 0 &then &else a &else b &endif")) ≡ Breaks E3 0 (at 1 21)
-unfolding expansion reads text_of text source at
+-- a second &ELSE
+second_else : branched (layer (source [])) first_text start start fresh [] (codes "&then &else &else &endif") (Some false) ≡ Breaks E3 0 (at 1 13)
+unfolding layer reads text_of text source first_text fresh at
 second_else = refl
-
-text_alone : expansion (source (codes "&if 'a' &then b &endif")) ≡ Breaks E4 0 (at 1 1)
-unfolding expansion reads text_of text source at
-text_alone = refl
 
 -- ---- limits
 

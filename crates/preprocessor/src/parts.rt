@@ -96,7 +96,7 @@ fn span(word: Directive, bytes: &[u8]) -> usize
 /// `&THEN`, `&ELSEIF`, `&ELSE` or `&ENDIF` of the `&IF` that is open, or with `last` its `&ENDIF`.
 /// `None` says that there is none. Out of memory is the only error.
 pub fn part_length(alloc: Global, last: bool, bytes: &[u8]) -> Result<Option<usize>, AllocError>
-    requires { length bytes.now < 2 ^ 30 }
+    requires { length bytes.now ≤ 2 ^ 30 }
     ensures is { IfOk result (λ end. end ≡ part_length last bytes.now) }
     ensures within { IfOk result (λ end. IfSome end (λ n. n < length bytes.now)) }
 {

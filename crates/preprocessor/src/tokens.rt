@@ -1,6 +1,6 @@
 //! The tokens of a condition.
 
-ghost use Rattle.std.specs.Prelude.{◌≡◌, ◌++◌, [], IfOk, true};
+ghost use Rattle.std.specs.Prelude.{◌≡◌, ◌==◌, ◌||◌, ◌++◌, [], IfOk, true};
 ghost use Rattle.preprocessor.specs.Conditions.{escape_length, escaped, control_of, is_octal, is_sign, last_token, octal_of, sign_of, sign_rest, tokens, word_before};
 
 use crate::mode::next_byte;
@@ -85,6 +85,13 @@ fn escaped(alloc: Global, bytes: &[u8]) -> Result<Bytes, AllocError>
     }
 }
 
+// A quotation mark.
+fn is_mark(byte: u8) -> bool
+    ensures { result ≡ (byte == 34 || byte == 39) }
+{
+    byte == b'"' || byte == b'\''
+}
+
 fn is_sign(byte: u8) -> bool
     ensures { result ≡ is_sign byte }
 {
@@ -156,7 +163,7 @@ pub fn tokens(alloc: Global, bytes: &[u8]) -> Result<Items<Token>, AllocError>
         } else if is_blank(*first) {
             done = with_word(done, held)?;
             held = Items::empty(alloc);
-        } else if *first == b'"' || *first == b'\'' {
+        } else if is_mark(*first) {
             done = with_word(done, held)?;
             held = Items::empty(alloc);
             quote = *first;
