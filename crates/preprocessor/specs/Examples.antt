@@ -5,6 +5,7 @@ use Rattle.abl_base.specs.declared.rule.Rule.TheVariants.{E1, E2, E3, E4, E5, E6
 use Rattle.preprocessor.specs.declared.texts.NamedText.{NamedText}
 use Rattle.preprocessor.specs.declared.texts.Mark.{Mark}
 use Rattle.preprocessor.specs.declared.texts.State.{State}
+use Rattle.preprocessor.specs.declared.directive.Directive.TheVariants.{Else}
 use Rattle.preprocessor.specs.declared.tokens.Token.TheVariants.{Close, Open, Text, Unequal, Word}
 use Rattle.preprocessor.specs.declared.texts.Here.{Here}
 use Rattle.preprocessor.specs.declared.texts.Outcome.{Outcome}
@@ -13,7 +14,7 @@ use Rattle.preprocessor.specs.Modes.{plain}
 use Rattle.preprocessor.specs.Places.{start}
 use Rattle.preprocessor.specs.Texts.{bytes_of}
 use Rattle.preprocessor.specs.Conditions.{truth, truth_of}
-use Rattle.preprocessor.specs.Expansion.{branched, expansion, layer, reads, text_of}
+use Rattle.preprocessor.specs.Expansion.{branched, expansion, layer, part_ended, passed_by, reads, text_of}
 
 text : List ℕ → List ℕ → NamedText
 text name bytes = record { name = name; bytes = bytes }
@@ -149,8 +150,8 @@ chosen_part : bytes_given (branched (layer (source [])) first_text start start f
 unfolding layer reads text_of text source first_text fresh
 chosen_part = refl
 
--- the part of &ELSE
-other_part : bytes_given (branched (layer (source [])) first_text start start fresh [] (codes "&then &else b &endif") (Some false)) ≡ Some (codes " b ")
+-- the part of &ELSE, after one that was not chosen
+other_part : bytes_given (passed_by (layer (source [])) first_text start start fresh [] (codes " b") Else) ≡ Some (codes " b")
 unfolding layer reads text_of text source first_text fresh
 other_part = refl
 
@@ -163,8 +164,8 @@ no_end : expansion (source (codes "&if 1 &then {}")) ≡ Breaks E3 0 (at 1 1)
 unfolding expansion reads text_of text source at
 no_end = refl
 
--- a second &ELSE
-second_else : branched (layer (source [])) first_text start start fresh [] (codes "&then &else &else &endif") (Some false) ≡ Breaks E3 0 (at 1 13)
+-- &ELSE in the part of &ELSE
+second_else : part_ended (layer (source [])) first_text (at 1 5) start fresh [] (codes " b &endif") (Some true) ≡ Breaks E3 0 (at 1 5)
 unfolding layer reads text_of text source first_text fresh at
 second_else = refl
 

@@ -20,9 +20,9 @@ loop-rest-preserved c =
     let tail = take (length rest - 1) (drop 1 rest) in
     let e = split_front rest c.in-len1-up.len_at_least in
     let h = c.loop-rest.invariant.0 in
-    let comments = c.loop-rest.invariant.1.0 in
-    let depth = c.loop-rest.invariant.1.1.0 in
-    let bytes = c.loop-rest.invariant.1.1.1 in
+    let comments = c.loop-rest.invariant.1 in
+    let depth = c.loop-rest.invariant.2 in
+    let bytes = c.loop-rest.invariant.3 in
     elim c.if-skip-gt0.branch [
         then-skip-gt0 w ↦
             held_after all l.n total last l.depth k.depth (l.skip - 1) k.skip l.mode k.mode rest b tail
