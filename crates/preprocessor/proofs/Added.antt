@@ -109,7 +109,7 @@ referred_leaves texts includes here at state a (File file) = file_leaves texts i
 resolved_adds : (texts : List NamedText) (includes : Includes) (r : Reads) (here : Here) (at next : Place) (mode : Mode) (given : List Mark) (rest : List ℕ) → Including includes → Adding here r → (before : List Definition) (o : Outcome) → Adds before o → Adds before (resolved texts includes r here at next mode given rest o)
 resolved_adds texts includes r here at next mode given rest i a before o h =
     chained before o (λ marks state. given_by r here at next mode given rest (referred texts includes here at state (reading (words None false (bytes_of marks))))) h
-        (λ marks state. given_adds r here at next mode given rest a state.locals (referred texts includes here at state (reading (words None false (bytes_of marks)))) (left_as_it_was state.locals (referred texts includes here at state (reading (words None false (bytes_of marks)))) (referred_leaves texts includes here at state i (reading (words None false (bytes_of marks))))))
+    (λ marks state. given_adds r here at next mode given rest a state.locals (referred texts includes here at state (reading (words None false (bytes_of marks)))) (left_as_it_was state.locals (referred texts includes here at state (reading (words None false (bytes_of marks)))) (referred_leaves texts includes here at state i (reading (words None false (bytes_of marks))))))
 
 opened_adds : (texts : List NamedText) (includes : Includes) (r : Reads) (here : Here) (at : Place) (mode : Mode) (state : State) (given : List Mark) (bs : List ℕ) → Including includes → Adding here r → (o : Option ℕ) → Adds state.locals (opened texts includes r here at mode state given bs o)
 opened_adds texts includes r here at mode state given bs i a None = tt
@@ -131,7 +131,7 @@ made_adds r here at next state given rest global a (Some d) =
 lined_adds : (r : Reads) (here : Here) (at next : Place) (state : State) (given : List Mark) (global : Bool) (k : ℕ) (bytes : List ℕ) → Adding here r → Adds state.locals (lined r here at next state given global k bytes)
 lined_adds r here at next state given global k bytes a =
     chained state.locals (r here next inner state [] (take k bytes)) (λ marks last. made r here at (past next (take k bytes)) last given (drop k bytes) global (definition_of (maker_of global) (bytes_of marks))) (a.adds next inner state [] (take k bytes))
-        (λ marks last. made_adds r here at (past next (take k bytes)) last given (drop k bytes) global a (definition_of (maker_of global) (bytes_of marks)))
+    (λ marks last. made_adds r here at (past next (take k bytes)) last given (drop k bytes) global a (definition_of (maker_of global) (bytes_of marks)))
 
 -- ---- conditionals
 
@@ -158,7 +158,7 @@ condition_adds : (r : Reads) (here : Here) (at next : Place) (state : State) (gi
 condition_adds r here at next state given bytes a None = tt
 condition_adds r here at next state given bytes a (Some k) =
     chained state.locals (r here next in_condition state [] (take k bytes)) (λ marks last. judged r here at (past next (take k bytes)) last given (drop k bytes) (word_at (drop k bytes)) (bytes_of marks)) (a.adds next in_condition state [] (take k bytes))
-        (λ marks last. judged_adds r here at (past next (take k bytes)) last given (drop k bytes) a (word_at (drop k bytes)) (bytes_of marks))
+    (λ marks last. judged_adds r here at (past next (take k bytes)) last given (drop k bytes) a (word_at (drop k bytes)) (bytes_of marks))
 
 conditional_adds : (r : Reads) (here : Here) (at next : Place) (state : State) (given : List Mark) (bytes : List ℕ) → Adding here r → (o : Option ℕ) → Adds state.locals (conditional r here at next state given bytes o)
 conditional_adds r here at next state given bytes a None = tt

@@ -91,8 +91,11 @@ pub copied_holds : (all : Option ℕ) (n total : ℕ) (outer new : List ℕ) (m 
 copied_holds all n total outer new m m2 rest b next tail h e o c p x q g =
     let k : m.comments ≤ n = h.1 in
     let l : length rest ≡ length (b ∷ tail) = ap length e in
-    let t : n + length rest ≡ total = h.2 in
-    (copied_more all n outer m rest b tail h.0 e o c
-     ∙ ap (λ y. more (n + 1) (closing (reverse outer) (after m b y) tail)) (sym x)
-     ∙ ap (λ y. more (n + 1) (closing (reverse outer) y tail)) (sym q)
-     ∙ ap (λ y. more (n + 1) (closing (reverse y) m2 tail)) (sym p), omega (arith, k, g), omega (arith, l, t))
+    let t : n + length rest ≡ total = h.2 in (
+      copied_more all n outer m rest b tail h.0 e o c
+          ∙ ap (λ y. more (n + 1) (closing (reverse outer) (after m b y) tail)) (sym x)
+          ∙ ap (λ y. more (n + 1) (closing (reverse outer) y tail)) (sym q)
+          ∙ ap (λ y. more (n + 1) (closing (reverse y) m2 tail)) (sym p),
+      omega (arith, k, g),
+      omega (arith, l, t),
+    )

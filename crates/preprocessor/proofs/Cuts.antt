@@ -73,8 +73,12 @@ Held all n last d skip m rest total = (all ≡ more n (cut last d skip m rest)) 
 -- the same after a byte, where what is known is named anew
 pub held_after : (all : Option ℕ) (n total : ℕ) (last : Bool) (d d2 skip skip2 : ℕ) (m m2 : Mode) (rest : List ℕ) (b : ℕ) (tail : List ℕ) → all ≡ more (n + 1) (cut last d skip m tail) → n + length rest ≡ total → rest ≡ b ∷ tail → d2 ≡ d → skip2 ≡ skip → m2 ≡ m → m2.comments ≤ n + 1 → d2 ≤ n + 1 → Held all (n + 1) last d2 skip2 m2 tail total
 held_after all n total last d d2 skip skip2 m m2 rest b tail h t e p q r c g =
-    let l : length rest ≡ length (b ∷ tail) = ap length e in
-    (h
-     ∙ ap (λ x. more (n + 1) (cut last x skip m tail)) (sym p)
-     ∙ ap (λ x. more (n + 1) (cut last d2 x m tail)) (sym q)
-     ∙ ap (λ x. more (n + 1) (cut last d2 skip2 x tail)) (sym r), c, g, omega (arith, l, t))
+    let l : length rest ≡ length (b ∷ tail) = ap length e in (
+      h
+          ∙ ap (λ x. more (n + 1) (cut last x skip m tail)) (sym p)
+          ∙ ap (λ x. more (n + 1) (cut last d2 x m tail)) (sym q)
+          ∙ ap (λ x. more (n + 1) (cut last d2 skip2 x tail)) (sym r),
+      c,
+      g,
+      omega (arith, l, t),
+    )

@@ -72,7 +72,8 @@ pub plain_source : (texts : List NamedText) → is_plain (bytes_at texts 0) ≡ 
 unfolding expansion
 plain_source texts p h =
     let here : Here = record { text = 0; arguments = []; left = 15 } in
-    let first : State = at_first (length (bytes_at texts 0)) in
-    (spent first (length (bytes_at texts 0)),
-     text_is texts 0 15 [] first (bytes_at texts 0)
-     ∙ plain_layer texts here start plain first [] (bytes_at texts 0) p (omega (arith, h)) (omega (arith, h)))
+    let first : State = at_first (length (bytes_at texts 0)) in (
+      spent first (length (bytes_at texts 0)),
+      text_is texts 0 15 [] first (bytes_at texts 0)
+          ∙ plain_layer texts here start plain first [] (bytes_at texts 0) p (omega (arith, h)) (omega (arith, h)),
+    )

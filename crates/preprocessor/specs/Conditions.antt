@@ -75,10 +75,10 @@ tokens quote skip held [] = last_token quote held
 tokens quote skip held (b ∷ bs) =
     if nat_lt 0 skip then tokens quote (skip - 1) held bs
     else if nat_lt 0 quote then
-        (if b == 126 then tokens quote (escape_length bs) (held ++ escaped bs) bs
-         else if b == quote then
-            (if next_byte bs == quote then tokens quote 1 (held ++ b ∷ []) bs else Text held ∷ tokens 0 0 [] bs)
-         else tokens quote 0 (held ++ b ∷ []) bs)
+    (if b == 126 then tokens quote (escape_length bs) (held ++ escaped bs) bs
+    else if b == quote then
+    (if next_byte bs == quote then tokens quote 1 (held ++ b ∷ []) bs else Text held ∷ tokens 0 0 [] bs)
+    else tokens quote 0 (held ++ b ∷ []) bs)
     else if is_blank b then word_before held (tokens 0 0 [] bs)
     else if b == 34 || b == 39 then word_before held (tokens b 0 [] bs)
     else if is_sign b then word_before held (sign_of b (next_byte bs) ∷ tokens 0 (sign_rest b (next_byte bs)) [] bs)
@@ -109,7 +109,7 @@ abbrev pub number_at : Bool → List ℕ → List ℕ → List ℕ → Option Op
 number_at point whole fraction [] = number_of point whole fraction
 number_at point whole fraction (b ∷ bs) =
     if is_digit b then
-        (if point then number_at true whole (fraction ++ b ∷ []) bs else number_at false (whole ++ b ∷ []) fraction bs)
+    (if point then number_at true whole (fraction ++ b ∷ []) bs else number_at false (whole ++ b ∷ []) fraction bs)
     else if point then None
     else if b == 46 then number_at true whole fraction bs
     else None

@@ -39,11 +39,11 @@ abbrev pub made_of : Maker → List ℕ → Bool → List ℕ → List ℕ → L
 made_of maker name ended value pending [] = record { name = name; value = value; maker = maker }
 made_of maker name ended value pending (b ∷ bs) =
     if ended then
-        (if is_blank b then (if nat_lt 0 (length value) then made_of maker name true value (pending ++ b ∷ []) bs else made_of maker name true value pending bs)
-         else made_of maker name true ((value ++ pending) ++ b ∷ []) [] bs)
+    (if is_blank b then (if nat_lt 0 (length value) then made_of maker name true value (pending ++ b ∷ []) bs else made_of maker name true value pending bs)
+    else made_of maker name true ((value ++ pending) ++ b ∷ []) [] bs)
     else
-        (if is_blank b then made_of maker name (nat_lt 0 (length name)) value pending bs
-         else made_of maker (name ++ b ∷ []) false value pending bs)
+    (if is_blank b then made_of maker name (nat_lt 0 (length name)) value pending bs
+    else made_of maker (name ++ b ∷ []) false value pending bs)
 
 abbrev pub where_named : Definition → Option Definition
 where_named d = if is_name d.name then Some d else None

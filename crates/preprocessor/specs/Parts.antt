@@ -66,8 +66,8 @@ cut last d skip m (b ∷ bs) =
     if nat_lt 0 skip then one_more (cut last d (skip - 1) m bs)
     else if opens m b then one_more (cut last d (up_to_closing bs (closing [] inner bs)) (beside m) bs)
     else if begins_word m b then
-        (if ends_part last d (word_in m bs) then Some 0
-         else one_more (cut last (depth_after d (word_in m bs)) (span (word_in m bs) bs) plain bs))
+    (if ends_part last d (word_in m bs) then Some 0
+    else one_more (cut last (depth_after d (word_in m bs)) (span (word_in m bs) bs) plain bs))
     else one_more (cut last d 0 (after m b (next_byte bs)) bs)
 
 -- from the start of a condition or a part

@@ -43,10 +43,10 @@ file_named (b ∷ bs) arguments definitions = File (record { name = b ∷ bs; ar
 abbrev pub file_of : List ℕ → List (List ℕ) → List Definition → List (List ℕ) → Reference
 file_of name arguments definitions [] = file_named name arguments definitions
 file_of name arguments definitions (w ∷ ws) = elim (argument_of w) [
-    Wrong ↦ Faulty
+  | Wrong ↦ Faulty
   | Positional p ↦ file_of name (arguments ++ p ∷ []) definitions ws
   | Named d ↦ file_of name arguments (definitions ++ d ∷ []) ws
-  ]
+]
 
 -- one word: &NAME, a number, or a file without arguments
 abbrev pub lone : List ℕ → Reference

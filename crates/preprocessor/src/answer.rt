@@ -32,15 +32,9 @@ pub struct Expansion {
 #[derive(Drop)]
 pub enum PreFault {
     /// The first violation: its rule, the number of the text, and the place.
-    Broken {
-        rule: Rule,
-        text: u32,
-        place: Place,
-    },
+    Broken { rule: Rule, text: u32, place: Place },
     /// The first file that is met and is not among the texts.
-    Need {
-        name: Bytes,
-    },
+    Need { name: Bytes },
     NoMemory,
 }
 

@@ -258,13 +258,7 @@ fn turned(negated: bool, truth: Option<bool>) -> Option<bool>
     ensures { result ≡ turned negated truth }
 {
     match truth {
-        Some(truth) => {
-            if negated {
-                Some(!truth)
-            } else {
-                Some(truth)
-            }
-        }
+        Some(truth) => { if negated { Some(!truth) } else { Some(truth) } }
         None => None,
     }
 }

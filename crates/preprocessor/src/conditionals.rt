@@ -141,7 +141,16 @@ fn passed_over<'a>(
     };
     let at = past(next, front(bytes, k));
     let rest = after(bytes, k);
-    Ok(goes_on(texts, stack, here, Mode::at_branch(), state, given, at, rest))
+    Ok(goes_on(
+        texts,
+        stack,
+        here,
+        Mode::at_branch(),
+        state,
+        given,
+        at,
+        rest,
+    ))
 }
 
 /// In a part of an `&IF`, which is that of `&ELSE` where `last` is true.
@@ -205,7 +214,18 @@ pub fn decided<'a>(
         Directive::Then => {
             let bytes = bytes_of(alloc, marks.as_slice())?;
             let truth = truth(alloc, &state, bytes.as_slice())?;
-            branched(alloc, texts, stack, here, state, layer.given, layer.start, layer.at, layer.rest, truth)
+            branched(
+                alloc,
+                texts,
+                stack,
+                here,
+                state,
+                layer.given,
+                layer.start,
+                layer.at,
+                layer.rest,
+                truth,
+            )
         }
         Directive::Scoped
         | Directive::Global

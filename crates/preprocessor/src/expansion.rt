@@ -5,7 +5,9 @@ ghost use Rattle.preprocessor.specs.Expansion.{expansion};
 ghost use Rattle.preprocessor.specs.Machine.{IsBelow, branch_word, comes_to, meaning, measure, text_word, under, word_read, work_left};
 ghost use Rattle.preprocessor.specs.Texts.{AreTexts};
 
-use crate::conditionals::{all_ended, condition, conditional, decided, goes_on, in_part, part_ended};
+use crate::conditionals::{
+    all_ended, condition, conditional, decided, goes_on, in_part, part_ended,
+};
 use crate::definitions::{line_made, lined};
 use crate::directive::Directive;
 use crate::layer::Layer;
@@ -44,13 +46,42 @@ fn directed<'a>(
         Directive::Scoped => lined(alloc, texts, stack, here, layer, state, next, false, bytes),
         Directive::Global => lined(alloc, texts, stack, here, layer, state, next, true, bytes),
         Directive::If => {
-            conditional(alloc, texts, stack, here, state, layer.given, layer.at, next, bytes)
+            conditional(
+                alloc,
+                texts,
+                stack,
+                here,
+                state,
+                layer.given,
+                layer.at,
+                next,
+                bytes,
+            )
         }
         Directive::ElseIf | Directive::Else => {
-            part_ended(alloc, texts, stack, here, state, layer.given, layer.at, next, bytes)
+            part_ended(
+                alloc,
+                texts,
+                stack,
+                here,
+                state,
+                layer.given,
+                layer.at,
+                next,
+                bytes,
+            )
         }
         Directive::EndIf => {
-            Ok(all_ended(texts, stack, here, state, layer.given, layer.at, next, bytes))
+            Ok(all_ended(
+                texts,
+                stack,
+                here,
+                state,
+                layer.given,
+                layer.at,
+                next,
+                bytes,
+            ))
         }
         Directive::Then => Ok(Turn::Ends(Outcome::Breaks(Rule::E3, here.text, layer.at))),
         Directive::Unknown => Ok(Turn::Ends(Outcome::Breaks(Rule::E7, here.text, layer.at))),
@@ -78,14 +109,42 @@ fn passed_by<'a>(
 {
     match word {
         Directive::ElseIf => {
-            condition(alloc, texts, stack, here, state, layer.given, layer.at, next, bytes)
+            condition(
+                alloc,
+                texts,
+                stack,
+                here,
+                state,
+                layer.given,
+                layer.at,
+                next,
+                bytes,
+            )
         }
         Directive::Else => {
             let inside = in_part(true, state)?;
-            Ok(goes_on(texts, stack, here, Mode::plain(), inside, layer.given, next, bytes))
+            Ok(goes_on(
+                texts,
+                stack,
+                here,
+                Mode::plain(),
+                inside,
+                layer.given,
+                next,
+                bytes,
+            ))
         }
         Directive::EndIf => {
-            Ok(goes_on(texts, stack, here, Mode::plain(), state, layer.given, next, bytes))
+            Ok(goes_on(
+                texts,
+                stack,
+                here,
+                Mode::plain(),
+                state,
+                layer.given,
+                next,
+                bytes,
+            ))
         }
         Directive::Then
         | Directive::If

@@ -5,8 +5,8 @@ ghost use Rattle.preprocessor.specs.Expansion.{fits, spent};
 ghost use Rattle.preprocessor.specs.Machine.{IsBelow, byte_copied, comes_to, layer_continued, measure, under};
 
 use crate::layer::Layer;
-use crate::mode::next_byte;
 use crate::limits::MAX_EXPANSION_BYTES;
+use crate::mode::next_byte;
 use crate::places::moved;
 use crate::texts::{Here, Mark, NamedText, Outcome, State};
 use abl_base::{Items, Rule};

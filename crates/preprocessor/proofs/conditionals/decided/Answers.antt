@@ -17,5 +17,5 @@ returns c =
     let read : Directive → Outcome = λ w. judged (layer a.texts.now) a.here l.start l.at a.state l.given l.rest.now w (bytes_of a.marks) in
     let word = c.word_at.result in
     let wrong : read word ≡ Breaks E3 a.here.text l.at =
-        ⊎_elim (λ (e : word ≡ Scoped). ap read e) (⊎_elim (λ (e : word ≡ Global). ap read e) (⊎_elim (λ (e : word ≡ If). ap read e) (⊎_elim (λ (e : word ≡ ElseIf). ap read e) (⊎_elim (λ (e : word ≡ Else). ap read e) (⊎_elim (λ (e : word ≡ EndIf). ap read e) (λ (e : word ≡ Unknown). ap read e)))))) c.in-Scoped.is in
+    ⊎_elim (λ (e : word ≡ Scoped). ap read e) (⊎_elim (λ (e : word ≡ Global). ap read e) (⊎_elim (λ (e : word ≡ If). ap read e) (⊎_elim (λ (e : word ≡ ElseIf). ap read e) (⊎_elim (λ (e : word ≡ Else). ap read e) (⊎_elim (λ (e : word ≡ EndIf). ap read e) (λ (e : word ≡ Unknown). ap read e)))))) c.in-Scoped.is in
     record { is = breaks_at a.texts.now a.here a.stack.items E3 a.here.text l.at (condition_ended a.texts.now a.here l (Gives a.marks a.state)) (ap read (sym c.word_at.ensures) ∙ wrong); falls = omega arith }

@@ -24,27 +24,27 @@ loop-rest-preserved c =
     let depth = c.loop-rest.invariant.2 in
     let bytes = c.loop-rest.invariant.3 in
     elim c.if-skip-gt0.branch [
-        then-skip-gt0 w ↦
-            held_after all l.n total last l.depth k.depth (l.skip - 1) k.skip l.mode k.mode rest b tail
-                (skips_more all l.n last l.depth l.skip l.mode rest b tail h e w.if-skip-gt0.true) bytes e w.depth-is w.skip-is w.mode-is
-                (omega (arith, ap (λ (x : Mode). x.comments) w.mode-is, comments)) (omega (arith, w.depth-is, depth))
+      | then-skip-gt0 w ↦
+          held_after all l.n total last l.depth k.depth (l.skip - 1) k.skip l.mode k.mode rest b tail
+          (skips_more all l.n last l.depth l.skip l.mode rest b tail h e w.if-skip-gt0.true) bytes e w.depth-is w.skip-is w.mode-is
+          (omega (arith, ap (λ (x : Mode). x.comments) w.mode-is, comments)) (omega (arith, w.depth-is, depth))
       | else-skip-gt0+then-opens+in_ok-skip w ↦
-            let same : (beside l.mode).comments ≡ l.mode.comments = refl in
-            let mode : k.mode ≡ beside l.mode = w.mode-is ∙ w.beside-mode.ensures in
-            held_after all l.n total last l.depth k.depth (up_to_closing tail (closing [] inner tail)) k.skip (beside l.mode) k.mode rest b tail
-                (refers_more all l.n last l.depth l.skip l.mode rest b tail h e w.if-skip-gt0.false (sym w.opens.ensures ∙ w.if-opens.true)) bytes e w.depth-is (w.skip-is ∙ w.in_ok-skip.ensures.is) mode
-                (omega (arith, ap (λ (x : Mode). x.comments) mode, same, comments)) (omega (arith, w.depth-is, depth))
+          let same : (beside l.mode).comments ≡ l.mode.comments = refl in
+          let mode : k.mode ≡ beside l.mode = w.mode-is ∙ w.beside-mode.ensures in
+          held_after all l.n total last l.depth k.depth (up_to_closing tail (closing [] inner tail)) k.skip (beside l.mode) k.mode rest b tail
+          (refers_more all l.n last l.depth l.skip l.mode rest b tail h e w.if-skip-gt0.false (sym w.opens.ensures ∙ w.if-opens.true)) bytes e w.depth-is (w.skip-is ∙ w.in_ok-skip.ensures.is) mode
+          (omega (arith, ap (λ (x : Mode). x.comments) mode, same, comments)) (omega (arith, w.depth-is, depth))
       | else-skip-gt0+else-opens+then-begins_word+else-ends_part w ↦
-            let word = w.word_in-word.ensures in
-            let mode : k.mode ≡ plain = w.mode-is ∙ w.plain-mode-then-begins_word.ensures in
-            let none : k.mode.comments ≡ 0 = ap (λ (x : Mode). x.comments) mode in
-            held_after all l.n total last (depth_after l.depth (word_in l.mode tail)) k.depth (span (word_in l.mode tail) tail) k.skip plain k.mode rest b tail
-                (words_more all l.n last l.depth l.skip l.mode rest b tail h e w.if-skip-gt0.false (sym w.opens.ensures ∙ w.if-opens.false) (sym w.begins_word.ensures ∙ w.if-begins_word.true) (ap (λ x. ends_part last l.depth x) (sym word) ∙ sym w.ends_part.ensures ∙ w.if-ends_part.false)) bytes e
-                (w.depth-is ∙ w.depth_after-depth.ensures.is ∙ ap (λ x. depth_after l.depth x) word) (w.skip-is ∙ w.span-skip.ensures.is ∙ ap (λ x. span x tail) word) mode
-                (omega (arith, none)) (omega (arith, w.depth-is, w.depth_after-depth.ensures.grown, depth))
+          let word = w.word_in-word.ensures in
+          let mode : k.mode ≡ plain = w.mode-is ∙ w.plain-mode-then-begins_word.ensures in
+          let none : k.mode.comments ≡ 0 = ap (λ (x : Mode). x.comments) mode in
+          held_after all l.n total last (depth_after l.depth (word_in l.mode tail)) k.depth (span (word_in l.mode tail) tail) k.skip plain k.mode rest b tail
+          (words_more all l.n last l.depth l.skip l.mode rest b tail h e w.if-skip-gt0.false (sym w.opens.ensures ∙ w.if-opens.false) (sym w.begins_word.ensures ∙ w.if-begins_word.true) (ap (λ x. ends_part last l.depth x) (sym word) ∙ sym w.ends_part.ensures ∙ w.if-ends_part.false)) bytes e
+          (w.depth-is ∙ w.depth_after-depth.ensures.is ∙ ap (λ x. depth_after l.depth x) word) (w.skip-is ∙ w.span-skip.ensures.is ∙ ap (λ x. span x tail) word) mode
+          (omega (arith, none)) (omega (arith, w.depth-is, w.depth_after-depth.ensures.grown, depth))
       | else-skip-gt0+else-opens+else-begins_word w ↦
-            held_after all l.n total last l.depth k.depth l.skip k.skip (after l.mode b (next_byte tail)) k.mode rest b tail
-                (copies_more all l.n last l.depth l.skip l.mode rest b tail h e w.if-skip-gt0.false (sym w.opens.ensures ∙ w.if-opens.false) (sym w.begins_word.ensures ∙ w.if-begins_word.false)) bytes e w.depth-is w.skip-is
-                (w.mode-is ∙ w.after-mode.ensures.is ∙ ap (λ x. after l.mode b x) w.next_byte.ensures)
-                (omega (arith, ap (λ (x : Mode). x.comments) w.mode-is, w.after-mode.ensures.grown, comments)) (omega (arith, w.depth-is, depth))
+          held_after all l.n total last l.depth k.depth l.skip k.skip (after l.mode b (next_byte tail)) k.mode rest b tail
+          (copies_more all l.n last l.depth l.skip l.mode rest b tail h e w.if-skip-gt0.false (sym w.opens.ensures ∙ w.if-opens.false) (sym w.begins_word.ensures ∙ w.if-begins_word.false)) bytes e w.depth-is w.skip-is
+          (w.mode-is ∙ w.after-mode.ensures.is ∙ ap (λ x. after l.mode b x) w.next_byte.ensures)
+          (omega (arith, ap (λ (x : Mode). x.comments) w.mode-is, w.after-mode.ensures.grown, comments)) (omega (arith, w.depth-is, depth))
     ]
