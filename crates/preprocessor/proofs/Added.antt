@@ -26,7 +26,7 @@ use Rattle.preprocessor.specs.Conditions.{truth}
 use Rattle.preprocessor.specs.References.{reading}
 use Rattle.preprocessor.specs.Texts.{bytes_at, bytes_of, found, last_of}
 use Rattle.preprocessor.specs.Places.{moved, past, start}
-use Rattle.preprocessor.specs.Expansion.{Includes, Reads, after_part, all_ended, branched, chosen, closed, condition, conditional, continued, decided, defined, directed, entered, fits, given_by, in_file, in_part, included, judged, kept, lined, made, one_more_text, opened, part_ended, passed_by, passed_over, past_word, reads, referred, resolved, sized, skipped, spent, step, text_of, then_with, unopened, with_one, worded}
+use Rattle.preprocessor.specs.Expansion.{Includes, Reads, after_part, all_ended, branched, chosen, closed, condition, conditional, continued, directed, entered, fits, given_by, in_file, in_part, included, judged, kept, lined, made, one_more_text, opened, part_ended, passed_by, passed_over, past_word, reads, referred, resolved, skipped, spent, text_of, then_with, unopened, with_one, worded}
 use Rattle.preprocessor.specs.Laws.{DefinitionsEnd}
 
 -- the definitions of open texts after it are those before it, and maybe more

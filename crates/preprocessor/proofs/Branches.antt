@@ -1,5 +1,5 @@
 -- The last of the &IFs that are open, and those before it.
-use Rattle.std.proofs.Common.{◌≡◌, ℕ, suc, ◌+◌, ◌-◌, Bool, List, [], ◌∷◌, length, take, slice_get, refl, ap, ◌∙◌, arith}
+use Rattle.std.proofs.Common.{◌≡◌, ℕ, suc, ◌-◌, Bool, List, [], ◌∷◌, length, take, slice_get, refl, ap, ◌∙◌, arith}
 use Rattle.preprocessor.specs.Texts.{all_but_last, last_of}
 
 one_less : (x y : Bool) (ys : List Bool) → length (x ∷ y ∷ ys) - 1 ≡ suc (length (y ∷ ys) - 1)

@@ -1,7 +1,7 @@
 -- What is left of a stack with one layer more, and what a turn comes to.
 use Rattle.std.proofs.Common.{◌≡◌, Bool, ℕ, ◌+◌, ◌-◌, ◌*◌, ◌<◌, ◌≤◌, List, [], ◌∷◌, ◌++◌, length, take, drop, Result, Ok, Err, ap, subst, ◌∙◌, arith, length-drop}
 use Rattle.std.proofs.lemmas.List.{length-take-le}
-use Rattle.std.specs.Prelude.{IfOk, IfSome, Option, Some, None}
+use Rattle.std.specs.Prelude.{IfOk, IfSome, Option, Some}
 use Rattle.preprocessor.specs.declared.machine.Turn.{Turn}
 use Rattle.preprocessor.specs.declared.machine.Turn.TheVariants.{Next, Ends}
 use Rattle.preprocessor.specs.declared.layer.Layer.{Layer}
@@ -9,8 +9,7 @@ use Rattle.preprocessor.specs.declared.machine.Waiting.{Waiting}
 use Rattle.preprocessor.specs.declared.machine.Waiting.TheVariants.{Condition, Inside, Line}
 use Rattle.preprocessor.specs.declared.texts.NamedText.{NamedText}
 use Rattle.preprocessor.specs.declared.texts.Outcome.{Outcome}
-use Rattle.preprocessor.specs.declared.texts.State.{State}
-use Rattle.preprocessor.specs.Machine.{IsBelow, comes_to, height, measure, weight}
+use Rattle.preprocessor.specs.Machine.{IsBelow, comes_to, height, weight}
 
 pub height_push : (stack : List Waiting) (w : Waiting) → height (stack ++ w ∷ []) ≡ height stack + weight w
 unfolding height

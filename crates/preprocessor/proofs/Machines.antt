@@ -1,12 +1,11 @@
 -- Each move of the machine keeps what it comes to.
-use Rattle.std.proofs.Common.{Bool, ◌≡◌, ℕ, zero, suc, ◌+◌, ◌-◌, ◌<◌, ◌≤◌, true, false, List, [], ◌∷◌, ◌++◌, length, reverse, take, drop, nat_le, Option, Some, None, refl, ap, sym, ◌∙◌, arith, get_or}
+use Rattle.std.proofs.Common.{Bool, ◌≡◌, ℕ, ◌+◌, ◌-◌, ◌<◌, ◌≤◌, true, false, List, [], ◌∷◌, ◌++◌, length, take, drop, nat_le, Some, None, refl, ap, sym, ◌∙◌, arith, get_or}
 use Rattle.std.proofs.Math.Seq.{take-length}
 use Rattle.abl_base.specs.declared.place.Place.{Place}
 use Rattle.abl_base.specs.declared.rule.Rule.{Rule}
-use Rattle.abl_base.specs.declared.rule.Rule.TheVariants.{E1, E3, E4, E5, E6, E7}
+use Rattle.abl_base.specs.declared.rule.Rule.TheVariants.{E1, E5, E6, E7}
 use Rattle.preprocessor.specs.declared.mode.Mode.{Mode}
 use Rattle.preprocessor.specs.declared.names.Definition.{Definition}
-use Rattle.preprocessor.specs.declared.directive.Directive.{Directive}
 use Rattle.preprocessor.specs.declared.layer.Layer.{Layer}
 use Rattle.preprocessor.specs.declared.machine.Waiting.{Waiting}
 use Rattle.preprocessor.specs.declared.machine.Waiting.TheVariants.{Inside, Included, Line, Condition}
@@ -18,15 +17,14 @@ use Rattle.preprocessor.specs.declared.texts.Here.{Here}
 use Rattle.preprocessor.specs.declared.texts.Outcome.{Outcome}
 use Rattle.preprocessor.specs.declared.texts.Outcome.TheVariants.{Gives, Breaks, Needs}
 use Rattle.preprocessor.specs.declared.limits.TheConstants.{MAX_WORK_BYTES}
-use Rattle.preprocessor.specs.Modes.{after, at_branch, begins_word, beside, in_condition, inner, next_byte, opens, plain}
+use Rattle.preprocessor.specs.Modes.{after, begins_word, beside, in_condition, inner, next_byte, opens, plain}
 use Rattle.preprocessor.specs.Braces.{closing}
-use Rattle.preprocessor.specs.Names.{word_length}
 use Rattle.preprocessor.specs.Directives.{definition_of, line_length, maker_of}
-use Rattle.preprocessor.specs.Parts.{part_length, word_at, word_in, word_size}
+use Rattle.preprocessor.specs.Parts.{part_length}
 use Rattle.preprocessor.specs.Texts.{bytes_at, bytes_of, found}
 use Rattle.preprocessor.specs.Places.{moved, past, start}
-use Rattle.preprocessor.specs.Expansion.{condition, decided, defined, expansion, fits, in_file, layer, lined, made, one_more_text, opened, resolved, sized, spent, text_of, with_one, worded}
-use Rattle.preprocessor.specs.Machine.{byte_copied, condition_ended, file_ended, file_read, inside_ended, layer_continued, line_ended, reference_given, reference_opened, resumed, under, word_read}
+use Rattle.preprocessor.specs.Expansion.{condition, decided, defined, expansion, fits, in_file, layer, lined, made, one_more_text, opened, resolved, spent, text_of, with_one}
+use Rattle.preprocessor.specs.Machine.{byte_copied, condition_ended, file_ended, file_read, inside_ended, layer_continued, line_ended, reference_given, reference_opened, under, word_read}
 use Rattle.preprocessor.proofs.Layers.{layer_copied, layer_end, layer_opened, layer_worded, over, text_is, within_limit}
 use Rattle.preprocessor.proofs.Resumed.{breaks, condition_waits, file_entered, file_missing, file_too_long, file_waits, inside_waits, line_waits, needs, nothing_waits}
 

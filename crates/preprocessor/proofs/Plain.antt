@@ -1,5 +1,5 @@
 -- A text without { and & expands to itself.
-use Rattle.std.proofs.Common.{◌≡◌, ℕ, zero, suc, ◌+◌, ◌-◌, ◌<◌, ◌≤◌, Bool, true, false, not, ◌&&◌, ◌||◌, ◌==◌, nat_le, nat_lt, if◌then◌else◌, List, [], ◌∷◌, ◌++◌, length, refl, ap, sym, ◌∙◌, arith, append_assoc, length-append}
+use Rattle.std.proofs.Common.{◌≡◌, ℕ, suc, ◌+◌, ◌-◌, ◌≤◌, Bool, true, false, not, ◌&&◌, ◌||◌, ◌==◌, nat_le, nat_lt, if◌then◌else◌, List, [], ◌∷◌, ◌++◌, length, refl, ap, sym, ◌∙◌, arith, append_assoc, length-append}
 use Rattle.std.proofs.lemmas.List.{append-nil}
 use Rattle.std.proofs.lemmas.Bool.{le-leb}
 use Rattle.abl_base.specs.declared.place.Place.{Place}
@@ -9,7 +9,7 @@ use Rattle.preprocessor.specs.declared.texts.Mark.{Mark}
 use Rattle.preprocessor.specs.declared.texts.State.{State}
 use Rattle.preprocessor.specs.declared.texts.Here.{Here}
 use Rattle.preprocessor.specs.declared.texts.Outcome.TheVariants.{Gives}
-use Rattle.preprocessor.specs.declared.limits.TheConstants.{MAX_EXPANSION_BYTES, MAX_TEXT_BYTES, MAX_WORK_BYTES}
+use Rattle.preprocessor.specs.declared.limits.TheConstants.{MAX_EXPANSION_BYTES, MAX_TEXT_BYTES}
 use Rattle.preprocessor.specs.Modes.{after, begins_word, next_byte, opens, plain}
 use Rattle.preprocessor.specs.Places.{moved, start}
 use Rattle.preprocessor.specs.Texts.{bytes_at}

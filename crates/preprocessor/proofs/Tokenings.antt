@@ -1,5 +1,5 @@
 -- One byte more of the tokens of a condition, outside a TEXT.
-use Rattle.std.proofs.Common.{◌≡◌, ℕ, ◌+◌, ◌≤◌, Bool, true, false, ◌||◌, if◌then◌else◌, List, [], ◌∷◌, ◌++◌, refl, ap, sym, ◌∙◌, append_assoc, arith}
+use Rattle.std.proofs.Common.{◌≡◌, ℕ, ◌≤◌, Bool, true, false, ◌||◌, if◌then◌else◌, List, [], ◌∷◌, ◌++◌, refl, ap, sym, ◌∙◌, append_assoc, arith}
 use Rattle.std.specs.Prelude.{◌==◌}
 use Rattle.preprocessor.specs.declared.tokens.Token.{Token}
 use Rattle.preprocessor.specs.Conditions.{is_sign, sign_of, sign_rest, tokens, word_before}

@@ -3,7 +3,6 @@ use Rattle.std.specs.Prelude.{ℕ, ◌≡◌, true, false, List, [], ◌∷◌, 
 use Rattle.abl_base.specs.declared.place.Place.{Place}
 use Rattle.abl_base.specs.declared.rule.Rule.TheVariants.{E1, E2, E3, E4, E5, E6, E7}
 use Rattle.preprocessor.specs.declared.texts.NamedText.{NamedText}
-use Rattle.preprocessor.specs.declared.texts.Mark.{Mark}
 use Rattle.preprocessor.specs.declared.texts.State.{State}
 use Rattle.preprocessor.specs.declared.directive.Directive.TheVariants.{Else}
 use Rattle.preprocessor.specs.declared.tokens.Token.TheVariants.{Close, Open, Text, Unequal, Word}

@@ -1,5 +1,5 @@
 -- What a byte of a text is: within a comment, a TEXT or a name, the start of a reference or of a word, or none of these.
-use Rattle.std.specs.Prelude.{ℕ, ◌+◌, ◌-◌, Bool, true, false, not, ◌&&◌, ◌||◌, ◌==◌, nat_le, nat_lt, if◌then◌else◌, List, [], ◌∷◌}
+use Rattle.std.specs.Prelude.{ℕ, ◌+◌, ◌-◌, Bool, true, false, ◌&&◌, ◌||◌, ◌==◌, nat_le, nat_lt, if◌then◌else◌, List, [], ◌∷◌}
 use Rattle.preprocessor.specs.declared.mode.Mode.{Mode}
 
 abbrev pub is_letter : ℕ → Bool

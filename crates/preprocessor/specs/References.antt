@@ -1,12 +1,11 @@
 -- What a reference says.
-use Rattle.std.specs.Prelude.{ℕ, ◌+◌, ◌-◌, ◌*◌, Bool, true, false, ◌&&◌, ◌==◌, nat_lt, if◌then◌else◌, List, [], ◌∷◌, ◌++◌}
+use Rattle.std.specs.Prelude.{ℕ, ◌+◌, ◌-◌, ◌*◌, Bool, true, ◌&&◌, ◌==◌, nat_lt, if◌then◌else◌, List, [], ◌∷◌, ◌++◌}
 use Rattle.preprocessor.specs.declared.names.Definition.{Definition}
 use Rattle.preprocessor.specs.declared.names.Maker.TheVariants.{ByArgument}
 use Rattle.preprocessor.specs.declared.reference.Argument.{Argument}
 use Rattle.preprocessor.specs.declared.reference.Argument.TheVariants.{Wrong, Positional, Named}
 use Rattle.preprocessor.specs.declared.reference.Reference.{Reference}
 use Rattle.preprocessor.specs.declared.reference.Reference.TheVariants.{Faulty, Name, Number, File}
-use Rattle.preprocessor.specs.declared.reference.FileReference.{FileReference}
 use Rattle.preprocessor.specs.declared.reference.TheConstants.{MAX_ARGUMENT}
 use Rattle.preprocessor.specs.Modes.{is_digit}
 use Rattle.preprocessor.specs.Names.{is_name}

@@ -1,5 +1,5 @@
 -- The texts of an expansion, and the definitions that are in force.
-use Rattle.std.specs.Prelude.{ℕ, zero, suc, ◌+◌, ◌<◌, ◌≤◌, ◌^◌, Bool, true, false, if◌then◌else◌, List, [], ◌∷◌, length, map, Option, Some, None, slice_get}
+use Rattle.std.specs.Prelude.{ℕ, zero, suc, ◌+◌, ◌<◌, ◌≤◌, ◌^◌, Bool, if◌then◌else◌, List, [], ◌∷◌, length, map, Option, Some, None, slice_get}
 use Rattle.abl_base.specs.declared.place.Place.{Place}
 use Rattle.preprocessor.specs.declared.names.Definition.{Definition}
 use Rattle.preprocessor.specs.declared.names.Maker.{Maker}

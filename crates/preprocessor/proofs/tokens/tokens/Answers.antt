@@ -1,4 +1,4 @@
-use Rattle.std.proofs.Common.{◌≡◌, ◌∙◌, ◌-◌, [], drop, get_or, length, sym, take}
+use Rattle.std.proofs.Common.{◌∙◌, ◌-◌, [], drop, get_or, length, sym, take}
 use Rattle.preprocessor.specs.Conditions.{tokens}
 use Rattle.preprocessor.proofs.Machines.{split_front}
 use Rattle.preprocessor.proofs.Tokenings.{byte_more, mark_more, sign_more}
