@@ -68,8 +68,8 @@ either_line false x y h k = k
 
 attribute_line-good : (line : List ℕ) → IsGoodLine (attribute_line line)
 attribute_line-good line =
-    let increment : Line = if begins (codes "INCREMENT") line then Says (Increment (long_number (word_of (after_word line)))) else Skipped in
-    let increment_good : IsGoodLine increment = either_line (begins (codes "INCREMENT") line) (Says (Increment (long_number (word_of (after_word line))))) Skipped (long_fits (word_of (after_word line))) tt in
+    let increment : Line = if begins (codes "INCREMENT") line then Says (Increment (long_number (text_given (given (after_word line))))) else Skipped in
+    let increment_good : IsGoodLine increment = either_line (begins (codes "INCREMENT") line) (Says (Increment (long_number (text_given (given (after_word line)))))) Skipped (long_fits (text_given (given (after_word line)))) tt in
     let field : Line = if begins (codes "INDEX-FIELD") line then Says (IndexField (component (quote_of (after_word line)))) else increment in
     let field_good : IsGoodLine field = either_line (begins (codes "INDEX-FIELD") line) (Says (IndexField (component (quote_of (after_word line))))) increment tt increment_good in
     let word : Line = if begins (codes "WORD") line then Says Word else field in
