@@ -13,6 +13,3 @@ mod replay;
 pub use call::{Call, Effect};
 pub use images::{Images, Room, Torn};
 pub use mem_disk::MemDisk;
-
-#[cfg(test)]
-mod tests;

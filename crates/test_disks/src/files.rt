@@ -4,4 +4,5 @@ mod calls;
 mod disks;
 mod many;
 
+pub use calls::answer as call_answer;
 pub use disks::Disks;

@@ -1,14 +1,16 @@
-//! Runs rows of images and databases on them, of slots over a disk, and of a disk over real files. It
-//! reads a row a line, as `head 1 1`, and writes the row with its answer, as `head 1 1 = done`. A line
+//! Runs rows of images and databases on them, of slots over a disk, of a disk over real files, and of one
+//! in memory. It reads a row a line, as `head 1 1`, and writes the row with its answer, as `head 1 1 = done`. A line
 //! `## NAME` begins a section of rows, and in it a line that begins with `==` is a heading. The rows of
 //! `stdin` have their answers in `stdout`, worked by hand.
 #![tactic(auto)]
 
 mod files;
 mod images;
+mod memory;
 mod slots;
 
 use files::Disks;
+use mem_disk::MemDisk;
 use std::io;
 use test_images::Areas;
 
@@ -18,6 +20,7 @@ enum Section<'a> {
     Images(Areas),
     Slots(Areas),
     Files(Disks<'a>),
+    Memory(Option<MemDisk>),
     /// No section has the name.
     Unknown,
 }
@@ -29,6 +32,7 @@ impl<'a> Section<'a> {
             "images" => Section::Images(Areas::empty(machine.alloc())),
             "slots" => Section::Slots(Areas::empty(machine.alloc())),
             "files" => Section::Files(Disks::new(machine)),
+            "memory" => Section::Memory(None),
             _ => Section::Unknown,
         }
     }
@@ -39,7 +43,7 @@ impl<'a> Section<'a> {
             Section::Images(areas) | Section::Slots(areas) => {
                 *areas = Areas::empty(machine.alloc());
             }
-            Section::Files(_) | Section::Unknown => {}
+            Section::Files(_) | Section::Memory(_) | Section::Unknown => {}
         }
     }
 
@@ -50,6 +54,7 @@ impl<'a> Section<'a> {
             Section::Images(areas) => Ok(images::answer(alloc, areas, row)?),
             Section::Slots(areas) => slots::answer(machine, alloc, areas, row),
             Section::Files(disks) => disks.answer(row),
+            Section::Memory(disk) => Ok(memory::answer(alloc, disk, row)?),
             Section::Unknown => Ok(String::from_str(alloc, "no section")?),
         }
     }

@@ -20,7 +20,7 @@ mod words;
 
 pub use areas::Areas;
 pub use long::commit_one;
-pub use reopened::{Reopened, disk_over, images_recovered, reads};
+pub use reopened::{Reopened, disk_of, disk_over, images_recovered, reads};
 pub use rows::answer;
 pub use sweeps::{WAYS, stopped, torn};
 pub use words::{is_multiple, number, numbers};
