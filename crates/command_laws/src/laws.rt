@@ -1,14 +1,22 @@
 //! The laws. Each is the contract of a function with an empty body.
 
-ghost use Rattle.std.specs.Prelude.{◌≡◌, ℕ, List, None, map};
+ghost use Rattle.std.specs.Prelude.{◌≡◌, ◌+◌, ℕ, List, None, length, map};
+ghost use Rattle.abl_values.specs.Schema.{SchemaData};
+ghost use Rattle.bank_run.specs.Phases.{HasRunPhases};
+ghost use Rattle.client_threads.specs.served.Works.{Work};
 ghost use Rattle.command_arguments.specs.CommandLine.{Run, arguments_of};
+ghost use Rattle.command_arguments.specs.declared.parts.Mode.{Mode};
+ghost use Rattle.database_meaning.specs.Laws.{IsIsolatedThroughout};
+ghost use Rattle.database_meaning.specs.declared.contents.Contents.{Contents};
 ghost use Rattle.host_io.specs.Files.{FileState};
 ghost use Rattle.host_io.specs.Out.{OutState};
 ghost use Rattle.schema_reader.specs.Rules.{violation_of};
 ghost use Rattle.source_files.specs.Compiled.{schema_in};
 ghost use Rattle.disk_database.specs.Images.{created};
 ghost use Rattle.run_works.specs.declared.outcome.Outcome.{Outcome};
-ghost use Rattle.run_works.specs.Disks.{state_of};
+ghost use Rattle.run_report.specs.declared.ending.Report.{Report};
+ghost use Rattle.run_works.specs.Disks.{HoldsContents, state_of};
+ghost use Rattle.run_works.specs.Works.{HasRun};
 ghost use Rattle.command_laws.specs.refusals.Unrefused.{NoneRefused};
 ghost use Rattle.abl_cli.specs.Command.{CommandResult};
 ghost use Rattle.abl_cli.specs.Undisturbed.{HasDatabase};
@@ -17,6 +25,7 @@ ghost use Rattle.crash_laws.specs.History.{NothingIsLost};
 ghost use Rattle.command_laws.specs.Databases.{AreCommandsOver, IsOver, LeaveDatabases, LeavesDatabases, LoseNothing, TimedCommand};
 ghost use Rattle.command_laws.specs.History.{CommandHistory, HasCreated, HasResult, IsCommandHistory, PastCommand, past_run};
 
+use database_meaning::laws::legal_traces_are_isolated;
 use storage::Disk;
 
 /// No answer to an operation of a client of a run is Refused, whatever the files, the disk and the
@@ -66,3 +75,20 @@ pub fn each_crash_leaves_a_database<D: Disk>()
     ensures { (df : List ℕ) (creation : PastCommand D) (commands : List (TimedCommand D)) (last : D) → HasCreated D.Disk df creation →
         AreCommandsOver D.Disk df (λ disk. ComesNext (view_of D.Disk creation.outcome.disk) (view_of D.Disk disk)) commands last → ∥ LeaveDatabases D.Disk (schema_in df) commands last ∥₁ }
 {}
+
+/// The clients of a run are isolated, and those of a bank, over any contents that the disk held, whatever
+/// the schedule. After each event of the reported trace no clients wait for each other in a cycle, a row
+/// that one client holds exclusively is held by no other, the uncommitted changes of two clients are of
+/// different rows, no two clients keep one key, and unique keys are unique; and what a client reads under
+/// a lock inside a transaction is what its own changes then have for the row, or what is committed for
+/// it at each later moment up to the end of that transaction.
+pub fn the_clients_of_a_run_are_isolated<D: Disk>()
+    ensures run { (mode : Mode) (schema : SchemaData) (names : List (List ℕ)) (units : ℕ) (works : List Work) (was now : D) (old new : OutState) (report : Report) (contents : Contents) →
+        HasRun mode schema names units works (state_of D.Disk was) (state_of D.Disk now) old new report → HoldsContents (state_of D.Disk was) schema contents →
+        IsIsolatedThroughout (record { schema = schema; clients = length works }) contents report.trace }
+    ensures bank { (mode : Mode) (schema : SchemaData) (names : List (List ℕ)) (units clients : ℕ) (works : List Work) (was now : D) (old new : OutState) (report : Report) (contents : Contents) →
+        HasRunPhases mode schema names units clients works (state_of D.Disk was) (state_of D.Disk now) old new report → HoldsContents (state_of D.Disk was) schema contents →
+        IsIsolatedThroughout (record { schema = schema; clients = clients + 2 }) contents report.trace }
+{
+    legal_traces_are_isolated();
+}
