@@ -9,7 +9,7 @@ use Rattle.preprocessor.specs.declared.texts.NamedText.{NamedText}
 use Rattle.preprocessor.specs.declared.texts.Mark.{Mark}
 use Rattle.preprocessor.specs.declared.texts.Outcome.{Outcome}
 use Rattle.preprocessor.specs.declared.texts.Outcome.TheVariants.{Gives, Breaks, Needs}
-use Rattle.preprocessor.specs.Places.{past, start}
+use Rattle.preprocessor.specs.Places.{offset_of, past, start}
 use Rattle.preprocessor.specs.Texts.{bytes_at, bytes_of}
 
 -- where each byte was taken from
@@ -27,6 +27,11 @@ or_end end (Some origin) = origin
 -- where the byte at this offset was taken from; after the last byte the end of the source
 abbrev pub origin_at : Expansion → ℕ → Origin
 origin_at expansion at = or_end expansion.end (slice_get expansion.origins at)
+
+-- Where the first byte at this place of an expansion was taken from; where no byte is there, the end of the source. These are
+-- the expansion's bytes and their origins.
+abbrev pub origin_of_place : List ℕ → List Origin → Place → Place → Origin
+origin_of_place bytes origins end place = or_end end (slice_get origins (offset_of bytes place))
 
 -- The answer is what the outcome is; out of memory may come in place of any.
 abbrev pub IsAnswer : List NamedText → Result Expansion PreFault → Outcome → Type 0

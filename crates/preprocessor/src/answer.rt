@@ -1,12 +1,12 @@
 //! What a source expands to, with the places that its bytes were taken from.
 
 ghost use Rattle.std.specs.Prelude.{◌≡◌, IfOk};
-ghost use Rattle.preprocessor.specs.Answers.{IsAnswer, origin_at, origins_of};
+ghost use Rattle.preprocessor.specs.Answers.{IsAnswer, origin_at, origin_of_place, origins_of};
 ghost use Rattle.preprocessor.specs.Expansion.{expansion};
 ghost use Rattle.preprocessor.specs.Texts.{AreTexts};
 
 use crate::expansion::expansion;
-use crate::places::{past, start};
+use crate::places::{offset_of, past, start};
 use crate::texts::{Mark, NamedText, Outcome, bytes_at, bytes_of};
 use abl_base::{Bytes, Items, Place, Rule};
 use std::alloc::{AllocError, Global};
@@ -44,7 +44,21 @@ impl Expansion {
     pub fn origin(&self, at: u32) -> Origin
         ensures { result ≡ origin_at self.now at }
     {
-        match self.origins.as_slice().get(at as usize) {
+        self.taken_at(at as usize)
+    }
+
+    /// Where the first byte at this place of the expansion was taken from; where no byte is there,
+    /// the end of the source.
+    pub fn origin_at(&self, place: Place) -> Origin
+        ensures { result ≡ origin_of_place self.now.bytes self.now.origins self.now.end place }
+    {
+        self.taken_at(offset_of(self.bytes.as_slice(), place))
+    }
+
+    fn taken_at(&self, at: usize) -> Origin
+        ensures { result ≡ origin_at self.now at }
+    {
+        match self.origins.as_slice().get(at) {
             Some(origin) => *origin,
             None => Origin {
                 text: 0,

@@ -1,7 +1,7 @@
 //! Lines and columns.
 
 ghost use Rattle.std.specs.Prelude.{◌≡◌, ◌+◌, ◌<◌, ◌≤◌, ◌^◌, length};
-ghost use Rattle.preprocessor.specs.Places.{moved, past, start};
+ghost use Rattle.preprocessor.specs.Places.{moved, offset_of, past, start};
 
 use abl_base::Place;
 
@@ -48,4 +48,29 @@ pub fn past(place: Place, bytes: &[u8]) -> Place
         rest = tail;
     }
     here
+}
+
+/// The offset of the first byte at this place of the text, or the text's length where no byte is
+/// there.
+pub fn offset_of(bytes: &[u8], place: Place) -> usize
+    ensures { result ≡ offset_of bytes.now place }
+{
+    let mut line: usize = 1;
+    let mut column: usize = 1;
+    let mut n: usize = 0;
+    let mut rest = bytes;
+    while let [first, tail @ ..] = rest {
+        if line == place.line as usize && column == place.column as usize {
+            return n;
+        }
+        if *first == b'\n' {
+            line += 1;
+            column = 1;
+        } else {
+            column += 1;
+        }
+        n += 1;
+        rest = tail;
+    }
+    n
 }
