@@ -8,4 +8,5 @@ pub mod Resumed
 pub mod Machines
 pub mod Plain
 pub mod Added
+pub mod Shorts
 pub mod Tokenings
