@@ -10,6 +10,7 @@ use Rattle.log_meaning.specs.LogState.{notes_in, MayWrite, LogState, HasGate, Is
 use Rattle.log_meaning.specs.Images.{IsNewest, IsOpened, Recovers}
 use Rattle.bi_log.specs.Appending.{Holds, fresh}
 use Rattle.bi_recovery.specs.ReadNotes.{HoldsNotes}
+use Rattle.bi_recovery.specs.NoteSlots.{AreRecovered}
 
 -- the other areas do not change. This area holds the new generation, or each header that is open in it was open before
 pub record StepsTo (area generation : ℕ) (old new : Image) : Type 0 where
@@ -34,6 +35,12 @@ pub record Gives (extent : ℕ) (batches : List (List Note)) (slots : List Undo)
 pub record LogIs (image : Image) (area generation : ℕ) (notes : List Note) : Type 0 where
   pub newest : IsNewest image area generation
   pub holds : HoldsNotes (image area) generation notes
+
+-- the log of the image is in this area, and its notes recover to these slots
+pub record IsReadAs (image : Image) (area generation : ℕ) (slots : List Undo) : Type 0 where
+  pub notes : List Note
+  pub log : LogIs image area generation notes
+  pub are : AreRecovered notes slots
 
 -- In every image, the log is in this area and the next gate is at this place. Whichever transactions are committed, each slot recovers to
 -- these bytes. Each slot that has a note may be written to area 0.

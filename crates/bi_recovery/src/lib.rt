@@ -10,6 +10,7 @@ pub mod carried_recovery;
 pub mod carried_slots;
 pub mod creation;
 pub mod filling;
+pub mod log_read;
 pub mod next_generation;
 pub mod notes_read;
 pub mod open_fault;
@@ -18,4 +19,5 @@ pub mod recovered_slots;
 pub mod recovery_run;
 pub mod slots_written;
 
+pub use log_read::{ReadLog, read_log};
 pub use open_fault::OpenFault;

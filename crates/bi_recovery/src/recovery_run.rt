@@ -1,22 +1,18 @@
 //! Recovery.
 
-ghost use Rattle.std.specs.Prelude.{◌≡◌, ◌+◌, ◌-◌, ◌*◌, ◌<◌, ◌≤◌, ◌^◌, ℕ, List, All, IsTrue, IfOk, IsErrOf};
+ghost use Rattle.std.specs.Prelude.{◌≡◌, ◌+◌, ◌-◌, ◌*◌, ◌<◌, ◌≤◌, ◌^◌, ℕ, List, IsTrue, IfOk, IsErrOf};
 ghost use Rattle.log_meaning.specs.steps.Steps.{Image, Run};
-ghost use Rattle.log_meaning.specs.Bytes.{IsNote};
-ghost use Rattle.log_meaning.specs.Images.{IsNewest, IsOpened, Recovers};
+ghost use Rattle.log_meaning.specs.Images.{Recovers};
 ghost use Rattle.bi_log.specs.Lengths.{WithinLog};
-ghost use Rattle.bi_recovery.specs.Reopening.{SameAreas, SameRecovery, LogIs, Reopens};
+ghost use Rattle.bi_recovery.specs.Reopening.{SameAreas, SameRecovery, IsReadAs, Reopens};
 ghost use Rattle.bi_recovery.specs.Causes.{HasOpenCause};
 
 use crate::OpenFault;
 use crate::carried_recovery::reopen_carrying;
 use crate::filling::is_filled;
-use crate::notes_read::read_notes;
+use crate::log_read::{ReadLog, read_log};
 use crate::rebuilding::rebuild;
-use crate::recovered_slots::recovered_slots;
 use crate::slots_written::sync_all;
-use bi_log::reader::find;
-use log_meaning::Note;
 use std::alloc::Global;
 use storage::Disk;
 
@@ -30,18 +26,10 @@ pub struct Reopened {
     pub gate: u64,
 }
 
-/// Opens a generation over the slots that these notes of the log give.
-fn reopen_with<D: Disk>(
-    disk: &mut D,
-    area: u8,
-    generation: u64,
-    notes: &[Note],
-    alloc: Global,
-) -> Result<Reopened, OpenFault>
-    requires area { (1 ≤ area) × (area ≤ 2) }
+/// Opens a generation over the slots of this log.
+fn reopen<D: Disk>(disk: &mut D, log: &ReadLog, alloc: Global) -> Result<Reopened, OpenFault>
     requires synced { (image : Image) → D.left disk.old (D.time disk.old) image → SameAreas (D.seen disk.old) image }
-    requires log { IsTrue (D.observable disk.old) → LogIs (D.seen disk.old) area generation notes.now }
-    requires sound { All IsNote notes.now }
+    requires log { IsTrue (D.observable disk.old) → IsReadAs (D.seen disk.old) log.now.area log.now.generation log.now.slots.items }
     ensures same_observable { D.observable disk.new ≡ D.observable disk.old }
     ensures time { Run (D.time disk.old) (D.time disk.new) (D.left disk.old) (D.left disk.new) SameRecovery }
     ensures ok { IfOk result (λ r. IsTrue (D.observable disk.old) → Reopens (D.seen disk.old) (D.left disk.new (D.time disk.new)) r.area r.generation r.extent r.gate) }
@@ -49,52 +37,28 @@ fn reopen_with<D: Disk>(
     ensures within { Run (D.time disk.old) (D.time disk.new) (D.left disk.old) (D.left disk.new) (WithinLog 167772160) }
     ensures cause { HasOpenCause (D.failures disk.old) (D.failures disk.new) result }
 {
-    let slots = recovered_slots(notes, alloc)?;
     let length = disk.length(0)?;
     let extent = length / 256;
-    if generation >= 9_223_372_036_854_775_807 {
+    if log.generation >= 9_223_372_036_854_775_807 {
         return Err(OpenFault::NoMemory);
     }
-    if !is_filled(&slots, extent) {
-        let gate = reopen_carrying(disk, area, generation, &slots, alloc)?;
+    if !is_filled(&log.slots, extent) {
+        let gate = reopen_carrying(disk, log.area, log.generation, &log.slots, alloc)?;
         return Ok(Reopened {
-            area: 3 - area,
-            generation: generation + 1,
+            area: 3 - log.area,
+            generation: log.generation + 1,
             extent,
             gate,
         });
     }
-    rebuild(disk, area, generation, &slots)?;
+    rebuild(disk, log.area, log.generation, &log.slots)?;
     let after = disk.length(0)?;
     Ok(Reopened {
-        area: 3 - area,
-        generation: generation + 1,
+        area: 3 - log.area,
+        generation: log.generation + 1,
         extent: after / 256,
         gate: 32,
     })
-}
-
-/// Opens a generation over the slots that the log in this area gives.
-fn reopen<D: Disk>(
-    disk: &mut D,
-    area: u8,
-    generation: u64,
-    alloc: Global,
-) -> Result<Reopened, OpenFault>
-    requires area { (1 ≤ area) × (area ≤ 2) }
-    requires synced { (image : Image) → D.left disk.old (D.time disk.old) image → SameAreas (D.seen disk.old) image }
-    requires newest { IsTrue (D.observable disk.old) → IsNewest (D.seen disk.old) area generation × IsOpened (D.seen disk.old area) generation }
-    ensures same_observable { D.observable disk.new ≡ D.observable disk.old }
-    ensures time { Run (D.time disk.old) (D.time disk.new) (D.left disk.old) (D.left disk.new) SameRecovery }
-    ensures ok { IfOk result (λ r. IsTrue (D.observable disk.old) → Reopens (D.seen disk.old) (D.left disk.new (D.time disk.new)) r.area r.generation r.extent r.gate) }
-    ensures none { IsErrOf result OpenFault.NotCreated → IsTrue (D.observable disk.old) → (slots : ℕ → List ℕ) → Recovers (D.seen disk.old) slots → ⊥ }
-    ensures within { Run (D.time disk.old) (D.time disk.new) (D.left disk.old) (D.left disk.new) (WithinLog 167772160) }
-    ensures cause { HasOpenCause (D.failures disk.old) (D.failures disk.new) result }
-{
-    match read_notes(disk, area, alloc)? {
-        None => Err(OpenFault::NotCreated),
-        Some(notes) => reopen_with(disk, area, generation, &notes, alloc),
-    }
 }
 
 /// Puts the slots that the disk's log gives into area 0, and opens a new generation over them. At
@@ -110,8 +74,25 @@ pub fn recover<D: Disk>(disk: &mut D, alloc: Global) -> Result<Reopened, OpenFau
     ensures cause { HasOpenCause (D.failures disk.old) (D.failures disk.new) result }
 {
     sync_all(disk)?;
-    match find(disk)? {
-        None => Err(OpenFault::NotCreated),
-        Some((area, head)) => reopen(disk, area, head.generation, alloc),
-    }
+    let log = read_log(disk, alloc)?;
+    reopen(disk, &log, alloc)
+}
+
+/// The same for a disk of which the log was read: it is not read again. The disk was not written
+/// since then. NotCreated never comes.
+pub fn recover_read<D: Disk>(
+    disk: &mut D,
+    log: &ReadLog,
+    alloc: Global,
+) -> Result<Reopened, OpenFault>
+    requires log { IsTrue (D.observable disk.old) → IsReadAs (D.seen disk.old) log.now.area log.now.generation log.now.slots.items }
+    ensures same_observable { D.observable disk.new ≡ D.observable disk.old }
+    ensures time { Run (D.time disk.old) (D.time disk.new) (D.left disk.old) (D.left disk.new) SameRecovery }
+    ensures ok { IfOk result (λ r. IsTrue (D.observable disk.old) → Reopens (D.seen disk.old) (D.left disk.new (D.time disk.new)) r.area r.generation r.extent r.gate) }
+    ensures never { IsErrOf result OpenFault.NotCreated → ⊥ }
+    ensures within { Run (D.time disk.old) (D.time disk.new) (D.left disk.old) (D.left disk.new) (WithinLog 167772160) }
+    ensures cause { HasOpenCause (D.failures disk.old) (D.failures disk.new) result }
+{
+    sync_all(disk)?;
+    reopen(disk, log, alloc)
 }

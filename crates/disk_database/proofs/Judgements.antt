@@ -4,12 +4,14 @@ use Rattle.std.proofs.lemmas.Bool.{cases_lt}
 use Rattle.std.specs.Prelude.{IsTrue}
 use Rattle.row_store.specs.Rows.{RowState, durable_of}
 use Rattle.storage.specs.Disk.{IsImage, Stays}
+use Rattle.storage.specs.declared.slots.Undo.{Undo}
 use Rattle.storage.specs.Slots.{IsReadable, SlotState, Transaction}
 use Rattle.abl_values.specs.Schema.{SchemaData, canonical_text}
 use Rattle.abl_values.specs.Sound.{IsSound}
 use Rattle.bi_log.specs.Lengths.{StayShort}
 use Rattle.bi_recovery.specs.declared.open_fault.OpenFault.{OpenFault}
 use Rattle.bi_recovery.specs.declared.open_fault.OpenFault.TheVariants as fault
+use Rattle.bi_recovery.specs.Reopening.{IsReadAs}
 use Rattle.byte_rows.specs.Still.{Still}
 use Rattle.log_meaning.specs.steps.Steps.{Image}
 use Rattle.storage.specs.faults.Faults.{Rose}
@@ -136,6 +138,11 @@ module _ (was_observable observable : Bool) (was_seen seen : Image) (was now : �
   recovers_then slots recovers known =
       let known_before : IsTrue was_observable = subst (λ (b : Bool). IsTrue b) stays.same_observable known in
       subst (λ (x : Image). Recovers x slots) (sym (stays.same known_before)) (recovers known_before)
+
+  pub read_then : (area generation : ℕ) (slots : List Undo) → (IsTrue was_observable → IsReadAs was_seen area generation slots) → IsTrue observable → IsReadAs seen area generation slots
+  read_then area generation slots read known =
+      let known_before : IsTrue was_observable = subst (λ (b : Bool). IsTrue b) stays.same_observable known in
+      subst (λ (x : Image). IsReadAs x area generation slots) (sym (stays.same known_before)) (read known_before)
 
   pub opened_before : (s : SlotState) (stop : ℕ → (ℕ → List ℕ) → Type 0) → AreOpened s stop observable seen now after → AreOpened s stop was_observable was_seen was before
   opened_before s stop opened = record {

@@ -29,7 +29,7 @@ fn holds_database<D: Disk>(alloc: Global, disk: &mut D) -> Result<bool, CreateFa
     ensures cause { IsErrOf result CreateFault.Disk → Rose (D.failures disk.old) (D.failures disk.new) }
 {
     let view = match RecoveredView::open(alloc, disk) {
-        Ok(view) => view,
+        Ok((view, _)) => view,
         Err(OpenFault::NotCreated) => return Ok(false),
         Err(OpenFault::Disk) => return Err(CreateFault::Disk),
         Err(OpenFault::NoMemory) => return Err(CreateFault::NoMemory),

@@ -7,13 +7,14 @@ ghost use Rattle.storage.specs.Disk.{Stays};
 ghost use Rattle.recovered_view.specs.View.{IsAtRest};
 ghost use Rattle.disk_database.specs.Answers.{IsRefused};
 ghost use Rattle.log_meaning.specs.Images.{Recovers};
+ghost use Rattle.bi_recovery.specs.Reopening.{IsReadAs};
 ghost use Rattle.disk_database.specs.Inside.{AreJudged, IsSlotRefusal, of_error, of_fault};
 
 use crate::refusals::OpenRefusal;
 use crate::text::test_slots;
 use abl_values::Schema;
 use indexed_store::{OpenError, RecordStore};
-use recovered_view::{OpenFault, RecoveredView};
+use recovered_view::{OpenFault, ReadLog, RecoveredView};
 use row_store::RowStore;
 use std::alloc::Global;
 use storage::{Disk, Slots};
@@ -78,22 +79,27 @@ fn rows_of_view(
     }
 }
 
-/// The rows of the slots to which the disk recovers, where these hold a database of this schema. Nothing
-/// is written, and the disk is as before. The slots stay in memory, 256 bytes each.
+/// The rows of the slots to which the disk recovers, where these hold a database of this schema, and
+/// the log of the disk as it was read for that. Nothing is written, and the disk is as before. The slots
+/// stay in memory, 256 bytes each.
 pub(crate) fn judged_rows<D: Disk>(
     alloc: Global,
     disk: &mut D,
     schema: Schema,
-) -> Result<ViewStore, OpenRefusal>
-    ensures judged { IfOk result (λ r. AreJudged (⟦<ViewStore as RowStore>⟧.state r) schema (⟦<RecoveredView as Slots>⟧.state r.rows.chains.slots)) }
-    ensures recovers { IfOk result (λ r. IsTrue (D.observable disk.old) → Recovers (D.seen disk.old) (⟦<RecoveredView as Slots>⟧.state r.rows.chains.slots).reads) }
+) -> Result<(ViewStore, ReadLog), OpenRefusal>
+    ensures judged { IfOk result (λ r. AreJudged (⟦<ViewStore as RowStore>⟧.state r.0) schema (⟦<RecoveredView as Slots>⟧.state r.0.rows.chains.slots)) }
+    ensures recovers { IfOk result (λ r. IsTrue (D.observable disk.old) → Recovers (D.seen disk.old) (⟦<RecoveredView as Slots>⟧.state r.0.rows.chains.slots).reads) }
+    ensures log { IfOk result (λ r. IsTrue (D.observable disk.old) → IsReadAs (D.seen disk.old) r.1.area r.1.generation r.1.slots.items) }
     ensures refused { IfErr result (IsRefused schema (D.observable disk.old) (D.seen disk.old)) }
     ensures rest { Stays (D.observable disk.old) (D.observable disk.new) (D.seen disk.old) (D.seen disk.new) (D.time disk.old) (D.time disk.new) (D.left disk.old) (D.left disk.new) }
     ensures later { D.failures disk.old ≤ D.failures disk.new }
     ensures cause { IsErrOf result OpenRefusal.Disk → Rose (D.failures disk.old) (D.failures disk.new) }
 {
     match RecoveredView::open(alloc, disk) {
-        Ok(view) => rows_of_view(alloc, view, schema),
+        Ok((view, log)) => match rows_of_view(alloc, view, schema) {
+            Ok(rows) => Ok((rows, log)),
+            Err(refusal) => Err(refusal),
+        },
         Err(fault) => Err(of_fault(fault)),
     }
 }

@@ -7,6 +7,7 @@ ghost use Rattle.abl_values.specs.Schema.{canonical_text};
 ghost use Rattle.log_meaning.specs.steps.Steps.{Image};
 ghost use Rattle.log_meaning.specs.Images.{Recovers};
 ghost use Rattle.bi_log.specs.Lengths.{StayShort};
+ghost use Rattle.bi_recovery.specs.Reopening.{IsReadAs};
 ghost use Rattle.slot_txn.specs.logged.Stops.{StayRecoverable};
 ghost use Rattle.database_layout.specs.stored_text.Held.{HoldText};
 ghost use Rattle.disk_database.specs.Answers.{IsRefused, is_judgement};
@@ -21,7 +22,7 @@ use abl_values::Schema;
 use bi_recovery::OpenFault;
 use guarded_slots::Guarded;
 use indexed_store::RecordStore;
-use recovered_view::RecoveredView;
+use recovered_view::{ReadLog, RecoveredView};
 use row_store::RowStore;
 use slot_txn::SlotTxn;
 use std::alloc::Global;
@@ -51,17 +52,19 @@ fn of_late_fault(fault: OpenFault) -> OpenRefusal
     }
 }
 
-/// Recovers the disk, and puts these rows, which were judged, over its slots. The slots in memory are
-/// given up.
+/// Recovers the disk by its log as it was read for the judgement, and puts these rows, which were
+/// judged, over its slots. The slots in memory are given up.
 fn recovered_rows<D: Disk + Drop, K: Opening>(
     alloc: Global,
     disk: D,
     guard: SlotGuard<K>,
     rows: ViewStore,
+    log: ReadLog,
 ) -> Result<DiskStore<D, K>, (OpenRefusal, D)>
     requires images { (image : Image) → D.left disk (D.time disk) image → K.images image }
     requires judged { AreJudged (⟦<ViewStore as RowStore>⟧.state rows) K.schema (⟦<RecoveredView as Slots>⟧.state rows.rows.chains.slots) }
     requires recovers { IsTrue (D.observable disk) → Recovers (D.seen disk) (⟦<RecoveredView as Slots>⟧.state rows.rows.chains.slots).reads }
+    requires log { IsTrue (D.observable disk) → IsReadAs (D.seen disk) log.area log.generation log.slots.items }
     ensures opened { IfOk result (λ r. AreOpened (⟦<DiskSlots<D, K> as Slots>⟧.state r.rows.chains.slots) (⟦<DiskSlots<D, K> as Slots>⟧.stop r.rows.chains.slots) (D.observable disk) (D.seen disk) (D.time disk) (D.left disk)) }
     ensures store { IfOk result (λ r. IsStoreOver (⟦<DiskStore<D, K> as RowStore>⟧.state r) K.schema (⟦<DiskSlots<D, K> as Slots>⟧.state r.rows.chains.slots)) }
     ensures same { IfOk result (λ r. IsTrue (D.observable disk) → (⟦<DiskSlots<D, K> as Slots>⟧.state r.rows.chains.slots).committed ≡ (⟦<RecoveredView as Slots>⟧.state rows.rows.chains.slots).reads) }
@@ -70,15 +73,15 @@ fn recovered_rows<D: Disk + Drop, K: Opening>(
     ensures later { IfErr result (λ e. D.failures disk ≤ D.failures e.1) }
     ensures cause { IfErr result (λ e. e.0 ≡ OpenRefusal.Disk → Rose (D.failures disk) (D.failures e.1)) }
 {
-    match SlotTxn::open(alloc, disk) {
+    match SlotTxn::open_read(alloc, disk, log) {
         Ok(slots) => Ok(rows.with_slots(Guarded::new(slots, guard))),
         Err((fault, disk)) => Err((of_late_fault(fault), disk)),
     }
 }
 
 /// Opens the rows of the disk where it holds a database of this schema. The disk is judged before its
-/// first write: where it holds no database, or one of another schema, it is as it was. Out of memory
-/// comes too where no database can have the schema.
+/// first write, and its log is read once: where it holds no database, or one of another schema, it is
+/// as it was. Out of memory comes too where no database can have the schema.
 pub(crate) fn open_rows<D: Disk + Drop, K: Opening>(
     alloc: Global,
     disk: D,
@@ -100,7 +103,7 @@ pub(crate) fn open_rows<D: Disk + Drop, K: Opening>(
     };
     let mut disk = disk;
     match judged_rows(alloc, &mut disk, schema) {
-        Ok(rows) => recovered_rows(alloc, disk, guard, rows),
+        Ok((rows, log)) => recovered_rows(alloc, disk, guard, rows, log),
         Err(refusal) => Err((refusal, disk)),
     }
 }

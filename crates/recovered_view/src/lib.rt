@@ -9,5 +9,5 @@ mod slots;
 mod stored;
 mod view;
 
-pub use bi_recovery::OpenFault;
+pub use bi_recovery::{OpenFault, ReadLog};
 pub use view::RecoveredView;

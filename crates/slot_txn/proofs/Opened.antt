@@ -1,9 +1,10 @@
 -- Slots that are opened over a fresh log.
-use Rattle.std.proofs.Common.{◌≡◌, ◌⊎◌, ⊎_elim, ℕ, zero, suc, ◌*◌, ◌<◌, ◌≤◌, Bool, List, [], ◌∷◌, ◌++◌, length, drop, None, refl, sym, ◌∙◌, ap, subst, arith}
+use Rattle.std.proofs.Common.{◌≡◌, ◌⊎◌, ⊎_elim, ℕ, zero, suc, ◌*◌, ◌<◌, ◌≤◌, Bool, IsTrue, List, [], ◌∷◌, ◌++◌, length, drop, None, refl, sym, ◌∙◌, ap, subst, arith}
 use Rattle.std.proofs.Math.Logic.{∥∥₁_map}
 use Rattle.std.proofs.lemmas.Bool.{cases_lt}
 use Rattle.storage.specs.declared.slots.Undo.{Undo}
-use Rattle.storage.specs.Slots.{undone}
+use Rattle.storage.specs.Disk.{Stays}
+use Rattle.storage.specs.Slots.{SlotState, undone}
 use Rattle.log_meaning.specs.steps.Steps.{Image, Run}
 use Rattle.log_meaning.specs.Images.{Recovers}
 use Rattle.bi_log.specs.declared.log.Log.{Log}
@@ -20,7 +21,7 @@ use Rattle.checkpoint.specs.kept.KeptLog.{KeptLog}
 use Rattle.checkpoint.proofs.NextLemmas.Opened.{opened_log, reads_slots, rests_fresh, narrowed}
 use Rattle.slot_txn.specs.logged.Stops.{Stops, HasSlots, StayRecoverable}
 use Rattle.slot_txn.proofs.LoggedLemmas.Recoverable.{has_slots}
-use Rattle.slot_txn.specs.Opening.{AllRecoverTo, IsFresh}
+use Rattle.slot_txn.specs.Opening.{AllRecoverTo, IsFresh, IsOpenedOver}
 use Rattle.slot_txn.proofs.Recovered.{only_slots, fewer_left}
 
 -- what is recovered without notes is fresh
@@ -108,3 +109,23 @@ recoverable_opened was now before after run start m image from there = ⊎_elim
     (λ (later : was < m). let h = run.here m image later there in ∥∥₁_map (start (h.0) (run.stays was (h.0) (omega arith) (h.1))) (λ (k : HasSlots (h.0)). has_slots image k.slots ((h.2).to k.slots k.recovers)))
     (λ (past : m ≤ was). start image (subst (λ (x : ℕ). after x image) (omega (arith, past, from)) there))
     (cases_lt was m)
+
+-- ---- slots that were opened after a call that made no moment
+
+module _ (was_observable observable : Bool) (was_seen seen : Image) (was now : ℕ) (before after : ℕ → Image → Type 0) (stays : Stays was_observable observable was_seen seen was now before after) where
+  all_after : (slots : ℕ → List ℕ) → AllRecoverTo before was slots → AllRecoverTo after now slots
+  all_after slots all image other there recovers = all image other (subst (λ (m : ℕ). before m image) stays.moment (stays.nothing_else now image there)) recovers
+
+  pub opened_before : (s : SlotState) (stop : ℕ → (ℕ → List ℕ) → Type 0) → IsOpenedOver s stop observable seen now after → IsOpenedOver s stop was_observable was_seen was before
+  opened_before s stop opened = record {
+    idle = opened.idle;
+    clean = opened.clean;
+    fine = opened.fine;
+    same_observable = opened.same_observable ∙ stays.same_observable;
+    since = opened.since ∙ stays.moment;
+    settled = opened.settled;
+    certain = opened.certain;
+    recovered = λ known. subst (λ (i : Image). Recovers i s.reads) (stays.same known) (opened.recovered (subst (λ (b : Bool). IsTrue b) (sym stays.same_observable) known));
+    now = opened.now;
+    stops = λ all. opened.stops (all_after s.committed all);
+  }

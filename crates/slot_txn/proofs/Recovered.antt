@@ -1,6 +1,6 @@
 -- What the calls of recovery say one after the other.
 use Rattle.std.proofs.Common.{◌≡◌, ℕ, Bool, List, Result, Ok, Err, sym, ◌∙◌, ap, subst}
-use Rattle.std.specs.Prelude.{IfOk, IsErrOf, IsTrue}
+use Rattle.std.specs.Prelude.{IfErr, IfOk, IsErrOf, IsTrue}
 use Rattle.storage.specs.Disk.{Stays}
 use Rattle.log_meaning.specs.steps.Steps.{Image, Run}
 use Rattle.log_meaning.proofs.StepsLemmas.Runs.{holds}
@@ -14,6 +14,10 @@ use Rattle.checkpoint.proofs.KeptLemmas.Flushed.{slots_of}
 pub ok_map : {T E : Type 0} (r : Result T E) (P Q : T → Type 0) → IfOk r P → ((x : T) → P x → Q x) → IfOk r Q
 ok_map (Ok x) P Q p f = f x p
 ok_map (Err e) P Q p f = tt
+
+pub err_map : {T E : Type 0} (r : Result T E) (P Q : E → Type 0) → IfErr r P → ((e : E) → P e → Q e) → IfErr r Q
+err_map (Ok x) P Q p f = tt
+err_map (Err e) P Q p f = f e p
 
 -- the same refusal of a call with another answer
 abbrev error_or : {T E : Type 0} → E → Result T E → E

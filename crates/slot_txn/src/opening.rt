@@ -6,7 +6,7 @@ ghost use Rattle.log_meaning.specs.steps.Steps.{Image, Run};
 ghost use Rattle.log_meaning.specs.Images.{Recovers};
 ghost use Rattle.bi_log.specs.Logs.{HasNotes};
 ghost use Rattle.bi_log.specs.Lengths.{WithinLog, StayShort};
-ghost use Rattle.bi_recovery.specs.Reopening.{SameRecovery};
+ghost use Rattle.bi_recovery.specs.Reopening.{IsReadAs, SameRecovery};
 ghost use Rattle.bi_recovery.specs.Causes.{HasOpenCause};
 ghost use Rattle.open_transactions.specs.Clients.{idle, transaction_in, list_in, number_in};
 ghost use Rattle.slot_area.specs.Area.{below, view, unwritten};
@@ -18,8 +18,8 @@ use crate::logged::{Generation, LoggedSlots};
 use crate::recovering::recover_whole;
 use crate::slot_txn::SlotTxn;
 use bi_log::Log;
-use bi_recovery::OpenFault;
 use bi_recovery::recovery_run::Reopened;
+use bi_recovery::{OpenFault, ReadLog, read_log};
 use open_transactions::Transactions;
 use slot_area::{FRAMES, SlotArea};
 use std::alloc::{AllocError, Global};
@@ -80,8 +80,13 @@ impl Parts {
     }
 }
 
-/// Recovers the disk, and takes the memory for its slots.
-fn recovered_parts<D: Disk>(disk: &mut D, alloc: Global) -> Result<Parts, OpenFault>
+/// Recovers the disk, of which this log was read, and takes the memory for its slots.
+fn recovered_parts<D: Disk>(
+    disk: &mut D,
+    log: &ReadLog,
+    alloc: Global,
+) -> Result<Parts, OpenFault>
+    requires log { IsTrue (D.observable disk.old) → IsReadAs (D.seen disk.old) log.now.area log.now.generation log.now.slots.items }
     ensures same_observable { D.observable disk.new ≡ D.observable disk.old }
     ensures time { Run (D.time disk.old) (D.time disk.new) (D.left disk.old) (D.left disk.new) SameRecovery }
     ensures ok { IfOk result (λ p. IsTrue (D.observable disk.old) → IsFresh (D.seen disk.old) (D.seen disk.new) (D.left disk.new (D.time disk.new)) p.log.area p.generation.number p.generation.extent p.slots.end) }
@@ -89,7 +94,7 @@ fn recovered_parts<D: Disk>(disk: &mut D, alloc: Global) -> Result<Parts, OpenFa
     ensures none { IsErrOf result OpenFault.NotCreated → IsTrue (D.observable disk.old) → (slots : ℕ → List ℕ) → Recovers (D.seen disk.old) slots → ⊥ }
     ensures cause { HasOpenCause (D.failures disk.old) (D.failures disk.new) result }
 {
-    let whole = recover_whole(disk, alloc)?;
+    let whole = recover_whole(disk, log, alloc)?;
     Ok(Parts::new(&whole.opened, whole.end, alloc)?)
 }
 
@@ -113,8 +118,28 @@ impl<D: Disk + Drop> SlotTxn<D> {
         ensures cause { IfErr result (λ e. (D.failures disk ≤ D.failures e.1) × (e.0 ≡ OpenFault.Disk → Rose (D.failures disk) (D.failures e.1))) }
     {
         let mut disk = disk;
+        match read_log(&mut disk, alloc) {
+            Ok(log) => SlotTxn::open_read(alloc, disk, log),
+            Err(fault) => Err((fault, disk)),
+        }
+    }
+
+    /// The same for a disk of which the log was read, and which was not written since then: the log
+    /// is not read again.
+    pub fn open_read(alloc: Global, disk: D, log: ReadLog) -> Result<SlotTxn<D>, (OpenFault, D)>
+        requires log { IsTrue (D.observable disk) → IsReadAs (D.seen disk) log.area log.generation log.slots.items }
+        ensures ok { IfOk result (λ s. IsOpenedOver (⟦<SlotTxn<D> as Slots>⟧.state s) (⟦<SlotTxn<D> as Slots>⟧.stop s) (D.observable disk) (D.seen disk) (D.time disk) (D.left disk)) }
+        ensures run { IfOk result (λ s. Run (D.time disk) (D.time s.slots.disk) (D.left disk) (D.left s.slots.disk) SameRecovery) }
+        ensures err_run { IfErr result (λ e. Run (D.time disk) (D.time e.1) (D.left disk) (D.left e.1) SameRecovery) }
+        ensures short { IfOk result (λ s. StayShort (D.left s.slots.disk) (D.time disk)) }
+        ensures err_short { IfErr result (λ e. StayShort (D.left e.1) (D.time disk)) }
+        ensures err_observable { IfErr result (λ e. D.observable e.1 ≡ D.observable disk) }
+        ensures none { IfErr result (λ e. e.0 ≡ OpenFault.NotCreated → IsTrue (D.observable disk) → (slots : ℕ → List ℕ) → Recovers (D.seen disk) slots → ⊥) }
+        ensures cause { IfErr result (λ e. (D.failures disk ≤ D.failures e.1) × (e.0 ≡ OpenFault.Disk → Rose (D.failures disk) (D.failures e.1))) }
+    {
+        let mut disk = disk;
         let since = disk.moment();
-        match recovered_parts(&mut disk, alloc) {
+        match recovered_parts(&mut disk, &log, alloc) {
             Ok(parts) => Ok(SlotTxn {
                 slots: LoggedSlots {
                     disk,

@@ -4,12 +4,12 @@ ghost use Rattle.std.specs.Prelude.{◌≡◌, ◌*◌, ◌<◌, ◌≤◌, ◌^
 ghost use Rattle.log_meaning.specs.steps.Steps.{Run};
 ghost use Rattle.log_meaning.specs.Images.{Recovers};
 ghost use Rattle.bi_log.specs.Lengths.{WithinLog};
-ghost use Rattle.bi_recovery.specs.Reopening.{SameRecovery, Reopens};
+ghost use Rattle.bi_recovery.specs.Reopening.{IsReadAs, SameRecovery, Reopens};
 ghost use Rattle.bi_recovery.specs.Causes.{HasOpenCause};
 
 use crate::torn_slot::{MOST_BYTES, note_slot, torn_slot};
-use bi_recovery::OpenFault;
-use bi_recovery::recovery_run::{Reopened, recover};
+use bi_recovery::recovery_run::{Reopened, recover, recover_read};
+use bi_recovery::{OpenFault, ReadLog, read_log};
 use std::alloc::Global;
 use storage::Disk;
 
@@ -28,9 +28,14 @@ fn without_notes(opened: Reopened) -> Result<Reopened, OpenFault>
     Err(OpenFault::NoMemory)
 }
 
-/// Recovers the disk, so that its log has no notes. The first recovery of an image that a stranger
+/// Recovers the disk, of which this log was read, so that its log has no notes. The first recovery of an image that a stranger
 /// made may carry slots as notes: then it is recovered once more.
-fn recover_all<D: Disk>(disk: &mut D, alloc: Global) -> Result<Reopened, OpenFault>
+fn recover_all<D: Disk>(
+    disk: &mut D,
+    log: &ReadLog,
+    alloc: Global,
+) -> Result<Reopened, OpenFault>
+    requires log { IsTrue (D.observable disk.old) → IsReadAs (D.seen disk.old) log.now.area log.now.generation log.now.slots.items }
     ensures same_observable { D.observable disk.new ≡ D.observable disk.old }
     ensures time { Run (D.time disk.old) (D.time disk.new) (D.left disk.old) (D.left disk.new) SameRecovery }
     ensures ok { IfOk result (λ r. IsTrue (D.observable disk.old) → Reopens (D.seen disk.old) (D.left disk.new (D.time disk.new)) r.area r.generation r.extent r.gate) }
@@ -39,7 +44,7 @@ fn recover_all<D: Disk>(disk: &mut D, alloc: Global) -> Result<Reopened, OpenFau
     ensures none { IsErrOf result OpenFault.NotCreated → IsTrue (D.observable disk.old) → (slots : ℕ → List ℕ) → Recovers (D.seen disk.old) slots → ⊥ }
     ensures cause { HasOpenCause (D.failures disk.old) (D.failures disk.new) result }
 {
-    let opened = recover(disk, alloc)?;
+    let opened = recover_read(disk, log, alloc)?;
     if opened.gate == FIRST_GATE {
         return Ok(opened);
     }
@@ -47,6 +52,20 @@ fn recover_all<D: Disk>(disk: &mut D, alloc: Global) -> Result<Reopened, OpenFau
         Ok(again) => without_notes(again),
         Err(fault) => Err(fault),
     }
+}
+
+/// The same for a disk of which no log was read.
+fn recover_again<D: Disk>(disk: &mut D, alloc: Global) -> Result<Reopened, OpenFault>
+    ensures same_observable { D.observable disk.new ≡ D.observable disk.old }
+    ensures time { Run (D.time disk.old) (D.time disk.new) (D.left disk.old) (D.left disk.new) SameRecovery }
+    ensures ok { IfOk result (λ r. IsTrue (D.observable disk.old) → Reopens (D.seen disk.old) (D.left disk.new (D.time disk.new)) r.area r.generation r.extent r.gate) }
+    ensures gate { IfOk result (λ r. r.gate ≡ 32) }
+    ensures within { Run (D.time disk.old) (D.time disk.new) (D.left disk.old) (D.left disk.new) (WithinLog 167772160) }
+    ensures none { IsErrOf result OpenFault.NotCreated → IsTrue (D.observable disk.old) → (slots : ℕ → List ℕ) → Recovers (D.seen disk.old) slots → ⊥ }
+    ensures cause { HasOpenCause (D.failures disk.old) (D.failures disk.new) result }
+{
+    let log = read_log(disk, alloc)?;
+    recover_all(disk, &log, alloc)
 }
 
 /// The disk once it is recovered: its log, which has no notes, and how many slots area 0 has.
@@ -95,14 +114,20 @@ fn recover_torn<D: Disk>(
     ensures cause { HasOpenCause (D.failures disk.old) (D.failures disk.new) result }
 {
     note_slot(disk, opened, slot, alloc)?;
-    let again = recover_all(disk, alloc)?;
+    let again = recover_again(disk, alloc)?;
     let length = disk.length(0)?;
     let end = whole_slots(length)?;
     Ok(Whole { opened: again, end })
 }
 
-/// Recovers the disk, so that its log has no notes and area 0 does not end within a slot.
-pub fn recover_whole<D: Disk>(disk: &mut D, alloc: Global) -> Result<Whole, OpenFault>
+/// Recovers the disk, of which this log was read, so that its log has no notes and area 0 does not
+/// end within a slot.
+pub fn recover_whole<D: Disk>(
+    disk: &mut D,
+    log: &ReadLog,
+    alloc: Global,
+) -> Result<Whole, OpenFault>
+    requires log { IsTrue (D.observable disk.old) → IsReadAs (D.seen disk.old) log.now.area log.now.generation log.now.slots.items }
     ensures same_observable { D.observable disk.new ≡ D.observable disk.old }
     ensures time { Run (D.time disk.old) (D.time disk.new) (D.left disk.old) (D.left disk.new) SameRecovery }
     ensures ok { IfOk result (λ w. IsTrue (D.observable disk.old) → Reopens (D.seen disk.old) (D.left disk.new (D.time disk.new)) w.opened.area w.opened.generation w.opened.extent w.opened.gate) }
@@ -113,7 +138,7 @@ pub fn recover_whole<D: Disk>(disk: &mut D, alloc: Global) -> Result<Whole, Open
     ensures none { IsErrOf result OpenFault.NotCreated → IsTrue (D.observable disk.old) → (slots : ℕ → List ℕ) → Recovers (D.seen disk.old) slots → ⊥ }
     ensures cause { HasOpenCause (D.failures disk.old) (D.failures disk.new) result }
 {
-    let opened = recover_all(disk, alloc)?;
+    let opened = recover_all(disk, log, alloc)?;
     let length = disk.length(0)?;
     match torn_slot(length) {
         Some(slot) => recover_torn(disk, &opened, slot, alloc),

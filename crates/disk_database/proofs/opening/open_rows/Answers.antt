@@ -3,7 +3,7 @@ use Rattle.std.proofs.Common.{sym, subst}
 use Rattle.abl_values.specs.Schema.{canonical_text}
 use Rattle.database_layout.specs.stored_text.Held.{HoldText}
 use Rattle.disk_database.specs.Parts.{LeaveUnused}
-use Rattle.disk_database.proofs.Judgements.{back_before, back_untouched, image_before, known_then, opened_before, recovers_then, refused_unjudged}
+use Rattle.disk_database.proofs.Judgements.{back_before, back_untouched, image_before, known_then, opened_before, read_then, recovers_then, refused_unjudged}
 use Rattle.disk_database.proofs.Recognitions.{if_err_map, if_ok_map}
 use Rattle.disk_database.proofs.opening.open_rows.Goals as goal
 
@@ -12,6 +12,9 @@ recovered_rows-requires-clause-images g c = λ image there. c.requires.images im
 
 pub recovered_rows-requires-clause-recovers : goal.recovered_rows-requires-clause-recovers
 recovered_rows-requires-clause-recovers g c = recovers_then _ _ _ _ _ _ _ _ c.in-Ok.ensures.rest _ c.in-Ok.ensures.recovers
+
+pub recovered_rows-requires-clause-log : goal.recovered_rows-requires-clause-log
+recovered_rows-requires-clause-log g c = read_then _ _ _ _ _ _ _ _ c.in-Ok.ensures.rest _ _ _ c.in-Ok.ensures.log
 
 pub returns-in-Ok-clause-opened : goal.returns-in-Ok-clause-opened
 returns-in-Ok-clause-opened g c = if_ok_map c.recovered_rows.result _ _ (λ r opened. opened_before _ _ _ _ _ _ _ _ c.in-Ok.ensures.rest _ _ opened) c.recovered_rows.ensures.opened

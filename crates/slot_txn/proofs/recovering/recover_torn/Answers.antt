@@ -10,10 +10,10 @@ use Rattle.slot_txn.proofs.Recovered.{same_error, run_recovers, run_again, later
 use Rattle.slot_txn.proofs.recovering.recover_torn.Goals as goal
 
 pub returns-in_err-again-clause-time : goal.returns-in_err-again-clause-time
-returns-in_err-again-clause-time g c = stage _ _ _ _ _ _ SameRecovery c.note_slot.ensures.time c.recover_all.ensures.time (λ d image there step. step)
+returns-in_err-again-clause-time g c = stage _ _ _ _ _ _ SameRecovery c.note_slot.ensures.time c.recover_again.ensures.time (λ d image there step. step)
 
 pub returns-in_err-again-clause-within : goal.returns-in_err-again-clause-within
-returns-in_err-again-clause-within g c = run_twice _ _ _ _ _ _ 167772160 c.note_slot.ensures.within c.recover_all.ensures.within
+returns-in_err-again-clause-within g c = run_twice _ _ _ _ _ _ 167772160 c.note_slot.ensures.within c.recover_again.ensures.within
 
 pub returns-in_err-again-clause-none : goal.returns-in_err-again-clause-none
 returns-in_err-again-clause-none g c = λ h known slots r.
@@ -25,22 +25,22 @@ returns-in_err-again-clause-none g c = λ h known slots r.
     c.in_err-again.ensures.none (same_error fault _ (sym is ∙ h)) known1 one.slots (run_recovers (g.D.Disk.seen c.note_slot.new.disk) _ _ _ _ _ _ _ _ one.slots c.note_slot.ensures.time (g.met.D.Disk.reads_left c.note_slot.new.disk known1) one.log)
 
 pub returns-in_err-length-clause-time : goal.returns-in_err-length-clause-time
-returns-in_err-length-clause-time g c = then_stay _ _ _ _ _ _ _ _ _ _ (stage _ _ _ _ _ _ SameRecovery c.note_slot.ensures.time c.recover_all.ensures.time (λ d image there step. step)) c.length.ensures.rest (λ m image left. (g.met.D.Disk.image_known c.recover_all.new.disk m image left).past)
+returns-in_err-length-clause-time g c = then_stay _ _ _ _ _ _ _ _ _ _ (stage _ _ _ _ _ _ SameRecovery c.note_slot.ensures.time c.recover_again.ensures.time (λ d image there step. step)) c.length.ensures.rest (λ m image left. (g.met.D.Disk.image_known c.recover_again.new.disk m image left).past)
 
 pub returns-in_err-length-clause-within : goal.returns-in_err-length-clause-within
-returns-in_err-length-clause-within g c = then_none _ _ _ _ _ _ _ _ _ _ 167772160 (run_twice _ _ _ _ _ _ 167772160 c.note_slot.ensures.within c.recover_all.ensures.within) c.length.ensures.rest (λ m image left. (g.met.D.Disk.image_known c.recover_all.new.disk m image left).past)
+returns-in_err-length-clause-within g c = then_none _ _ _ _ _ _ _ _ _ _ 167772160 (run_twice _ _ _ _ _ _ 167772160 c.note_slot.ensures.within c.recover_again.ensures.within) c.length.ensures.rest (λ m image left. (g.met.D.Disk.image_known c.recover_again.new.disk m image left).past)
 
 pub returns-in_err-end-clause-time : goal.returns-in_err-end-clause-time
-returns-in_err-end-clause-time g c = then_stay _ _ _ _ _ _ _ _ _ _ (stage _ _ _ _ _ _ SameRecovery c.note_slot.ensures.time c.recover_all.ensures.time (λ d image there step. step)) c.length.ensures.rest (λ m image left. (g.met.D.Disk.image_known c.recover_all.new.disk m image left).past)
+returns-in_err-end-clause-time g c = then_stay _ _ _ _ _ _ _ _ _ _ (stage _ _ _ _ _ _ SameRecovery c.note_slot.ensures.time c.recover_again.ensures.time (λ d image there step. step)) c.length.ensures.rest (λ m image left. (g.met.D.Disk.image_known c.recover_again.new.disk m image left).past)
 
 pub returns-in_err-end-clause-within : goal.returns-in_err-end-clause-within
-returns-in_err-end-clause-within g c = then_none _ _ _ _ _ _ _ _ _ _ 167772160 (run_twice _ _ _ _ _ _ 167772160 c.note_slot.ensures.within c.recover_all.ensures.within) c.length.ensures.rest (λ m image left. (g.met.D.Disk.image_known c.recover_all.new.disk m image left).past)
+returns-in_err-end-clause-within g c = then_none _ _ _ _ _ _ _ _ _ _ 167772160 (run_twice _ _ _ _ _ _ 167772160 c.note_slot.ensures.within c.recover_again.ensures.within) c.length.ensures.rest (λ m image left. (g.met.D.Disk.image_known c.recover_again.new.disk m image left).past)
 
 pub returns-clause-time : goal.returns-clause-time
-returns-clause-time g c = then_stay _ _ _ _ _ _ _ _ _ _ (stage _ _ _ _ _ _ SameRecovery c.note_slot.ensures.time c.recover_all.ensures.time (λ d image there step. step)) c.length.ensures.rest (λ m image left. (g.met.D.Disk.image_known c.recover_all.new.disk m image left).past)
+returns-clause-time g c = then_stay _ _ _ _ _ _ _ _ _ _ (stage _ _ _ _ _ _ SameRecovery c.note_slot.ensures.time c.recover_again.ensures.time (λ d image there step. step)) c.length.ensures.rest (λ m image left. (g.met.D.Disk.image_known c.recover_again.new.disk m image left).past)
 
 pub returns-clause-within : goal.returns-clause-within
-returns-clause-within g c = then_none _ _ _ _ _ _ _ _ _ _ 167772160 (run_twice _ _ _ _ _ _ 167772160 c.note_slot.ensures.within c.recover_all.ensures.within) c.length.ensures.rest (λ m image left. (g.met.D.Disk.image_known c.recover_all.new.disk m image left).past)
+returns-clause-within g c = then_none _ _ _ _ _ _ _ _ _ _ 167772160 (run_twice _ _ _ _ _ _ 167772160 c.note_slot.ensures.within c.recover_again.ensures.within) c.length.ensures.rest (λ m image left. (g.met.D.Disk.image_known c.recover_again.new.disk m image left).past)
 
 pub returns-clause-ok : goal.returns-clause-ok
 returns-clause-ok g c = λ known.
@@ -51,5 +51,5 @@ returns-clause-ok g c = λ known.
 pub returns-clause-whole : goal.returns-clause-whole
 returns-clause-whole g c = λ known.
     let known1 : IsTrue (g.D.Disk.observable c.note_slot.new.disk) = subst (λ (b : Bool). IsTrue b) (sym c.note_slot.ensures.same_observable) known in
-    let known2 : IsTrue (g.D.Disk.observable c.recover_all.new.disk) = subst (λ (b : Bool). IsTrue b) (sym c.recover_all.ensures.same_observable) known1 in
+    let known2 : IsTrue (g.D.Disk.observable c.recover_again.new.disk) = subst (λ (b : Bool). IsTrue b) (sym c.recover_again.ensures.same_observable) known1 in
     ap (λ (i : Image). length (i 0)) (c.length.ensures.rest.same known2) ∙ sym (c.in_ok-length.ensures.length known2) ∙ c.in_ok-end.ensures.whole

@@ -1,95 +1,49 @@
-use Rattle.std.proofs.Common.{◌≡◌, ◌∙◌, ℕ, Bool, IsTrue, List, [], Some, None, Err, refl, sym, ap, subst, arith}
-use Rattle.std.proofs.Math.Logic.{∥∥₁_map}
-use Rattle.storage.specs.declared.slots.Undo.{Undo}
-use Rattle.storage.specs.Slots.{Transaction, undone}
-use Rattle.bi_log.specs.Logs.{HasNotes}
-use Rattle.bi_recovery.specs.declared.open_fault.OpenFault.{OpenFault}
-use Rattle.open_transactions.specs.Clients.{lists, list_in, number_in}
-use Rattle.slot_area.specs.Area.{view, unwritten}
-use Rattle.checkpoint.specs.kept.KeptLog.{KeptLog}
-use Rattle.slot_txn.specs.logged.Stops.{StayRecoverable}
-use Rattle.slot_txn.proofs.Opened.{none_listed, none_is_due, is_whole, is_kept, fresh_log, recovered_slots, stop_now, stop_then, recoverable_opened}
+-- The log read, and then the slots opened.
+use Rattle.std.proofs.Common.{◌≡◌, ℕ, List, Bool, IsTrue, Ok, Err, sym, ap, subst}
+use Rattle.log_meaning.specs.steps.Steps.{Image}
+use Rattle.log_meaning.specs.Images.{Recovers}
+use Rattle.log_meaning.proofs.StepsLemmas.Runs.{stayed}
 use Rattle.bi_log.specs.Lengths.{StayShort}
 use Rattle.bi_log.proofs.Lengths.{short_now, short_run}
+use Rattle.bi_recovery.specs.declared.open_fault.OpenFault.{OpenFault}
+use Rattle.bi_recovery.specs.Reopening.{IsReadAs, SameRecovery}
+use Rattle.bi_recovery.proofs.Recovery.{after_stay}
+use Rattle.bi_recovery.proofs.Lengths.{none_longer}
+use Rattle.slot_txn.proofs.Recovered.{ok_map, err_map}
+use Rattle.slot_txn.proofs.Opened.{opened_before}
 use Rattle.slot_txn.proofs.slot_txn.SlotTxn.open.Goals as goal
 
-pub invariant_of-result-clause-past : goal.invariant_of-result-clause-past
-invariant_of-result-clause-past g c = let later = c.recovered_parts.ensures.time.later in let at = c.moment-since.ensures in omega (arith, later, at)
-
-pub invariant_of-result-clause-recoverable : goal.invariant_of-result-clause-recoverable
-invariant_of-result-clause-recoverable g c = subst (λ (m : ℕ). StayRecoverable (g.D.Disk.left c.recovered_parts.new.disk) m) (sym c.moment-since.ensures)
-    (recoverable_opened _ _ (g.D.Disk.left c.args.disk) (g.D.Disk.left c.recovered_parts.new.disk) c.recovered_parts.ensures.time)
-
-no_note : (n : ℕ) → None ≡ Some n → ⊥
-no_note n is = cc
-
-pub invariant_of-result-clause-changes : goal.invariant_of-result-clause-changes
-invariant_of-result-clause-changes g c = λ fine slot note is. absurd (no_note note (sym (c.in-Ok.parts.unchanged slot) ∙ is))
-
-pub invariant_of-result-clause-counts : goal.invariant_of-result-clause-counts
-invariant_of-result-clause-counts g c = λ fine. let a = c.in-Ok.parts.counts.0 in let b = c.in-Ok.parts.counts.1 in omega (arith, a, b)
-
-pub invariant_of-result-clause-emptied : goal.invariant_of-result-clause-emptied
-invariant_of-result-clause-emptied g c = λ fine empty. c.in-Ok.parts.counts.1 ∙ sym (c.in-Ok.parts.counts.0)
-
-pub invariant_of-result-clause-extents : goal.invariant_of-result-clause-extents
-invariant_of-result-clause-extents g c = let e = c.in-Ok.parts.extents in let within = e.0 in let same = e.1 in let high = c.in-Ok.parts.slots.high in (within, omega (arith, within, same, high))
-
-pub invariant_of-result-clause-kept : goal.invariant_of-result-clause-kept
-invariant_of-result-clause-kept g c = λ known'.
-    let known : IsTrue (g.D.Disk.observable c.args.disk) = subst (λ (b : Bool). IsTrue b) c.recovered_parts.ensures.same_observable known' in
-    let p = c.in-Ok.parts in
-    is_kept (g.D.Disk.seen c.args.disk) (g.D.Disk.seen c.recovered_parts.new.disk) _ p.log p.slots p.transactions.clients.items p.generation.number p.generation.extent (c.in-Ok.ensures.ok known) (g.met.D.Disk.reads_left c.recovered_parts.new.disk known') p.reads p.none
-
-pub invariant_of-result-clause-whole : goal.invariant_of-result-clause-whole
-invariant_of-result-clause-whole g c = λ known' fine.
-    let known : IsTrue (g.D.Disk.observable c.args.disk) = subst (λ (b : Bool). IsTrue b) c.recovered_parts.ensures.same_observable known' in
-    let p = c.in-Ok.parts in
-    is_whole (g.D.Disk.seen c.args.disk) (g.D.Disk.seen c.recovered_parts.new.disk) _ p.log p.slots p.transactions.clients.items p.generation.number p.generation.extent (c.in-Ok.ensures.ok known) (g.met.D.Disk.reads_left c.recovered_parts.new.disk known') p.reads p.none
-
-pub invariant_of-result-clause-sound : goal.invariant_of-result-clause-sound
-invariant_of-result-clause-sound g c = λ known' fine.
-    let known : IsTrue (g.D.Disk.observable c.args.disk) = subst (λ (b : Bool). IsTrue b) c.recovered_parts.ensures.same_observable known' in
-    let p = c.in-Ok.parts in
-    let cs = p.transactions.clients.items in
-    let v = view p.slots (g.D.Disk.seen c.recovered_parts.new.disk 0) in
-    subst (λ (f : ℕ). ∥ KeptLog (undone (lists cs) v) v (g.D.Disk.left c.recovered_parts.new.disk (g.D.Disk.time c.recovered_parts.new.disk)) p.log (unwritten p.slots) (number_in cs) (list_in cs) p.generation.number p.generation.extent f 1 ∥₁) (sym (p.extents.1))
-    (∥∥₁_map p.notes (λ (n : HasNotes p.log.buffer []).
-    fresh_log (g.D.Disk.seen c.args.disk) (g.D.Disk.seen c.recovered_parts.new.disk) _ p.log p.slots cs p.generation.number p.generation.extent (c.in-Ok.ensures.ok known) (g.met.D.Disk.reads_left c.recovered_parts.new.disk known') p.reads p.none p.at n p.unchanged p.numbers))
+pub open_read-requires : goal.open_read-requires
+open_read-requires g c = λ known1.
+    let known : IsTrue (g.D.Disk.observable c.args.disk) = subst (λ (b : Bool). IsTrue b) c.read_log.ensures.rest.same_observable known1 in
+    subst (λ (i : Image). IsReadAs i c.in-Ok.log.area c.in-Ok.log.generation c.in-Ok.log.slots.items) (sym (c.read_log.ensures.rest.same known)) (c.in-Ok.ensures.ok known)
 
 pub returns-in-Ok-clause-ok : goal.returns-in-Ok-clause-ok
-returns-in-Ok-clause-ok g c =
-    let p = c.in-Ok.parts in
-    let cs = p.transactions.clients.items in
-    let new = c.recovered_parts.new.disk in
-    let v = view p.slots (g.D.Disk.seen new 0) in
-    record {
-      idle = λ k. ap (λ (t : Transaction). t.begun) (p.inactive k);
-      clean = λ k. ap (λ (t : Transaction). t.undo) (p.inactive k);
-      fine = refl;
-      same_observable = c.recovered_parts.ensures.same_observable;
-      since = c.moment-since.ensures;
-      settled = ap (λ (us : List Undo). undone us v) (none_listed cs p.none) ∙ sym (ap (λ (us : List Undo). undone us v) (none_is_due cs p.none));
-      certain = refl;
-      recovered = λ known.
-          let known' : IsTrue (g.D.Disk.observable new) = subst (λ (b : Bool). IsTrue b) (sym c.recovered_parts.ensures.same_observable) known in
-          recovered_slots (g.D.Disk.seen c.args.disk) (g.D.Disk.seen new) _ p.log p.slots cs p.generation.number p.generation.extent (c.in-Ok.ensures.ok known) (g.met.D.Disk.reads_left new known') p.reads p.none;
-      now = λ slots st.
-          let known : IsTrue (g.D.Disk.observable c.args.disk) = subst (λ (b : Bool). IsTrue b) c.recovered_parts.ensures.same_observable (st.0) in
-          stop_now (g.D.Disk.seen c.args.disk) (g.D.Disk.seen new) _ p.log p.slots cs p.generation.number p.generation.extent (c.in-Ok.ensures.ok known) (g.met.D.Disk.reads_left new (st.0)) p.reads p.none (st.3.0) slots (st.3.1) (st.3.2);
-      stops = λ all m slots st. stop_then (g.D.Disk.observable new) (g.D.Disk.time c.args.disk) (g.D.Disk.time new) (g.D.Disk.left c.args.disk) (g.D.Disk.left new) (undone (lists cs) v) c.recovered_parts.ensures.time all m slots
-          (st.0, (let from = st.1 in let at = c.moment-since.ensures in omega (arith, from, at)), st.2, st.3);
-    }
+returns-in-Ok-clause-ok g c = ok_map c.open_read.result _ _ c.open_read.ensures.ok (λ s opened. opened_before _ _ _ _ _ _ _ _ c.read_log.ensures.rest _ _ opened)
 
-pub returns-in-Err-clause-none : goal.returns-in-Err-clause-none
-returns-in-Err-clause-none g c = λ is known slots r. c.in-Err.ensures.none (ap (λ (f : OpenFault). Err f) is) known slots r
+pub returns-in-Ok-clause-run : goal.returns-in-Ok-clause-run
+returns-in-Ok-clause-run g c = ok_map c.open_read.result _ _ c.open_read.ensures.run (λ s run. after_stay _ _ _ _ _ _ _ _ _ _ c.read_log.ensures.rest (λ m image left. (g.met.D.Disk.image_known c.args.disk m image left).past) run)
 
-pub invariant_of-result-clause-stays_short : goal.invariant_of-result-clause-stays_short
-invariant_of-result-clause-stays_short g c = subst (λ (m : ℕ). StayShort (g.D.Disk.left c.recovered_parts.new.disk) m) (sym c.moment-since.ensures)
-    (short_run (g.D.Disk.time c.args.disk) _ _ (g.D.Disk.left c.args.disk) (g.D.Disk.left c.recovered_parts.new.disk) c.recovered_parts.ensures.within (omega arith) (short_now _ _ (λ m image left. (g.met.D.Disk.image_known c.args.disk m image left).past)))
+pub returns-in-Ok-clause-err_run : goal.returns-in-Ok-clause-err_run
+returns-in-Ok-clause-err_run g c = err_map c.open_read.result _ _ c.open_read.ensures.err_run (λ e run. after_stay _ _ _ _ _ _ _ _ _ _ c.read_log.ensures.rest (λ m image left. (g.met.D.Disk.image_known c.args.disk m image left).past) run)
 
 pub returns-in-Ok-clause-short : goal.returns-in-Ok-clause-short
-returns-in-Ok-clause-short g c = short_run (g.D.Disk.time c.args.disk) _ _ (g.D.Disk.left c.args.disk) (g.D.Disk.left c.recovered_parts.new.disk) c.recovered_parts.ensures.within (omega arith) (short_now _ _ (λ m image left. (g.met.D.Disk.image_known c.args.disk m image left).past))
+returns-in-Ok-clause-short g c = ok_map c.open_read.result _ _ c.open_read.ensures.short (λ s short. subst (StayShort (g.D.Disk.left s.slots.disk)) c.read_log.ensures.rest.moment short)
+
+pub returns-in-Ok-clause-err_short : goal.returns-in-Ok-clause-err_short
+returns-in-Ok-clause-err_short g c = err_map c.open_read.result _ _ c.open_read.ensures.err_short (λ e short. subst (StayShort (g.D.Disk.left e.1)) c.read_log.ensures.rest.moment short)
+
+pub returns-in-Ok-clause-none : goal.returns-in-Ok-clause-none
+returns-in-Ok-clause-none g c = err_map c.open_read.result _ _ c.open_read.ensures.none (λ e none is known.
+    let known1 : IsTrue (g.D.Disk.observable c.read_log.new.disk) = subst (λ (b : Bool). IsTrue b) (sym c.read_log.ensures.rest.same_observable) known in
+    subst (λ (i : Image). (slots : ℕ → List ℕ) → Recovers i slots → ⊥) (c.read_log.ensures.rest.same known) (none is known1))
+
+pub returns-in-Err-clause-none : goal.returns-in-Err-clause-none
+returns-in-Err-clause-none g c = λ is. c.in-Err.ensures.none (ap (λ (f : OpenFault). Err f) is)
+
+pub returns-in-Err-clause-err_run : goal.returns-in-Err-clause-err_run
+returns-in-Err-clause-err_run g c = stayed _ _ _ _ _ _ _ _ SameRecovery c.read_log.ensures.rest (λ m image left. (g.met.D.Disk.image_known c.args.disk m image left).past)
 
 pub returns-in-Err-clause-err_short : goal.returns-in-Err-clause-err_short
-returns-in-Err-clause-err_short g c = short_run (g.D.Disk.time c.args.disk) _ _ (g.D.Disk.left c.args.disk) (g.D.Disk.left c.recovered_parts.new.disk) c.recovered_parts.ensures.within (omega arith) (short_now _ _ (λ m image left. (g.met.D.Disk.image_known c.args.disk m image left).past))
+returns-in-Err-clause-err_short g c = short_run (g.D.Disk.time c.args.disk) _ _ (g.D.Disk.left c.args.disk) (g.D.Disk.left c.read_log.new.disk)
+    (none_longer _ _ _ _ _ _ _ _ 167772160 c.read_log.ensures.rest (λ m image left. (g.met.D.Disk.image_known c.args.disk m image left).past)) (omega arith) (short_now _ _ (λ m image left. (g.met.D.Disk.image_known c.args.disk m image left).past))

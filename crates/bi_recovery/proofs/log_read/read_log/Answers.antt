@@ -5,7 +5,7 @@ use Rattle.log_meaning.specs.Images.{Recovers}
 use Rattle.bi_log.specs.declared.header.Header.{Header}
 use Rattle.bi_log.specs.Outcomes.{FindAnswer}
 use Rattle.bi_recovery.proofs.Recovery.{none_opened}
-use Rattle.recovered_view.proofs.opening.slots_of_disk.Goals as goal
+use Rattle.bi_recovery.proofs.log_read.read_log.Goals as goal
 
 pub returns-in-None-clause-none : goal.returns-in-None-clause-none
 returns-in-None-clause-none g c = λ is known.
@@ -16,4 +16,4 @@ returns-in-None-clause-none g c = λ is known.
 pub returns-in-Some-clause-none : goal.returns-in-Some-clause-none
 returns-in-Some-clause-none g c = λ is known.
     let known1 : IsTrue (g.D.Disk.observable c.find.new.disk) = subst (λ (b : Bool). IsTrue b) (sym c.find.ensures.rest.same_observable) known in
-    subst (λ (i : Image). (slots : ℕ → List ℕ) → Recovers i slots → ⊥) (c.find.ensures.rest.same known) (c.slots_by_log.ensures.none is known1)
+    subst (λ (i : Image). (slots : ℕ → List ℕ) → Recovers i slots → ⊥) (c.find.ensures.rest.same known) (c.read_area.ensures.none is known1)
