@@ -23,9 +23,11 @@ returns-in_err-log-clause-none g c = λ h.
     c.in_err-log.ensures.none (same_error fault _ (sym is ∙ h))
 
 pub recover_all-requires : goal.recover_all-requires
-recover_all-requires g c = λ known1.
-    let known : IsTrue (g.D.Disk.observable c.args.disk.now) = subst (λ (b : Bool). IsTrue b) c.read_log.ensures.rest.same_observable known1 in
-    subst (λ (i : Image). IsReadAs i c.in_ok-log.log.area c.in_ok-log.log.generation c.in_ok-log.log.slots.items) (sym (c.read_log.ensures.rest.same known)) (c.in_ok-log.ensures.ok known)
+recover_all-requires g c = record {
+  log = λ known1.
+      let known : IsTrue (g.D.Disk.observable c.args.disk.now) = subst (λ (b : Bool). IsTrue b) c.read_log.ensures.rest.same_observable known1 in
+      subst (λ (i : Image). IsReadAs i c.in_ok-log.log.area c.in_ok-log.log.generation c.in_ok-log.log.slots.items) (sym (c.read_log.ensures.rest.same known)) (c.in_ok-log.ensures.ok known);
+}
 
 pub returns-clause-time : goal.returns-clause-time
 returns-clause-time g c = after_stay _ _ _ _ _ _ _ _ _ _ c.read_log.ensures.rest (λ m image left. (g.met.D.Disk.image_known c.args.disk.now m image left).past) c.recover_all.ensures.time

@@ -1,5 +1,5 @@
 -- The log read, and then the slots opened.
-use Rattle.std.proofs.Common.{◌≡◌, ℕ, List, Bool, IsTrue, Ok, Err, sym, ap, subst}
+use Rattle.std.proofs.Common.{◌≡◌, ℕ, List, Bool, IsTrue, Ok, Err, sym, ap, subst, arith}
 use Rattle.log_meaning.specs.steps.Steps.{Image}
 use Rattle.log_meaning.specs.Images.{Recovers}
 use Rattle.log_meaning.proofs.StepsLemmas.Runs.{stayed}
@@ -14,9 +14,11 @@ use Rattle.slot_txn.proofs.Opened.{opened_before}
 use Rattle.slot_txn.proofs.slot_txn.SlotTxn.open.Goals as goal
 
 pub open_read-requires : goal.open_read-requires
-open_read-requires g c = λ known1.
-    let known : IsTrue (g.D.Disk.observable c.args.disk) = subst (λ (b : Bool). IsTrue b) c.read_log.ensures.rest.same_observable known1 in
-    subst (λ (i : Image). IsReadAs i c.in-Ok.log.area c.in-Ok.log.generation c.in-Ok.log.slots.items) (sym (c.read_log.ensures.rest.same known)) (c.in-Ok.ensures.ok known)
+open_read-requires g c = record {
+  log = λ known1.
+      let known : IsTrue (g.D.Disk.observable c.args.disk) = subst (λ (b : Bool). IsTrue b) c.read_log.ensures.rest.same_observable known1 in
+      subst (λ (i : Image). IsReadAs i c.in-Ok.log.area c.in-Ok.log.generation c.in-Ok.log.slots.items) (sym (c.read_log.ensures.rest.same known)) (c.in-Ok.ensures.ok known);
+}
 
 pub returns-in-Ok-clause-ok : goal.returns-in-Ok-clause-ok
 returns-in-Ok-clause-ok g c = ok_map c.open_read.result _ _ c.open_read.ensures.ok (λ s opened. opened_before _ _ _ _ _ _ _ _ c.read_log.ensures.rest _ _ opened)

@@ -81,8 +81,8 @@ returns-in-Ok-clause-ok g c =
           (st.0, (let from = st.1 in let at = c.moment-since.ensures in omega (arith, from, at)), st.2, st.3);
     }
 
-pub returns-in-Err-clause-none : goal.returns-in-Err-clause-none
-returns-in-Err-clause-none g c = λ is known slots r. c.in-Err.ensures.none (ap (λ (f : OpenFault). Err f) is) known slots r
+pub returns-clause-none : goal.returns-clause-none
+returns-clause-none g c = λ is known slots r. c.in-Err.ensures.none (ap (λ (f : OpenFault). Err f) is) known slots r
 
 pub invariant_of-result-clause-stays_short : goal.invariant_of-result-clause-stays_short
 invariant_of-result-clause-stays_short g c = subst (λ (m : ℕ). StayShort (g.D.Disk.left c.recovered_parts.new.disk) m) (sym c.moment-since.ensures)
@@ -91,5 +91,5 @@ invariant_of-result-clause-stays_short g c = subst (λ (m : ℕ). StayShort (g.D
 pub returns-in-Ok-clause-short : goal.returns-in-Ok-clause-short
 returns-in-Ok-clause-short g c = short_run (g.D.Disk.time c.args.disk) _ _ (g.D.Disk.left c.args.disk) (g.D.Disk.left c.recovered_parts.new.disk) c.recovered_parts.ensures.within (omega arith) (short_now _ _ (λ m image left. (g.met.D.Disk.image_known c.args.disk m image left).past))
 
-pub returns-in-Err-clause-err_short : goal.returns-in-Err-clause-err_short
-returns-in-Err-clause-err_short g c = short_run (g.D.Disk.time c.args.disk) _ _ (g.D.Disk.left c.args.disk) (g.D.Disk.left c.recovered_parts.new.disk) c.recovered_parts.ensures.within (omega arith) (short_now _ _ (λ m image left. (g.met.D.Disk.image_known c.args.disk m image left).past))
+pub returns-clause-err_short : goal.returns-clause-err_short
+returns-clause-err_short g c = short_run (g.D.Disk.time c.args.disk) _ _ (g.D.Disk.left c.args.disk) (g.D.Disk.left c.recovered_parts.new.disk) c.recovered_parts.ensures.within (omega arith) (short_now _ _ (λ m image left. (g.met.D.Disk.image_known c.args.disk m image left).past))
