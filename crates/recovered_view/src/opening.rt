@@ -41,10 +41,7 @@ impl RecoveredView {
     /// and `NoMemory` also where area 0 has more than 268,435,456 bytes, 1,048,576 slots. It takes
     /// 256 bytes for each slot up to the last one of area 0 or of a note, 260 for each slot that has
     /// a note, and for a while memory for the notes.
-    pub fn open<D: Disk>(
-        alloc: Global,
-        disk: &mut D,
-    ) -> Result<(RecoveredView, ReadLog), OpenFault>
+    pub fn open<D: Disk>(alloc: Global, disk: &mut D) -> Result<(RecoveredView, ReadLog), OpenFault>
         ensures recovers { IfOk result (λ r. IsTrue (D.observable disk.old) → Recovers (D.seen disk.old) (⟦<RecoveredView as Slots>⟧.state r.0).reads) }
         ensures at_rest { IfOk result (λ r. IsAtRest (⟦<RecoveredView as Slots>⟧.state r.0) (⟦<RecoveredView as Slots>⟧.stop r.0)) }
         ensures log { IfOk result (λ r. IsTrue (D.observable disk.old) → IsReadAs (D.seen disk.old) r.1.area r.1.generation r.1.slots.items) }

@@ -81,11 +81,7 @@ impl Parts {
 }
 
 /// Recovers the disk, of which this log was read, and takes the memory for its slots.
-fn recovered_parts<D: Disk>(
-    disk: &mut D,
-    log: &ReadLog,
-    alloc: Global,
-) -> Result<Parts, OpenFault>
+fn recovered_parts<D: Disk>(disk: &mut D, log: &ReadLog, alloc: Global) -> Result<Parts, OpenFault>
     requires log { IsTrue (D.observable disk.old) → IsReadAs (D.seen disk.old) log.now.area log.now.generation log.now.slots.items }
     ensures same_observable { D.observable disk.new ≡ D.observable disk.old }
     ensures time { Run (D.time disk.old) (D.time disk.new) (D.left disk.old) (D.left disk.new) SameRecovery }

@@ -30,11 +30,7 @@ fn without_notes(opened: Reopened) -> Result<Reopened, OpenFault>
 
 /// Recovers the disk, of which this log was read, so that its log has no notes. The first recovery of an image that a stranger
 /// made may carry slots as notes: then it is recovered once more.
-fn recover_all<D: Disk>(
-    disk: &mut D,
-    log: &ReadLog,
-    alloc: Global,
-) -> Result<Reopened, OpenFault>
+fn recover_all<D: Disk>(disk: &mut D, log: &ReadLog, alloc: Global) -> Result<Reopened, OpenFault>
     requires log { IsTrue (D.observable disk.old) → IsReadAs (D.seen disk.old) log.now.area log.now.generation log.now.slots.items }
     ensures same_observable { D.observable disk.new ≡ D.observable disk.old }
     ensures time { Run (D.time disk.old) (D.time disk.new) (D.left disk.old) (D.left disk.new) SameRecovery }
