@@ -111,13 +111,13 @@ inside h w = record w {
   block = w.known.blocks;
 }
 
--- the header of the block that the scene is in, with the line of its first word and whether it has TRANSACTION; its flags and its
+-- the header of the block that the scene is in, with the place of its first word and whether it has TRANSACTION; its flags and its
 -- buffers are inferred later
-abbrev pub header : Scene → ℕ → Bool → BlockKind → Option b.Fetch → Option b.ToPhrase → Phrases → b.Header
-header w line transaction kind fetch to p = record {
+abbrev pub header : Scene → Place → Bool → BlockKind → Option b.Fetch → Option b.ToPhrase → Phrases → b.Header
+header w place transaction kind fetch to p = record {
   number = w.block;
   kind = kind;
-  line = line;
+  place = place;
   transaction = transaction;
   flags = record { starts = false; undo = false; retry_seen = false };
   scoped = [];
@@ -134,7 +134,7 @@ head w h =
     let c = counts w h.counting in
     let p = phrases w h.phrases in
     record {
-      is = header w h.at.line (list_any is_transaction h.phrases) (block_kind_of h.opening) o.is c.is p.is;
+      is = header w h.at (list_any is_transaction h.phrases) (block_kind_of h.opening) o.is c.is p.is;
       breaks = o.breaks ++ (c.breaks ++ p.breaks);
       names = o.names ++ (c.names ++ p.names);
     }

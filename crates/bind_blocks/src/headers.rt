@@ -25,7 +25,7 @@ fn header_with(
     to: Option<ToPhrase>,
     phrases: Phrases,
 ) -> Header
-    ensures { header_of result ≡ header (scene_of scene.now) given.now.at.line (list_any is_transaction (map phrase_of given.now.phrases.items)) (block_kind_of (opening_of given.now.opening)) (fetch_of fetch) (to_of to) (phrases_of phrases) }
+    ensures { header_of result ≡ header (scene_of scene.now) given.now.at (list_any is_transaction (map phrase_of given.now.phrases.items)) (block_kind_of (opening_of given.now.opening)) (fetch_of fetch) (to_of to) (phrases_of phrases) }
 {
     let Phrases {
         while_test,
@@ -35,7 +35,7 @@ fn header_with(
     Header {
         number: scene.block,
         kind: kind_of(&given.opening),
-        line: given.at.line,
+        place: given.at,
         transaction: has_transaction(&given.phrases),
         flags: Flags {
             starts: false,

@@ -1,5 +1,6 @@
 -- An internal procedure, from the scene at its beginning and what is known at its end.
 use Rattle.std.proofs.Common.{◌≡◌, ℕ, false, List, Some, None, refl, ap, ◌∙◌, subst}
+use Rattle.abl_base.specs.declared.place.Place.{Place}
 use Rattle.bound_tree.specs.declared.block.BlockKind.TheVariants as block_kind
 use Rattle.bound_tree.specs.declared.expression.Variable.{Variable}
 use Rattle.bound_tree.specs.Tree as b
@@ -32,30 +33,30 @@ framed f name d parameters header body = record {
   references = f.references.items;
 }
 
-pub procedure_is : (w : Scene) (f : Frame) → IsFrame w f → (line : ℕ) (name : List ℕ) (d : Defined) (body : Body) (h : b.Header) (parameters : List Variable) →
-    h ≡ header w line false block_kind.Procedure None None (record { while_test = None; on_error = None; on_endkey = None }) → parameters ≡ d.parameters →
-    framed f name d parameters h body ≡ procedure_with w line name d body
-procedure_is w f k line name d body h parameters is_header is_parameters =
+pub procedure_is : (w : Scene) (f : Frame) → IsFrame w f → (place : Place) (name : List ℕ) (d : Defined) (body : Body) (h : b.Header) (parameters : List Variable) →
+    h ≡ header w place false block_kind.Procedure None None (record { while_test = None; on_error = None; on_endkey = None }) → parameters ≡ d.parameters →
+    framed f name d parameters h body ≡ procedure_with w place name d body
+procedure_is w f k place name d body h parameters is_header is_parameters =
     let bs = k.buffers in
     let rs = k.references in
     rw (is_header, is_parameters, bs, rs) refl
 
-pub internal_judged : (w v : Scene) (number line : ℕ) (name : List ℕ) (ts : Statements) (bound : Body) (ended after : Known) (own : Defined) (made : b.Procedure) (o n : Notes) →
+pub internal_judged : (w v : Scene) (number : ℕ) (place : Place) (name : List ℕ) (ts : Statements) (bound : Body) (ended after : Known) (own : Defined) (made : b.Procedure) (o n : Notes) →
     v ≡ inside_procedure number w → IsJudged (statements v ts) (done bound ended) o n → ((d : Defined) → ended.outer ≡ Some d → after ≡ outside_again d ended) →
-    own ≡ ended.own → made ≡ procedure_with v line name own bound → IsJudged (internal w number line name ts) (procedured made after) o n
-internal_judged w v number line name ts bound ended after own made o n is_v j is_after is_own is_made =
+    own ≡ ended.own → made ≡ procedure_with v place name own bound → IsJudged (internal w number place name ts) (procedured made after) o n
+internal_judged w v number place name ts bound ended after own made o n is_v j is_after is_own is_made =
     let k : IsJudged (statements (inside_procedure number w) ts) (done bound ended) o n = subst (λ (p : Scene). IsJudged (statements p ts) (done bound ended) o n) is_v j in
     let body : bound ≡ (statements (inside_procedure number w) ts).is.body = ap (λ (d : Done). d.body) k.is in
     let known : ended ≡ (statements (inside_procedure number w) ts).is.after = ap (λ (d : Done). d.after) k.is in
     let outer : ended.outer ≡ Some w.known.own = ap (λ (x : Known). x.outer) known ∙ keeps_outer (inside_procedure number w) ts in
     let later : after ≡ outside_again w.known.own (statements (inside_procedure number w) ts).is.after = is_after w.known.own outer ∙ ap (outside_again w.known.own) known in
     let mine : own ≡ (statements (inside_procedure number w) ts).is.after.own = is_own ∙ ap (λ (x : Known). x.own) known in
-    let whole : made ≡ procedure_with (inside_procedure number w) line name (statements (inside_procedure number w) ts).is.after.own (statements (inside_procedure number w) ts).is.body =
-    is_made ∙ ap (λ (p : Scene). procedure_with p line name own bound) is_v
-    ∙ ap (λ (d : Defined). procedure_with (inside_procedure number w) line name d bound) mine
-    ∙ ap (procedure_with (inside_procedure number w) line name (statements (inside_procedure number w) ts).is.after.own) body in
+    let whole : made ≡ procedure_with (inside_procedure number w) place name (statements (inside_procedure number w) ts).is.after.own (statements (inside_procedure number w) ts).is.body =
+    is_made ∙ ap (λ (p : Scene). procedure_with p place name own bound) is_v
+    ∙ ap (λ (d : Defined). procedure_with (inside_procedure number w) place name d bound) mine
+    ∙ ap (procedure_with (inside_procedure number w) place name (statements (inside_procedure number w) ts).is.after.own) body in
     record {
-      is = ap (λ (p : b.Procedure). procedured p after) whole ∙ ap (procedured (procedure_with (inside_procedure number w) line name (statements (inside_procedure number w) ts).is.after.own (statements (inside_procedure number w) ts).is.body)) later;
+      is = ap (λ (p : b.Procedure). procedured p after) whole ∙ ap (procedured (procedure_with (inside_procedure number w) place name (statements (inside_procedure number w) ts).is.after.own (statements (inside_procedure number w) ts).is.body)) later;
       first = k.first;
       names = k.names;
     }

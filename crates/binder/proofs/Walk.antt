@@ -9,7 +9,7 @@ use Rattle.bound_tree.specs.declared.procedure.Procedure.{Procedure as SourcePro
 use Rattle.bound_tree.specs.declared.statement.Stmt.{Stmt as SourceStmt}
 use Rattle.bound_tree.specs.Bound.{body_of, procedure_of}
 use Rattle.bound_tree.specs.Tree as b
-use Rattle.bound_tree.specs.Tree.{Body, Nothing, Source, Then}
+use Rattle.bound_tree.specs.Tree.{Body, Nothing, Source, Then, start_of_source}
 use Rattle.syntax_tree.specs.Syntax as s
 use Rattle.syntax_tree.specs.Syntax.{Item, Program, Statement, Statements}
 use Rattle.syntax_tree.specs.Typed.{item_of}
@@ -85,11 +85,11 @@ pub procedure_adds : (w v : Scene) (it : Item) (place : Place) (name : Word) (in
     (old new : BoundParts) (made : SourceProcedure) (number : ℕ) (taken : Bool) (n k m : Notes) →
     new.body ≡ old.body → new.names ≡ old.names ++ name.spelling ∷ [] → new.procedures.items ≡ old.procedures.items ++ made ∷ [] → number ≡ length old.procedures.items + 1 →
     taken ≡ list_any (λ x. same_name x name.spelling) old.names → k.first ≡ first_of n.first (unless (not taken) Y3 name.at) → k.names ≡ n.names →
-    IsJudged (internal w number place.line name.spelling inside) (procedured (procedure_of made) v.known) k m → IsOneMore w it old new v.known n m
+    IsJudged (internal w number place name.spelling inside) (procedured (procedure_of made) v.known) k m → IsOneMore w it old new v.known n m
 procedure_adds w v it place name inside is old new made number taken n k m body new_names procedures is_number is_taken first names j = rw is (λ named naming count.
     let same : number ≡ length named + 1 = is_number ∙ ap (λ x. x + 1) count in
     let any : taken ≡ list_any (has_word name.spelling) named = is_taken ∙ naming.any name.spelling in
-    let i : IsJudged (internal w (length named + 1) place.line name.spelling inside) (procedured (procedure_of made) v.known) k m = rw same at j in
+    let i : IsJudged (internal w (length named + 1) place name.spelling inside) (procedured (procedure_of made) v.known) k m = rw same at j in
     record {
       body = ap (λ (b : _). body_of b.items) body ∙ sym (append_nothing (body_of old.body.items));
       procedures = ap (map procedure_of) procedures ∙ map_append procedure_of old.procedures.items (made ∷ []) ∙ ap (λ (p : _). map procedure_of old.procedures.items ++ p ∷ []) (ap (λ (d : Procedured). d.procedure) i.is);
@@ -200,10 +200,10 @@ abbrev the_source : List b.Procedure → ℕ → List (List ℕ) → List (List 
 the_source procedures streams outputs inputs = record { procedures = procedures; streams = streams; outputs = outputs; inputs = inputs }
 
 pub source_is : (w : Scene) (p : Parts) (main : SourceProcedure) (ps all : List SourceProcedure) (outputs inputs : List (List ℕ)) → all ≡ main ∷ ps → p.procedures ≡ map procedure_of ps →
-    procedure_of main ≡ procedure_with w 1 [] p.after.own p.body → outputs ≡ p.after.outputs → inputs ≡ p.after.inputs → the_source (map procedure_of all) p.after.streams outputs inputs ≡ source_with w p
+    procedure_of main ≡ procedure_with w start_of_source [] p.after.own p.body → outputs ≡ p.after.outputs → inputs ≡ p.after.inputs → the_source (map procedure_of all) p.after.streams outputs inputs ≡ source_with w p
 source_is w p main ps all outputs inputs is_all is_ps is_main is_outputs is_inputs =
     ap (λ (xs : List SourceProcedure). the_source (map procedure_of xs) p.after.streams outputs inputs) is_all
     ∙ ap (λ (q : b.Procedure). the_source (q ∷ map procedure_of ps) p.after.streams outputs inputs) is_main
-    ∙ ap (λ (qs : List b.Procedure). the_source (procedure_with w 1 [] p.after.own p.body ∷ qs) p.after.streams outputs inputs) (sym is_ps)
-    ∙ ap (λ (x : List (List ℕ)). the_source (procedure_with w 1 [] p.after.own p.body ∷ p.procedures) p.after.streams x inputs) is_outputs
-    ∙ ap (λ (x : List (List ℕ)). the_source (procedure_with w 1 [] p.after.own p.body ∷ p.procedures) p.after.streams p.after.outputs x) is_inputs
+    ∙ ap (λ (qs : List b.Procedure). the_source (procedure_with w start_of_source [] p.after.own p.body ∷ qs) p.after.streams outputs inputs) (sym is_ps)
+    ∙ ap (λ (x : List (List ℕ)). the_source (procedure_with w start_of_source [] p.after.own p.body ∷ p.procedures) p.after.streams x inputs) is_outputs
+    ∙ ap (λ (x : List (List ℕ)). the_source (procedure_with w start_of_source [] p.after.own p.body ∷ p.procedures) p.after.streams p.after.outputs x) is_inputs

@@ -125,7 +125,7 @@ pub is_read_by_its_number : bound shop found_by_number ≡ Ok (record {
     no_undo = [];
     buffers = (record { name = codes "customer"; table = 0 }) ∷ [];
     parameters = [];
-    header = record { number = 0; kind = block_kind.Procedure; line = 1; transaction = false; flags = record { starts = false; undo = false; retry_seen = false }; scoped = []; to = None; while_test = None; fetch = None; on_error = None; on_endkey = None };
+    header = record { number = 0; kind = block_kind.Procedure; place = b.start_of_source; transaction = false; flags = record { starts = false; undo = false; retry_seen = false }; scoped = []; to = None; while_test = None; fetch = None; on_error = None; on_endkey = None };
     body = b.Then (b.Find find_word.Only (record {
       buffer = 0;
       index = Some 0;
@@ -156,9 +156,9 @@ with_procedure =
 abbrev first_variable : Bool → Variable
 first_variable external = record { external = external; undoable = true; number = 0; kind = kind.Integer }
 
--- the header of a procedure's block of this number, which begins in this line
-abbrev plain_header : ℕ → ℕ → b.Header
-plain_header number line = record { number = number; kind = block_kind.Procedure; line = line; transaction = false; flags = record { starts = false; undo = false; retry_seen = false }; scoped = []; to = None; while_test = None; fetch = None; on_error = None; on_endkey = None }
+-- the header of a procedure's block of this number, which begins at this place
+abbrev plain_header : ℕ → Place → b.Header
+plain_header number place = record { number = number; kind = block_kind.Procedure; place = place; transaction = false; flags = record { starts = false; undo = false; retry_seen = false }; scoped = []; to = None; while_test = None; fetch = None; on_error = None; on_endkey = None }
 
 pub an_internal_procedure : bound shop with_procedure ≡ Ok (record {
   procedures =
@@ -168,7 +168,7 @@ pub an_internal_procedure : bound shop with_procedure ≡ Ok (record {
         no_undo = [];
         buffers = [];
         parameters = [];
-        header = plain_header 0 1;
+        header = plain_header 0 b.start_of_source;
         body = b.Then (b.Run 1 (b.In (b.Literal (value.Int64 (pos 3))) ∷ []) false) b.Nothing;
         references = [];
       })
@@ -178,7 +178,7 @@ pub an_internal_procedure : bound shop with_procedure ≡ Ok (record {
         no_undo = [];
         buffers = [];
         parameters = first_variable false ∷ [];
-        header = plain_header 1 2;
+        header = plain_header 1 (place 2 1);
         body = b.Then (b.Assign (record { target = target.Variable (first_variable true); right = b.ValueOf (b.TheVariable (first_variable false)) } ∷ []) false) b.Nothing;
         references = [];
       })
@@ -202,7 +202,7 @@ pub a_procedure_ends_what_it_defines : violations shop two_procedures ≡ breaks
 unfolding table_named field_named
 a_procedure_ends_what_it_defines = refl
 
--- OUTPUT TO f. / a: DO TRANSACTION: / FIND FIRST customer. / END.   the line of a block is that of DO, and a reference has its block
+-- OUTPUT TO f. / a: DO TRANSACTION: / FIND FIRST customer. / END.   the place of a block is that of DO, and a reference has its block
 abbrev in_a_block : Program
 in_a_block =
     s.Alone (s.OutputTo None (Some (named (codes "f") 1 11)) false)
@@ -210,16 +210,16 @@ in_a_block =
     (s.Then (s.Find which.First (named (codes "customer") 4 12) []) s.Nothing))
     ∷ []
 
-pub a_block_with_its_line : bound shop in_a_block ≡ Ok (record {
+pub a_block_with_its_place : bound shop in_a_block ≡ Ok (record {
   procedures = (record {
     name = [];
     undoable = [];
     no_undo = [];
     buffers = (record { name = codes "customer"; table = 0 }) ∷ [];
     parameters = [];
-    header = plain_header 0 1;
+    header = plain_header 0 b.start_of_source;
     body = b.Then (b.OutputTo 0 0 false) (b.Then (b.Inner
-        (record { number = 1; kind = block_kind.Do; line = 3; transaction = true; flags = record { starts = false; undo = false; retry_seen = false }; scoped = []; to = None; while_test = None; fetch = None; on_error = None; on_endkey = None })
+        (record { number = 1; kind = block_kind.Do; place = place 3 1; transaction = true; flags = record { starts = false; undo = false; retry_seen = false }; scoped = []; to = None; while_test = None; fetch = None; on_error = None; on_endkey = None })
         (b.Then (b.Find find_word.First (record { buffer = 0; index = Some 0; bracket = []; test = None; lock = lock.Share }) true false) b.Nothing)) b.Nothing);
     references = (record { buffer = 0; kind = reference_kind.Free; block = 1; place = place 4 12 }) ∷ [];
   }) ∷ [];
@@ -228,4 +228,4 @@ pub a_block_with_its_line : bound shop in_a_block ≡ Ok (record {
   inputs = [];
 })
 unfolding table_named field_named
-a_block_with_its_line = refl
+a_block_with_its_place = refl

@@ -1,6 +1,7 @@
 -- What a whole source is bound to, or the first of the rules Y that it breaks.
 use Rattle.std.specs.Prelude.{ℕ, ◌+◌, Bool, true, false, not, ◌&&◌, ◌==◌, if◌then◌else◌, List, [], ◌∷◌, ◌++◌, length, map, drop, Option, Some, None, unwrap_or, Result, Ok, Err}
 use Rattle.std.specs.List.{list_any}
+use Rattle.abl_base.specs.declared.place.Place.{Place}
 use Rattle.abl_base.specs.declared.rule.Rule.TheVariants.{Y3, Y14}
 use Rattle.abl_values.specs.Schema.{SchemaData, number_of_name, same_name}
 use Rattle.bound_tree.specs.declared.block.BlockKind.TheVariants as block_kind
@@ -9,7 +10,7 @@ use Rattle.bound_tree.specs.declared.procedure.Reference.{Reference}
 use Rattle.bound_tree.specs.declared.procedure.ReferenceKind.{ReferenceKind}
 use Rattle.bound_tree.specs.declared.procedure.ReferenceKind.TheVariants as reference_kind
 use Rattle.bound_tree.specs.Tree as b
-use Rattle.bound_tree.specs.Tree.{Body, Nothing, Source}
+use Rattle.bound_tree.specs.Tree.{Body, Nothing, Source, start_of_source}
 use Rattle.syntax_tree.specs.Syntax as s
 use Rattle.syntax_tree.specs.declared.name.Word.{Word}
 use Rattle.syntax_tree.specs.Syntax.{Statement, Statements, Item, Program}
@@ -104,15 +105,15 @@ abbrev pub references_in : ℕ → List NamedBuffer → List Naming → List Ref
 references_in p buffers [] = []
 references_in p buffers (n ∷ ns) = (if n.procedure == p then reference buffers n (kind_of_reference n.kind) else []) ++ references_in p buffers ns
 
--- the procedure of this name, whose first word is in this line
-abbrev pub procedure_with : Scene → ℕ → List ℕ → Defined → Body → b.Procedure
-procedure_with w line name d body = record {
+-- the procedure of this name, whose first word is at this place
+abbrev pub procedure_with : Scene → Place → List ℕ → Defined → Body → b.Procedure
+procedure_with w place name d body = record {
   name = name;
   undoable = d.undoable;
   no_undo = d.no_undo;
   buffers = map buffer_def w.buffers;
   parameters = d.parameters;
-  header = header w line false block_kind.Procedure None None (record { while_test = None; on_error = None; on_endkey = None });
+  header = header w place false block_kind.Procedure None None (record { while_test = None; on_error = None; on_endkey = None });
   body = body;
   references = references_in w.procedure w.buffers w.context.namings;
 }
@@ -144,15 +145,15 @@ items w names (s.Procedure place name body ∷ rest) =
     let x = statements v body in
     let more = items (scene_after w (outside_again w.known.own x.is.after)) (name ∷ names) rest in
     record {
-      is = record { body = more.is.body; procedures = procedure_with v place.line name.spelling x.is.after.own x.is.body ∷ more.is.procedures; after = more.is.after };
+      is = record { body = more.is.body; procedures = procedure_with v place name.spelling x.is.after.own x.is.body ∷ more.is.procedures; after = more.is.after };
       breaks = unless (not (list_any (has_word name.spelling) names)) Y3 name.at ++ (x.breaks ++ more.breaks);
       names = x.names ++ more.names;
     }
 
--- the source with its external procedure first, which has no name and begins in line 1
+-- the source with its external procedure first, which has no name and begins at the first byte
 abbrev pub source_with : Scene → Parts → Source
 source_with w p = record {
-  procedures = procedure_with w 1 [] p.after.own p.body ∷ p.procedures;
+  procedures = procedure_with w start_of_source [] p.after.own p.body ∷ p.procedures;
   streams = p.after.streams;
   outputs = p.after.outputs;
   inputs = p.after.inputs;

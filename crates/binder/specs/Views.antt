@@ -1,5 +1,6 @@
 -- How the contracts see the values of the program.
 use Rattle.std.specs.Prelude.{◌≡◌, ℕ, List, [], ◌∷◌, map}
+use Rattle.abl_base.specs.declared.place.Place.{Place}
 use Rattle.bound_tree.specs.Tree as b
 use Rattle.syntax_tree.specs.Syntax.{Program, Statements}
 use Rattle.bind_names.specs.declared.names.Known.{Known}
@@ -16,12 +17,12 @@ pub record Procedured : Type 0 where
   pub procedure : b.Procedure
   pub after : Known
 
-abbrev pub internal : Scene → ℕ → ℕ → List ℕ → Statements → Judged Procedured
-internal w number line name body =
+abbrev pub internal : Scene → ℕ → Place → List ℕ → Statements → Judged Procedured
+internal w number place name body =
     let v = inside_procedure number w in
     let x = statements v body in
     record {
-      is = record { procedure = procedure_with v line name x.is.after.own x.is.body; after = outside_again w.known.own x.is.after };
+      is = record { procedure = procedure_with v place name x.is.after.own x.is.body; after = outside_again w.known.own x.is.after };
       breaks = x.breaks;
       names = x.names;
     }

@@ -16,7 +16,7 @@ ghost use Rattle.binder.specs.Views.{IsFrame, internal, moved_to, opening, posit
 
 use crate::buffers::{buffer_defs, buffers_in, named_in, references_in};
 use crate::statements::body;
-use abl_base::{Bytes, Items};
+use abl_base::{Bytes, Items, Place};
 use abl_values::Schema;
 use bind_names::{
     Around, BindFault, ByTable, Defined, Known, Listed, NamedBuffer, Naming, Notes, Scene,
@@ -56,13 +56,13 @@ pub fn procedure_block(alloc: Global, number: u32) -> Result<Items<Around>, Bind
 }
 
 /// The header of a procedure's block.
-fn procedure_header(alloc: Global, block: u32, line: u32) -> Result<Box<Header>, BindFault>
-    ensures { (w : TheScene) → w.block ≡ block → IfOk result (λ r. header_of r.value ≡ header w line false ProcedureBlock None None (record { while_test = None; on_error = None; on_endkey = None })) }
+fn procedure_header(alloc: Global, block: u32, place: Place) -> Result<Box<Header>, BindFault>
+    ensures { (w : TheScene) → w.block ≡ block → IfOk result (λ r. header_of r.value ≡ header w place false ProcedureBlock None None (record { while_test = None; on_error = None; on_endkey = None })) }
 {
     let header = Header {
         number: block,
         kind: BlockKind::Procedure,
-        line,
+        place,
         transaction: false,
         flags: Flags {
             starts: false,
@@ -101,23 +101,23 @@ pub fn frame_of(alloc: Global, scene: &Scene<'_>, own: &[Naming]) -> Result<Fram
     })
 }
 
-/// A procedure with its statements. The line is that of its first word.
+/// A procedure with its statements. The place is that of its first word.
 pub fn procedure_with(
     alloc: Global,
     frame: Frame,
-    line: u32,
+    place: Place,
     name: Bytes,
     own: Defined,
     body: Vec<Stmt>,
 ) -> Result<Procedure, BindFault>
-    ensures { (w : TheScene) → IsFrame w frame → IfOk result (λ r. procedure_of r ≡ procedure_with w line name own (body_of body.items)) }
+    ensures { (w : TheScene) → IsFrame w frame → IfOk result (λ r. procedure_of r ≡ procedure_with w place name own (body_of body.items)) }
 {
     let Frame {
         block,
         buffers,
         references,
     } = frame;
-    let header = procedure_header(alloc, block, line)?;
+    let header = procedure_header(alloc, block, place)?;
     let Defined {
         undoable,
         no_undo,
@@ -254,12 +254,12 @@ pub fn internal(
     scene: &mut Scene<'_>,
     own: &[Naming],
     number: u32,
-    line: u32,
+    place: Place,
     name: &Word,
     statements: &[Statement],
     notes: &mut Notes,
 ) -> Result<Procedure, BindFault>
-    ensures judged { own.now ≡ own_namings number scene.old.namings.now → IfOk result (λ r. IsJudged (internal (scene_of scene.old) number line name.now.spelling (statements_of statements.now)) (procedured (procedure_of r) scene.new.known) notes.old notes.new) }
+    ensures judged { own.now ≡ own_namings number scene.old.namings.now → IfOk result (λ r. IsJudged (internal (scene_of scene.old) number place name.now.spelling (statements_of statements.now)) (procedured (procedure_of r) scene.new.known) notes.old notes.new) }
     ensures scene { OnOk result (IsAfter scene.old scene.new) }
 {
     let outside = go_inside(alloc, scene, own, number)?;
@@ -267,6 +267,6 @@ pub fn internal(
     let bound = body(alloc, scene, statements, notes)?;
     let defined = go_back(scene, outside)?;
     let spelling = name.spelling.copy()?;
-    let made = procedure_with(alloc, frame, line, spelling, defined, bound)?;
+    let made = procedure_with(alloc, frame, place, spelling, defined, bound)?;
     Ok(made)
 }

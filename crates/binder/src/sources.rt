@@ -16,13 +16,16 @@ use crate::groups::Groups;
 use crate::procedures::{Position, frame_of, internal, nothing_defined, opening, procedure_with};
 use crate::statements::{join, statement};
 use crate::taken::TakenNames;
-use abl_base::{Items, Rule};
+use abl_base::{Items, Place, Rule};
 use abl_values::Schema;
 use bind_names::{BindFault, Known, Listed, Naming, Notes, Scene, Signature};
 use bound_tree::{Bound, Procedure, Stmt};
 use std::alloc::Global;
 use std::mem;
 use syntax_tree::{Item, Program, Word};
+
+/// Where the external procedure begins.
+const START_OF_SOURCE: Place = Place { line: 1, column: 1 };
 
 /// What was bound of the items of a source so far: the statements of the external procedure, and
 /// the internal procedures with their names.
@@ -132,7 +135,7 @@ fn item(
             notes.unless(!taken, Rule::Y3, name.at);
             let number = next_number(parts)?;
             let own = groups.in_procedure(number);
-            let made = internal(alloc, scene, own, number, at.line, name, body, notes)?;
+            let made = internal(alloc, scene, own, number, *at, name, body, notes)?;
             add_procedure(alloc, parts, made, name)?;
             Ok(())
         }
@@ -229,7 +232,14 @@ fn source(
         procedures,
         ..
     } = parts;
-    let main = procedure_with(alloc, frame, 1, Items::empty(alloc), defined, body)?;
+    let main = procedure_with(
+        alloc,
+        frame,
+        START_OF_SOURCE,
+        Items::empty(alloc),
+        defined,
+        body,
+    )?;
     let procedures = all_procedures(alloc, main, procedures)?;
     Ok(Bound {
         procedures,

@@ -4,7 +4,7 @@ use Rattle.abl_values.specs.declared.schema.TableDef.{TableDef}
 use Rattle.abl_values.specs.Schema.{no_table}
 use Rattle.bound_tree.specs.declared.block.BlockKind.TheVariants as block
 use Rattle.bound_tree.specs.declared.procedure.BufferDef.{BufferDef}
-use Rattle.bound_tree.specs.Tree.{Source, Procedure, Header, Nothing}
+use Rattle.bound_tree.specs.Tree.{Source, Procedure, Header, Nothing, start_of_source}
 use Rattle.abl_base.specs.text_forms.TextForms.{TextForms}
 pub use Rattle.abl_values.specs.Schema.{no_field, no_index}
 
@@ -27,7 +27,7 @@ abbrev pub no_header : Header
 no_header = record {
   number = 0;
   kind = block.Procedure;
-  line = 1;
+  place = start_of_source;
   transaction = false;
   flags = record { starts = false; undo = true; retry_seen = false };
   scoped = [];

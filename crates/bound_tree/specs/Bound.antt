@@ -99,7 +99,7 @@ abbrev pub header_of : SourceHeader → Header
 header_of h = record {
   number = h.number;
   kind = h.kind;
-  line = h.line;
+  place = h.place;
   transaction = h.transaction;
   flags = h.flags;
   scoped = h.scoped.items;

@@ -1,5 +1,6 @@
 -- The bound tree as the definition of what a client does reads it: names are numbers, and each block has its header.
 use Rattle.std.specs.Prelude.{ℕ, Bool, List, Option}
+use Rattle.abl_base.specs.declared.place.Place.{Place}
 use Rattle.abl_base.specs.declared.value.Value.{Value}
 use Rattle.abl_base.specs.declared.value.Kind.{Kind}
 use Rattle.bound_tree.specs.declared.expression.Variable.{Variable}
@@ -71,12 +72,16 @@ pub record ToPhrase : Type 0 where
   pub end : Expr
   pub by : Option Expr
 
+-- the place of a source's first byte, where its external procedure begins
+abbrev pub start_of_source : Place
+start_of_source = record { line = 1; column = 1 }
+
 -- the header of a block, and the buffers scoped to it in buffer order
 pub record Header : Type 0 where
   pub number : ℕ
   pub kind : BlockKind
-  -- the line of its first word, and whether the word TRANSACTION is in it
-  pub line : ℕ
+  -- the place of its first word, and whether the word TRANSACTION is in it
+  pub place : Place
   pub transaction : Bool
   pub flags : Flags
   pub scoped : List ℕ

@@ -2,7 +2,7 @@
 //! ON ENDKEY phrases; Block properties).
 
 use crate::expression::{Expr, Variable};
-use abl_base::Kind;
+use abl_base::{Kind, Place};
 
 /// What happens after a block was undone.
 #[derive(Drop)]
@@ -105,8 +105,8 @@ pub struct Header {
     /// external procedure's block is 0.
     pub number: u32,
     pub kind: BlockKind,
-    /// The line of its first word, and 1 for the external procedure's block.
-    pub line: u32,
+    /// The place of its first word, and of the source's first byte for the external procedure's block.
+    pub place: Place,
     /// It has the word TRANSACTION.
     pub transaction: bool,
     pub flags: Flags,

@@ -15,7 +15,7 @@ use Rattle.bound_tree.specs.declared.procedure.Reference.{Reference}
 use Rattle.bound_tree.specs.declared.procedure.ReferenceKind.{ReferenceKind}
 use Rattle.bound_tree.specs.declared.procedure.ReferenceKind.TheVariants.{Strong, Weak, Free}
 use Rattle.bound_tree.specs.Tree as tree
-use Rattle.bound_tree.specs.Tree.{Procedure}
+use Rattle.bound_tree.specs.Tree.{Procedure, start_of_source}
 use Rattle.buffer_scope.specs.Blocks.{blocks_of}
 use Rattle.buffer_scope.specs.First.{first}
 use Rattle.buffer_scope.specs.Rules.{procedure_breaks}
@@ -63,7 +63,7 @@ main references = record {
   header = record {
     number = 0;
     kind = kind.Procedure;
-    line = 1;
+    place = start_of_source;
     transaction = false;
     flags = record { starts = false; undo = false; retry_seen = false };
     scoped = [];

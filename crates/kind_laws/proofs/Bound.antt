@@ -14,7 +14,7 @@ use Rattle.syntax_tree.specs.Syntax.{Head, Opening, Phrase, Program, Statement, 
 use Rattle.bound_tree.specs.declared.expression.Variable.{Variable}
 use Rattle.bound_tree.specs.declared.statement.FindWord.{FindWord}
 use Rattle.bound_tree.specs.Tree as b
-use Rattle.bound_tree.specs.Tree.{Body, Nothing, Procedure, Source, Then}
+use Rattle.bound_tree.specs.Tree.{Body, Nothing, Procedure, Source, Then, start_of_source}
 use Rattle.bind_names.specs.declared.names.Around.{Around}
 use Rattle.bind_names.specs.declared.names.Defined.{Defined}
 use Rattle.bind_names.specs.declared.names.NamedBuffer.{NamedBuffer}
@@ -280,10 +280,10 @@ mutual
 abbrev whole : List Placed → Procedure → Procedure
 whole blocks q = flagged_procedure (scoped_procedure blocks q)
 
-procedure_placed : (blocks : List Placed) (w : Scene) (line : ℕ) (name : List ℕ) (d : Defined) (body : Body) → list_all is_own d.parameters ≡ true → is_placed_body (w.block ∷ []) body ≡ true → is_placed_procedure (whole blocks (procedure_with w line name d body)) ≡ true
-procedure_placed blocks w line name d body o h =
+procedure_placed : (blocks : List Placed) (w : Scene) (place : Place) (name : List ℕ) (d : Defined) (body : Body) → list_all is_own d.parameters ≡ true → is_placed_body (w.block ∷ []) body ≡ true → is_placed_procedure (whole blocks (procedure_with w place name d body)) ≡ true
+procedure_placed blocks w place name d body o h =
     both (list_all is_own d.parameters && true) _ (both (list_all is_own d.parameters) _ o refl)
-    (flags_place_in (w.block ∷ []) (scoped_body (scoped_to blocks (procedure_with w line name d body)) body) ∙ (scopes_place_in (scoped_to blocks (procedure_with w line name d body)) (w.block ∷ []) body ∙ h))
+    (flags_place_in (w.block ∷ []) (scoped_body (scoped_to blocks (procedure_with w place name d body)) body) ∙ (scopes_place_in (scoped_to blocks (procedure_with w place name d body)) (w.block ∷ []) body ∙ h))
 
 pub record ArePlaced (around : List ℕ) (blocks : List Placed) (p : Parts) : Type 0 where
   pub body : is_placed_body around p.body ≡ true
@@ -302,7 +302,7 @@ items_placed blocks w names (s.Procedure place name body ∷ rest) m o e =
     let more = items_placed blocks (scene_after w (outside_again w.known.own (statements v body).is.after)) (name ∷ names) rest m o (nil_right (statements_break [] body) _ e) in
     record {
       body = more.body;
-      procedures = both (is_placed_procedure (whole blocks (procedure_with v place.line name.spelling (statements v body).is.after.own (statements v body).is.body))) _ (procedure_placed blocks v place.line name.spelling (statements v body).is.after.own (statements v body).is.body x.parameters x.body) more.procedures;
+      procedures = both (is_placed_procedure (whole blocks (procedure_with v place name.spelling (statements v body).is.after.own (statements v body).is.body))) _ (procedure_placed blocks v place name.spelling (statements v body).is.after.own (statements v body).is.body x.parameters x.body) more.procedures;
       parameters = more.parameters;
     }
 
@@ -329,5 +329,5 @@ bound_placed schema program plain e clean =
     let x = items_placed (blocks_of program) w [] program tt refl (no_first (program_breaks program) clean) in
     let p = (items w [] program).is in
     subst (λ (t : Source). is_placed (with_flags (with_scopes program t)) ≡ true) (bound_is (first (violations schema program)) (judged schema program (namings schema program)).is plain e)
-    (all_whole (blocks_of program) (procedure_with w 1 [] p.after.own p.body ∷ p.procedures)
-    (both (is_placed_procedure (whole (blocks_of program) (procedure_with w 1 [] p.after.own p.body))) _ (procedure_placed (blocks_of program) w 1 [] p.after.own p.body x.parameters x.body) x.procedures))
+    (all_whole (blocks_of program) (procedure_with w start_of_source [] p.after.own p.body ∷ p.procedures)
+    (both (is_placed_procedure (whole (blocks_of program) (procedure_with w start_of_source [] p.after.own p.body))) _ (procedure_placed (blocks_of program) w start_of_source [] p.after.own p.body x.parameters x.body) x.procedures))

@@ -17,7 +17,7 @@ use Rattle.bound_tree.specs.declared.block.BlockKind.TheVariants as block
 use Rattle.bound_tree.specs.declared.block.Flags.{Flags}
 use Rattle.bound_tree.specs.declared.statement.Target.TheVariants as target
 use Rattle.bound_tree.specs.declared.procedure.BufferDef.{BufferDef}
-use Rattle.bound_tree.specs.Tree.{Expr, Literal, TheVariable, TheField, Two, Header, Reading, ValueOf, Item, Shows, Skips, Stmt, Choose, Assign, PutItems, Body, Nothing, Then, Procedure}
+use Rattle.bound_tree.specs.Tree.{Expr, Literal, TheVariable, TheField, Two, Header, Reading, ValueOf, Item, Shows, Skips, Stmt, Choose, Assign, PutItems, Body, Nothing, Then, Procedure, start_of_source}
 use Rattle.abl_base.specs.text_forms.TextForms.{TextForms, Imported, AtInputEnd, BadElement, Elements}
 use Rattle.block_meaning.specs.Program.{Program}
 
@@ -76,7 +76,7 @@ abbrev pub header : BlockKind → ℕ → Flags → List ℕ → Header
 header kind n flags scoped = record {
   number = n;
   kind = kind;
-  line = 1;
+  place = start_of_source;
   transaction = false;
   flags = flags;
   scoped = scoped;

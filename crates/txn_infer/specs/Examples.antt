@@ -11,7 +11,7 @@ use Rattle.bound_tree.specs.declared.block.LockWanted.TheVariants as lock
 use Rattle.bound_tree.specs.declared.expression.Variable.{Variable}
 use Rattle.bound_tree.specs.declared.expression.Binary.TheVariants as two
 use Rattle.bound_tree.specs.declared.statement.Target.TheVariants as target
-use Rattle.bound_tree.specs.Tree.{Expr, Literal, TheVariable, Two, IfElse, Retry, ThenLeave, ThenRetry, Header, ValueOf, NextOf, Inner, Choose, Assign, Create, Import, UndoBlock, LeaveBlock, PutItems, Skips, Run, Body, Nothing, Then}
+use Rattle.bound_tree.specs.Tree.{Expr, Literal, TheVariable, Two, IfElse, Retry, ThenLeave, ThenRetry, Header, ValueOf, NextOf, Inner, Choose, Assign, Create, Import, UndoBlock, LeaveBlock, PutItems, Skips, Run, Body, Nothing, Then, start_of_source}
 use Rattle.txn_infer.specs.Updates.{updates_in}
 use Rattle.txn_infer.specs.Retry.{names_retry_in}
 use Rattle.txn_infer.specs.Flags.{flags_where}
@@ -21,7 +21,7 @@ abbrev head : ℕ → BlockKind → Header
 head number what = record {
   number = number;
   kind = what;
-  line = 1;
+  place = start_of_source;
   transaction = false;
   flags = record { starts = false; undo = false; retry_seen = false };
   scoped = [];

@@ -6,6 +6,7 @@ use Rattle.std.proofs.lemmas.Bool.Decides.{nat_tests}
 use Rattle.abl_base.specs.declared.value.Kind.{Kind}
 use Rattle.abl_values.specs.Schema.{SchemaData, field_named, table_at}
 use Rattle.bind_names.specs.declared.names.NamingKind.TheVariants as naming_kind
+use Rattle.abl_base.specs.declared.place.Place.{Place}
 use Rattle.bound_tree.specs.declared.expression.Variable.{Variable}
 use Rattle.bound_tree.specs.Tree.{Body, Procedure, Source}
 use Rattle.syntax_tree.specs.Syntax as s
@@ -211,16 +212,16 @@ alone_good F ps w t m bs out src more sanity e n =
     (λ y g h. numbered_in x w y refl refl (bs ∙ ap (λ p. buffers_in p w.context.namings) (sym m.procedure)) g h) (statement_in w t) n)
 
 -- an internal procedure
-procedure_good : (F : ℕ → Defined) (ps : List (List Variable)) (w : Scene) (p line : ℕ) (name : Word) (body : Statements) → IsSource w.context ps → DefinesMore w.known.own (F 0) → AreSane (F 0) →
+procedure_good : (F : ℕ → Defined) (ps : List (List Variable)) (w : Scene) (p : ℕ) (place : Place) (name : Word) (body : Statements) → IsSource w.context ps → DefinesMore w.known.own (F 0) → AreSane (F 0) →
     (statements (inside_procedure p w) body).breaks ≡ [] → Each (IsPlaced w.context.schema w.context.namings) (statements (inside_procedure p w) body).names →
     is_procedure w.context.schema (kinds_known (F 0)) ps (kinds_within body)
-    (procedure_with (inside_procedure p w) line name.spelling (statements (inside_procedure p w) body).is.after.own (statements (inside_procedure p w) body).is.body) ≡ true
-procedure_good F ps w p line name body src more sanity e n =
+    (procedure_with (inside_procedure p w) place name.spelling (statements (inside_procedure p w) body).is.after.own (statements (inside_procedure p w) body).is.body) ≡ true
+procedure_good F ps w p place name body src more sanity e n =
     let v = inside_procedure p w in
     let k = (statements v body).is.after in
     let x = around w.context.schema ps (F 0) v.buffers k.own in
     let sound : AreSane k.own = all_sane v body e none_sane in
-    subst (λ own. is_procedure w.context.schema (kinds_known (F 0)) ps own (procedure_with v line name.spelling k.own (statements v body).is.body) ≡ true) (kinds_inside w p body)
+    subst (λ own. is_procedure w.context.schema (kinds_known (F 0)) ps own (procedure_with v place name.spelling k.own (statements v body).is.body) ≡ true) (kinds_inside w p body)
     (both _ _ (both _ _ sound.undoable sound.no_undo)
     (both _ _ (all_kinds x k.own k.own.parameters refl sound.parameters)
     (both _ _ refl
@@ -259,7 +260,7 @@ items_good F ps w names (s.Procedure place name body ∷ rest) m bs out src f sa
     record {
       body = later.body;
       procedures = both _ _
-          (procedure_good F ps w p place.line name body src (main_more F w names (s.Procedure place name body ∷ rest) f) sanity (in_body w names place name body rest e)
+          (procedure_good F ps w p place name body src (main_more F w names (s.Procedure place name body ∷ rest) f) sanity (in_body w names place name body rest e)
           (each_left (IsPlaced w.context.schema w.context.namings) (statements v body).names _ n))
           later.procedures;
     }

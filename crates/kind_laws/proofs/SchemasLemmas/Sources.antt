@@ -7,8 +7,9 @@ use Rattle.abl_values.specs.Sound.{IsSound}
 use Rattle.syntax_tree.specs.declared.name.Word.{Word}
 use Rattle.syntax_tree.specs.Syntax as s
 use Rattle.syntax_tree.specs.Syntax.{Program}
+use Rattle.abl_base.specs.declared.place.Place.{Place}
 use Rattle.bound_tree.specs.declared.procedure.BufferDef.{BufferDef}
-use Rattle.bound_tree.specs.Tree.{Body, Choose, Inner, Nothing, Procedure, Source, Stmt, Then}
+use Rattle.bound_tree.specs.Tree.{Body, Choose, Inner, Nothing, Procedure, Source, Stmt, Then, start_of_source}
 use Rattle.bind_names.specs.declared.names.Defined.{Defined}
 use Rattle.bind_names.specs.Judged.{first}
 use Rattle.bind_names.specs.Names.{Scene}
@@ -50,9 +51,9 @@ mutual
 abbrev whole : List Placed → Procedure → Procedure
 whole blocks q = flagged_procedure (scoped_procedure blocks q)
 
-procedure_found : (blocks : List Placed) (w : Scene) (line : ℕ) (name : List ℕ) (d : Defined) (body : Body) → has_body w.context.schema (map buffer_def w.buffers) body ≡ true → has_procedure w.context.schema (whole blocks (procedure_with w line name d body)) ≡ true
-procedure_found blocks w line name d body h =
-    flags_have_in w.context.schema (map buffer_def w.buffers) (scoped_body (scoped_to blocks (procedure_with w line name d body)) body) ∙ (scopes_have_in (scoped_to blocks (procedure_with w line name d body)) w.context.schema (map buffer_def w.buffers) body ∙ h)
+procedure_found : (blocks : List Placed) (w : Scene) (place : Place) (name : List ℕ) (d : Defined) (body : Body) → has_body w.context.schema (map buffer_def w.buffers) body ≡ true → has_procedure w.context.schema (whole blocks (procedure_with w place name d body)) ≡ true
+procedure_found blocks w place name d body h =
+    flags_have_in w.context.schema (map buffer_def w.buffers) (scoped_body (scoped_to blocks (procedure_with w place name d body)) body) ∙ (scopes_have_in (scoped_to blocks (procedure_with w place name d body)) w.context.schema (map buffer_def w.buffers) body ∙ h)
 
 -- ---- the whole source
 
@@ -78,7 +79,7 @@ items_found blocks w names (s.Procedure place name body ∷ rest) at k e n =
     let more = items_found blocks u (name ∷ names) rest (after_place w (outside_again w.known.own it.is.after) at) k (nil_right it.breaks _ rules) (each_right P it.names _ n) in
     record {
       body = more.body;
-      procedures = both (has_procedure w.context.schema (whole blocks (procedure_with v place.line name.spelling it.is.after.own it.is.body))) _ (procedure_found blocks v place.line name.spelling it.is.after.own it.is.body x.body) more.procedures;
+      procedures = both (has_procedure w.context.schema (whole blocks (procedure_with v place name.spelling it.is.after.own it.is.body))) _ (procedure_found blocks v place name.spelling it.is.after.own it.is.body x.body) more.procedures;
     }
 
 all_whole : (schema : SchemaData) (blocks : List Placed) (qs : List Procedure) → list_all (λ q. has_procedure schema (whole blocks q)) qs ≡ true → list_all (has_procedure schema) (map flagged_procedure (map (scoped_procedure blocks) qs)) ≡ true
@@ -93,5 +94,5 @@ bound_found schema program plain sound e =
     let p = (items w [] program).is in
     let x = items_found (blocks_of program) w [] program (record { sound = sound; buffers = refl }) tt fine (names_placed schema program fine) in
     subst (λ (t : Source). has_source schema (with_flags (with_scopes program t)) ≡ true) it.tree
-    (all_whole schema (blocks_of program) (procedure_with w 1 [] p.after.own p.body ∷ p.procedures)
-    (both (has_procedure schema (whole (blocks_of program) (procedure_with w 1 [] p.after.own p.body))) _ (procedure_found (blocks_of program) w 1 [] p.after.own p.body x.body) x.procedures))
+    (all_whole schema (blocks_of program) (procedure_with w start_of_source [] p.after.own p.body ∷ p.procedures)
+    (both (has_procedure schema (whole (blocks_of program) (procedure_with w start_of_source [] p.after.own p.body))) _ (procedure_found (blocks_of program) w start_of_source [] p.after.own p.body x.body) x.procedures))

@@ -13,7 +13,7 @@ use Rattle.bound_tree.specs.declared.procedure.BufferDef.{BufferDef}
 use Rattle.bound_tree.specs.declared.statement.FindWord.TheVariants as find_word
 use Rattle.bound_tree.specs.declared.statement.Target.TheVariants as target
 use Rattle.bound_tree.specs.Tree as b
-use Rattle.bound_tree.specs.Tree.{Body, Expr, Header, Procedure, Source, Stmt}
+use Rattle.bound_tree.specs.Tree.{Body, Expr, Header, Procedure, Source, Stmt, start_of_source}
 use Rattle.kind_laws.specs.bound_kinds.WellKinded.{VariableKinds, is_masked, is_well_kinded}
 
 -- table customer, fields num integer and name character, unique primary index num
@@ -34,7 +34,7 @@ abbrev header : Header
 header = record {
   number = 0;
   kind = block_kind.Procedure;
-  line = 1;
+  place = start_of_source;
   transaction = false;
   flags = record { starts = false; undo = false; retry_seen = false };
   scoped = [];

@@ -14,7 +14,7 @@ returns c =
     let given = c.args.given.now in
     let w = scene_of c.args.scene.now in
     let these = phrases_of c.in_ok-phrases.phrases in
-    three_judged (header w given.at.line (list_any is_transaction (map phrase_of given.phrases.items)) (block_kind_of (opening_of given.opening)))
+    three_judged (header w given.at (list_any is_transaction (map phrase_of given.phrases.items)) (block_kind_of (opening_of given.opening)))
     (opening w (opening_of given.opening)) (counts w (maybe_counting_of given.counting)) (phrases w (map phrase_of given.phrases.items))
     (fetch_of c.in_ok-fetch.fetch) (to_of c.in_ok-to.to) these (header_of c.in_ok-made.made.value) c.args.notes.now c.opening.new.notes c.counts.new.notes c.all_phrases.new.notes
     c.in_ok-fetch.ensures c.in_ok-to.ensures

@@ -13,10 +13,10 @@ pub returns-clause-judged : goal.returns-clause-judged
 returns-clause-judged c = λ is_own.
     let is_inner = c.in_ok-outside.ensures.scene is_own in
     let own_inside = is_own ∙ ap (λ (v : Scene). own_namings v.procedure v.context.namings) (sym is_inner) in
-    internal_judged (scene_of c.args.scene.now) (scene_of c.go_inside.new.scene) c.args.number c.args.line c.args.name.now.spelling (statements_of c.args.statements.now) (body_of c.in_ok-bound.bound.items)
+    internal_judged (scene_of c.args.scene.now) (scene_of c.go_inside.new.scene) c.args.number c.args.place c.args.name.now.spelling (statements_of c.args.statements.now) (body_of c.in_ok-bound.bound.items)
     c.body.new.scene.known c.go_back.new.scene.known c.in_ok-defined.defined (procedure_of c.in_ok-made.made) c.args.notes.now c.body.new.notes
     is_inner c.in_ok-bound.ensures.judged (λ d e. c.in_ok-defined.ensures.after d e) c.in_ok-defined.ensures.defined
-    (c.in_ok-made.ensures (scene_of c.go_inside.new.scene) (c.in_ok-frame.ensures own_inside) ∙ ap (λ (n : List ℕ). procedure_with (scene_of c.go_inside.new.scene) c.args.line n c.in_ok-defined.defined (body_of c.in_ok-bound.bound.items)) c.in_ok-spelling.ensures)
+    (c.in_ok-made.ensures (scene_of c.go_inside.new.scene) (c.in_ok-frame.ensures own_inside) ∙ ap (λ (n : List ℕ). procedure_with (scene_of c.go_inside.new.scene) c.args.place n c.in_ok-defined.defined (body_of c.in_ok-bound.bound.items)) c.in_ok-spelling.ensures)
 
 pub returns-clause-scene : goal.returns-clause-scene
 returns-clause-scene c =

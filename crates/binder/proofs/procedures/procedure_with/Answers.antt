@@ -4,4 +4,4 @@ use Rattle.binder.proofs.procedures.procedure_with.Goals as goal
 
 pub returns : goal.returns
 returns c = λ w f.
-    procedure_is w c.args.frame f c.args.line c.args.name c.args.own (body_of c.args.body.items) (header_of c.in_ok-header.header.value) _ (c.in_ok-header.ensures w f.block) c.into_vec.ensures
+    procedure_is w c.args.frame f c.args.place c.args.name c.args.own (body_of c.args.body.items) (header_of c.in_ok-header.header.value) _ (c.in_ok-header.ensures w f.block) c.into_vec.ensures
