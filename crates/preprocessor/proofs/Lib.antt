@@ -6,7 +6,9 @@ pub mod Heights
 pub mod Layers
 pub mod Resumed
 pub mod Machines
+pub mod Runs
 pub mod Plain
 pub mod Added
 pub mod Shorts
 pub mod Tokenings
+pub mod Lines

@@ -2,6 +2,7 @@
 use Rattle.std.proofs.Common.{◌≡◌, ℕ, suc, ◌+◌, ◌-◌, ◌≤◌, Bool, true, false, not, ◌&&◌, ◌||◌, ◌==◌, nat_le, nat_lt, if◌then◌else◌, List, [], ◌∷◌, ◌++◌, length, refl, ap, sym, ◌∙◌, arith, append_assoc, length-append}
 use Rattle.std.proofs.lemmas.List.{append-nil}
 use Rattle.std.proofs.lemmas.Bool.{le-leb}
+use Rattle.abl_base.specs.declared.limits.TheConstants.{MAX_FILE_BYTES}
 use Rattle.abl_base.specs.declared.place.Place.{Place}
 use Rattle.preprocessor.specs.declared.mode.Mode.{Mode}
 use Rattle.preprocessor.specs.declared.texts.NamedText.{NamedText}
@@ -9,7 +10,7 @@ use Rattle.preprocessor.specs.declared.texts.Mark.{Mark}
 use Rattle.preprocessor.specs.declared.texts.State.{State}
 use Rattle.preprocessor.specs.declared.texts.Here.{Here}
 use Rattle.preprocessor.specs.declared.texts.Outcome.TheVariants.{Gives}
-use Rattle.preprocessor.specs.declared.limits.TheConstants.{MAX_EXPANSION_BYTES, MAX_TEXT_BYTES}
+use Rattle.preprocessor.specs.declared.limits.TheConstants.{MAX_EXPANSION_BYTES}
 use Rattle.preprocessor.specs.Modes.{after, begins_word, next_byte, opens, plain}
 use Rattle.preprocessor.specs.Places.{moved, start}
 use Rattle.preprocessor.specs.Texts.{bytes_at}
@@ -68,7 +69,7 @@ plain_layer texts here at mode state given (b ∷ bs) p h k =
     ∙ ap (λ (x : List Mark). Gives x (spent (spent state 1) (length bs))) (append_assoc given (m ∷ []) (taken here.text (moved at b) bs))
     ∙ ap (Gives (given ++ taken here.text at (b ∷ bs))) (spent_more state (length bs))
 
-pub plain_source : (texts : List NamedText) → is_plain (bytes_at texts 0) ≡ true → length (bytes_at texts 0) ≤ MAX_TEXT_BYTES → IsItself texts
+pub plain_source : (texts : List NamedText) → is_plain (bytes_at texts 0) ≡ true → length (bytes_at texts 0) ≤ MAX_FILE_BYTES → IsItself texts
 unfolding expansion
 plain_source texts p h =
     let here : Here = record { text = 0; arguments = []; left = 15 } in

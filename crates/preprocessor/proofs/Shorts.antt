@@ -1,14 +1,11 @@
 -- What is given is at most as long as an expansion may be.
-use Rattle.std.proofs.Common.{◌≡◌, ℕ, zero, suc, ◌+◌, ◌-◌, ◌≤◌, Bool, true, false, ◌&&◌, nat_le, List, [], ◌∷◌, ◌++◌, length, take, drop, Option, Some, None, refl, sym, subst, ◌∙◌, arith, length-append}
+use Rattle.std.proofs.Common.{◌≡◌, ℕ, zero, suc, ◌+◌, ◌-◌, ◌≤◌, Bool, true, false, ◌&&◌, nat_le, List, [], ◌∷◌, ◌++◌, length, take, drop, Option, Some, None, refl, arith, length-append}
 use Rattle.std.proofs.lemmas.Bool.{leb-true}
 use Rattle.abl_base.specs.declared.place.Place.{Place}
 use Rattle.preprocessor.specs.declared.mode.Mode.{Mode}
 use Rattle.preprocessor.specs.declared.names.Definition.{Definition}
 use Rattle.preprocessor.specs.declared.directive.Directive.{Directive}
 use Rattle.preprocessor.specs.declared.directive.Directive.TheVariants.{Scoped, Global, If, Then, ElseIf, Else, EndIf, Unknown}
-use Rattle.preprocessor.specs.declared.reference.Reference.{Reference}
-use Rattle.preprocessor.specs.declared.reference.Reference.TheVariants.{Faulty, Name, Number, File}
-use Rattle.preprocessor.specs.declared.reference.FileReference.{FileReference}
 use Rattle.preprocessor.specs.declared.texts.NamedText.{NamedText}
 use Rattle.preprocessor.specs.declared.texts.Mark.{Mark}
 use Rattle.preprocessor.specs.declared.texts.State.{State}
@@ -23,9 +20,9 @@ use Rattle.preprocessor.specs.Directives.{definition_of, line_length, maker_of}
 use Rattle.preprocessor.specs.Parts.{part_length, word_at, word_in, word_size}
 use Rattle.preprocessor.specs.Conditions.{truth}
 use Rattle.preprocessor.specs.References.{reading}
-use Rattle.preprocessor.specs.Texts.{bytes_at, bytes_of, found, last_of}
+use Rattle.preprocessor.specs.Texts.{bytes_at, bytes_of, last_of}
 use Rattle.preprocessor.specs.Places.{moved, past, start}
-use Rattle.preprocessor.specs.Expansion.{Includes, at_first, expansion, Reads, after_part, all_ended, branched, chosen, closed, condition, conditional, continued, directed, entered, fits, given_by, in_file, in_part, included, judged, kept, lined, made, one_more_text, opened, part_ended, passed_by, passed_over, past_word, reads, referred, resolved, skipped, spent, text_of, then_with, unopened, with_one, worded}
+use Rattle.preprocessor.specs.Expansion.{Includes, at_first, expansion, Reads, after_part, all_ended, branched, chosen, condition, conditional, continued, directed, fits, given_by, in_part, judged, kept, lined, made, opened, part_ended, passed_by, passed_over, past_word, reads, referred, resolved, skipped, spent, text_of, then_with, unopened, with_one, worded}
 use Rattle.preprocessor.specs.declared.limits.TheConstants.{MAX_EXPANSION_BYTES, MAX_OPEN_TEXTS}
 use Rattle.preprocessor.specs.Laws.{IsShort}
 

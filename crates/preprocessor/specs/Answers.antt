@@ -1,8 +1,8 @@
 -- What an expansion is answered with.
 use Rattle.std.specs.Prelude.{ℕ, ◌≡◌, List, map, Option, Some, None, slice_get, Result, Ok, Err}
 use Rattle.abl_base.specs.declared.place.Place.{Place}
-use Rattle.preprocessor.specs.declared.answer.Expansion.{Expansion}
-use Rattle.preprocessor.specs.declared.answer.Origin.{Origin}
+use Rattle.preprocessor.specs.declared.expanded.Expansion.{Expansion}
+use Rattle.preprocessor.specs.declared.expanded.Origin.{Origin}
 use Rattle.preprocessor.specs.declared.answer.PreFault.{PreFault}
 use Rattle.preprocessor.specs.declared.answer.PreFault.TheVariants.{Broken, Need, NoMemory}
 use Rattle.preprocessor.specs.declared.texts.NamedText.{NamedText}

@@ -21,6 +21,10 @@ use Rattle.preprocessor.specs.Names.{word_length}
 use Rattle.preprocessor.specs.Directives.{line_length}
 use Rattle.preprocessor.specs.Expansion.{after_file, continued, copied, decided, defined, directed, given_by, layer, lined, one_more_text, opened, passed_by, referred, resolved, sized, text_of, then_with}
 
+-- what is left of a layer's bytes comes to this
+abbrev pub layer_read : List NamedText → Here → Layer → State → Outcome
+layer_read texts here l state = layer texts here l.at l.mode state l.given l.rest.now
+
 -- the layer goes on after what its reference gave
 abbrev pub layer_continued : List NamedText → Here → Layer → State → List Mark → Outcome
 layer_continued texts here l state extra = continued (layer texts) here l.start l.at l.mode state l.given extra l.rest.now

@@ -30,3 +30,12 @@ offset_from p (b ∷ bs) place = if same_place p place then 0 else 1 + offset_fr
 -- the same of a text
 abbrev pub offset_of : List ℕ → Place → ℕ
 offset_of bytes place = offset_from start bytes place
+
+-- the offsets at which the lines after the first begin, where these bytes begin at the offset n
+abbrev pub later_starts : ℕ → List ℕ → List ℕ
+later_starts n [] = []
+later_starts n (b ∷ bs) = if b == 10 then (n + 1) ∷ later_starts (n + 1) bs else later_starts (n + 1) bs
+
+-- the offsets at which the lines of a text begin
+abbrev pub line_starts : List ℕ → List ℕ
+line_starts bytes = 0 ∷ later_starts 0 bytes

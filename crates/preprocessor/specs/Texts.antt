@@ -1,5 +1,6 @@
 -- The texts of an expansion, and the definitions that are in force.
 use Rattle.std.specs.Prelude.{ℕ, zero, suc, ◌+◌, ◌<◌, ◌≤◌, ◌^◌, Bool, if◌then◌else◌, List, [], ◌∷◌, length, map, Option, Some, None, slice_get}
+use Rattle.abl_base.specs.declared.limits.TheConstants.{MAX_FILE_BYTES}
 use Rattle.abl_base.specs.declared.place.Place.{Place}
 use Rattle.preprocessor.specs.declared.names.Definition.{Definition}
 use Rattle.preprocessor.specs.declared.names.Maker.{Maker}
@@ -8,7 +9,6 @@ use Rattle.preprocessor.specs.declared.texts.NamedText.{NamedText}
 use Rattle.preprocessor.specs.declared.texts.Mark.{Mark}
 use Rattle.preprocessor.specs.declared.texts.State.{State}
 use Rattle.preprocessor.specs.declared.texts.Here.{Here}
-use Rattle.preprocessor.specs.declared.limits.TheConstants.{MAX_TEXT_BYTES}
 use Rattle.preprocessor.specs.Names.{same_bytes, same_name}
 
 -- the number of the first text with this name, where the first text has the number i
@@ -33,7 +33,7 @@ name_at texts i = text_name (slice_get texts i)
 -- Texts that can be expanded: their numbers fit, and none is longer than a file.
 pub record AreTexts (texts : List NamedText) : Type 0 where
   pub few : length texts < 2 ^ 32
-  pub short : (i : ℕ) → length (bytes_at texts i) ≤ MAX_TEXT_BYTES
+  pub short : (i : ℕ) → length (bytes_at texts i) ≤ MAX_FILE_BYTES
 
 abbrev pub or_empty : Option (List ℕ) → List ℕ
 or_empty None = []

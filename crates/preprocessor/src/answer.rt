@@ -5,28 +5,12 @@ ghost use Rattle.preprocessor.specs.Answers.{IsAnswer, origin_at, origin_of_plac
 ghost use Rattle.preprocessor.specs.Expansion.{expansion};
 ghost use Rattle.preprocessor.specs.Texts.{AreTexts};
 
+use crate::expanded::{Expansion, Origin};
 use crate::expansion::expansion;
-use crate::places::{offset_of, past, start};
+use crate::places::{past, start};
 use crate::texts::{Mark, NamedText, Outcome, bytes_at, bytes_of};
 use abl_base::{Bytes, Items, Place, Rule};
 use std::alloc::{AllocError, Global};
-
-/// Where a byte of an expansion was taken from: the number of the text, and the place in it.
-#[derive(Clone, Copy)]
-pub struct Origin {
-    pub text: u32,
-    pub place: Place,
-}
-
-/// What a source expands to.
-#[derive(Drop)]
-pub struct Expansion {
-    pub bytes: Bytes,
-    /// Where each byte was taken from.
-    pub origins: Items<Origin>,
-    /// The end of the source.
-    pub end: Place,
-}
 
 /// Why there is no expansion.
 #[derive(Drop)]
@@ -52,7 +36,7 @@ impl Expansion {
     pub fn origin_at(&self, place: Place) -> Origin
         ensures { result ≡ origin_of_place self.now.bytes self.now.origins self.now.end place }
     {
-        self.taken_at(offset_of(self.bytes.as_slice(), place))
+        self.taken_at(self.offset_of(place))
     }
 
     fn taken_at(&self, at: usize) -> Origin
@@ -102,11 +86,10 @@ pub fn expand(alloc: Global, texts: &[NamedText]) -> Result<Expansion, PreFault>
                 return Err(PreFault::NoMemory);
             };
             let end = past(start(), bytes_at(texts, 0));
-            Ok(Expansion {
-                bytes,
-                origins,
-                end,
-            })
+            let Ok(expansion) = Expansion::new(alloc, bytes, origins, end) else {
+                return Err(PreFault::NoMemory);
+            };
+            Ok(expansion)
         }
         Outcome::Breaks(rule, text, place) => Err(PreFault::Broken { rule, text, place }),
         Outcome::Needs(name) => Err(PreFault::Need { name }),

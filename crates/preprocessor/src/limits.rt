@@ -1,8 +1,5 @@
 //! Limits of an expansion. Each is this project's choice.
 
-/// The most bytes of a text.
-pub const MAX_TEXT_BYTES: usize = 1_048_576;
-
 /// The most texts that are open at once, the source included.
 pub const MAX_OPEN_TEXTS: usize = 16;
 

@@ -8,6 +8,7 @@ use crate::layer::Layer;
 use crate::limits::MAX_EXPANSION_BYTES;
 use crate::mode::next_byte;
 use crate::places::moved;
+use crate::run::run;
 use crate::texts::{Here, Mark, NamedText, Outcome, State};
 use abl_base::{Items, Rule};
 use std::alloc::AllocError;
@@ -90,7 +91,7 @@ pub fn continued<'a>(
     }))
 }
 
-/// A byte that opens no reference and begins no word is given.
+/// A byte that opens no reference and begins no word is given, and the run of such bytes after it.
 #[tactic(auto, using(crate::proofs::Machines::copied_goes, crate::proofs::Machines::copied_over))]
 pub fn copied<'a>(
     texts: &'a [NamedText],
@@ -120,16 +121,18 @@ pub fn copied<'a>(
         text: here.text,
         place: at,
     })?;
+    let next = Layer {
+        mode: mode.after(byte, next_byte(tail)),
+        start,
+        at: moved(at, byte),
+        rest: tail,
+        given,
+    };
+    let reached = run(texts, &here, next, spent(state, 1))?;
     Ok(Turn::Next(Machine {
         stack,
         here,
-        layer: Layer {
-            mode: mode.after(byte, next_byte(tail)),
-            start,
-            at: moved(at, byte),
-            rest: tail,
-            given,
-        },
-        state: spent(state, 1),
+        layer: reached.layer,
+        state: reached.state,
     }))
 }
