@@ -6,7 +6,7 @@ use Rattle.abl_base.specs.declared.place.Place.{Place}
 use Rattle.abl_values.specs.Schema.{SchemaData, number_of_name, table_named}
 use Rattle.bound_tree.specs.declared.block.BlockKind.TheVariants as block_kind
 use Rattle.bound_tree.specs.Tree as t
-use Rattle.bound_tree.specs.Tree.{Header, Stmt, Body, Procedure, Source}
+use Rattle.bound_tree.specs.Tree.{Header, Stmt, Body, Procedure, Source, start_of_source}
 use Rattle.syntax_tree.specs.Syntax as s
 use Rattle.syntax_tree.specs.Syntax.{Expression, Statement, Statements, Program}
 use Rattle.syntax_tree.specs.declared.name.Word.{Word}
@@ -109,7 +109,7 @@ mutual
       let it = all_counted p (inside h w) body in
       let e = it.count in
       record {
-        headers = ap (λ l. record { number = w.known.blocks; line = h.at.line; kind = block_kind_of h.opening } ∷ l)
+        headers = ap (λ l. record { number = w.known.blocks; place = h.at; kind = block_kind_of h.opening } ∷ l)
             (ap (map name_of_header) (append-nil (headers_within (statements (inside h w) body).is.body)) ∙ it.headers);
         count = omega (arith, e);
       }
@@ -243,13 +243,13 @@ inner_items w names (s.Alone x ∷ rest) m a i q e =
 inner_items w names (s.Procedure keyword name body ∷ rest) m a zero q e =
     let v = inside_procedure (length names + 1) w in
     let x = statements v body in
-    let it : procedure_with v keyword.line name.spelling x.is.after.own x.is.body ≡ q = cc in
+    let it : procedure_with v keyword name.spelling x.is.after.own x.is.body ≡ q = cc in
     let same : m ≡ m + 0 = omega arith in
     subst (λ p. Own p w.known.blocks (procedure_blocks m keyword body ++ blocks_among (m + 1) rest) (headers_of q)) same
     (subst (λ (q : Procedure). Own m w.known.blocks (procedure_blocks m keyword body ++ blocks_among (m + 1) rest) (headers_of q)) it
-    (own_first m w.known.blocks (procedure_blocks m keyword body) (blocks_among (m + 1) rest) (headers_of (procedure_with v keyword.line name.spelling x.is.after.own x.is.body))
-    (own_all m w.known.blocks (procedure_blocks m keyword body) (headers_of (procedure_with v keyword.line name.spelling x.is.after.own x.is.body)) (refl, all_are_in m body)
-    (ap (λ l. record { number = w.known.blocks; line = keyword.line; kind = block_kind.Procedure } ∷ l) (all_counted m v body).headers))
+    (own_first m w.known.blocks (procedure_blocks m keyword body) (blocks_among (m + 1) rest) (headers_of (procedure_with v keyword name.spelling x.is.after.own x.is.body))
+    (own_all m w.known.blocks (procedure_blocks m keyword body) (headers_of (procedure_with v keyword name.spelling x.is.after.own x.is.body)) (refl, all_are_in m body)
+    (ap (λ l. record { number = w.known.blocks; place = keyword; kind = block_kind.Procedure } ∷ l) (all_counted m v body).headers))
     (own_earlier m (w.known.blocks + length (procedure_blocks m keyword body)) (m + 1) rest a (omega arith))))
 inner_items w names (s.Procedure keyword name body ∷ rest) m a (suc i) q e =
     let v = inside_procedure (length names + 1) w in
@@ -266,9 +266,9 @@ pub judged_blocks : (schema : SchemaData) (program : Program) (said : List Namin
 judged_blocks schema program said zero q e =
     let w = beginning (record { schema = schema; namings = said; procedures = signatures program }) in
     let x = (items w [] program).is in
-    let it : procedure_with w 1 [] x.after.own x.body ≡ q = cc in
+    let it : procedure_with w start_of_source [] x.after.own x.body ≡ q = cc in
     subst (AreItsBlocks program zero) it
-    (ap (λ l. record { number = 0; line = 1; kind = block_kind.Procedure } ∷ l) (outer_items w [] program 1 (omega arith)))
+    (ap (λ l. record { number = 0; place = start_of_source; kind = block_kind.Procedure } ∷ l) (outer_items w [] program 1 (omega arith)))
 judged_blocks schema program said (suc i) q e =
     let w = beginning (record { schema = schema; namings = said; procedures = signatures program }) in
     let same : 1 + i ≡ suc i = omega arith in

@@ -126,7 +126,7 @@ items_have w names (s.Procedure keyword name body ∷ rest) m b h =
     let v = inside_procedure (length names + 1) w in
     let x = statements v body in
     let u = scene_after w (outside_again w.known.own x.is.after) in
-    go (procedure_with v keyword.line name.spelling x.is.after.own x.is.body) (items u (name ∷ names) rest).is.procedures
+    go (procedure_with v keyword name.spelling x.is.after.own x.is.body) (items u (name ∷ names) rest).is.procedures
     (one_of b (procedure_blocks m keyword body) (blocks_among (m + 1) rest) h) (items_have u (name ∷ names) rest (m + 1) b)
   where
     go : (q : Procedure) (qs : List Procedure) → IsOne b (procedure_blocks m keyword body) ⊎ IsOne b (blocks_among (m + 1) rest) →

@@ -12,7 +12,7 @@ pub record IsHeaderAt (tree : Source) (p i : ℕ) (h : Header) : Type 0 where
   pub at_number : slice_get tree.procedures p ≡ Some procedure
   pub at_place : slice_get (headers_of procedure) i ≡ Some h
 
--- THE HEADER OF THE BLOCK b of the text, where n blocks begin before b. It is in the block's procedure. It has the block's number, line
+-- THE HEADER OF THE BLOCK b of the text, where n blocks begin before b. It is in the block's procedure. It has the block's number, place
 -- and kind and the buffers scoped to that block. No other header has its number
 pub record HasOneHeader (syntax_of : Syntax) (tree : Source) (n : ℕ) (b : TextBlock) : Type 0 where
   pub place : ℕ

@@ -5,7 +5,7 @@ use Rattle.abl_base.specs.declared.place.Place.{Place}
 use Rattle.bound_tree.specs.declared.block.BlockKind.{BlockKind}
 use Rattle.bound_tree.specs.declared.block.BlockKind.TheVariants as block_kind
 use Rattle.bound_tree.specs.Tree as t
-use Rattle.bound_tree.specs.Tree.{Header, Stmt, Body}
+use Rattle.bound_tree.specs.Tree.{Header, Stmt, Body, start_of_source}
 use Rattle.syntax_tree.specs.Syntax as s
 use Rattle.syntax_tree.specs.Syntax.{Statement, Statements, Program}
 use Rattle.bind_blocks.specs.Headers.{block_kind_of}
@@ -41,7 +41,7 @@ blocks_among p (s.Procedure keyword name body ∷ items) = procedure_blocks p ke
 
 -- THE BLOCKS OF A TEXT in text order, the external procedure first
 abbrev pub text_blocks : Program → List TextBlock
-text_blocks program = record { procedure = 0; keyword = record { line = 1; column = 1 }; kind = block_kind.Procedure } ∷ blocks_among 1 program
+text_blocks program = record { procedure = 0; keyword = start_of_source; kind = block_kind.Procedure } ∷ blocks_among 1 program
 
 -- ---- their numbers
 
@@ -82,17 +82,17 @@ headers_of q = q.header ∷ headers_within q.body
 
 -- ---- the header of each block
 
--- what names a block: its number, the line of its first keyword, and what it is
+-- what names a block: its number, the place of its first keyword, and what it is
 pub record BlockName : Type 0 where
   pub number : ℕ
-  pub line : ℕ
+  pub place : Place
   pub kind : BlockKind
 
 abbrev pub name_of_header : Header → BlockName
-name_of_header h = record { number = h.number; line = h.line; kind = h.kind }
+name_of_header h = record { number = h.number; place = h.place; kind = h.kind }
 
 abbrev pub name_of_block : NumberedBlock → BlockName
-name_of_block b = record { number = b.number; line = b.block.keyword.line; kind = b.block.kind }
+name_of_block b = record { number = b.number; place = b.block.keyword; kind = b.block.kind }
 
 -- THE HEADERS OF THE PROCEDURE ARE THOSE OF THE BLOCKS OF PROCEDURE p, one for one, in text order
 abbrev pub AreItsBlocks : Program → ℕ → t.Procedure → Type 0

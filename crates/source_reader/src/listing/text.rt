@@ -4,36 +4,37 @@ ghost use Rattle.std.specs.Prelude.{◌≡◌, [], IfOk, OnOk, map};
 ghost use Rattle.bound_tree.specs.Bound.{body_of, header_of, procedure_of, source_of, stmt_of};
 ghost use Rattle.source_reader.specs.listing.Listing.{add, in_body, in_procedure, in_procedures, in_stmt, joined, listing};
 
-use crate::listing::line::line;
+use crate::listing::line::{ListedBlock, add_line, listed};
+use crate::listing::own_lines::OwnLines;
 use abl_base::Bytes;
 use bound_tree::{Bound, BufferDef, Header, Procedure, Stmt};
 use std::alloc::{AllocError, Global};
 use std::collections::BTreeMap;
 
-/// The lines of blocks, by the numbers of these.
-type Lines = BTreeMap<u32, Bytes>;
+/// Blocks by their numbers.
+type Lines = BTreeMap<u32, ListedBlock>;
 
 /// The listing of a source: a line for each block, in text order. Out of memory is the only refusal.
-pub fn listing(alloc: Global, bound: &Bound) -> Result<Bytes, AllocError>
-    ensures { IfOk result (λ r. r ≡ listing (source_of bound.now)) }
+pub fn listing<L: OwnLines>(alloc: Global, bound: &Bound, own: &L) -> Result<Bytes, AllocError>
+    ensures { IfOk result (λ r. r ≡ listing (L.own_line own.now) (source_of bound.now)) }
 {
     let mut lines = BTreeMap::new(alloc);
     in_procedures(alloc, &mut lines, &bound.procedures)?;
-    joined(alloc, &lines)
+    joined(alloc, own, &lines)
 }
 
-/// These lines one after the other.
-fn joined(alloc: Global, lines: &Lines) -> Result<Bytes, AllocError>
-    ensures { IfOk result (λ r. r ≡ joined lines.now.entries) }
+/// The lines of these blocks one after the other.
+fn joined<L: OwnLines>(alloc: Global, own: &L, lines: &Lines) -> Result<Bytes, AllocError>
+    ensures { IfOk result (λ r. r ≡ joined (L.own_line own.now) lines.now.entries) }
 {
     let mut text = Bytes::empty(alloc);
-    for (_, line) in lines {
-        text.extend_from_slice(line.as_slice())?;
+    for (number, block) in lines {
+        add_line(own, *number, block, &mut text)?;
     }
     Ok(text)
 }
 
-/// Adds the lines of the procedures.
+/// Adds the blocks of the procedures.
 fn in_procedures(
     alloc: Global,
     lines: &mut Lines,
@@ -47,7 +48,7 @@ fn in_procedures(
     Ok(())
 }
 
-/// Adds the lines of a procedure.
+/// Adds the blocks of a procedure.
 fn in_procedure(alloc: Global, lines: &mut Lines, procedure: &Procedure) -> Result<(), AllocError>
     ensures { OnOk result (lines.new.entries ≡ in_procedure lines.old.entries (procedure_of procedure.now)) }
 {
@@ -56,7 +57,7 @@ fn in_procedure(alloc: Global, lines: &mut Lines, procedure: &Procedure) -> Resu
     Ok(())
 }
 
-/// Adds the line of a block with this header.
+/// Adds a block with this header.
 fn add(
     alloc: Global,
     buffers: &[BufferDef],
@@ -65,12 +66,12 @@ fn add(
 ) -> Result<(), AllocError>
     ensures { OnOk result (lines.new.entries ≡ add buffers.now lines.old.entries (header_of header.now)) }
 {
-    let text = line(alloc, buffers, header)?;
-    lines.insert(header.number, text)?;
+    let block = listed(alloc, buffers, header)?;
+    lines.insert(header.number, block)?;
     Ok(())
 }
 
-/// Adds the lines of the blocks in the statements.
+/// Adds the blocks in the statements.
 #[cycle(walk)]
 fn in_body(
     alloc: Global,
@@ -86,7 +87,7 @@ fn in_body(
     Ok(())
 }
 
-/// Adds the lines of the blocks in the statement.
+/// Adds the blocks in the statement.
 #[cycle(walk)]
 fn in_stmt(
     alloc: Global,
