@@ -1,5 +1,5 @@
 -- Worked rows, each computed from the definitions.
-use Rattle.std.specs.Prelude.{◌≡◌, refl, true, false, None, [], ◌∷◌, ℕ, codes, pos}
+use Rattle.std.specs.Prelude.{◌≡◌, refl, true, false, None, Some, [], ◌∷◌, ℕ, codes, pos}
 use Rattle.std.specs.Fmt.{digits}
 use Rattle.abl_values.specs.Schema.{SchemaData}
 use Rattle.database_protocol.specs.declared.operation.Op.{Op}
@@ -7,8 +7,8 @@ use Rattle.database_protocol.specs.declared.operation.Op.TheVariants.{Enter, Lea
 use Rattle.database_protocol.specs.declared.answer.Answer.{Answer}
 use Rattle.database_protocol.specs.declared.answer.Answer.TheVariants.{Done, Committed, Blocked, Deadlock, Found, Value}
 use Rattle.database_protocol.specs.declared.event.Event.{Event}
-use Rattle.abl_base.specs.declared.rule.Rule.TheVariants.{F1}
-use Rattle.run_report.specs.declared.refusal.Refusal.TheVariants.{Schema}
+use Rattle.abl_base.specs.declared.rule.Rule.TheVariants.{F1, Y1}
+use Rattle.run_report.specs.declared.refusal.Refusal.TheVariants.{Schema, Source}
 use Rattle.run_report.specs.Report.{status_lines}
 use Rattle.run_report.specs.Trace.{trace_line, trace_part}
 
@@ -60,3 +60,12 @@ a_value = refl
 a_broken_schema : status_lines (codes "a" ∷ []) [] (Schema F1 1) ≡ codes "abl: schema F1 at line 1\n"
 unfolding digits
 a_broken_schema = refl
+
+-- the lines about a source that breaks a rule in its own file, and in one that it needs
+a_broken_source : status_lines (codes "a" ∷ []) [] (Source 0 None Y1 (record { line = 2; column = 1 })) ≡ codes "abl: a: Y1 at 2:1\n"
+unfolding digits
+a_broken_source = refl
+
+a_broken_file : status_lines (codes "a" ∷ []) [] (Source 0 (Some (codes "bad.i")) Y1 (record { line = 2; column = 1 })) ≡ codes "abl: a: Y1 at bad.i:2:1\n"
+unfolding digits
+a_broken_file = refl

@@ -64,6 +64,11 @@ abbrev pub name_or_none : Option (List ℕ) → List ℕ
 name_or_none None = []
 name_or_none (Some name) = name
 
+-- the name of a file that a source needs, and a colon; nothing for the source's own file
+abbrev pub file_part : Option (List ℕ) → List ℕ
+file_part None = []
+file_part (Some file) = file ++ 58 ∷ []
+
 -- the lines of a status: of the clients or sources of these names, and of the clients' ends where a run began
 abbrev pub status_lines : List (List ℕ) → List ClientEnd → Refusal → List ℕ
 status_lines names ends (Usage arg) = codes "abl: usage at word " ++ decimal arg ++ 10 ∷ []
@@ -72,8 +77,8 @@ status_lines names ends (TooLong file most) =
     codes "abl: " ++ file ++ codes " is longer than " ++ decimal most ++ codes " bytes" ++ 10 ∷ []
 status_lines names ends (Schema rule line) =
     codes "abl: schema " ++ rule_name rule ++ codes " at line " ++ decimal line ++ 10 ∷ []
-status_lines names ends (Source client rule place) =
-    codes "abl: " ++ name_or_none (slice_get names client) ++ codes ": " ++ rule_name rule ++ codes " at " ++ decimal place.line ++ 58 ∷ decimal place.column ++ 10 ∷ []
+status_lines names ends (Source client file rule place) =
+    codes "abl: " ++ name_or_none (slice_get names client) ++ codes ": " ++ rule_name rule ++ codes " at " ++ file_part file ++ decimal place.line ++ 58 ∷ decimal place.column ++ 10 ∷ []
 status_lines names ends (NoTable table) = codes "abl: no table " ++ table ++ 10 ∷ []
 status_lines names ends NotCreated = codes "abl: not created" ++ 10 ∷ []
 status_lines names ends AlreadyCreated = codes "abl: already created" ++ 10 ∷ []
@@ -90,7 +95,7 @@ status_of (File file) = 2
 status_of (TooLong file most) = 10
 status_of (Schema rule line) = 3
 status_of (NoTable table) = 3
-status_of (Source client rule place) = 4
+status_of (Source client file rule place) = 4
 status_of Disk = 5
 status_of (Client first) = 8
 status_of NotCreated = 9

@@ -28,9 +28,11 @@ pub enum Refusal {
     NoTable {
         name: Bytes,
     },
-    /// The client's source breaks the rule, first at this place.
+    /// The client's source breaks the rule, first at this place: of the file of this name, which the
+    /// source needs, or without one of the source's own file.
     Source {
         client: u16,
+        file: Option<Bytes>,
         rule: Rule,
         place: Place,
     },

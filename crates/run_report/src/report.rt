@@ -5,7 +5,7 @@ ghost use Rattle.client_output.specs.declared.section.Section.{Section as Writte
 ghost use Rattle.std.specs.List.{flat_map};
 ghost use Rattle.host_io.specs.declared.out.Stream.{Stream};
 ghost use Rattle.host_io.specs.Out.{Writes};
-ghost use Rattle.run_report.specs.Report.{line_end_of, line_end_after, part_of, report_of, end_line, end_lines, name_or_none, status_lines};
+ghost use Rattle.run_report.specs.Report.{file_part, line_end_of, line_end_after, part_of, report_of, end_line, end_lines, name_or_none, status_lines};
 
 use crate::refusal::Refusal;
 use abl_base::{Bytes, Place};
@@ -148,9 +148,10 @@ pub fn write_status<O: Out>(
         }
         Refusal::Source {
             client,
+            file,
             rule,
             place,
-        } => write_source(out, name_at(names, *client), rule.name(), *place),
+        } => write_source(out, name_at(names, *client), file, rule.name(), *place),
         Refusal::NoTable { name: table } => {
             write_line(out, b"abl: no table ", table.as_slice(), b"")
         }
@@ -203,23 +204,28 @@ fn write_schema<'a, O: Out>(out: &mut O, rule: &'a [u8], line: &'a [u8]) -> Resu
     write_all(out, Stream::Diagnostics, &pieces)
 }
 
-/// Writes the line about a source that breaks a rule.
+/// Writes the line about a source that breaks a rule, at a place of the file of this name or, without
+/// one, of the source's own file.
 fn write_source<O: Out>(
     out: &mut O,
     name: &[u8],
+    file: &Option<Bytes>,
     rule: &[u8],
     place: Place,
 ) -> Result<(), OutFailed>
-    ensures { Writes (is_ok result) Stream.Diagnostics (codes "abl: " ++ name.now ++ codes ": " ++ rule.now ++ codes " at " ++ decimal place.line ++ 58 ∷ decimal place.column ++ 10 ∷ []) (O.state out.old) (O.state out.new) }
+    ensures { Writes (is_ok result) Stream.Diagnostics (codes "abl: " ++ name.now ++ codes ": " ++ rule.now ++ codes " at " ++ file_part file.now ++ decimal place.line ++ 58 ∷ decimal place.column ++ 10 ∷ []) (O.state out.old) (O.state out.new) }
 {
     let mut line = Buffer::new();
     let mut column = Buffer::new();
     let line = line.format(place.line).as_bytes();
     let column = column.format(place.column).as_bytes();
-    write_rule(out, name, rule, line, column)
+    match file {
+        Some(file) => write_file_rule(out, name, file.as_slice(), rule, line, column),
+        None => write_rule(out, name, rule, line, column),
+    }
 }
 
-/// Writes the line about a source that breaks a rule, with its place in digits.
+/// Writes the line about a source that breaks a rule in its own file, with its place in digits.
 fn write_rule<'a, O: Out>(
     out: &mut O,
     name: &'a [u8],
@@ -231,6 +237,23 @@ fn write_rule<'a, O: Out>(
 {
     let pieces = [
         b"abl: ", name, b": ", rule, b" at ", line, b":", column, b"\n",
+    ];
+    write_all(out, Stream::Diagnostics, &pieces)
+}
+
+/// Writes the line about a source that breaks a rule in a file that it needs.
+fn write_file_rule<'a, O: Out>(
+    out: &mut O,
+    name: &'a [u8],
+    file: &'a [u8],
+    rule: &'a [u8],
+    line: &'a [u8],
+    column: &'a [u8],
+) -> Result<(), OutFailed>
+    ensures { Writes (is_ok result) Stream.Diagnostics (codes "abl: " ++ name.now ++ codes ": " ++ rule.now ++ codes " at " ++ file.now ++ 58 ∷ line.now ++ 58 ∷ column.now ++ 10 ∷ []) (O.state out.old) (O.state out.new) }
+{
+    let pieces = [
+        b"abl: ", name, b": ", rule, b" at ", file, b":", line, b":", column, b"\n",
     ];
     write_all(out, Stream::Diagnostics, &pieces)
 }
