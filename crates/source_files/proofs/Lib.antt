@@ -1,1 +1,5 @@
+pub mod Asked
+pub mod Broken
 pub mod Causes
+pub mod Plain
+pub mod Parts

@@ -1,18 +1,17 @@
 //! The schema and the codes that texts denote.
 
-ghost use Rattle.std.specs.Prelude.{◌≡◌, ◌≤◌, ◌⊎◌, ◌++◌, ◌+◌, All, List, None, IfErr, IfOk, OnOk, length};
+ghost use Rattle.std.specs.Prelude.{◌≡◌, ◌≤◌, ◌⊎◌, ◌++◌, ◌+◌, List, None, IfErr, IfOk, OnOk, length};
 ghost use Rattle.schema_reader.specs.Rules.{violation_of};
 ghost use Rattle.block_code.specs.declared.code.Code.{Code as TheCode};
 ghost use Rattle.run_report.specs.declared.refusal.Refusal.TheVariants.{NoMemory};
-ghost use Rattle.source_files.specs.Compiled.{BreaksSchema, BreaksSource, HaveCodes, IsCodeOf, OneSourceBreaks, schema_in};
+ghost use Rattle.source_files.specs.Compiled.{BreaksSchema, HaveCodes, OneSourceBreaks, schema_in};
 
-use crate::files::{ClientTexts, MAX_FILE_BYTES};
+use crate::files::ClientTexts;
 use crate::source::compile_source;
 use abl_values::Schema;
 use block_code::Code;
 use run_report::Refusal;
 use schema_reader::{SchemaRefusal, read_df};
-use source_reader::SourceFault;
 use std::alloc::Global;
 
 /// The schema of a run, and the codes of its sources.
@@ -24,8 +23,7 @@ pub struct Compiled {
 
 /// The schema of this text, and the codes of the sources over it.
 pub fn compiled_in(alloc: Global, df: &[u8], texts: &[ClientTexts]) -> Result<Compiled, Refusal>
-    requires short { All (λ (t : ClientTexts). length t.source ≤ MAX_FILE_BYTES) texts.now }
-    requires few { length texts.now ≤ 16 }
+    requires { length texts.now ≤ 16 }
     ensures clean { OnOk result (violation_of df.now ≡ None) }
     ensures schema { IfOk result (λ compiled. compiled.schema ≡ schema_in df.now) }
     ensures codes { IfOk result (λ compiled. HaveCodes (schema_in df.now) texts.now compiled.codes.items) }
@@ -47,15 +45,14 @@ fn add_codes(
     number: u16,
     codes: &mut Vec<Code>,
 ) -> Result<(), Refusal>
-    requires short { All (λ (t : ClientTexts). length t.source ≤ MAX_FILE_BYTES) texts.now }
-    requires few { number + length texts.now ≤ 16 }
+    requires { number + length texts.now ≤ 16 }
     ensures codes { OnOk result ((more : List TheCode) × (codes.new.items ≡ codes.old.items ++ more) × HaveCodes schema.now texts.now more) }
     ensures refused { IfErr result (λ refusal. (refusal ≡ NoMemory) ⊎ OneSourceBreaks schema.now number texts.now refusal) }
 {
     let Some((text, rest)) = texts.split_first() else {
         return Ok(());
     };
-    let code = code_of(alloc, schema, number, text.source.as_slice())?;
+    let code = compile_source(alloc, schema, number, &text.source)?;
     let Ok(()) = codes.push(code) else {
         return Err(Refusal::NoMemory);
     };
@@ -72,22 +69,5 @@ pub fn schema_of(alloc: Global, text: &[u8]) -> Result<Schema, Refusal>
         Ok(schema) => Ok(schema),
         Err(SchemaRefusal::Broken { rule, line }) => Err(Refusal::Schema { rule, line }),
         Err(SchemaRefusal::NoMemory) => Err(Refusal::NoMemory),
-    }
-}
-
-/// The code of the source of this number over the schema.
-fn code_of(alloc: Global, schema: &Schema, number: u16, text: &[u8]) -> Result<Code, Refusal>
-    requires { length text.now ≤ MAX_FILE_BYTES }
-    ensures code { IfOk result (IsCodeOf schema.now text.now) }
-    ensures refused { IfErr result (BreaksSource schema.now number text.now) }
-{
-    match compile_source(alloc, schema, text) {
-        Ok(code) => Ok(code),
-        Err(SourceFault::Broken { rule, place }) => Err(Refusal::Source {
-            client: number,
-            rule,
-            place,
-        }),
-        Err(SourceFault::NoMemory) => Err(Refusal::NoMemory),
     }
 }

@@ -1,28 +1,30 @@
 //! The files that a command reads before the rules are looked at.
 
-ghost use Rattle.std.specs.Prelude.{◌≡◌, ◌⊎◌, ◌++◌, List, IfErr, IfOk, OnOk, map, option_copied};
-ghost use Rattle.std.specs.List.{flat_map};
+ghost use Rattle.std.specs.Prelude.{◌≡◌, ◌++◌, List, Some, IfErr, IfOk, OnOk, map, option_copied};
 ghost use Rattle.command_arguments.specs.CommandLine.{client_in};
-ghost use Rattle.run_report.specs.declared.refusal.Refusal.TheVariants.{NoMemory};
-ghost use Rattle.source_files.specs.Files.{AreSame, HasInput, HasText, HaveClients, HaveTexts, IsNotRead, OneIsNotRead, client_files, input_file};
+ghost use Rattle.source_files.specs.Files.{AreSame, AskedIsNotRead, AsksClient, AsksClients, HasClient, HasInput, HasText, HaveClients, HaveTexts, IsNotRead, OneIsNotRead};
 
+use crate::sources::read_source;
+use crate::texts::SourceTexts;
 use abl_base::Bytes;
 use command_arguments::ClientArgument;
 use host_io::{FileFault, Files};
+use preprocessor::NamedText;
 use run_report::Refusal;
 use std::alloc::Global;
 
-/// The most bytes that a schema file, a source or an input may have.
+/// The most bytes that a schema file, a source, a file that a source needs, or an input may have.
 pub const MAX_FILE_BYTES: u64 = 1_048_576;
 
 /// The texts of a client that are read before the rules are checked.
 #[derive(Drop)]
 pub struct ClientTexts {
-    pub source: Bytes,
+    pub source: SourceTexts,
     pub input: Bytes,
 }
 
-/// Reads the source and the input of each client, and adds their texts.
+/// Reads the source of each client with the files that it needs, and then its input, and adds their
+/// texts.
 pub fn read_clients<F: Files>(
     alloc: Global,
     files: &mut F,
@@ -31,7 +33,7 @@ pub fn read_clients<F: Files>(
 ) -> Result<(), Refusal>
     ensures read { OnOk result ((more : List ClientTexts) × (texts.new.items ≡ texts.old.items ++ more) × HaveClients (F.state files.old) (map client_in clients.now) more) }
     ensures same { OnOk result (AreSame (F.state files.old) (F.state files.new)) }
-    ensures refused { IfErr result (λ refusal. (refusal ≡ NoMemory) ⊎ OneIsNotRead (F.state files.old) (F.state files.new).faults (flat_map client_files (map client_in clients.now)) refusal) }
+    ensures refused { IfErr result (AskedIsNotRead (F.state files.old) (F.state files.new).faults (AsksClients (F.state files.old) (map client_in clients.now))) }
 {
     let Some((client, rest)) = clients.split_first() else {
         return Ok(());
@@ -49,12 +51,11 @@ fn read_client<F: Files>(
     files: &mut F,
     client: &ClientArgument<'_>,
 ) -> Result<ClientTexts, Refusal>
-    ensures source { IfOk result (λ texts. HasText (F.state files.old) client.now.program.now texts.source) }
-    ensures input { IfOk result (λ texts. HasInput (F.state files.old) (option_copied client.now.input) texts.input) }
+    ensures texts { IfOk result (HasClient (F.state files.old) (client_in client.now)) }
     ensures same { OnOk result (AreSame (F.state files.old) (F.state files.new)) }
-    ensures refused { IfErr result (OneIsNotRead (F.state files.old) (F.state files.new).faults (client_files (client_in client.now))) }
+    ensures refused { IfErr result (AskedIsNotRead (F.state files.old) (F.state files.new).faults (AsksClient (F.state files.old) (client_in client.now))) }
 {
-    let source = read(alloc, files, client.program)?;
+    let source = read_source(alloc, files, client.program)?;
     match read_input(alloc, files, client.input) {
         Ok(input) => Ok(ClientTexts { source, input }),
         Err(refusal) => Err(refusal),
@@ -68,7 +69,7 @@ fn read_input<F: Files>(
     input: Option<&[u8]>,
 ) -> Result<Bytes, Refusal>
     ensures text { IfOk result (HasInput (F.state files.old) (option_copied input.entry)) }
-    ensures refused { IfErr result (OneIsNotRead (F.state files.old) (F.state files.new).faults (input_file (option_copied input.entry))) }
+    ensures refused { IfErr result (AskedIsNotRead (F.state files.old) (F.state files.new).faults (λ name. option_copied input.entry ≡ Some name)) }
     ensures same { OnOk result (AreSame (F.state files.old) (F.state files.new)) }
 {
     match input {
@@ -109,8 +110,21 @@ pub fn read<F: Files>(alloc: Global, files: &mut F, name: &[u8]) -> Result<Bytes
     let Ok(name) = Bytes::of(alloc, name) else {
         return Err(Refusal::NoMemory);
     };
+    match read_text(files, name) {
+        Ok(text) => Ok(text.bytes),
+        Err(refusal) => Err(refusal),
+    }
+}
+
+/// The file of this name, with its text.
+pub(crate) fn read_text<F: Files>(files: &mut F, name: Bytes) -> Result<NamedText, Refusal>
+    ensures name { IfOk result (λ text. text.name ≡ name) }
+    ensures text { IfOk result (λ text. HasText (F.state files.old) name text.bytes) }
+    ensures refused { IfErr result (IsNotRead (F.state files.old) (F.state files.new).faults name) }
+    ensures same { OnOk result (AreSame (F.state files.old) (F.state files.new)) }
+{
     match files.read(&name, MAX_FILE_BYTES) {
-        Ok(text) => Ok(text),
+        Ok(bytes) => Ok(NamedText { name, bytes }),
         Err(FileFault::Failed) => Err(Refusal::File { name }),
         Err(FileFault::TooLong) => Err(Refusal::TooLong {
             name,
