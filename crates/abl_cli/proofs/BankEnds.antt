@@ -8,7 +8,6 @@ use Rattle.host_io.specs.Out.{OutState}
 use Rattle.schema_reader.proofs.ObservableSound.{files-sound}
 use Rattle.schema_text.proofs.HeldLemmas.Held.{files-held}
 use Rattle.schema_reader.specs.Rules.{violation_of}
-use Rattle.source_reader.proofs.Violations.{trees_break_none}
 use Rattle.abl_values.specs.Schema.{SchemaData}
 use Rattle.bank_run.specs.declared.inputs.sources.TheConstants.{BANK_SCHEMA}
 use Rattle.bank_run.specs.Result.{BankResult, BankPrevented, BankNotRun, BankRan, PreventsBank, schema_breaks, source_breaks, bank_wants, bank_schema}
@@ -30,12 +29,13 @@ use Rattle.abl_cli.proofs.FileCauses.{no_violation}
 use Rattle.abl_cli.proofs.Judged.{rose_in_report, wrong_or_formed}
 use Rattle.abl_cli.proofs.Marks.{check_or_bank, create_or_bank, dump_or_bank, run_or_bank}
 use Rattle.abl_cli.proofs.Prevented.{done_ends}
+use Rattle.abl_cli.proofs.SourceTexts.{no_break}
 
 -- sources that denote trees break no rule
 no_source_breaks : (schema : SchemaData) (n : ℕ) (ts : List ClientTexts) (trees : List Tree) {refusal : Refusal} → AreTrees schema ts trees → OneSourceBreaks schema n ts refusal → refusal ≡ NoMemory
 no_source_breaks schema n [] trees denote h = elim h [ ]
 no_source_breaks schema n (t ∷ ts) [] denote h = absurd denote
-no_source_breaks schema n (t ∷ ts) (tree ∷ trees) denote (this_source (breaks_rule found)) = absurd (trees_break_none schema t.source denote.0 found)
+no_source_breaks schema n (t ∷ ts) (tree ∷ trees) denote (this_source (breaks_rule at found)) = absurd (no_break schema t.source denote.0 found)
 no_source_breaks schema n (t ∷ ts) (tree ∷ trees) denote (this_source source_wants) = refl
 no_source_breaks schema n (t ∷ ts) (tree ∷ trees) denote (later_source found is h) = no_source_breaks schema (n + 1) ts trees denote.1 h
 

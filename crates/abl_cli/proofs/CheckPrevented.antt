@@ -3,15 +3,15 @@ use Rattle.std.proofs.Common.{◌≡◌, ◌⊎◌, inl, inr, ◌+◌, ◌<◌, 
 use Rattle.std.specs.Prelude.{IsTrue}
 use Rattle.storage.specs.faults.Faults.{Rose}
 use Rattle.abl_base.specs.declared.rule.Rule.{Rule}
-use Rattle.abl_base.specs.declared.place.Place.{Place}
+use Rattle.bound_tree.specs.Tree.{Source as Tree}
+use Rattle.preprocessor.specs.declared.expanded.Origin.{Origin}
+use Rattle.preprocessor.specs.declared.texts.NamedText.{NamedText}
 use Rattle.host_io.specs.declared.out.Stream.TheVariants.{Output as Standard}
 use Rattle.host_io.specs.Files.{FileState}
 use Rattle.host_io.specs.Out.{OutState, appended}
 use Rattle.schema_reader.specs.Rules.{violation_of}
 use Rattle.abl_values.specs.Schema.{SchemaData}
 use Rattle.source_reader.specs.listing.Listing.{listing}
-use Rattle.source_reader.specs.Sources.{BreaksRule}
-use Rattle.source_reader.proofs.Violations.{one_rule, one_tree_of, trees_break_none}
 use Rattle.command_arguments.specs.CommandLine.{Check, check_arguments}
 use Rattle.abl_cli.proofs.Marks.{check_or_bank, check_or_create, check_or_dump, run_or_check}
 use Rattle.run_report.specs.declared.refusal.Refusal.{Refusal}
@@ -20,66 +20,69 @@ use Rattle.run_report.specs.declared.ending.Report.{Report}
 use Rattle.run_works.specs.declared.outcome.Outcome.{Outcome as Result}
 use Rattle.run_works.specs.Disks.{DiskState}
 use Rattle.source_files.specs.declared.files.TheConstants.{MAX_FILE_BYTES}
-use Rattle.abl_cli.specs.Check.{IsListing, HaveListings, OneBreaks, this_breaks, later_breaks, program_breaks, program_wants, check_text}
-use Rattle.source_files.specs.Compiled.{schema_in}
-use Rattle.source_files.specs.Files.{HaveTexts, IsNotRead, OneIsNotRead, this_one, later_one}
-use Rattle.abl_cli.specs.Command.{CheckTexts, PreventsCheck, no_schema_file, no_program, schema_is_broken, one_breaks, AreListed, HasChecked, wrong_argument, prevented, check_prevented, create_prevented, dump_prevented, CommandResult, Refused, NotRun, Ran, Checked, Banked, Created, Dumped, IsRefusal, AreThere}
+use Rattle.abl_cli.specs.Check.{IsListing, HaveListings, OneBreaks, this_breaks, later_breaks, check_text}
+use Rattle.source_files.specs.Compiled.{BreaksFirst, breaks_rule, schema_in, source_wants}
+use Rattle.source_files.specs.Expansions.{file_of, own_line}
+use Rattle.source_files.specs.Files.{AskedIsNotRead, IsNotRead}
+use Rattle.abl_cli.specs.Command.{AsksCheck, CheckTexts, PreventsCheck, no_checked_file, schema_is_broken, one_breaks, AreListed, HasChecked, wrong_argument, prevented, check_prevented, create_prevented, dump_prevented, CommandResult, Refused, NotRun, Ran, Checked, Banked, Created, Dumped, IsRefusal}
 use Rattle.run_report.specs.Ending.{WritesStatus, output_refusal, status_after}
-use Rattle.abl_cli.specs.CheckFiles.{AreThereWith, NamesSources, check_files}
-use Rattle.abl_cli.proofs.FileCauses.{wants, same_text, same_texts, have_none, have_long, unread, none_unread, one_missing, one_long, same_violation, no_violation}
+use Rattle.abl_cli.specs.CheckFiles.{NamesSources, SourcesThere}
+use Rattle.source_files.proofs.Asked.{one_sources}
+use Rattle.abl_cli.proofs.Asked.{WasRead, check_read, one_asked_check, there_read}
+use Rattle.abl_cli.proofs.FileCauses.{asked_by, long_is, missing_is, no_text, no_violation, not_long, same_text, same_violation, unread_read, wants}
+use Rattle.abl_cli.proofs.SourceTexts.{no_break, one_break, one_refusal, one_tree}
 use Rattle.abl_cli.proofs.Judged.{wrong_or_formed, rose_in_check}
 
 -- ---- the rules of the sources
 
 module _ (schema : SchemaData) where
-  -- the first text that breaks a rule is the one that is refused
-  broken_at : (n : ℕ) (before lists after : List (List ℕ)) (text : List ℕ) {rule : Rule} {place : Place} {refusal : Refusal} → HaveListings schema before lists → BreaksRule schema text rule place → OneBreaks schema n (before ++ text ∷ after) refusal →
-      IsRefusal (Some refusal) (Source (n + length before) rule place)
-  broken_at n [] [] after text {rule} {place} have first (this_breaks (program_breaks {rule = found_rule} {place = found_place} found)) =
-      let one = one_rule schema text found first in
-      inl (ap (λ r. Some (Source n r found_place)) one.rules ∙ ap (λ p. Some (Source n rule p)) one.places ∙ ap (λ k. Some (Source k rule place)) (omega arith))
-  broken_at n [] [] after text have first (this_breaks program_wants) = inr refl
-  broken_at n [] [] after text have first (later_breaks is h) = absurd (trees_break_none schema text is.denotes first)
-  broken_at n [] (l ∷ ls) after text have first h = absurd have
-  broken_at n (b ∷ bs) [] after text have first h = absurd have
-  broken_at n (b ∷ bs) (l ∷ ls) after text have first (this_breaks (program_breaks found)) = absurd (trees_break_none schema b have.0.denotes found)
-  broken_at n (b ∷ bs) (l ∷ ls) after text have first (this_breaks program_wants) = inr refl
-  broken_at n (b ∷ bs) (l ∷ ls) after text {rule} {place} {refusal} have first (later_breaks is h) =
-      subst (λ k. IsRefusal (Some refusal) (Source k rule place)) (omega arith) (broken_at (n + 1) bs ls after text have.1 first h)
+  -- the first source that breaks a rule is the one that is refused
+  broken_at : (n : ℕ) (before : List (List NamedText)) (lists : List (List ℕ)) (after : List (List NamedText)) (texts : List NamedText) {rule : Rule} {at : Origin} {refusal : Refusal} → HaveListings schema before lists → BreaksFirst schema texts rule at → OneBreaks schema n (before ++ texts ∷ after) refusal →
+      IsRefusal (Some refusal) (Source (n + length before) (file_of texts at.text) rule at.place)
+  broken_at n [] [] after texts {rule} {at} have first (this_breaks (breaks_rule found_at found)) =
+      inl (ap (λ r. Some r) (one_refusal n texts (one_break schema texts found first)) ∙ ap (λ k. Some (Source k (file_of texts at.text) rule at.place)) (omega arith))
+  broken_at n [] [] after texts have first (this_breaks source_wants) = inr refl
+  broken_at n [] [] after texts have first (later_breaks is h) = absurd (no_break schema texts is.denotes first)
+  broken_at n [] (l ∷ ls) after texts have first h = absurd have
+  broken_at n (b ∷ bs) [] after texts have first h = absurd have
+  broken_at n (b ∷ bs) (l ∷ ls) after texts have first (this_breaks (breaks_rule found_at found)) = absurd (no_break schema b have.0.denotes found)
+  broken_at n (b ∷ bs) (l ∷ ls) after texts have first (this_breaks source_wants) = inr refl
+  broken_at n (b ∷ bs) (l ∷ ls) after texts {rule} {at} {refusal} have first (later_breaks is h) =
+      subst (λ k. IsRefusal (Some refusal) (Source k (file_of texts at.text) rule at.place)) (omega arith) (broken_at (n + 1) bs ls after texts have.1 first h)
 
-  -- the texts are numbered from 0
-  first_broken : (before lists after : List (List ℕ)) (text : List ℕ) {rule : Rule} {place : Place} {refusal : Refusal} → HaveListings schema before lists → BreaksRule schema text rule place → OneBreaks schema 0 (before ++ text ∷ after) refusal →
-      IsRefusal (Some refusal) (Source (length before) rule place)
-  first_broken before lists after text {rule} {place} {refusal} have first h =
+  -- the sources are numbered from 0
+  first_broken : (before : List (List NamedText)) (lists : List (List ℕ)) (after : List (List NamedText)) (texts : List NamedText) {rule : Rule} {at : Origin} {refusal : Refusal} → HaveListings schema before lists → BreaksFirst schema texts rule at → OneBreaks schema 0 (before ++ texts ∷ after) refusal →
+      IsRefusal (Some refusal) (Source (length before) (file_of texts at.text) rule at.place)
+  first_broken before lists after texts {rule} {at} {refusal} have first h =
       let numbered : 0 + length before ≡ length before = omega arith in
-      subst (λ k. IsRefusal (Some refusal) (Source k rule place)) numbered (broken_at 0 before lists after text have first h)
+      subst (λ k. IsRefusal (Some refusal) (Source k (file_of texts at.text) rule at.place)) numbered (broken_at 0 before lists after texts have first h)
 
-  not_listed : (before lists after : List (List ℕ)) (text : List ℕ) {rule : Rule} {place : Place} → BreaksRule schema text rule place → HaveListings schema (before ++ text ∷ after) lists → ⊥
-  not_listed [] [] after text first have = have
-  not_listed [] (l ∷ ls) after text first have = trees_break_none schema text have.0.denotes first
-  not_listed (b ∷ bs) [] after text first have = have
-  not_listed (b ∷ bs) (l ∷ ls) after text first have = not_listed bs ls after text first have.1
+  not_listed : (before : List (List NamedText)) (lists : List (List ℕ)) (after : List (List NamedText)) (texts : List NamedText) {rule : Rule} {at : Origin} → BreaksFirst schema texts rule at → HaveListings schema (before ++ texts ∷ after) lists → ⊥
+  not_listed [] [] after texts first have = have
+  not_listed [] (l ∷ ls) after texts first have = no_break schema texts have.0.denotes first
+  not_listed (b ∷ bs) [] after texts first have = have
+  not_listed (b ∷ bs) (l ∷ ls) after texts first have = not_listed bs ls after texts first have.1
 
   -- where each has a listing, none is refused
-  none_breaks : (n : ℕ) (texts lists : List (List ℕ)) {refusal : Refusal} → HaveListings schema texts lists → OneBreaks schema n texts refusal → refusal ≡ NoMemory
+  none_breaks : (n : ℕ) (sources : List (List NamedText)) (lists : List (List ℕ)) {refusal : Refusal} → HaveListings schema sources lists → OneBreaks schema n sources refusal → refusal ≡ NoMemory
   none_breaks n [] [] have h = elim h [ ]
   none_breaks n [] (l ∷ ls) have h = absurd have
-  none_breaks n (t ∷ ts) [] have h = absurd have
-  none_breaks n (t ∷ ts) (l ∷ ls) have (this_breaks (program_breaks found)) = absurd (trees_break_none schema t have.0.denotes found)
-  none_breaks n (t ∷ ts) (l ∷ ls) have (this_breaks program_wants) = refl
-  none_breaks n (t ∷ ts) (l ∷ ls) have (later_breaks is h) = none_breaks (n + 1) ts ls have.1 h
+  none_breaks n (s ∷ ss) [] have h = absurd have
+  none_breaks n (s ∷ ss) (l ∷ ls) have (this_breaks (breaks_rule found_at found)) = absurd (no_break schema s have.0.denotes found)
+  none_breaks n (s ∷ ss) (l ∷ ls) have (this_breaks source_wants) = refl
+  none_breaks n (s ∷ ss) (l ∷ ls) have (later_breaks is h) = none_breaks (n + 1) ss ls have.1 h
 
-  -- a text has one listing
-  one_listing : (text lines others : List ℕ) → IsListing schema text lines → IsListing schema text others → lines ≡ others
-  one_listing text lines others a b = a.lines_are ∙ ap listing (one_tree_of schema text a.denotes b.denotes) ∙ sym b.lines_are
+  -- a source has one listing
+  one_listing : (texts : List NamedText) (lines others : List ℕ) → IsListing schema texts lines → IsListing schema texts others → lines ≡ others
+  one_listing texts lines others a b = a.lines_are ∙ ap (λ (tree : Tree). listing (own_line texts) tree) (one_tree schema texts a.denotes b.denotes) ∙ sym b.lines_are
 
-  same_listings : (texts lists others : List (List ℕ)) → HaveListings schema texts lists → HaveListings schema texts others → lists ≡ others
+  same_listings : (sources : List (List NamedText)) (lists others : List (List ℕ)) → HaveListings schema sources lists → HaveListings schema sources others → lists ≡ others
   same_listings [] [] [] a b = refl
   same_listings [] [] (o ∷ os) a b = absurd b
   same_listings [] (l ∷ ls) others a b = absurd a
-  same_listings (t ∷ ts) [] others a b = absurd a
-  same_listings (t ∷ ts) (l ∷ ls) [] a b = absurd b
-  same_listings (t ∷ ts) (l ∷ ls) (o ∷ os) a b = ap (λ x. x ∷ ls) (one_listing t l o a.0 b.0) ∙ ap (λ xs. o ∷ xs) (same_listings ts ls os a.1 b.1)
+  same_listings (s ∷ ss) [] others a b = absurd a
+  same_listings (s ∷ ss) (l ∷ ls) [] a b = absurd b
+  same_listings (s ∷ ss) (l ∷ ls) (o ∷ os) a b = ap (λ x. x ∷ ls) (one_listing s l o a.0 b.0) ∙ ap (λ xs. o ∷ xs) (same_listings ss ls os a.1 b.1)
 
 -- ---- the outcome of the check that the arguments name
 
@@ -117,58 +120,49 @@ module _ {D : Type 0} (seen : D → DiskState) (disk : D) (arguments : List (Lis
   refusal_by {want} by none (was_prevented refusal given status prevents) = subst (λ r. IsRefusal r want) (sym given) (by refusal prevents)
   refusal_by by none (had_listed listings listed told) = absurd (none listings listed)
 
-  -- the texts of all files
-  all_texts : (texts : CheckTexts files check) → HaveTexts files (check_files check) (texts.df ∷ texts.sources)
-  all_texts texts = (texts.has_schema, texts.have_sources)
-
   -- ---- a file that is not read
 
-  module _ (before after : List (List ℕ)) (name : List ℕ) (split : check_files check ≡ before ++ name ∷ after) (are : AreThere files before) where
-    file_by : {refusal want : Refusal} → (OneIsNotRead files faults (before ++ name ∷ after) refusal → IsRefusal (Some refusal) want) → ((texts : List (List ℕ)) → HaveTexts files (before ++ name ∷ after) texts → ⊥) → PreventsCheck files faults check refusal → IsRefusal (Some refusal) want
-    file_by {refusal} by none (no_schema_file h) = by (subst (λ ns. OneIsNotRead files faults ns refusal) split (this_one h))
-    file_by {refusal} by none (no_program has h) = by (subst (λ ns. OneIsNotRead files faults ns refusal) split (later_one has h))
-    file_by by none (schema_is_broken texts h) = absurd (none (texts.df ∷ texts.sources) (subst (λ ns. HaveTexts files ns (texts.df ∷ texts.sources)) split (all_texts texts)))
-    file_by by none (one_breaks texts clean h) = absurd (none (texts.df ∷ texts.sources) (subst (λ ns. HaveTexts files ns (texts.df ∷ texts.sources)) split (all_texts texts)))
+  module _ (name : List ℕ) (asks : AsksCheck files check name) where
+    not_all : (WasRead files name → ⊥) → CheckTexts files check → ⊥
+    not_all none texts = none (check_read files names.observable texts.df texts.sources texts.has_schema texts.have_sources asks)
 
-    file_is : {want : Refusal} → ((refusal : Refusal) → OneIsNotRead files faults (before ++ name ∷ after) refusal → IsRefusal (Some refusal) want) → ((texts : List (List ℕ)) → HaveTexts files (before ++ name ∷ after) texts → ⊥) → Outcome → IsRefusal report.refusal want
-    file_is by none = refusal_by (λ refusal prevents. file_by (by refusal) none prevents)
-        (λ listings listed. none (listed.texts.df ∷ listed.texts.sources) (subst (λ ns. HaveTexts files ns (listed.texts.df ∷ listed.texts.sources)) split (all_texts listed.texts)))
+    file_by : {refusal want : Refusal} → (IsNotRead files faults name refusal → IsRefusal (Some refusal) want) → (WasRead files name → ⊥) → PreventsCheck files faults check refusal → IsRefusal (Some refusal) want
+    file_by by none (no_checked_file h) = asked_by files names.observable names.sound faults by h.unread (one_asked_check files names.observable names.sound (λ text has. none (text, has)) h.unread asks h.asks)
+    file_by by none (schema_is_broken texts h) = absurd (not_all none texts)
+    file_by by none (one_breaks texts clean h) = absurd (not_all none texts)
+
+    file_is : {want : Refusal} → ((refusal : Refusal) → IsNotRead files faults name refusal → IsRefusal (Some refusal) want) → (WasRead files name → ⊥) → Outcome → IsRefusal report.refusal want
+    file_is by none = refusal_by (λ refusal prevents. file_by (by refusal) none prevents) (λ listings listed. not_all none listed.texts)
 
     pub no_file_is_reported : CommandResult seen disk arguments files faults old new result → files.file name ≡ None → IsRefusal report.refusal (File name)
-    no_file_is_reported did none =
-        file_is (λ refusal h. one_missing files names.observable names.sound faults before after are none h) (λ texts have. have_none files names.observable names.sound before after texts none have) (outcome did)
+    no_file_is_reported did none = file_is (λ refusal h. missing_is files names.observable names.sound faults none h) (λ read. no_text files names.observable names.sound read.1 none) (outcome did)
 
     pub long_file_is_reported : {text : List ℕ} → CommandResult seen disk arguments files faults old new result → files.file name ≡ Some text → MAX_FILE_BYTES < length text → IsRefusal report.refusal (TooLong name MAX_FILE_BYTES)
-    long_file_is_reported did there long =
-        file_is (λ refusal h. one_long files names.observable names.sound faults before after are there long h) (λ texts have. have_long files names.observable names.sound before after texts there long have) (outcome did)
+    long_file_is_reported did there long = file_is (λ refusal h. long_is files names.observable names.sound faults there h) (λ read. not_long files names.observable names.sound read.1 there long) (outcome did)
 
   -- ---- all files are read
 
-  module _ (df : List ℕ) (sources : List (List ℕ)) (are : AreThereWith files (check_files check) (df ∷ sources)) where
+  module _ (df : List ℕ) (sources : List (List NamedText)) (are : SourcesThere files check df sources) where
     same_df : (texts : CheckTexts files check) → texts.df ≡ df
-    same_df texts = same_text files names.observable names.sound texts.has_schema are.0.there
+    same_df texts = same_text files names.observable names.sound texts.has_schema are.schema.there
 
     schema_read : (texts : CheckTexts files check) → violation_of texts.df ≡ violation_of df
     schema_read texts = ap violation_of (same_df texts)
 
-    same_sources : (texts : CheckTexts files check) → texts.sources ≡ sources
-    same_sources texts = same_texts files names.observable names.sound check.programs texts.sources sources texts.have_sources are.1
+    its_sources : (texts : CheckTexts files check) → texts.sources ≡ sources
+    its_sources texts = one_sources files names.observable check.programs texts.sources sources texts.have_sources are.programs
 
     its_break : {refusal : Refusal} (texts : CheckTexts files check) → OneBreaks (schema_in texts.df) 0 texts.sources refusal → OneBreaks (schema_in df) 0 sources refusal
-    its_break {refusal} texts h = subst (λ ts. OneBreaks (schema_in df) 0 ts refusal) (same_sources texts) (subst (λ d. OneBreaks (schema_in d) 0 texts.sources refusal) (same_df texts) h)
+    its_break {refusal} texts h = subst (λ ts. OneBreaks (schema_in df) 0 ts refusal) (its_sources texts) (subst (λ d. OneBreaks (schema_in d) 0 texts.sources refusal) (same_df texts) h)
 
     its_listings : (listings : List (List ℕ)) (texts : CheckTexts files check) → HaveListings (schema_in texts.df) texts.sources listings → HaveListings (schema_in df) sources listings
-    its_listings listings texts h = subst (λ ts. HaveListings (schema_in df) ts listings) (same_sources texts) (subst (λ d. HaveListings (schema_in d) texts.sources listings) (same_df texts) h)
+    its_listings listings texts h = subst (λ ts. HaveListings (schema_in df) ts listings) (its_sources texts) (subst (λ d. HaveListings (schema_in d) texts.sources listings) (same_df texts) h)
 
-    file_wants : {refusal : Refusal} → IsNotRead files faults check.schema refusal → refusal ≡ NoMemory
-    file_wants h = unread files names.observable names.sound faults are.0 h
-
-    sources_want : {refusal : Refusal} → OneIsNotRead files faults check.programs refusal → refusal ≡ NoMemory
-    sources_want h = none_unread files names.observable names.sound faults check.programs sources are.1 h
+    files_want : {refusal : Refusal} → AskedIsNotRead files faults (AsksCheck files check) refusal → refusal ≡ NoMemory
+    files_want h = unread_read files names.observable names.sound faults (check_read files names.observable df sources (there_read are.schema) are.programs h.asks) h.unread
 
     schema_by : {refusal : Refusal} {rule : Rule} {line : ℕ} → violation_of df ≡ Some (record { rule = rule; line = line }) → PreventsCheck files faults check refusal → IsRefusal (Some refusal) (Schema rule line)
-    schema_by broken (no_schema_file h) = wants (file_wants h)
-    schema_by broken (no_program has h) = wants (sources_want h)
+    schema_by broken (no_checked_file h) = wants (files_want h)
     schema_by broken (schema_is_broken texts h) = same_violation texts.df df broken (schema_read texts) h
     schema_by broken (one_breaks texts clean h) = let both = sym (schema_read texts ∙ broken) ∙ clean in absurd (cc both)
 
@@ -178,20 +172,18 @@ module _ {D : Type 0} (seen : D → DiskState) (disk : D) (arguments : List (Lis
 
     module _ (clean : violation_of df ≡ None) where
       source_by : {refusal want : Refusal} → (OneBreaks (schema_in df) 0 sources refusal → IsRefusal (Some refusal) want) → PreventsCheck files faults check refusal → IsRefusal (Some refusal) want
-      source_by by (no_schema_file h) = wants (file_wants h)
-      source_by by (no_program has h) = wants (sources_want h)
+      source_by by (no_checked_file h) = wants (files_want h)
       source_by by (schema_is_broken texts h) = wants (no_violation (schema_read texts ∙ clean) h)
       source_by by (one_breaks texts fine h) = by (its_break texts h)
 
-      pub broken_source_is_reported : (before lists after : List (List ℕ)) (text : List ℕ) {rule : Rule} {place : Place} → CommandResult seen disk arguments files faults old new result → sources ≡ before ++ text ∷ after → HaveListings (schema_in df) before lists →
-          BreaksRule (schema_in df) text rule place → IsRefusal report.refusal (Source (length before) rule place)
-      broken_source_is_reported before lists after text did split have first =
-          refusal_by (λ refusal prevents. source_by (λ h. first_broken (schema_in df) before lists after text have first (subst (λ ts. OneBreaks (schema_in df) 0 ts refusal) split h)) prevents)
-          (λ listings listed. not_listed (schema_in df) before listings after text first (subst (λ ts. HaveListings (schema_in df) ts listings) split (its_listings listings listed.texts listed.have))) (outcome did)
+      pub broken_source_is_reported : (before after : List (List NamedText)) (lists : List (List ℕ)) (texts : List NamedText) {rule : Rule} {at : Origin} → CommandResult seen disk arguments files faults old new result → sources ≡ before ++ texts ∷ after → HaveListings (schema_in df) before lists →
+          BreaksFirst (schema_in df) texts rule at → IsRefusal report.refusal (Source (length before) (file_of texts at.text) rule at.place)
+      broken_source_is_reported before after lists texts did split have first =
+          refusal_by (λ refusal prevents. source_by (λ h. first_broken (schema_in df) before lists after texts have first (subst (λ ts. OneBreaks (schema_in df) 0 ts refusal) split h)) prevents)
+          (λ listings listed. not_listed (schema_in df) before listings after texts first (subst (λ ts. HaveListings (schema_in df) ts listings) split (its_listings listings listed.texts listed.have))) (outcome did)
 
       only_memory : {refusal : Refusal} (lists : List (List ℕ)) → HaveListings (schema_in df) sources lists → PreventsCheck files faults check refusal → refusal ≡ NoMemory
-      only_memory lists have (no_schema_file h) = file_wants h
-      only_memory lists have (no_program has h) = sources_want h
+      only_memory lists have (no_checked_file h) = files_want h
       only_memory lists have (schema_is_broken texts h) = no_violation (schema_read texts ∙ clean) h
       only_memory lists have (one_breaks texts fine h) = none_breaks (schema_in df) 0 sources lists have (its_break texts h)
 

@@ -1,5 +1,5 @@
 -- Which refusals may come of files that are observable and sound, and of the text of a schema file.
-use Rattle.std.proofs.Common.{◌≡◌, inl, inr, ◌<◌, ℕ, List, [], ◌∷◌, ◌++◌, Some, None, refl, sym, ap, ◌∙◌, subst, arith, length}
+use Rattle.std.proofs.Common.{◌≡◌, ◌⊎◌, inl, inr, ◌<◌, ℕ, List, [], ◌∷◌, ◌++◌, Some, None, refl, sym, ap, ◌∙◌, subst, arith, length}
 use Rattle.std.specs.Prelude.{IsTrue}
 use Rattle.abl_base.specs.declared.rule.Rule.{Rule}
 use Rattle.host_io.specs.Files.{FileState, IsLonger}
@@ -11,7 +11,8 @@ use Rattle.source_files.specs.declared.files.TheConstants.{MAX_FILE_BYTES}
 use Rattle.source_files.specs.Files.{HasText, HaveTexts, IsNotRead, is_missing, is_too_long, reading_wants, OneIsNotRead, this_one, later_one}
 use Rattle.source_files.specs.Compiled.{BreaksSchema, breaks_f, schema_wants}
 use Rattle.abl_cli.specs.Command.{IsRefusal, IsThere, AreThere}
-use Rattle.abl_cli.specs.CheckFiles.{AreThereWith}
+use Rattle.source_files.proofs.Asked.{unread_there}
+use Rattle.abl_cli.proofs.Asked.{WasRead, there_read}
 
 pub wants : {refusal want : Refusal} → refusal ≡ NoMemory → IsRefusal (Some refusal) want
 wants e = inr (ap (λ r. Some r) e)
@@ -31,15 +32,6 @@ module _ (files : FileState) (observable : IsTrue files.observable) (sound : IsT
       let short = has.short in
       omega (arith, same, short, long)
 
-  -- those that were read have the texts that are there
-  pub same_texts : (names texts others : List (List ℕ)) → HaveTexts files names texts → AreThereWith files names others → texts ≡ others
-  same_texts [] [] [] have are = refl
-  same_texts [] [] (o ∷ os) have are = absurd are
-  same_texts [] (t ∷ ts) others have are = absurd have
-  same_texts (n ∷ ns) [] others have are = absurd have
-  same_texts (n ∷ ns) (t ∷ ts) [] have are = absurd are
-  same_texts (n ∷ ns) (t ∷ ts) (o ∷ os) have are = ap (λ x. x ∷ ts) (same_text have.0 are.0.there) ∙ ap (λ xs. o ∷ xs) (same_texts ns ts os have.1 are.1)
-
   pub have_none : (before after texts : List (List ℕ)) {name : List ℕ} → files.file name ≡ None → HaveTexts files (before ++ name ∷ after) texts → ⊥
   have_none [] after [] none have = have
   have_none [] after (text ∷ texts) none have = no_text have.0 none
@@ -54,17 +46,21 @@ module _ (files : FileState) (observable : IsTrue files.observable) (sound : IsT
 
   module _ (faults : ℕ) where
     pub unread : {name text : List ℕ} {refusal : Refusal} → IsThere files name text → IsNotRead files faults name refusal → refusal ≡ NoMemory
-    unread is (is_missing rose missing) = let none = sym is.there ∙ missing sound in absurd (cc none)
-    unread is (is_too_long longer) =
-        let above = subst (λ file. IsLonger file MAX_FILE_BYTES) is.there (longer observable) in
-        let short = is.short in
-        absurd (omega (arith, above, short))
-    unread is reading_wants = refl
+    unread {text = text} is h = unread_there files observable sound text (there_read is) h
 
     pub missing_is : {name : List ℕ} {refusal : Refusal} → files.file name ≡ None → IsNotRead files faults name refusal → IsRefusal (Some refusal) (File name)
     missing_is none (is_missing rose missing) = inl refl
     missing_is none (is_too_long longer) = absurd (subst (λ file. IsLonger file MAX_FILE_BYTES) none (longer observable))
     missing_is none reading_wants = inr refl
+
+    -- one that was read is not refused, if there is memory
+    pub unread_read : {name : List ℕ} {refusal : Refusal} → WasRead files name → IsNotRead files faults name refusal → refusal ≡ NoMemory
+    unread_read read h = unread_there files observable sound read.0 read.1 h
+
+    -- the file that was not read is this one
+    pub asked_by : {name other : List ℕ} {refusal want : Refusal} → (IsNotRead files faults name refusal → IsRefusal (Some refusal) want) → IsNotRead files faults other refusal → (refusal ≡ NoMemory) ⊎ (name ≡ other) → IsRefusal (Some refusal) want
+    asked_by by h (inl e) = wants e
+    asked_by {refusal = refusal} by h (inr same) = by (subst (λ n. IsNotRead files faults n refusal) (sym same) h)
 
     pub long_is : {name text : List ℕ} {refusal : Refusal} → files.file name ≡ Some text → IsNotRead files faults name refusal → IsRefusal (Some refusal) (TooLong name MAX_FILE_BYTES)
     long_is there (is_missing rose missing) = let none = sym there ∙ missing sound in absurd (cc none)
@@ -72,14 +68,6 @@ module _ (files : FileState) (observable : IsTrue files.observable) (sound : IsT
     long_is there reading_wants = inr refl
 
     -- of these files, which are there, none is refused
-    pub none_unread : (names texts : List (List ℕ)) {refusal : Refusal} → AreThereWith files names texts → OneIsNotRead files faults names refusal → refusal ≡ NoMemory
-    none_unread [] [] are h = elim h [ ]
-    none_unread [] (text ∷ texts) are h = absurd are
-    none_unread (name ∷ names) [] are h = absurd are
-    none_unread (name ∷ names) (text ∷ texts) are (this_one h) = unread are.0 h
-    none_unread (name ∷ names) (text ∷ texts) are (later_one has h) = none_unread names texts are.1 h
-
-    -- likewise where their texts are not named
     pub none_lacks : (names : List (List ℕ)) {refusal : Refusal} → AreThere files names → OneIsNotRead files faults names refusal → refusal ≡ NoMemory
     none_lacks [] are h = elim h [ ]
     none_lacks (name ∷ names) are (this_one h) = unread are.0.1 h

@@ -6,6 +6,7 @@ use Rattle.std.proofs.lemmas.List.{take-append-drop}
 use Rattle.storage.specs.faults.Faults.{Rose}
 use Rattle.database_protocol.specs.declared.ends.ClientEnd.{ClientEnd}
 use Rattle.client_output.specs.declared.section.Section.{Section}
+use Rattle.preprocessor.specs.declared.texts.NamedText.{NamedText}
 use Rattle.run_report.specs.declared.refusal.Refusal.{Refusal}
 use Rattle.run_report.specs.declared.refusal.Refusal.TheVariants.{Usage, File, TooLong, Schema, NoTable, Source, NotCreated, AlreadyCreated, SchemaDiffers, Disk, Client, Output, NoMemory}
 use Rattle.run_report.specs.declared.ending.Report.{Report}
@@ -30,7 +31,7 @@ use Rattle.host_io.specs.Out.{OutState}
 use Rattle.host_io.specs.Files.{FileState}
 use Rattle.abl_cli.specs.Check.{OneBreaks, this_breaks, later_breaks}
 use Rattle.source_files.specs.Files.{IsNotRead, OneIsNotRead, this_one, later_one}
-use Rattle.abl_cli.specs.Command.{Prevents, no_file, schema_breaks, source_breaks, no_named_input, PreventsCheck, no_schema_file, no_program, schema_is_broken, one_breaks, Cause, wrong_argument, prevented, check_prevented, create_prevented, dump_prevented, HasChecked, CommandResult, Refused, NotRun, Ran, Checked, Banked, Created, Dumped, bank_of, client_names, IsUsage, HasWholeText, of_run, of_bank, of_check, of_create, of_dump}
+use Rattle.abl_cli.specs.Command.{Prevents, no_file, schema_breaks, source_breaks, no_named_input, PreventsCheck, no_checked_file, schema_is_broken, one_breaks, Cause, wrong_argument, prevented, check_prevented, create_prevented, dump_prevented, HasChecked, CommandResult, Refused, NotRun, Ran, Checked, Banked, Created, Dumped, bank_of, client_names, IsUsage, HasWholeText, of_run, of_bank, of_check, of_create, of_dump}
 use Rattle.source_files.specs.Compiled.{OneSourceBreaks, this_source, later_source, schema_in}
 use Rattle.run_report.specs.Ending.{IsReported, output_refusal, WritesStatus, refusal_after, failure_refusal, first_failure, has_closed, one_lacks_memory, status_after}
 
@@ -98,7 +99,7 @@ is_usage (Some (File file)) h = absurd h
 is_usage (Some (TooLong file most)) h = absurd h
 is_usage (Some (Schema rule line)) h = absurd h
 is_usage (Some (NoTable name)) h = absurd h
-is_usage (Some (Source client rule place)) h = absurd h
+is_usage (Some (Source client file rule place)) h = absurd h
 is_usage (Some NotCreated) h = absurd h
 is_usage (Some AlreadyCreated) h = absurd h
 is_usage (Some (SchemaDiffers stored given)) h = absurd h
@@ -126,7 +127,7 @@ module _ {D : Type 0} (seen : D → DiskState) (disk : D) (arguments : List (Lis
   no_source_usage (later_source tree is h) = no_source_usage h
 
   no_prevents_usage : (schema : List ℕ) (clients : List ClientFiles) {arg : ℕ} → Prevents files faults schema clients (Usage arg) → ⊥
-  no_prevents_usage schema clients (no_file h) = no_named_usage h
+  no_prevents_usage schema clients (no_file h) = no_unread_usage h.unread
   no_prevents_usage schema clients (schema_breaks texts h) = elim h [ ]
   no_prevents_usage schema clients (source_breaks texts clean h) = no_source_usage h
   no_prevents_usage schema clients (no_named_input texts clean trees are h) = no_named_usage h
@@ -143,29 +144,27 @@ module _ {D : Type 0} (seen : D → DiskState) (disk : D) (arguments : List (Lis
   no_source_output (later_source tree is h) = no_source_output h
 
   no_prevents_output : (schema : List ℕ) (clients : List ClientFiles) → Prevents files faults schema clients Output → ⊥
-  no_prevents_output schema clients (no_file h) = no_named_output h
+  no_prevents_output schema clients (no_file h) = no_unread_output h.unread
   no_prevents_output schema clients (schema_breaks texts h) = elim h [ ]
   no_prevents_output schema clients (source_breaks texts clean h) = no_source_output h
   no_prevents_output schema clients (no_named_input texts clean trees are h) = no_named_output h
 
   -- nor what prevents a check
-  no_break_usage : {schema : SchemaData} {number arg : ℕ} {texts : List (List ℕ)} → OneBreaks schema number texts (Usage arg) → ⊥
+  no_break_usage : {schema : SchemaData} {number arg : ℕ} {sources : List (List NamedText)} → OneBreaks schema number sources (Usage arg) → ⊥
   no_break_usage (this_breaks h) = elim h [ ]
   no_break_usage (later_breaks is h) = no_break_usage h
 
   no_check_usage : (check : Check) {arg : ℕ} → PreventsCheck files faults check (Usage arg) → ⊥
-  no_check_usage check (no_schema_file h) = no_unread_usage h
-  no_check_usage check (no_program has h) = no_named_usage h
+  no_check_usage check (no_checked_file h) = no_unread_usage h.unread
   no_check_usage check (schema_is_broken texts h) = elim h [ ]
   no_check_usage check (one_breaks texts clean h) = no_break_usage h
 
-  no_break_output : {schema : SchemaData} {number : ℕ} {texts : List (List ℕ)} → OneBreaks schema number texts Output → ⊥
+  no_break_output : {schema : SchemaData} {number : ℕ} {sources : List (List NamedText)} → OneBreaks schema number sources Output → ⊥
   no_break_output (this_breaks h) = elim h [ ]
   no_break_output (later_breaks is h) = no_break_output h
 
   no_check_output : (check : Check) → PreventsCheck files faults check Output → ⊥
-  no_check_output check (no_schema_file h) = no_unread_output h
-  no_check_output check (no_program has h) = no_named_output h
+  no_check_output check (no_checked_file h) = no_unread_output h.unread
   no_check_output check (schema_is_broken texts h) = elim h [ ]
   no_check_output check (one_breaks texts clean h) = no_break_output h
 
@@ -325,7 +324,7 @@ module _ {D : Type 0} (seen : D → DiskState) (disk : D) (arguments : List (Lis
   no_status_0 (TooLong file most) e = cc e
   no_status_0 (Schema rule line) e = cc e
   no_status_0 (NoTable name) e = cc e
-  no_status_0 (Source client rule place) e = cc e
+  no_status_0 (Source client file rule place) e = cc e
   no_status_0 NotCreated e = cc e
   no_status_0 AlreadyCreated e = cc e
   no_status_0 (SchemaDiffers stored given) e = cc e

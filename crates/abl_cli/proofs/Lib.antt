@@ -9,7 +9,9 @@ pub mod Databases
 pub mod Undisturbed
 pub mod Untouched
 pub mod Marks
+pub mod Asked
 pub mod FileCauses
+pub mod SourceTexts
 pub mod Judged
 pub mod Loads
 pub mod Made

@@ -1,8 +1,6 @@
 -- What a run has loaded, and what prevents it once its texts are read.
-use Rattle.std.proofs.Common.{◌≡◌, ◌⊎◌, inl, inr, ◌≤◌, ℕ, suc, List, [], ◌∷◌, ◌++◌, None, refl, sym, ap, ◌∙◌, subst, length}
-use Rattle.std.specs.List.{flat_map}
-use Rattle.std.specs.Prelude.{IsTrue, All}
-use Rattle.std.proofs.lemmas.List.Elements.{All-cons, All-nil}
+use Rattle.std.proofs.Common.{◌≡◌, ◌⊎◌, inl, inr, ℕ, suc, List, [], ◌∷◌, ◌++◌, None, refl, sym, ap, ◌∙◌, subst, length}
+use Rattle.std.specs.Prelude.{IsTrue}
 use Rattle.schema_reader.specs.Rules.{violation_of}
 use Rattle.abl_values.specs.declared.schema.TableDef.{TableDef}
 use Rattle.abl_values.specs.Schema.{SchemaData}
@@ -13,18 +11,17 @@ use Rattle.block_code.specs.declared.code.Code.{Code}
 use Rattle.client_core.specs.ClientView.{ClientView}
 use Rattle.command_arguments.specs.CommandLine.{ClientFiles}
 use Rattle.source_files.specs.declared.files.ClientTexts.{ClientTexts}
-use Rattle.source_files.specs.declared.files.TheConstants.{MAX_FILE_BYTES}
 use Rattle.run_report.specs.declared.refusal.Refusal.{Refusal}
 use Rattle.run_report.specs.declared.refusal.Refusal.TheVariants.{NoMemory}
 use Rattle.source_files.specs.Compiled.{schema_in, BreaksSchema, OneSourceBreaks}
-use Rattle.source_files.specs.Files.{HasText, HaveTexts, HaveClients, OneIsNotRead, later_one, AreSame, client_files}
-use Rattle.abl_cli.specs.Command.{Texts, AreTrees, AreWorks, Prevents, no_file, schema_breaks, source_breaks, no_named_input, run_wants, named_inputs}
+use Rattle.source_files.specs.Files.{AskedIsNotRead, AsksClients, HasText, HaveTexts, HaveClients, OneIsNotRead, this_one, later_one, AreSame}
+use Rattle.abl_cli.specs.Command.{Texts, AreTrees, AreWorks, Prevents, asks_clients, no_file, schema_breaks, source_breaks, no_named_input, run_wants, named_inputs}
 use Rattle.client_threads.specs.served.Works.{Work}
 use Rattle.abl_cli.specs.Inside.{AreBegun, IsReady, inputs_of}
 use Rattle.client_threads.specs.served.Served.{AreToDo}
 use Rattle.source_files.specs.Compiled.{HaveCodes}
 use Rattle.run_works.proofs.Runs.{as_many_clients}
-use Rattle.source_files.proofs.Causes.{still_have, still_one}
+use Rattle.source_files.proofs.Causes.{asked_so, still_have, still_one}
 
 -- ---- numbers of clients
 
@@ -50,13 +47,6 @@ as_many_works files schema (t ∷ ts) (w ∷ ws) are = ap (λ k. suc k) (as_many
 pub begun_of : (files : FileState) (schema : List ℕ) (cs : List ClientFiles) (units : ℕ) (denoted : SchemaData) (tasks : List ClientView) → IsReady files schema cs units denoted tasks → length tasks ≡ length cs
 begun_of files schema cs units denoted tasks ready =
     as_many_clients units ready.works tasks ready.to_do ∙ as_many_works files (schema_in ready.texts.df) ready.texts.texts ready.works ready.are ∙ as_many_texts files cs ready.texts.texts ready.texts.have
-
--- the sources that were read are short
-pub short_sources : (files : FileState) (cs : List ClientFiles) (ts : List ClientTexts) → HaveClients files cs ts → All (λ (t : ClientTexts). length t.source ≤ MAX_FILE_BYTES) ts
-short_sources files [] [] have = All-nil (λ (t : ClientTexts). length t.source ≤ MAX_FILE_BYTES)
-short_sources files [] (t ∷ ts) have = absurd have
-short_sources files (c ∷ cs) [] have = absurd have
-short_sources files (c ∷ cs) (t ∷ ts) have = All-cons (λ (t : ClientTexts). length t.source ≤ MAX_FILE_BYTES) t ts have.0.0.short (short_sources files cs ts have.1)
 
 -- ---- what the codes denote
 
@@ -114,6 +104,19 @@ module _ (files later : FileState) (same : AreSame files later) (sound_observabl
         still_begun units tables codes ts tasks begun.1,
       )
 
+-- ---- files one after the other
+
+module _ (files : FileState) (faults : ℕ) where
+  pub unread_first : (xs ys : List (List ℕ)) {refusal : Refusal} → OneIsNotRead files faults xs refusal → OneIsNotRead files faults (xs ++ ys) refusal
+  unread_first [] ys h = elim h [ ]
+  unread_first (x ∷ xs) ys (this_one h) = this_one h
+  unread_first (x ∷ xs) ys (later_one has h) = later_one has (unread_first xs ys h)
+
+  pub unread_later : (xs ys texts : List (List ℕ)) {refusal : Refusal} → HaveTexts files xs texts → OneIsNotRead files faults ys refusal → OneIsNotRead files faults (xs ++ ys) refusal
+  unread_later [] ys texts have h = h
+  unread_later (x ∷ xs) ys [] have h = absurd have
+  unread_later (x ∷ xs) ys (t ∷ ts) have h = later_one have.0 (unread_later xs ys ts have.1 h)
+
 -- ---- a run that is loaded, or prevented
 
 pub lacks_memory : {files : FileState} {faults : ℕ} {schema : List ℕ} {clients : List ClientFiles} {refusal : Refusal} → refusal ≡ NoMemory → Prevents files faults schema clients refusal
@@ -121,9 +124,8 @@ lacks_memory {files} {faults} {schema} {clients} e = subst (Prevents files fault
 
 module _ (files : FileState) (schema : List ℕ) (clients : List ClientFiles) (df : List ℕ) (has : HasText files schema df) where
   -- a file of a client is not read
-  pub files_prevent : (faults : ℕ) (refusal : Refusal) → (refusal ≡ NoMemory) ⊎ OneIsNotRead files faults (flat_map client_files clients) refusal → Prevents files faults schema clients refusal
-  files_prevent faults refusal (inl e) = lacks_memory e
-  files_prevent faults refusal (inr h) = no_file (later_one has h)
+  pub files_prevent : (faults : ℕ) (refusal : Refusal) → AskedIsNotRead files faults (AsksClients files clients) refusal → Prevents files faults schema clients refusal
+  files_prevent faults refusal h = no_file (asked_so (λ name asks. asks_clients has asks) h)
 
   module _ (ts : List ClientTexts) (have : HaveClients files clients ts) (d : List ℕ) (is_df : d ≡ df) where
     texts_of : Texts files schema clients

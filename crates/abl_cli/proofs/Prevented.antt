@@ -1,10 +1,10 @@
 -- The first cause that prevents a run is its refusal, and without one the clients run.
 use Rattle.std.proofs.Common.{◌≡◌, inl, inr, ◌+◌, ◌<◌, ℕ, Bool, true, false, if◌then◌else◌, List, [], ◌∷◌, ◌++◌, Option, Some, None, refl, sym, ap, ◌∙◌, subst, arith, length, get_or}
-use Rattle.std.specs.List.{flat_map}
 use Rattle.std.specs.Prelude.{IsTrue, map}
 use Rattle.storage.specs.faults.Faults.{Rose}
 use Rattle.abl_base.specs.declared.rule.Rule.{Rule}
-use Rattle.abl_base.specs.declared.place.Place.{Place}
+use Rattle.preprocessor.specs.declared.expanded.Origin.{Origin}
+use Rattle.preprocessor.specs.declared.texts.NamedText.{NamedText}
 use Rattle.host_io.specs.Files.{FileState}
 use Rattle.host_io.specs.Out.{OutState}
 use Rattle.schema_reader.specs.Rules.{violation_of}
@@ -21,19 +21,20 @@ use Rattle.run_report.specs.declared.refusal.Refusal.TheVariants.{File, TooLong,
 use Rattle.run_report.specs.declared.ending.Report.{Report}
 use Rattle.source_files.specs.declared.files.TheConstants.{MAX_FILE_BYTES}
 use Rattle.source_files.specs.declared.files.ClientTexts.{ClientTexts}
-use Rattle.source_reader.specs.Sources.{BreaksRule, IsTreeOf}
-use Rattle.source_files.specs.Compiled.{schema_in, breaks_rule, source_wants, OneSourceBreaks, this_source, later_source}
-use Rattle.source_files.specs.Files.{HaveTexts, HaveClients, OneIsNotRead, client_files, input_file}
-use Rattle.abl_cli.specs.Command.{AreTrees, Texts, Prevents, no_file, schema_breaks, source_breaks, no_named_input, run_wants, AreWorks, named_inputs, run_files, client_names, wrong_argument, prevented, check_prevented, create_prevented, dump_prevented, CommandResult, Refused, NotRun, Ran, Checked, Banked, Created, Dumped, IsRefusal, IsInputThere, AreThere, ClientsThere, AllThere, AreSources, NamesRun}
+use Rattle.source_files.specs.Compiled.{BreaksFirst, IsSourceTree, schema_in, breaks_rule, source_wants, OneSourceBreaks, this_source, later_source}
+use Rattle.source_files.specs.Expansions.{file_of}
+use Rattle.source_files.specs.Files.{AskedIsNotRead, HaveTexts, HaveClients, IsNotRead, OneIsNotRead}
+use Rattle.abl_cli.specs.Command.{AreTrees, AsksRun, Texts, Prevents, no_file, schema_breaks, source_breaks, no_named_input, run_wants, AreWorks, named_inputs, client_names, wrong_argument, prevented, check_prevented, create_prevented, dump_prevented, CommandResult, Refused, NotRun, Ran, Checked, Banked, Created, Dumped, IsRefusal, AreThere, ClientsThere, AllThere, AreSources, NamesRun}
 use Rattle.abl_cli.specs.Undisturbed.{RunEnd, IsDone, all_well, a_client_failed, memory_was_out, disk_failed, ended, not_opened}
 use Rattle.client_threads.specs.served.Works.{Work}
 use Rattle.run_works.specs.declared.outcome.Outcome.{Outcome as Result}
 use Rattle.run_works.specs.Disks.{DiskState}
 use Rattle.run_works.specs.Works.{HasRun}
 use Rattle.run_report.specs.Ending.{refusal_after, failure_refusal, first_failure, has_closed, one_lacks_memory, status_after}
-use Rattle.source_files.proofs.Causes.{input_texts}
-use Rattle.abl_cli.proofs.FileCauses.{wants, same_text, have_none, have_long, none_lacks, one_missing, one_long, same_violation, no_violation}
-use Rattle.source_reader.proofs.Violations.{one_rule, one_tree_of, trees_break_none}
+use Rattle.source_files.proofs.Asked.{one_source}
+use Rattle.abl_cli.proofs.Asked.{WasRead, clients_there, one_asked_run, run_read, there_read}
+use Rattle.abl_cli.proofs.FileCauses.{asked_by, have_long, have_none, long_is, missing_is, no_text, no_violation, none_lacks, not_long, one_long, one_missing, same_text, same_violation, unread_read, wants}
+use Rattle.abl_cli.proofs.SourceTexts.{no_break, one_break, one_refusal, one_tree}
 use Rattle.abl_cli.proofs.Judged.{wrong_or_formed, rose_in_report}
 
 -- ---- arguments name one run
@@ -76,85 +77,61 @@ have_both files [] ys (t ∷ ts) us have more = absurd have
 have_both files (x ∷ xs) ys [] us have more = absurd have
 have_both files (x ∷ xs) ys (t ∷ ts) us have more = (have.0, have_both files xs ys ts us have.1 more)
 
-client_texts : (files : FileState) (cs : List ClientFiles) (ts : List ClientTexts) → HaveClients files cs ts → (texts : List (List ℕ)) × HaveTexts files (flat_map client_files cs) texts
-client_texts files [] [] have = ([], tt)
-client_texts files [] (t ∷ ts) have = absurd have
-client_texts files (c ∷ cs) [] have = absurd have
-client_texts files (c ∷ cs) (t ∷ ts) have =
-    let input = input_texts files c.input t.input have.0.1 in
-    let rest = client_texts files cs ts have.1 in
-    (t.source ∷ (input.0 ++ rest.0), (have.0.0, have_both files (input_file c.input) (flat_map client_files cs) input.0 rest.0 input.1 rest.1))
-
--- files that are there, with others
-there_both : (files : FileState) (xs ys : List (List ℕ)) → AreThere files xs → AreThere files ys → AreThere files (xs ++ ys)
-there_both files [] ys are more = more
-there_both files (x ∷ xs) ys are more = (are.0, there_both files xs ys are.1 more)
-
-input_there : (files : FileState) (input : Option (List ℕ)) → IsInputThere files input → AreThere files (input_file input)
-input_there files None is = tt
-input_there files (Some name) is = (is, tt)
-
-clients_there : (files : FileState) (cs : List ClientFiles) (sources : List (List ℕ)) → ClientsThere files cs sources → AreThere files (flat_map client_files cs)
-clients_there files [] [] are = tt
-clients_there files [] (s ∷ ss) are = absurd are
-clients_there files (c ∷ cs) [] are = absurd are
-clients_there files (c ∷ cs) (s ∷ ss) are = ((s, are.0.0), there_both files (input_file c.input) (flat_map client_files cs) (input_there files c.input are.0.1) (clients_there files cs ss are.1))
-
 -- ---- the sources
 
--- the texts have these sources
-abbrev SourcesAre : List ClientTexts → List (List ℕ) → Type 0
+-- the clients have these sources
+abbrev SourcesAre : List ClientTexts → List (List NamedText) → Type 0
 SourcesAre [] [] = Unit {0}
 SourcesAre [] (s ∷ ss) = ⊥
 SourcesAre (t ∷ ts) [] = ⊥
 SourcesAre (t ∷ ts) (s ∷ ss) = (t.source ≡ s) × SourcesAre ts ss
 
-sources_are : (files : FileState) → IsTrue files.observable → IsTrue files.sound → (cs : List ClientFiles) (ts : List ClientTexts) (ss : List (List ℕ)) → HaveClients files cs ts → ClientsThere files cs ss → SourcesAre ts ss
-sources_are files observable sound [] [] [] have are = tt
-sources_are files observable sound [] [] (s ∷ ss) have are = absurd are
-sources_are files observable sound [] (t ∷ ts) ss have are = absurd have
-sources_are files observable sound (c ∷ cs) [] ss have are = absurd have
-sources_are files observable sound (c ∷ cs) (t ∷ ts) [] have are = absurd are
-sources_are files observable sound (c ∷ cs) (t ∷ ts) (s ∷ ss) have are = (same_text files observable sound have.0.0 are.0.0.there, sources_are files observable sound cs ts ss have.1 are.1)
+sources_are : (files : FileState) → IsTrue files.observable → (cs : List ClientFiles) (ts : List ClientTexts) (ss : List (List NamedText)) → HaveClients files cs ts → ClientsThere files cs ss → SourcesAre ts ss
+sources_are files observable [] [] [] have are = tt
+sources_are files observable [] [] (s ∷ ss) have are = absurd are
+sources_are files observable [] (t ∷ ts) ss have are = absurd have
+sources_are files observable (c ∷ cs) [] ss have are = absurd have
+sources_are files observable (c ∷ cs) (t ∷ ts) [] have are = absurd are
+sources_are files observable (c ∷ cs) (t ∷ ts) (s ∷ ss) have are = (one_source files observable c.program t.source s have.0.0 are.0.0, sources_are files observable cs ts ss have.1 are.1)
 
 module _ (schema : SchemaData) where
   -- the first source that breaks a rule is the one that is refused
-  broken_at : (n : ℕ) (ts : List ClientTexts) (before : List (List ℕ)) (trees : List Tree) (after : List (List ℕ)) (text : List ℕ) {rule : Rule} {place : Place} {refusal : Refusal} → SourcesAre ts (before ++ text ∷ after) → AreSources schema before trees →
-      BreaksRule schema text rule place → OneSourceBreaks schema n ts refusal → IsRefusal (Some refusal) (Source (n + length before) rule place)
-  broken_at n [] [] trees after text same are first h = absurd same
-  broken_at n [] (b ∷ bs) trees after text same are first h = absurd same
-  broken_at n (t ∷ ts) [] [] after text {rule} {place} same are first (this_source (breaks_rule {rule = found_rule} {place = found_place} found)) =
-      let one = one_rule schema text (subst (λ s. BreaksRule schema s found_rule found_place) same.0 found) first in
-      inl (ap (λ r. Some (Source n r found_place)) one.rules ∙ ap (λ p. Some (Source n rule p)) one.places ∙ ap (λ k. Some (Source k rule place)) (omega arith))
-  broken_at n (t ∷ ts) [] [] after text same are first (this_source source_wants) = inr refl
-  broken_at n (t ∷ ts) [] [] after text same are first (later_source tree is h) = absurd (trees_break_none schema text (subst (λ s. IsTreeOf schema s tree) same.0 is) first)
-  broken_at n (t ∷ ts) [] (tree ∷ trees) after text same are first h = absurd are
-  broken_at n (t ∷ ts) (b ∷ bs) [] after text same are first h = absurd are
-  broken_at n (t ∷ ts) (b ∷ bs) (tree ∷ trees) after text same are first (this_source (breaks_rule {rule = found_rule} {place = found_place} found)) =
-      absurd (trees_break_none schema b are.0 (subst (λ s. BreaksRule schema s found_rule found_place) same.0 found))
-  broken_at n (t ∷ ts) (b ∷ bs) (tree ∷ trees) after text same are first (this_source source_wants) = inr refl
-  broken_at n (t ∷ ts) (b ∷ bs) (tree ∷ trees) after text {rule} {place} {refusal} same are first (later_source found is h) =
-      subst (λ k. IsRefusal (Some refusal) (Source k rule place)) (omega arith) (broken_at (n + 1) ts bs trees after text same.1 are.1 first h)
+  broken_at : (n : ℕ) (ts : List ClientTexts) (before : List (List NamedText)) (trees : List Tree) (after : List (List NamedText)) (texts : List NamedText) {rule : Rule} {at : Origin} {refusal : Refusal} → SourcesAre ts (before ++ texts ∷ after) → AreSources schema before trees →
+      BreaksFirst schema texts rule at → OneSourceBreaks schema n ts refusal → IsRefusal (Some refusal) (Source (n + length before) (file_of texts at.text) rule at.place)
+  broken_at n [] [] trees after texts same are first h = absurd same
+  broken_at n [] (b ∷ bs) trees after texts same are first h = absurd same
+  broken_at n (t ∷ ts) [] [] after texts {rule} {at} same are first (this_source (breaks_rule {rule = found_rule} found_at found)) =
+      let one = one_break schema texts (subst (λ s. BreaksFirst schema s found_rule found_at) same.0 found) first in
+      inl (ap (λ s. Some (Source n (file_of s found_at.text) found_rule found_at.place)) same.0 ∙ ap (λ r. Some r) (one_refusal n texts one) ∙ ap (λ k. Some (Source k (file_of texts at.text) rule at.place)) (omega arith))
+  broken_at n (t ∷ ts) [] [] after texts same are first (this_source source_wants) = inr refl
+  broken_at n (t ∷ ts) [] [] after texts same are first (later_source tree is h) = absurd (no_break schema texts (subst (λ s. IsSourceTree schema s tree) same.0 is) first)
+  broken_at n (t ∷ ts) [] (tree ∷ trees) after texts same are first h = absurd are
+  broken_at n (t ∷ ts) (b ∷ bs) [] after texts same are first h = absurd are
+  broken_at n (t ∷ ts) (b ∷ bs) (tree ∷ trees) after texts same are first (this_source (breaks_rule {rule = found_rule} found_at found)) =
+      absurd (no_break schema b are.0 (subst (λ s. BreaksFirst schema s found_rule found_at) same.0 found))
+  broken_at n (t ∷ ts) (b ∷ bs) (tree ∷ trees) after texts same are first (this_source source_wants) = inr refl
+  broken_at n (t ∷ ts) (b ∷ bs) (tree ∷ trees) after texts {rule} {at} {refusal} same are first (later_source found is h) =
+      subst (λ k. IsRefusal (Some refusal) (Source k (file_of texts at.text) rule at.place)) (omega arith) (broken_at (n + 1) ts bs trees after texts same.1 are.1 first h)
 
   -- the sources are numbered from 0
-  first_broken : (ts : List ClientTexts) (before : List (List ℕ)) (trees : List Tree) (after : List (List ℕ)) (text : List ℕ) {rule : Rule} {place : Place} {refusal : Refusal} → SourcesAre ts (before ++ text ∷ after) → AreSources schema before trees →
-      BreaksRule schema text rule place → OneSourceBreaks schema 0 ts refusal → IsRefusal (Some refusal) (Source (length before) rule place)
-  first_broken ts before trees after text {rule} {place} {refusal} same are first h =
+  first_broken : (ts : List ClientTexts) (before : List (List NamedText)) (trees : List Tree) (after : List (List NamedText)) (texts : List NamedText) {rule : Rule} {at : Origin} {refusal : Refusal} → SourcesAre ts (before ++ texts ∷ after) → AreSources schema before trees →
+      BreaksFirst schema texts rule at → OneSourceBreaks schema 0 ts refusal → IsRefusal (Some refusal) (Source (length before) (file_of texts at.text) rule at.place)
+  first_broken ts before trees after texts {rule} {at} {refusal} same are first h =
       let numbered : 0 + length before ≡ length before = omega arith in
-      subst (λ k. IsRefusal (Some refusal) (Source k rule place)) numbered (broken_at 0 ts before trees after text same are first h)
+      subst (λ k. IsRefusal (Some refusal) (Source k (file_of texts at.text) rule at.place)) numbered (broken_at 0 ts before trees after texts same are first h)
 
   -- where each denotes a tree, none is refused
-  none_breaks : (n : ℕ) (ts : List ClientTexts) (ss : List (List ℕ)) (trees : List Tree) {refusal : Refusal} → SourcesAre ts ss → AreSources schema ss trees → OneSourceBreaks schema n ts refusal → refusal ≡ NoMemory
+  none_breaks : (n : ℕ) (ts : List ClientTexts) (ss : List (List NamedText)) (trees : List Tree) {refusal : Refusal} → SourcesAre ts ss → AreSources schema ss trees → OneSourceBreaks schema n ts refusal → refusal ≡ NoMemory
   none_breaks n [] ss trees same are h = elim h [ ]
   none_breaks n (t ∷ ts) [] trees same are h = absurd same
   none_breaks n (t ∷ ts) (s ∷ ss) [] same are h = absurd are
-  none_breaks n (t ∷ ts) (s ∷ ss) (tree ∷ trees) same are (this_source (breaks_rule {rule = found_rule} {place = found_place} found)) =
-      absurd (trees_break_none schema s are.0 (subst (λ x. BreaksRule schema x found_rule found_place) same.0 found))
+  none_breaks n (t ∷ ts) (s ∷ ss) (tree ∷ trees) same are (this_source (breaks_rule {rule = found_rule} found_at found)) =
+      absurd (no_break schema s are.0 (subst (λ x. BreaksFirst schema x found_rule found_at) same.0 found))
   none_breaks n (t ∷ ts) (s ∷ ss) (tree ∷ trees) same are (this_source source_wants) = refl
   none_breaks n (t ∷ ts) (s ∷ ss) (tree ∷ trees) same are (later_source found is h) = none_breaks (n + 1) ts ss trees same.1 are.1 h
 
   -- the trees are determined by the sources
-  one_trees : (ts : List ClientTexts) (ss : List (List ℕ)) (trees others : List Tree) → SourcesAre ts ss → AreSources schema ss trees → AreTrees schema ts others → others ≡ trees
+  one_trees : (ts : List ClientTexts) (ss : List (List NamedText)) (trees others : List Tree) → SourcesAre ts ss → AreSources schema ss trees → AreTrees schema ts others → others ≡ trees
   one_trees [] [] [] [] same are others = refl
   one_trees [] [] [] (o ∷ os) same are others = absurd others
   one_trees [] [] (tree ∷ trees) os same are others = absurd are
@@ -163,16 +140,16 @@ module _ (schema : SchemaData) where
   one_trees (t ∷ ts) (s ∷ ss) [] os same are others = absurd are
   one_trees (t ∷ ts) (s ∷ ss) (tree ∷ trees) [] same are others = absurd others
   one_trees (t ∷ ts) (s ∷ ss) (tree ∷ trees) (o ∷ os) same are others =
-      let first : o ≡ tree = one_tree_of schema s (subst (λ x. IsTreeOf schema x o) same.0 others.0) are.0 in
+      let first : o ≡ tree = one_tree schema s (subst (λ x. IsSourceTree schema x o) same.0 others.0) are.0 in
       ap (λ x. x ∷ os) first ∙ ap (λ xs. tree ∷ xs) (one_trees ts ss trees os same.1 are.1 others.1)
 
   -- a source that breaks a rule is no work
-  no_work : (files : FileState) (ts : List ClientTexts) (before after : List (List ℕ)) (text : List ℕ) (works : List Work) {rule : Rule} {place : Place} → SourcesAre ts (before ++ text ∷ after) → BreaksRule schema text rule place → AreWorks files schema ts works → ⊥
-  no_work files [] [] after text works same first are = same
-  no_work files [] (b ∷ bs) after text works same first are = same
-  no_work files (t ∷ ts) before after text [] same first are = are
-  no_work files (t ∷ ts) [] after text (w ∷ ws) same first are = trees_break_none schema text (subst (λ s. IsTreeOf schema s w.tree) same.0 are.0.0) first
-  no_work files (t ∷ ts) (b ∷ bs) after text (w ∷ ws) same first are = no_work files ts bs after text ws same.1 first are.1
+  no_work : (files : FileState) (ts : List ClientTexts) (before after : List (List NamedText)) (texts : List NamedText) (works : List Work) {rule : Rule} {at : Origin} → SourcesAre ts (before ++ texts ∷ after) → BreaksFirst schema texts rule at → AreWorks files schema ts works → ⊥
+  no_work files [] [] after texts works same first are = same
+  no_work files [] (b ∷ bs) after texts works same first are = same
+  no_work files (t ∷ ts) before after texts [] same first are = are
+  no_work files (t ∷ ts) [] after texts (w ∷ ws) same first are = no_break schema texts (subst (λ s. IsSourceTree schema s w.tree) same.0 are.0.0) first
+  no_work files (t ∷ ts) (b ∷ bs) after texts (w ∷ ws) same first are = no_work files ts bs after texts ws same.1 first are.1
 
 -- the trees of the works, and the texts of their named inputs
 pub record Worked (files : FileState) (schema : SchemaData) (ts : List ClientTexts) : Type 0 where
@@ -239,37 +216,31 @@ module _ {D : Type 0} (seen : D → DiskState) (disk : D) (arguments : List (Lis
   refusal_by {want} by none (was_prevented refusal given status prevents) = subst (λ r. IsRefusal r want) (sym given) (by refusal prevents)
   refusal_by by none (had_run texts clean works are well) = absurd (none texts clean works are)
 
-  -- the texts of all files
-  all_texts : (texts : Texts files run.schema run.clients) → (ts : List (List ℕ)) × HaveTexts files (run_files run.schema run.clients) ts
-  all_texts texts = let rest = client_texts files run.clients texts.texts texts.have in (texts.df ∷ rest.0, (texts.has_schema, rest.1))
-
   -- ---- a file that is not read
 
-  module _ (before after : List (List ℕ)) (name : List ℕ) (split : run_files run.schema run.clients ≡ before ++ name ∷ after) (are : AreThere files before) where
-    not_all : ((texts : List (List ℕ)) → HaveTexts files (before ++ name ∷ after) texts → ⊥) → Texts files run.schema run.clients → ⊥
-    not_all none texts = let all = all_texts texts in none all.0 (subst (λ ns. HaveTexts files ns all.0) split all.1)
+  module _ (name : List ℕ) (asks : AsksRun files run.schema run.clients name) where
+    not_all : (WasRead files name → ⊥) → Texts files run.schema run.clients → ⊥
+    not_all none texts = none (run_read files names.observable texts.df texts.texts texts.has_schema texts.have asks)
 
-    file_by : {refusal want : Refusal} → (OneIsNotRead files faults (before ++ name ∷ after) refusal → IsRefusal (Some refusal) want) → ((texts : List (List ℕ)) → HaveTexts files (before ++ name ∷ after) texts → ⊥) → Prevents files faults run.schema run.clients refusal → IsRefusal (Some refusal) want
-    file_by {refusal} by none (no_file h) = by (subst (λ ns. OneIsNotRead files faults ns refusal) split h)
+    file_by : {refusal want : Refusal} → (IsNotRead files faults name refusal → IsRefusal (Some refusal) want) → (WasRead files name → ⊥) → Prevents files faults run.schema run.clients refusal → IsRefusal (Some refusal) want
+    file_by by none (no_file h) = asked_by files names.observable names.sound faults by h.unread (one_asked_run files names.observable names.sound (λ text has. none (text, has)) h.unread asks h.asks)
     file_by by none (schema_breaks texts h) = absurd (not_all none texts)
     file_by by none (source_breaks texts clean h) = absurd (not_all none texts)
     file_by by none (no_named_input texts clean trees denote h) = absurd (not_all none texts)
     file_by by none run_wants = inr refl
 
-    file_is : {want : Refusal} → ((refusal : Refusal) → OneIsNotRead files faults (before ++ name ∷ after) refusal → IsRefusal (Some refusal) want) → ((texts : List (List ℕ)) → HaveTexts files (before ++ name ∷ after) texts → ⊥) → Outcome → IsRefusal report.refusal want
+    file_is : {want : Refusal} → ((refusal : Refusal) → IsNotRead files faults name refusal → IsRefusal (Some refusal) want) → (WasRead files name → ⊥) → Outcome → IsRefusal report.refusal want
     file_is by none = refusal_by (λ refusal prevents. file_by (by refusal) none prevents) (λ texts clean works done. not_all none texts)
 
     pub no_file_is_reported : CommandResult seen disk arguments files faults old new result → files.file name ≡ None → IsRefusal report.refusal (File name)
-    no_file_is_reported did none =
-        file_is (λ refusal h. one_missing files names.observable names.sound faults before after are none h) (λ texts have. have_none files names.observable names.sound before after texts none have) (outcome did)
+    no_file_is_reported did none = file_is (λ refusal h. missing_is files names.observable names.sound faults none h) (λ read. no_text files names.observable names.sound read.1 none) (outcome did)
 
     pub long_file_is_reported : {text : List ℕ} → CommandResult seen disk arguments files faults old new result → files.file name ≡ Some text → MAX_FILE_BYTES < length text → IsRefusal report.refusal (TooLong name MAX_FILE_BYTES)
-    long_file_is_reported did there long =
-        file_is (λ refusal h. one_long files names.observable names.sound faults before after are there long h) (λ texts have. have_long files names.observable names.sound before after texts there long have) (outcome did)
+    long_file_is_reported did there long = file_is (λ refusal h. long_is files names.observable names.sound faults there h) (λ read. not_long files names.observable names.sound read.1 there long) (outcome did)
 
   -- ---- all files are read
 
-  module _ (df : List ℕ) (sources : List (List ℕ)) (there : AllThere files run df sources) where
+  module _ (df : List ℕ) (sources : List (List NamedText)) (there : AllThere files run df sources) where
     same_df : (texts : Texts files run.schema run.clients) → texts.df ≡ df
     same_df texts = same_text files names.observable names.sound texts.has_schema there.schema.there
 
@@ -277,7 +248,7 @@ module _ {D : Type 0} (seen : D → DiskState) (disk : D) (arguments : List (Lis
     schema_read texts = ap violation_of (same_df texts)
 
     its_sources : (texts : Texts files run.schema run.clients) → SourcesAre texts.texts sources
-    its_sources texts = sources_are files names.observable names.sound run.clients texts.texts sources texts.have there.clients
+    its_sources texts = sources_are files names.observable run.clients texts.texts sources texts.have there.clients
 
     its_break : {refusal : Refusal} (texts : Texts files run.schema run.clients) → OneSourceBreaks (schema_in texts.df) 0 texts.texts refusal → OneSourceBreaks (schema_in df) 0 texts.texts refusal
     its_break {refusal} texts h = subst (λ d. OneSourceBreaks (schema_in d) 0 texts.texts refusal) (same_df texts) h
@@ -288,8 +259,10 @@ module _ {D : Type 0} (seen : D → DiskState) (disk : D) (arguments : List (Lis
     its_works : (texts : Texts files run.schema run.clients) (works : List Work) → AreWorks files (schema_in texts.df) texts.texts works → AreWorks files (schema_in df) texts.texts works
     its_works texts works h = subst (λ d. AreWorks files (schema_in d) texts.texts works) (same_df texts) h
 
-    files_want : {refusal : Refusal} → OneIsNotRead files faults (run_files run.schema run.clients) refusal → refusal ≡ NoMemory
-    files_want h = none_lacks files names.observable names.sound faults (run_files run.schema run.clients) ((df, there.schema), clients_there files run.clients sources there.clients) h
+    files_want : {refusal : Refusal} → AskedIsNotRead files faults (AsksRun files run.schema run.clients) refusal → refusal ≡ NoMemory
+    files_want h =
+        let texts = clients_there files run.clients sources there.clients in
+        unread_read files names.observable names.sound faults (run_read files names.observable df texts.0 (there_read there.schema) texts.1 h.asks) h.unread
 
     schema_by : {refusal : Refusal} {rule : Rule} {line : ℕ} → violation_of df ≡ Some (record { rule = rule; line = line }) → Prevents files faults run.schema run.clients refusal → IsRefusal (Some refusal) (Schema rule line)
     schema_by broken (no_file h) = wants (files_want h)
@@ -305,30 +278,30 @@ module _ {D : Type 0} (seen : D → DiskState) (disk : D) (arguments : List (Lis
     module _ (clean : violation_of df ≡ None) where
       -- ---- a source that breaks a rule
 
-      module _ (before : List (List ℕ)) (trees : List Tree) (after : List (List ℕ)) (text : List ℕ) (split : sources ≡ before ++ text ∷ after) (are : AreSources (schema_in df) before trees) {rule : Rule} {place : Place} (first : BreaksRule (schema_in df) text rule place) where
-        split_sources : (texts : Texts files run.schema run.clients) → SourcesAre texts.texts (before ++ text ∷ after)
-        split_sources texts = subst (SourcesAre texts.texts) split (its_sources texts)
+      module _ (before : List (List NamedText)) (trees : List Tree) (after : List (List NamedText)) (texts : List NamedText) (split : sources ≡ before ++ texts ∷ after) (are : AreSources (schema_in df) before trees) {rule : Rule} {at : Origin} (first : BreaksFirst (schema_in df) texts rule at) where
+        split_sources : (read : Texts files run.schema run.clients) → SourcesAre read.texts (before ++ texts ∷ after)
+        split_sources read = subst (SourcesAre read.texts) split (its_sources read)
 
-        no_works : (texts : Texts files run.schema run.clients) (works : List Work) → AreWorks files (schema_in texts.df) texts.texts works → ⊥
-        no_works texts works h = no_work (schema_in df) files texts.texts before after text works (split_sources texts) first (its_works texts works h)
+        no_works : (read : Texts files run.schema run.clients) (works : List Work) → AreWorks files (schema_in read.df) read.texts works → ⊥
+        no_works read works h = no_work (schema_in df) files read.texts before after texts works (split_sources read) first (its_works read works h)
 
         -- nor has it trees
-        no_trees : (ts : List ClientTexts) (bs : List (List ℕ)) (found : List Tree) → SourcesAre ts (bs ++ text ∷ after) → AreTrees (schema_in df) ts found → ⊥
+        no_trees : (ts : List ClientTexts) (bs : List (List NamedText)) (found : List Tree) → SourcesAre ts (bs ++ texts ∷ after) → AreTrees (schema_in df) ts found → ⊥
         no_trees [] [] found same h = same
         no_trees [] (b ∷ bs) found same h = same
         no_trees (t ∷ ts) bs [] same h = h
-        no_trees (t ∷ ts) [] (f ∷ fs) same h = trees_break_none (schema_in df) text (subst (λ s. IsTreeOf (schema_in df) s f) same.0 h.0) first
+        no_trees (t ∷ ts) [] (f ∷ fs) same h = no_break (schema_in df) texts (subst (λ s. IsSourceTree (schema_in df) s f) same.0 h.0) first
         no_trees (t ∷ ts) (b ∷ bs) (f ∷ fs) same h = no_trees ts bs fs same.1 h.1
 
-        source_by : {refusal : Refusal} → Prevents files faults run.schema run.clients refusal → IsRefusal (Some refusal) (Source (length before) rule place)
+        source_by : {refusal : Refusal} → Prevents files faults run.schema run.clients refusal → IsRefusal (Some refusal) (Source (length before) (file_of texts at.text) rule at.place)
         source_by (no_file h) = wants (files_want h)
-        source_by (schema_breaks texts h) = wants (no_violation (schema_read texts ∙ clean) h)
-        source_by (source_breaks texts fine h) = first_broken (schema_in df) texts.texts before trees after text (split_sources texts) are first (its_break texts h)
-        source_by (no_named_input texts fine found denote h) = absurd (no_trees texts.texts before found (split_sources texts) (its_trees texts found denote))
+        source_by (schema_breaks read h) = wants (no_violation (schema_read read ∙ clean) h)
+        source_by (source_breaks read fine h) = first_broken (schema_in df) read.texts before trees after texts (split_sources read) are first (its_break read h)
+        source_by (no_named_input read fine found denote h) = absurd (no_trees read.texts before found (split_sources read) (its_trees read found denote))
         source_by run_wants = inr refl
 
-        pub broken_source_is_reported : CommandResult seen disk arguments files faults old new result → IsRefusal report.refusal (Source (length before) rule place)
-        broken_source_is_reported did = refusal_by (λ refusal prevents. source_by prevents) (λ texts fine works h. no_works texts works h) (outcome did)
+        pub broken_source_is_reported : CommandResult seen disk arguments files faults old new result → IsRefusal report.refusal (Source (length before) (file_of texts at.text) rule at.place)
+        broken_source_is_reported did = refusal_by (λ refusal prevents. source_by prevents) (λ read fine works h. no_works read works h) (outcome did)
 
       -- ---- all sources denote trees
 

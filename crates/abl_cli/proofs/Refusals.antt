@@ -15,6 +15,7 @@ use Rattle.disk_database.specs.declared.refusals.DumpRefusal.{DumpRefusal}
 use Rattle.disk_database.specs.declared.refusals.DumpRefusal.TheVariants as dump
 use Rattle.disk_database.specs.declared.refusals.OpenRefusal.{OpenRefusal}
 use Rattle.disk_database.specs.declared.refusals.OpenRefusal.TheVariants as opening
+use Rattle.preprocessor.specs.declared.texts.NamedText.{NamedText}
 use Rattle.run_report.specs.declared.ending.Report.{Report}
 use Rattle.run_report.specs.declared.refusal.Refusal.{Refusal}
 use Rattle.run_report.specs.declared.refusal.Refusal.TheVariants.{Client, Disk, NoMemory, Output}
@@ -25,8 +26,8 @@ use Rattle.run_works.specs.Works.{HasNotRun}
 use Rattle.source_files.specs.declared.files.ClientTexts.{ClientTexts}
 use Rattle.source_files.specs.Compiled.{BreaksSchema, BreaksSource, OneSourceBreaks, breaks_f, breaks_rule, later_source, schema_wants, source_wants, this_source}
 use Rattle.source_files.specs.Files.{IsNotRead, OneIsNotRead, is_missing, is_too_long, later_one, reading_wants, this_one}
-use Rattle.abl_cli.specs.Check.{BreaksProgram, OneBreaks, later_breaks, program_breaks, program_wants, this_breaks}
-use Rattle.abl_cli.specs.Command.{Banked, Cause, Checked, CommandResult, Created, Dumped, NotRun, Prevents, PreventsCheck, Ran, Refused, bank_of, check_prevented, create_prevented, dump_prevented, no_file, no_named_input, no_program, no_schema_file, one_breaks, prevented, run_wants, schema_breaks, schema_is_broken, source_breaks, wrong_argument}
+use Rattle.abl_cli.specs.Check.{OneBreaks, later_breaks, this_breaks}
+use Rattle.abl_cli.specs.Command.{Banked, Cause, Checked, CommandResult, Created, Dumped, NotRun, Prevents, PreventsCheck, Ran, Refused, bank_of, check_prevented, create_prevented, dump_prevented, no_checked_file, no_file, no_named_input, one_breaks, prevented, run_wants, schema_breaks, schema_is_broken, source_breaks, wrong_argument}
 use Rattle.abl_cli.specs.Stored.{CreateResult, IsDumpCause, Made, NotMade, PreventsDump, PreventsSchema, SaysOfDisk, creation_refusal, df_breaks, dump_refusal, dump_wants, no_df, no_schema, no_table}
 use Rattle.abl_cli.proofs.Marks.{check_or_create, create_or_bank, create_or_dump, run_or_create}
 
@@ -46,20 +47,16 @@ module _ (files : FileState) (faults : ℕ) (disk : DiskState) where
   of_schema (breaks_f found) = tt
   of_schema schema_wants = tt
 
-  of_source : {schema : SchemaData} {number : ℕ} {text : List ℕ} {refusal : Refusal} → BreaksSource schema number text refusal → SaysOfDisk disk refusal
-  of_source (breaks_rule found) = tt
+  of_source : {schema : SchemaData} {number : ℕ} {texts : List NamedText} {refusal : Refusal} → BreaksSource schema number texts refusal → SaysOfDisk disk refusal
+  of_source (breaks_rule at found) = tt
   of_source source_wants = tt
 
   of_one_source : {schema : SchemaData} {number : ℕ} {texts : List ClientTexts} {refusal : Refusal} → OneSourceBreaks schema number texts refusal → SaysOfDisk disk refusal
   of_one_source (this_source h) = of_source h
   of_one_source (later_source tree is h) = of_one_source h
 
-  of_program : {schema : SchemaData} {text : List ℕ} {number : ℕ} {refusal : Refusal} → BreaksProgram schema text number refusal → SaysOfDisk disk refusal
-  of_program (program_breaks found) = tt
-  of_program program_wants = tt
-
-  of_one_program : {schema : SchemaData} {number : ℕ} {texts : List (List ℕ)} {refusal : Refusal} → OneBreaks schema number texts refusal → SaysOfDisk disk refusal
-  of_one_program (this_breaks h) = of_program h
+  of_one_program : {schema : SchemaData} {number : ℕ} {sources : List (List NamedText)} {refusal : Refusal} → OneBreaks schema number sources refusal → SaysOfDisk disk refusal
+  of_one_program (this_breaks h) = of_source h
   of_one_program (later_breaks is h) = of_one_program h
 
   of_schema_file : {name : List ℕ} {refusal : Refusal} → PreventsSchema files faults name refusal → SaysOfDisk disk refusal
@@ -68,13 +65,12 @@ module _ (files : FileState) (faults : ℕ) (disk : DiskState) where
 
   of_cause : {arguments names : List (List ℕ)} {refusal : Refusal} → Cause arguments files faults names refusal → SaysOfDisk disk refusal
   of_cause (wrong_argument wrong) = tt
-  of_cause (prevented run is_run are (no_file h)) = of_one_unread h
+  of_cause (prevented run is_run are (no_file h)) = of_unread h.unread
   of_cause (prevented run is_run are (schema_breaks texts h)) = of_schema h
   of_cause (prevented run is_run are (source_breaks texts clean h)) = of_one_source h
   of_cause (prevented run is_run are (no_named_input texts clean trees denote h)) = of_one_unread h
   of_cause (prevented run is_run are run_wants) = tt
-  of_cause (check_prevented check is_check are (no_schema_file h)) = of_unread h
-  of_cause (check_prevented check is_check are (no_program has h)) = of_one_unread h
+  of_cause (check_prevented check is_check are (no_checked_file h)) = of_unread h.unread
   of_cause (check_prevented check is_check are (schema_is_broken texts h)) = of_schema h
   of_cause (check_prevented check is_check are (one_breaks texts clean h)) = of_one_program h
   of_cause (create_prevented named is_create are h) = of_schema_file h

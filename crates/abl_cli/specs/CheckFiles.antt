@@ -1,7 +1,9 @@
 -- The files of a check, for the laws on it.
-use Rattle.std.specs.Prelude.{◌≡◌, ℕ, IsTrue, List, [], ◌∷◌}
+use Rattle.std.specs.Prelude.{◌≡◌, ℕ, IsTrue, List}
 use Rattle.host_io.specs.Files.{FileState}
 use Rattle.command_arguments.specs.CommandLine.{Check, IsCheck, check_arguments}
+use Rattle.preprocessor.specs.declared.texts.NamedText.{NamedText}
+use Rattle.source_files.specs.Files.{HaveSources}
 use Rattle.abl_cli.specs.Command.{IsThere}
 
 -- the arguments name the check, and the files are observable and fail for a missing file alone
@@ -11,13 +13,7 @@ pub record NamesSources (arguments : List (List ℕ)) (files : FileState) (check
   pub observable : IsTrue files.observable
   pub sound : IsTrue files.sound
 
--- the files that a check reads, in order
-abbrev pub check_files : Check → List (List ℕ)
-check_files check = check.schema ∷ check.programs
-
--- these files are there with these texts, and none is too long
-abbrev pub AreThereWith : FileState → List (List ℕ) → List (List ℕ) → Type 0
-AreThereWith files [] [] = Unit {0}
-AreThereWith files [] (text ∷ texts) = ⊥
-AreThereWith files (name ∷ names) [] = ⊥
-AreThereWith files (name ∷ names) (text ∷ texts) = IsThere files name text × AreThereWith files names texts
+-- the schema file, the sources and the files that they need are there, with these texts of the schema file and of the sources
+pub record SourcesThere (files : FileState) (check : Check) (df : List ℕ) (sources : List (List NamedText)) : Type 0 where
+  pub schema : IsThere files check.schema df
+  pub programs : HaveSources files check.programs sources

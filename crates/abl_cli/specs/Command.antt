@@ -5,8 +5,8 @@ use Rattle.schema_reader.specs.Rules.{violation_of}
 use Rattle.host_io.specs.declared.out.Stream.TheVariants.{Output as Standard}
 use Rattle.host_io.specs.Files.{FileState}
 use Rattle.bound_tree.specs.Tree.{Source as Tree}
-use Rattle.source_reader.specs.Sources.{IsTreeOf}
 use Rattle.client_output.specs.declared.section.Section.{Section}
+use Rattle.preprocessor.specs.declared.texts.NamedText.{NamedText}
 use Rattle.run_report.specs.declared.refusal.Refusal.{Refusal}
 use Rattle.run_report.specs.declared.refusal.Refusal.TheVariants.{Usage, NoMemory}
 use Rattle.run_report.specs.declared.ending.Report.{Report}
@@ -16,8 +16,8 @@ use Rattle.command_arguments.specs.CommandLine.{Run, ClientFiles, IsRun, argumen
 use Rattle.bank_run.specs.declared.inputs.bank.Bank.{Bank as BankNumbers}
 use Rattle.bank_run.specs.Texts.{bank_names}
 use Rattle.bank_run.specs.Result.{BankResult}
-use Rattle.source_files.specs.Files.{HasText, HaveClients, HaveTexts, IsNotRead, OneIsNotRead, client_files}
-use Rattle.source_files.specs.Compiled.{BreaksSchema, OneSourceBreaks, schema_in}
+use Rattle.source_files.specs.Files.{AskedIsNotRead, AsksClients, AsksSources, HasSource, HasText, HaveClients, HaveSources, HaveTexts, OneIsNotRead}
+use Rattle.source_files.specs.Compiled.{BreaksSchema, IsSourceTree, OneSourceBreaks, schema_in}
 use Rattle.run_report.specs.Ending.{IsRefused, WritesStatus, output_refusal, status_after}
 use Rattle.run_works.specs.declared.outcome.Outcome.{Outcome}
 use Rattle.run_works.specs.Disks.{DiskState}
@@ -33,9 +33,11 @@ use Rattle.disk_database.specs.table.Order.{AreAll, export_lines}
 use Rattle.run_report.specs.Report.{reports, run_text}
 use Rattle.host_io.specs.Out.{OutState, Writes, appended}
 
--- the files that a run reads before the rules are looked at, in order
-abbrev pub run_files : List ℕ → List ClientFiles → List (List ℕ)
-run_files schema clients = schema ∷ flat_map client_files clients
+-- A run asks for the file of this name before the rules are looked at, and those that it asks for before it were read: the schema file, and then
+-- those of each client in order, its source, each file that the source needs, and its input
+pub data AsksRun (files : FileState) (schema : List ℕ) (clients : List ClientFiles) : List ℕ → Type 0 where
+  asks_schema : AsksRun files schema clients schema
+  asks_clients : {df name : List ℕ} → HasText files schema df → AsksClients files clients name → AsksRun files schema clients name
 
 -- the texts that were read for a run, before the rules were looked at
 pub record Texts (files : FileState) (schema : List ℕ) (clients : List ClientFiles) : Type 0 where
@@ -49,17 +51,17 @@ abbrev pub AreTrees : SchemaData → List ClientTexts → List Tree → Type 0
 AreTrees schema [] [] = Unit {0}
 AreTrees schema [] (tree ∷ trees) = ⊥
 AreTrees schema (t ∷ ts) [] = ⊥
-AreTrees schema (t ∷ ts) (tree ∷ trees) = IsTreeOf schema t.source tree × AreTrees schema ts trees
+AreTrees schema (t ∷ ts) (tree ∷ trees) = IsSourceTree schema t.source tree × AreTrees schema ts trees
 
 -- the files after INPUT FROM, in client order and text order
 abbrev pub named_inputs : List Tree → List (List ℕ)
 named_inputs trees = flat_map (λ (tree : Tree). tree.inputs) trees
 
 -- The first thing that prevents the run of these clients over this schema file, in the order in which they are looked for: the schema
--- file, the source and the input of each client in order, the rules of the schema, those of the sources in order, the files after INPUT
--- FROM. Out of memory may come at any time
+-- file, the source, the files that it needs and the input of each client in order, the rules of the schema, those of the sources in order, the
+-- files after INPUT FROM. Out of memory may come at any time
 pub data Prevents (files : FileState) (faults : ℕ) (schema : List ℕ) (clients : List ClientFiles) : Refusal → Type 0 where
-  no_file : {refusal : Refusal} → OneIsNotRead files faults (run_files schema clients) refusal → Prevents files faults schema clients refusal
+  no_file : {refusal : Refusal} → AskedIsNotRead files faults (AsksRun files schema clients) refusal → Prevents files faults schema clients refusal
   schema_breaks : {refusal : Refusal} (texts : Texts files schema clients) → BreaksSchema texts.df refusal → Prevents files faults schema clients refusal
   source_breaks : {refusal : Refusal} (texts : Texts files schema clients) → violation_of texts.df ≡ None → OneSourceBreaks (schema_in texts.df) 0 texts.texts refusal → Prevents files faults schema clients refusal
   no_named_input : {refusal : Refusal} (texts : Texts files schema clients) → violation_of texts.df ≡ None → (trees : List Tree) → AreTrees (schema_in texts.df) texts.texts trees →
@@ -69,15 +71,19 @@ pub data Prevents (files : FileState) (faults : ℕ) (schema : List ℕ) (client
 -- the texts that were read for a check, before the rules were looked at
 pub record CheckTexts (files : FileState) (check : Check) : Type 0 where
   pub df : List ℕ
-  pub sources : List (List ℕ)
+  pub sources : List (List NamedText)
   pub has_schema : HasText files check.schema df
-  pub have_sources : HaveTexts files check.programs sources
+  pub have_sources : HaveSources files check.programs sources
 
--- The first thing that prevents this check, in the order in which they are looked for: the schema file, each source, the rules of the
--- schema, those of the sources in order. Out of memory may come at any time
+-- a check asks for the file of this name, likewise: the schema file, and then each source and the files that it needs
+pub data AsksCheck (files : FileState) (check : Check) : List ℕ → Type 0 where
+  asks_checked_schema : AsksCheck files check check.schema
+  asks_sources : {df name : List ℕ} → HasText files check.schema df → AsksSources files check.programs name → AsksCheck files check name
+
+-- The first thing that prevents this check, in the order in which they are looked for: the schema file, each source and the files that it
+-- needs, the rules of the schema, those of the sources in order. Out of memory may come at any time
 pub data PreventsCheck (files : FileState) (faults : ℕ) (check : Check) : Refusal → Type 0 where
-  no_schema_file : {refusal : Refusal} → IsNotRead files faults check.schema refusal → PreventsCheck files faults check refusal
-  no_program : {refusal : Refusal} {df : List ℕ} → HasText files check.schema df → OneIsNotRead files faults check.programs refusal → PreventsCheck files faults check refusal
+  no_checked_file : {refusal : Refusal} → AskedIsNotRead files faults (AsksCheck files check) refusal → PreventsCheck files faults check refusal
   schema_is_broken : {refusal : Refusal} (texts : CheckTexts files check) → BreaksSchema texts.df refusal → PreventsCheck files faults check refusal
   one_breaks : {refusal : Refusal} (texts : CheckTexts files check) → violation_of texts.df ≡ None → OneBreaks (schema_in texts.df) 0 texts.sources refusal → PreventsCheck files faults check refusal
 
@@ -92,7 +98,7 @@ abbrev pub AreWorks : FileState → SchemaData → List ClientTexts → List Wor
 AreWorks files schema [] [] = Unit {0}
 AreWorks files schema [] (w ∷ ws) = ⊥
 AreWorks files schema (t ∷ ts) [] = ⊥
-AreWorks files schema (t ∷ ts) (w ∷ ws) = (IsTreeOf schema t.source w.tree × ((w.tables ≡ schema.tables) × ((w.input ≡ t.input) × HaveTexts files w.tree.inputs w.inputs))) × AreWorks files schema ts ws
+AreWorks files schema (t ∷ ts) (w ∷ ws) = (IsSourceTree schema t.source w.tree × ((w.tables ≡ schema.tables) × ((w.input ≡ t.input) × HaveTexts files w.tree.inputs w.inputs))) × AreWorks files schema ts ws
 
 -- the names of the clients of a run
 abbrev pub client_names : Run → List (List ℕ)
@@ -196,21 +202,21 @@ abbrev pub AreThere : FileState → List (List ℕ) → Type 0
 AreThere files [] = Unit {0}
 AreThere files (name ∷ names) = ((text : List ℕ) × IsThere files name text) × AreThere files names
 
--- the source of each client is there with this text, and its input is there
-abbrev pub ClientsThere : FileState → List ClientFiles → List (List ℕ) → Type 0
+-- the source of each client and the files that it needs are there with these texts, and its input is there
+abbrev pub ClientsThere : FileState → List ClientFiles → List (List NamedText) → Type 0
 ClientsThere files [] [] = Unit {0}
-ClientsThere files [] (text ∷ sources) = ⊥
+ClientsThere files [] (texts ∷ sources) = ⊥
 ClientsThere files (c ∷ cs) [] = ⊥
-ClientsThere files (c ∷ cs) (text ∷ sources) = (IsThere files c.program text × IsInputThere files c.input) × ClientsThere files cs sources
+ClientsThere files (c ∷ cs) (texts ∷ sources) = (HasSource files c.program texts × IsInputThere files c.input) × ClientsThere files cs sources
 
 -- the schema file and the files of the clients are there, with these texts of the schema file and of the sources
-pub record AllThere (files : FileState) (run : Run) (df : List ℕ) (sources : List (List ℕ)) : Type 0 where
+pub record AllThere (files : FileState) (run : Run) (df : List ℕ) (sources : List (List NamedText)) : Type 0 where
   pub schema : IsThere files run.schema df
   pub clients : ClientsThere files run.clients sources
 
--- the texts are sources that denote these trees
-abbrev pub AreSources : SchemaData → List (List ℕ) → List Tree → Type 0
+-- the sources with these texts denote these trees
+abbrev pub AreSources : SchemaData → List (List NamedText) → List Tree → Type 0
 AreSources schema [] [] = Unit {0}
 AreSources schema [] (tree ∷ trees) = ⊥
-AreSources schema (text ∷ texts) [] = ⊥
-AreSources schema (text ∷ texts) (tree ∷ trees) = IsTreeOf schema text tree × AreSources schema texts trees
+AreSources schema (texts ∷ sources) [] = ⊥
+AreSources schema (texts ∷ sources) (tree ∷ trees) = IsSourceTree schema texts tree × AreSources schema sources trees

@@ -1,14 +1,14 @@
 //! The command `check`: it lists the blocks of sources, with the buffers scoped to each.
 
-ghost use Rattle.std.specs.Prelude.{◌≡◌, ◌≤◌, ◌⊎◌, All, IfErr, IfOk, None, OnOk, is_ok, length};
+ghost use Rattle.std.specs.Prelude.{◌≡◌, ◌≤◌, ◌⊎◌, IfErr, IfOk, None, OnOk, is_ok, length};
 ghost use Rattle.host_io.specs.declared.out.Stream.{Stream};
 ghost use Rattle.host_io.specs.Out.{Writes};
 ghost use Rattle.schema_reader.specs.Rules.{violation_of};
-ghost use Rattle.abl_cli.specs.Check.{BreaksProgram, HaveListings, IsListing, OneBreaks, check_text};
+ghost use Rattle.abl_cli.specs.Check.{HaveListings, IsListing, OneBreaks, check_text};
 ghost use Rattle.command_arguments.specs.CommandLine.{check_of};
 ghost use Rattle.abl_cli.specs.Command.{AreListed, HasChecked, PreventsCheck};
 ghost use Rattle.abl_cli.specs.Inside.{CheckResult};
-ghost use Rattle.source_files.specs.Compiled.{BreaksSchema, schema_in};
+ghost use Rattle.source_files.specs.Compiled.{BreaksSchema, BreaksSource, schema_in};
 
 use abl_base::Bytes;
 use abl_values::Schema;
@@ -18,9 +18,8 @@ use host_io::{Files, Out, OutFailed};
 use run_report::{
     Ends, Refusal, Report, line_end, output_refusal, refused, status_of, write_part, write_refusal,
 };
-use source_files::{MAX_FILE_BYTES, read, read_named, schema_of};
+use source_files::{SourceTexts, read, read_sources, read_tree, schema_of};
 use source_reader::listing::listing;
-use source_reader::{SourceFault, read_source};
 use std::alloc::Global;
 
 /// Lists the blocks of the sources that the arguments name. It reads no input and opens no database.
@@ -50,17 +49,16 @@ fn listings_of<F: Files>(
     ensures prevented { IfErr result (PreventsCheck (F.state files.old) (F.state files.new).faults (check_of check.now)) }
 {
     let df = read(alloc, files, check.schema)?;
-    let sources = read_named(alloc, files, check.programs)?;
+    let sources = read_sources(alloc, files, check.programs)?;
     match listings_in(alloc, df.as_slice(), &sources) {
         Ok(listings) => Ok(listings),
         Err(refusal) => Err(refusal),
     }
 }
 
-/// The lines of the blocks of sources with these texts over the schema of this text.
-fn listings_in(alloc: Global, df: &[u8], sources: &[Bytes]) -> Result<Vec<Bytes>, Refusal>
-    requires short { All (λ text. length text ≤ MAX_FILE_BYTES) sources.now }
-    requires few { length sources.now ≤ 16 }
+/// The lines of the blocks of these sources over the schema of this text.
+fn listings_in(alloc: Global, df: &[u8], sources: &[SourceTexts]) -> Result<Vec<Bytes>, Refusal>
+    requires { length sources.now ≤ 16 }
     ensures clean { OnOk result (violation_of df.now ≡ None) }
     ensures listed { IfOk result (λ listings. HaveListings (schema_in df.now) sources.now listings.items) }
     ensures refused { IfErr result (λ refusal. BreaksSchema df.now refusal ⊎ ((violation_of df.now ≡ None) × OneBreaks (schema_in df.now) 0 sources.now refusal)) }
@@ -69,16 +67,19 @@ fn listings_in(alloc: Global, df: &[u8], sources: &[Bytes]) -> Result<Vec<Bytes>
     listings_over(alloc, &schema, sources)
 }
 
-/// The lines of the blocks of sources with these texts over the schema.
-fn listings_over(alloc: Global, schema: &Schema, sources: &[Bytes]) -> Result<Vec<Bytes>, Refusal>
-    requires short { All (λ text. length text ≤ MAX_FILE_BYTES) sources.now }
-    requires few { length sources.now ≤ 16 }
+/// The lines of the blocks of these sources over the schema.
+fn listings_over(
+    alloc: Global,
+    schema: &Schema,
+    sources: &[SourceTexts],
+) -> Result<Vec<Bytes>, Refusal>
+    requires { length sources.now ≤ 16 }
     ensures listed { IfOk result (λ listings. HaveListings schema.now sources.now listings.items) }
     ensures refused { IfErr result (OneBreaks schema.now 0 sources.now) }
 {
     let mut listings = Vec::new(alloc);
-    for (number, text) in sources.iter().enumerate() {
-        match listing_of(alloc, schema, number as u16, text.as_slice()) {
+    for (number, source) in sources.iter().enumerate() {
+        match listing_of(alloc, schema, number as u16, source) {
             Ok(lines) => match listings.push(lines) {
                 Ok(()) => {}
                 Err(_) => return Err(Refusal::NoMemory),
@@ -89,23 +90,23 @@ fn listings_over(alloc: Global, schema: &Schema, sources: &[Bytes]) -> Result<Ve
     Ok(listings)
 }
 
-/// The lines of the blocks of the source of this number, or why it is refused.
-fn listing_of(alloc: Global, schema: &Schema, number: u16, text: &[u8]) -> Result<Bytes, Refusal>
-    requires { length text.now ≤ MAX_FILE_BYTES }
-    ensures listed { IfOk result (IsListing schema.now text.now) }
-    ensures refused { IfErr result (BreaksProgram schema.now text.now number) }
+/// The lines of the blocks of the source of this number, or why it is refused. Each line has the line
+/// number that the block's word has in its own text.
+fn listing_of(
+    alloc: Global,
+    schema: &Schema,
+    number: u16,
+    source: &SourceTexts,
+) -> Result<Bytes, Refusal>
+    ensures listed { IfOk result (IsListing schema.now source.now) }
+    ensures refused { IfErr result (BreaksSource schema.now number source.now) }
 {
-    match read_source(alloc, schema, text) {
-        Ok(bound) => match listing(alloc, &bound) {
+    match read_tree(alloc, schema, number, source) {
+        Ok(bound) => match listing(alloc, &bound, source) {
             Ok(lines) => Ok(lines),
             Err(_) => Err(Refusal::NoMemory),
         },
-        Err(SourceFault::Broken { rule, place }) => Err(Refusal::Source {
-            client: number,
-            rule,
-            place,
-        }),
-        Err(SourceFault::NoMemory) => Err(Refusal::NoMemory),
+        Err(refusal) => Err(refusal),
     }
 }
 

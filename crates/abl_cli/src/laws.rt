@@ -4,7 +4,8 @@ ghost use Rattle.std.specs.Prelude.{◌≡◌, ◌<◌, ◌⊎◌, ◌∷◌, �
 ghost use Rattle.storage.specs.faults.Faults.{Rose};
 ghost use Rattle.bound_tree.specs.Tree.{Source as Tree};
 ghost use Rattle.abl_base.specs.declared.rule.Rule.{Rule as TheRule};
-ghost use Rattle.abl_base.specs.declared.place.Place.{Place as ThePlace};
+ghost use Rattle.preprocessor.specs.declared.expanded.Origin.{Origin};
+ghost use Rattle.preprocessor.specs.declared.texts.NamedText.{NamedText};
 ghost use Rattle.schema_reader.specs.Rules.{violation_of};
 ghost use Rattle.run_report.specs.declared.refusal.Refusal.{Refusal};
 ghost use Rattle.run_report.specs.declared.refusal.Refusal.TheVariants.{Usage, File, TooLong, Schema, Source, Output};
@@ -13,7 +14,6 @@ ghost use Rattle.run_works.specs.Disks.{IsUntouched, state_of};
 ghost use Rattle.source_files.specs.declared.files.TheConstants.{MAX_FILE_BYTES as MOST};
 ghost use Rattle.host_io.specs.Out.{appended};
 ghost use Rattle.host_io.specs.declared.out.Stream.TheVariants.{Output as Standard};
-ghost use Rattle.source_reader.specs.Sources.{BreaksRule};
 ghost use Rattle.command_arguments.specs.CommandLine.{Bank, Check, Create, Dump, Run, HaveForm, IsBank, IsWrong, bank_arguments, create_arguments};
 ghost use Rattle.abl_values.specs.Schema.{SchemaData, table_named};
 ghost use Rattle.bank_run.specs.declared.inputs.sources.TheConstants.{BANK_SCHEMA};
@@ -23,11 +23,12 @@ ghost use Rattle.disk_database.specs.Answers.{IsDatabaseOf, IsNoDatabase};
 ghost use Rattle.abl_cli.specs.Check.{HaveListings, check_text};
 ghost use Rattle.host_io.specs.Out.{OutState};
 ghost use Rattle.host_io.specs.Files.{FileState};
-ghost use Rattle.abl_cli.specs.Command.{AllThere, AreSources, AreThere, AreTrees, bank_of, CommandResult, HasWholeText, IsRefusal, IsThere, IsUsage, NamesRun, named_inputs, run_files};
-ghost use Rattle.source_files.specs.Compiled.{schema_in};
+ghost use Rattle.abl_cli.specs.Command.{AllThere, AreSources, AreThere, AreTrees, AsksCheck, AsksRun, bank_of, CommandResult, HasWholeText, IsRefusal, IsThere, IsUsage, NamesRun, named_inputs};
+ghost use Rattle.source_files.specs.Compiled.{BreaksFirst, schema_in};
+ghost use Rattle.source_files.specs.Expansions.{file_of};
 ghost use Rattle.abl_cli.specs.Stored.{SaysOfDisk, WritesNothingIfRefused};
 ghost use Rattle.abl_cli.specs.Undisturbed.{HasDatabase, IsDone, NamesCreation, NamesTable, RunEnd};
-ghost use Rattle.abl_cli.specs.CheckFiles.{AreThereWith, NamesSources, check_files};
+ghost use Rattle.abl_cli.specs.CheckFiles.{NamesSources, SourcesThere};
 
 use storage::Disk;
 
@@ -40,49 +41,50 @@ pub fn usage_names_the_wrong_argument<D: Disk>()
 {}
 
 /// Over files that are observable and sound, and arguments that name a run, the refusal is the first
-/// cause that prevents it, exactly: the first of the schema file and each client's source and input
-/// that is missing or too long, then a rule that the schema breaks first, then the rule that the first
-/// source that breaks one breaks first, with the number of its client, then the first file after INPUT
-/// FROM that is missing or too long. In each case it may be out of memory instead.
+/// cause that prevents it, exactly: the first of the schema file and each client's source, the files
+/// that the source needs, and its input that is missing or too long, then a rule that the schema breaks
+/// first, then the rule that the first source that breaks one breaks first, with the number of its
+/// client, and the file and the place where it does, then the first file after INPUT FROM that is
+/// missing or too long. In each case it may be out of memory instead.
 pub fn the_first_cause_is_the_refusal<D: Disk>()
     ensures no_file { (disk : D) (arguments : List (List ℕ)) (files : FileState) (faults : ℕ) (old new : OutState) (outcome : Outcome D) (run : Run) →
         CommandResult (state_of D.Disk) disk arguments files faults old new outcome → NamesRun arguments files run →
-        (before after : List (List ℕ)) (name : List ℕ) → run_files run.schema run.clients ≡ before ++ name ∷ after → AreThere files before →
+        (name : List ℕ) → AsksRun files run.schema run.clients name →
         files.file name ≡ None → IsRefusal outcome.report.refusal (File name) }
     ensures long_file { (disk : D) (arguments : List (List ℕ)) (files : FileState) (faults : ℕ) (old new : OutState) (outcome : Outcome D) (run : Run) →
         CommandResult (state_of D.Disk) disk arguments files faults old new outcome → NamesRun arguments files run →
-        (before after : List (List ℕ)) (name text : List ℕ) → run_files run.schema run.clients ≡ before ++ name ∷ after → AreThere files before →
+        (name text : List ℕ) → AsksRun files run.schema run.clients name →
         files.file name ≡ Some text → MOST < length text → IsRefusal outcome.report.refusal (TooLong name MOST) }
     ensures broken_schema { (disk : D) (arguments : List (List ℕ)) (files : FileState) (faults : ℕ) (old new : OutState) (outcome : Outcome D) (run : Run) →
         CommandResult (state_of D.Disk) disk arguments files faults old new outcome → NamesRun arguments files run →
-        (df : List ℕ) (sources : List (List ℕ)) → AllThere files run df sources →
+        (df : List ℕ) (sources : List (List NamedText)) → AllThere files run df sources →
         (rule : TheRule) (line : ℕ) → violation_of df ≡ Some (record { rule = rule; line = line }) → IsRefusal outcome.report.refusal (Schema rule line) }
     ensures broken_source { (disk : D) (arguments : List (List ℕ)) (files : FileState) (faults : ℕ) (old new : OutState) (outcome : Outcome D) (run : Run) →
         CommandResult (state_of D.Disk) disk arguments files faults old new outcome → NamesRun arguments files run →
-        (df : List ℕ) (sources : List (List ℕ)) → AllThere files run df sources → violation_of df ≡ None →
-        (before after : List (List ℕ)) (trees : List Tree) (text : List ℕ) → sources ≡ before ++ text ∷ after → AreSources (schema_in df) before trees →
-        (rule : TheRule) (place : ThePlace) → BreaksRule (schema_in df) text rule place → IsRefusal outcome.report.refusal (Source (length before) rule place) }
+        (df : List ℕ) (sources : List (List NamedText)) → AllThere files run df sources → violation_of df ≡ None →
+        (before after : List (List NamedText)) (trees : List Tree) (texts : List NamedText) → sources ≡ before ++ texts ∷ after → AreSources (schema_in df) before trees →
+        (rule : TheRule) (at : Origin) → BreaksFirst (schema_in df) texts rule at → IsRefusal outcome.report.refusal (Source (length before) (file_of texts at.text) rule at.place) }
     ensures no_named_input { (disk : D) (arguments : List (List ℕ)) (files : FileState) (faults : ℕ) (old new : OutState) (outcome : Outcome D) (run : Run) →
         CommandResult (state_of D.Disk) disk arguments files faults old new outcome → NamesRun arguments files run →
-        (df : List ℕ) (sources : List (List ℕ)) → AllThere files run df sources → violation_of df ≡ None → (trees : List Tree) → AreSources (schema_in df) sources trees →
+        (df : List ℕ) (sources : List (List NamedText)) → AllThere files run df sources → violation_of df ≡ None → (trees : List Tree) → AreSources (schema_in df) sources trees →
         (before after : List (List ℕ)) (name : List ℕ) → named_inputs trees ≡ before ++ name ∷ after → AreThere files before →
         files.file name ≡ None → IsRefusal outcome.report.refusal (File name) }
     ensures long_named_input { (disk : D) (arguments : List (List ℕ)) (files : FileState) (faults : ℕ) (old new : OutState) (outcome : Outcome D) (run : Run) →
         CommandResult (state_of D.Disk) disk arguments files faults old new outcome → NamesRun arguments files run →
-        (df : List ℕ) (sources : List (List ℕ)) → AllThere files run df sources → violation_of df ≡ None → (trees : List Tree) → AreSources (schema_in df) sources trees →
+        (df : List ℕ) (sources : List (List NamedText)) → AllThere files run df sources → violation_of df ≡ None → (trees : List Tree) → AreSources (schema_in df) sources trees →
         (before after : List (List ℕ)) (name input : List ℕ) → named_inputs trees ≡ before ++ name ∷ after → AreThere files before →
         files.file name ≡ Some input → MOST < length input → IsRefusal outcome.report.refusal (TooLong name MOST) }
 {}
 
 /// Where the arguments name a run, the files are observable and sound, the schema file, the sources, the
-/// clients' inputs and the files after INPUT FROM are there and short enough, the schema and the sources
-/// break no rule, and no write fails, the clients run: the status is 0 or 8 by their ends, or 7, for out
-/// of memory, or 5, where the disk failed during the run. Or the database was not opened, and the refusal
-/// says why.
+/// files that they need, the clients' inputs and the files after INPUT FROM are there and short enough,
+/// the schema and the sources break no rule, and no write fails, the clients run: the status is 0 or 8
+/// by their ends, or 7, for out of memory, or 5, where the disk failed during the run. Or the database
+/// was not opened, and the refusal says why.
 pub fn a_run_without_faults_is_done<D: Disk>()
     ensures { (disk : D) (arguments : List (List ℕ)) (files : FileState) (faults : ℕ) (old new : OutState) (outcome : Outcome D) (run : Run) →
         CommandResult (state_of D.Disk) disk arguments files faults old new outcome → NamesRun arguments files run →
-        (df : List ℕ) (sources : List (List ℕ)) → AllThere files run df sources →
+        (df : List ℕ) (sources : List (List NamedText)) → AllThere files run df sources →
         violation_of df ≡ None → (trees : List Tree) → AreSources (schema_in df) sources trees → AreThere files (named_inputs trees) →
         (Rose old.faults new.faults → ⊥) → IsDone (state_of D.Disk) disk (schema_in df) outcome }
 {}
@@ -92,7 +94,7 @@ pub fn a_run_without_faults_is_done<D: Disk>()
 pub fn a_run_over_its_database_ends<D: Disk>()
     ensures { (disk : D) (arguments : List (List ℕ)) (files : FileState) (faults : ℕ) (old new : OutState) (outcome : Outcome D) (run : Run) →
         CommandResult (state_of D.Disk) disk arguments files faults old new outcome → NamesRun arguments files run →
-        (df : List ℕ) (sources : List (List ℕ)) → AllThere files run df sources →
+        (df : List ℕ) (sources : List (List NamedText)) → AllThere files run df sources →
         violation_of df ≡ None → (trees : List Tree) → AreSources (schema_in df) sources trees → AreThere files (named_inputs trees) →
         (Rose old.faults new.faults → ⊥) → HasDatabase (schema_in df) (state_of D.Disk disk) → (Rose (D.failures disk) (D.failures outcome.disk) → ⊥) → RunEnd outcome.report }
 {}
@@ -164,37 +166,38 @@ pub fn a_dump_without_faults_is_done<D: Disk>()
 {}
 
 /// Over files that are observable and sound, and arguments that name a check, the refusal is the first
-/// cause that prevents it, exactly: the first of the schema file and the sources that is missing or too
-/// long, then a rule that the schema breaks first, then the rule that the first source that breaks one
-/// breaks first, with the number of that source. In each case it may be out of memory instead.
+/// cause that prevents it, exactly: the first of the schema file and the sources, each with the files
+/// that it needs, that is missing or too long, then a rule that the schema breaks first, then the rule
+/// that the first source that breaks one breaks first, with the number of that source, and the file and
+/// the place where it does. In each case it may be out of memory instead.
 pub fn the_first_cause_is_the_refusal_of_a_check<D: Disk>()
     ensures no_file { (disk : D) (arguments : List (List ℕ)) (files : FileState) (faults : ℕ) (old new : OutState) (outcome : Outcome D) (check : Check) →
         CommandResult (state_of D.Disk) disk arguments files faults old new outcome → NamesSources arguments files check →
-        (before after : List (List ℕ)) (name : List ℕ) → check_files check ≡ before ++ name ∷ after → AreThere files before →
+        (name : List ℕ) → AsksCheck files check name →
         files.file name ≡ None → IsRefusal outcome.report.refusal (File name) }
     ensures long_file { (disk : D) (arguments : List (List ℕ)) (files : FileState) (faults : ℕ) (old new : OutState) (outcome : Outcome D) (check : Check) →
         CommandResult (state_of D.Disk) disk arguments files faults old new outcome → NamesSources arguments files check →
-        (before after : List (List ℕ)) (name text : List ℕ) → check_files check ≡ before ++ name ∷ after → AreThere files before →
+        (name text : List ℕ) → AsksCheck files check name →
         files.file name ≡ Some text → MOST < length text → IsRefusal outcome.report.refusal (TooLong name MOST) }
     ensures broken_schema { (disk : D) (arguments : List (List ℕ)) (files : FileState) (faults : ℕ) (old new : OutState) (outcome : Outcome D) (check : Check) →
         CommandResult (state_of D.Disk) disk arguments files faults old new outcome → NamesSources arguments files check →
-        (df : List ℕ) (sources : List (List ℕ)) → AreThereWith files (check_files check) (df ∷ sources) →
+        (df : List ℕ) (sources : List (List NamedText)) → SourcesThere files check df sources →
         (rule : TheRule) (line : ℕ) → violation_of df ≡ Some (record { rule = rule; line = line }) → IsRefusal outcome.report.refusal (Schema rule line) }
     ensures broken_source { (disk : D) (arguments : List (List ℕ)) (files : FileState) (faults : ℕ) (old new : OutState) (outcome : Outcome D) (check : Check) →
         CommandResult (state_of D.Disk) disk arguments files faults old new outcome → NamesSources arguments files check →
-        (df : List ℕ) (sources : List (List ℕ)) → AreThereWith files (check_files check) (df ∷ sources) → violation_of df ≡ None →
-        (before listings after : List (List ℕ)) (text : List ℕ) → sources ≡ before ++ text ∷ after → HaveListings (schema_in df) before listings →
-        (rule : TheRule) (place : ThePlace) → BreaksRule (schema_in df) text rule place → IsRefusal outcome.report.refusal (Source (length before) rule place) }
+        (df : List ℕ) (sources : List (List NamedText)) → SourcesThere files check df sources → violation_of df ≡ None →
+        (before after : List (List NamedText)) (listings : List (List ℕ)) (texts : List NamedText) → sources ≡ before ++ texts ∷ after → HaveListings (schema_in df) before listings →
+        (rule : TheRule) (at : Origin) → BreaksFirst (schema_in df) texts rule at → IsRefusal outcome.report.refusal (Source (length before) (file_of texts at.text) rule at.place) }
 {}
 
-/// Where the arguments name a check, the files are observable and sound, the schema file and the
-/// sources are there and short enough, and the schema and the sources break no rule, and no write
-/// fails: the text of the check with exactly these listings is appended to standard output and the
-/// status is 0, or the command is out of memory.
+/// Where the arguments name a check, the files are observable and sound, the schema file, the sources
+/// and the files that they need are there and short enough, and the schema and the sources break no
+/// rule, and no write fails: the text of the check with exactly these listings is appended to standard
+/// output and the status is 0, or the command is out of memory.
 pub fn a_check_without_faults_lists_the_sources<D: Disk>()
     ensures { (disk : D) (arguments : List (List ℕ)) (files : FileState) (faults : ℕ) (old new : OutState) (outcome : Outcome D) (check : Check) →
         CommandResult (state_of D.Disk) disk arguments files faults old new outcome → NamesSources arguments files check →
-        (df : List ℕ) (sources : List (List ℕ)) → AreThereWith files (check_files check) (df ∷ sources) → violation_of df ≡ None →
+        (df : List ℕ) (sources : List (List NamedText)) → SourcesThere files check df sources → violation_of df ≡ None →
         (listings : List (List ℕ)) → HaveListings (schema_in df) sources listings → (Rose old.faults new.faults → ⊥) → IsTrue old.observable →
         ((outcome.report.status ≡ 0) × (new.texts ≡ appended Standard (check_text check.programs listings) old.texts)) ⊎ (outcome.report.status ≡ 7) }
 {}

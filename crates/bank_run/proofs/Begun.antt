@@ -1,14 +1,11 @@
 -- The works of clients that are to run.
-use Rattle.std.proofs.Common.{◌≡◌, ◌⊎◌, inl, inr, None, ◌+◌, ◌≤◌, ℕ, zero, suc, List, [], ◌∷◌, refl, sym, ap, subst, arith, length, length-append}
-use Rattle.std.specs.Prelude.{All}
-use Rattle.std.proofs.lemmas.List.Elements.{All-cons, All-nil, All-push}
+use Rattle.std.proofs.Common.{◌≡◌, ◌⊎◌, inl, inr, None, ◌+◌, ℕ, zero, suc, List, [], ◌∷◌, refl, sym, ap, subst, arith, length, length-append}
 use Rattle.abl_values.specs.Schema.{SchemaData}
 use Rattle.bound_tree.specs.Bound.{source_of}
 use Rattle.block_code.specs.declared.code.Code.{Code}
 use Rattle.client_core.specs.ClientView.{ClientView}
 use Rattle.bank_run.specs.declared.inputs.bank.Bank.{Bank}
 use Rattle.source_files.specs.declared.files.ClientTexts.{ClientTexts}
-use Rattle.source_files.specs.declared.files.TheConstants.{MAX_FILE_BYTES}
 use Rattle.source_files.specs.Compiled.{BreaksSchema, HaveCodes, OneSourceBreaks}
 use Rattle.client_threads.specs.served.Works.{Work}
 use Rattle.client_threads.specs.served.Served.{AreToDo}
@@ -71,29 +68,6 @@ as_many_texts bank =
     let before = as_many_transfers bank bank.clients in
     let sum = length-append (with_input SETUP_SOURCE.now (setup_input bank.accounts) ∷ transfer_texts bank bank.clients) (with_input TOTAL_SOURCE.now [] ∷ []) in
     omega (arith, sum, before)
-
--- ---- the sources are short
-
-abbrev IsShort : ClientTexts → Type 0
-IsShort t = length t.source ≤ MAX_FILE_BYTES
-
-short_setup : length SETUP_SOURCE.now ≤ MAX_FILE_BYTES
-short_setup = omega arith
-
-short_transfer : length TRANSFER_SOURCE.now ≤ MAX_FILE_BYTES
-short_transfer = omega arith
-
-short_total : length TOTAL_SOURCE.now ≤ MAX_FILE_BYTES
-short_total = omega arith
-
-short_transfers : (bank : Bank) (n : ℕ) → All IsShort (transfer_texts bank n)
-short_transfers bank zero = All-nil IsShort
-short_transfers bank (suc n) = All-push IsShort (transfer_texts bank n) (with_input TRANSFER_SOURCE.now (client_input bank n)) (short_transfers bank n) short_transfer
-
-pub short_texts : (bank : Bank) → All (λ (t : ClientTexts). length t.source ≤ MAX_FILE_BYTES) (bank_texts bank)
-short_texts bank =
-    All-push IsShort (with_input SETUP_SOURCE.now (setup_input bank.accounts) ∷ transfer_texts bank bank.clients) (with_input TOTAL_SOURCE.now [])
-    (All-cons IsShort (with_input SETUP_SOURCE.now (setup_input bank.accounts)) (transfer_texts bank bank.clients) short_setup (short_transfers bank bank.clients)) short_total
 
 -- ---- what prevents a bank
 

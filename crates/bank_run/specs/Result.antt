@@ -3,14 +3,13 @@ use Rattle.std.specs.Prelude.{◌≡◌, List, [], ◌∷◌}
 use Rattle.abl_values.specs.Schema.{SchemaData}
 use Rattle.host_io.specs.Out.{OutState}
 use Rattle.command_arguments.specs.declared.parts.Mode.TheVariants.{Quiet}
-use Rattle.source_reader.specs.Sources.{IsTreeOf}
 use Rattle.bank_run.specs.declared.inputs.bank.Bank.{Bank}
 use Rattle.bank_run.specs.declared.inputs.sources.TheConstants.{BANK_SCHEMA}
 use Rattle.run_report.specs.declared.refusal.Refusal.{Refusal}
 use Rattle.run_report.specs.declared.refusal.Refusal.TheVariants.{NoMemory}
 use Rattle.run_report.specs.Ending.{IsRefused}
 use Rattle.source_files.specs.declared.files.ClientTexts.{ClientTexts}
-use Rattle.source_files.specs.Compiled.{BreaksSchema, OneSourceBreaks, schema_in}
+use Rattle.source_files.specs.Compiled.{BreaksSchema, IsSourceTree, OneSourceBreaks, schema_in}
 use Rattle.run_works.specs.declared.outcome.Outcome.{Outcome}
 use Rattle.run_works.specs.Disks.{DiskState}
 use Rattle.client_threads.specs.served.Works.{Work}
@@ -34,7 +33,7 @@ abbrev pub AreTextWorks : SchemaData → List ClientTexts → List Work → Type
 AreTextWorks schema [] [] = Unit {0}
 AreTextWorks schema [] (w ∷ ws) = ⊥
 AreTextWorks schema (t ∷ ts) [] = ⊥
-AreTextWorks schema (t ∷ ts) (w ∷ ws) = (IsTreeOf schema t.source w.tree × ((w.tables ≡ schema.tables) × ((w.input ≡ t.input) × (w.inputs ≡ [])))) × AreTextWorks schema ts ws
+AreTextWorks schema (t ∷ ts) (w ∷ ws) = (IsSourceTree schema t.source w.tree × ((w.tables ≡ schema.tables) × ((w.input ≡ t.input) × (w.inputs ≡ [])))) × AreTextWorks schema ts ws
 
 -- THE RESULT OF A BANK: the disk as contracts see it and as it was given, the streams, and what the bank did, with the disk that it hands back
 pub data BankResult (bank : Bank) {D : Type 0} (seen : D → DiskState) (disk : D) (old new : OutState) (outcome : Outcome D) : Type 0 where

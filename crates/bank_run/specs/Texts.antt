@@ -4,6 +4,7 @@ use Rattle.bank_run.specs.declared.inputs.bank.Bank.{Bank}
 use Rattle.bank_run.specs.declared.inputs.sources.TheConstants.{SETUP_SOURCE, TOTAL_SOURCE, TRANSFER_SOURCE}
 use Rattle.bank_run.specs.inputs.Bank.{client_input, setup_input}
 use Rattle.source_files.specs.declared.files.ClientTexts.{ClientTexts}
+use Rattle.source_files.specs.Expansions.{alone}
 
 -- each number of the bank is within its bounds
 pub record IsBank (bank : Bank) : Type 0 where
@@ -13,9 +14,9 @@ pub record IsBank (bank : Bank) : Type 0 where
   pub accounts : 2 ≤ bank.accounts
   pub few_accounts : bank.accounts ≤ 10000
 
--- a source with its input
+-- a source, which is no file and needs none, with its input
 abbrev pub with_input : List ℕ → List ℕ → ClientTexts
-with_input source input = record { source = source; input = input }
+with_input source input = record { source = alone source; input = input }
 
 -- the first n clients that make transfers
 abbrev pub transfer_texts : Bank → ℕ → List ClientTexts

@@ -1,12 +1,15 @@
 //! The clients of a bank, in order: `setup`, `c1` to `cN`, `total`.
 
-ghost use Rattle.std.specs.Prelude.{◌≡◌, ◌++◌, ◌<◌, ◌≤◌, IfOk};
+ghost use Rattle.std.specs.Prelude.{◌≡◌, ◌++◌, ◌<◌, ◌≤◌, IfOk, length, true};
+ghost use Rattle.preprocessor.specs.Laws.{is_plain};
+ghost use Rattle.source_files.specs.declared.files.TheConstants.{MAX_FILE_BYTES};
+ghost use Rattle.source_files.specs.Expansions.{alone};
 ghost use Rattle.bank_run.specs.Texts.{IsBank, bank_names, bank_texts, client_name};
 
 use crate::inputs::transfer::write_number;
 use crate::inputs::{Bank, SETUP_SOURCE, TOTAL_SOURCE, TRANSFER_SOURCE, client_input, setup_input};
 use abl_base::Bytes;
-use source_files::ClientTexts;
+use source_files::{ClientTexts, SourceTexts};
 use std::alloc::{AllocError, Global};
 
 /// The sources and inputs of the clients.
@@ -24,11 +27,13 @@ pub fn texts_of(alloc: Global, bank: Bank) -> Result<Vec<ClientTexts>, AllocErro
     Ok(texts)
 }
 
-/// The texts of a client with this source and this input.
+/// The texts of a client with this source, which has neither `{` nor `&`, and this input.
 fn text_of(alloc: Global, source: &[u8], input: Bytes) -> Result<ClientTexts, AllocError>
-    ensures { IfOk result (λ texts. texts ≡ record { source = source.now; input = input }) }
+    requires short { length source.now ≤ MAX_FILE_BYTES }
+    requires plain { is_plain source.now ≡ true }
+    ensures { IfOk result (λ texts. texts ≡ record { source = alone source.now; input = input }) }
 {
-    let source = Bytes::of(alloc, source)?;
+    let source = SourceTexts::alone(alloc, source)?;
     Ok(ClientTexts { source, input })
 }
 

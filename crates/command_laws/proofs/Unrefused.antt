@@ -11,6 +11,7 @@ use Rattle.database_protocol.specs.declared.event.Event.{Event}
 use Rattle.run_report.specs.declared.ending.Report.{Report}
 use Rattle.source_files.specs.Compiled.{schema_in}
 use Rattle.source_files.specs.declared.files.ClientTexts.{ClientTexts}
+use Rattle.source_files.specs.Expansions.{expanded}
 use Rattle.client_threads.specs.served.Works.{Work}
 use Rattle.run_works.specs.declared.outcome.Outcome.{Outcome}
 use Rattle.run_works.specs.Disks.{DiskState}
@@ -25,12 +26,12 @@ use Rattle.abl_cli.proofs.Marks.{run_or_bank}
 nothing : (trace : List Event) → trace ≡ [] → NoneRefused trace
 nothing trace none = subst NoneRefused (sym none) (All-nil (λ (e : Event). e.answer ≢ answer.Refused))
 
--- the works are of the sources of their texts
-of_texts : (files : FileState) (schema : SchemaData) (texts : List ClientTexts) (works : List Work) → AreWorks files schema texts works → AreOfTexts schema (map (λ (t : ClientTexts). t.source) texts) works
+-- the works are of the expansions of their sources
+of_texts : (files : FileState) (schema : SchemaData) (texts : List ClientTexts) (works : List Work) → AreWorks files schema texts works → AreOfTexts schema (map (λ (t : ClientTexts). expanded t.source) texts) works
 of_texts files schema [] [] are = tt
 of_texts files schema [] (w ∷ ws) are = absurd are
 of_texts files schema (t ∷ ts) [] are = absurd are
-of_texts files schema (t ∷ ts) (w ∷ ws) are = ((are.0.0, are.0.1.0), of_texts files schema ts ws are.1)
+of_texts files schema (t ∷ ts) (w ∷ ws) are = ((are.0.0.denotes, are.0.1.0), of_texts files schema ts ws are.1)
 
 -- a creation has no clients
 created : (schema : SchemaData) (was now : DiskState) (old new : OutState) (report : Report) → CreateResult schema was now old new report → report.trace ≡ []
@@ -42,7 +43,7 @@ pub run_unrefused : {D : Type 0} (seen : D → DiskState) (disk : D) (arguments 
 run_unrefused seen disk arguments files faults old new outcome run (Refused names refusal cause same refused) is = nothing outcome.report.trace refused.trace
 run_unrefused seen disk arguments files faults old new outcome run (NotRun named form args texts clean works are not_run) is = nothing outcome.report.trace not_run.reported.trace
 run_unrefused seen disk arguments files faults old new outcome run (Ran named form args texts clean works are ran) is =
-    works_unrefused texts.df (record { schema = schema_in texts.df; clients = length works }) (record { clean = clean; is = refl }) (number_of named.steps) outcome.report.trace (map (λ (t : ClientTexts). t.source) texts.texts) works ran.ends ran.parts
+    works_unrefused texts.df (record { schema = schema_in texts.df; clients = length works }) (record { clean = clean; is = refl }) (number_of named.steps) outcome.report.trace (map (λ (t : ClientTexts). expanded t.source) texts.texts) works ran.ends ran.parts
     (of_texts files (schema_in texts.df) texts.texts works are) ran.did ran.clients
 run_unrefused seen disk arguments files faults old new outcome run (Checked check form args listings listed same checked) is = nothing outcome.report.trace checked.trace
 run_unrefused seen disk arguments files faults old new outcome run (Banked bank form args result) is = absurd (run_or_bank arguments run bank is args)

@@ -3,18 +3,18 @@ use Rattle.run_works.specs.Disks.{state_of}
 use Rattle.abl_cli.proofs.laws.the_first_cause_is_the_refusal.Goals as goal
 
 pub returns-clause-no_file : goal.returns-clause-no_file
-returns-clause-no_file g c = λ disk arguments files faults old new outcome run did names before after name split are none. no_file_is_reported (state_of g.D.Disk) disk arguments files faults old new outcome run names before after name split are did none
+returns-clause-no_file g c = λ disk arguments files faults old new outcome run did names name asks none. no_file_is_reported (state_of g.D.Disk) disk arguments files faults old new outcome run names name asks did none
 
 pub returns-clause-long_file : goal.returns-clause-long_file
-returns-clause-long_file g c = λ disk arguments files faults old new outcome run did names before after name text split are there long. long_file_is_reported (state_of g.D.Disk) disk arguments files faults old new outcome run names before after name split are did there long
+returns-clause-long_file g c = λ disk arguments files faults old new outcome run did names name text asks there long. long_file_is_reported (state_of g.D.Disk) disk arguments files faults old new outcome run names name asks did there long
 
 pub returns-clause-broken_schema : goal.returns-clause-broken_schema
 returns-clause-broken_schema g c = λ disk arguments files faults old new outcome run did names df sources there rule line broken. broken_schema_is_reported (state_of g.D.Disk) disk arguments files faults old new outcome run names df sources there did broken
 
 pub returns-clause-broken_source : goal.returns-clause-broken_source
 returns-clause-broken_source g c =
-    λ disk arguments files faults old new outcome run did names df sources there clean before after trees text split are rule place first.
-    broken_source_is_reported (state_of g.D.Disk) disk arguments files faults old new outcome run names df sources there clean before trees after text split are first did
+    λ disk arguments files faults old new outcome run did names df sources there clean before after trees texts split are rule at first.
+    broken_source_is_reported (state_of g.D.Disk) disk arguments files faults old new outcome run names df sources there clean before trees after texts split are first did
 
 pub returns-clause-no_named_input : goal.returns-clause-no_named_input
 returns-clause-no_named_input g c =

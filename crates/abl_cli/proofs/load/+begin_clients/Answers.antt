@@ -10,9 +10,9 @@ use Rattle.run_report.specs.declared.refusal.Refusal.TheVariants.{NoMemory}
 use Rattle.source_files.specs.Files.{OneIsNotRead}
 use Rattle.source_files.specs.Compiled.{schema_in}
 use Rattle.abl_cli.specs.Inside.{AreBegun, inputs_of}
-use Rattle.source_files.proofs.Causes.{of_error, still_one, unread_first, unread_later}
+use Rattle.source_files.proofs.Causes.{of_error, still_one}
 use Rattle.client_threads.proofs.ServedLemmas.Vectors.{first_removed}
-use Rattle.abl_cli.proofs.Loads.{still_begun}
+use Rattle.abl_cli.proofs.Loads.{still_begun, unread_first, unread_later}
 use Rattle.source_files.proofs.Causes.{on_ok, if_err}
 use Rattle.abl_cli.proofs.load.+begin_clients.Goals as goal
 

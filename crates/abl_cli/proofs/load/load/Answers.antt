@@ -1,6 +1,6 @@
 -- What is read, compiled and begun is what the run needs, or prevents it.
 use Rattle.std.proofs.Common.{◌≡◌, ◌⊎◌, inl, inr, ◌≤◌, ◌++◌, Err, None, List, ℕ, sym, ap, ◌∙◌, subst, arith, length}
-use Rattle.std.specs.Prelude.{All, map}
+use Rattle.std.specs.Prelude.{map}
 use Rattle.std.proofs.lemmas.List.{length-map}
 use Rattle.std.proofs.lemmas.Result.{err_from_is_err_and}
 use Rattle.schema_reader.specs.Rules.{violation_of}
@@ -8,22 +8,21 @@ use Rattle.host_io.specs.Files.{FileState}
 use Rattle.command_arguments.specs.CommandLine.{ClientFiles, client_in}
 use Rattle.client_core.specs.ClientView.{ClientView}
 use Rattle.source_files.specs.declared.files.ClientTexts.{ClientTexts}
-use Rattle.source_files.specs.declared.files.TheConstants.{MAX_FILE_BYTES}
 use Rattle.run_report.specs.declared.refusal.Refusal.TheVariants.{NoMemory}
 use Rattle.source_files.specs.Compiled.{BreaksSchema, OneSourceBreaks, schema_in}
-use Rattle.source_files.specs.Files.{HaveClients, this_one}
-use Rattle.abl_cli.specs.Command.{no_file}
+use Rattle.source_files.specs.Files.{HaveClients}
+use Rattle.abl_cli.specs.Command.{asks_schema, no_file}
 use Rattle.abl_cli.specs.Inside.{AreBegun}
 use Rattle.source_files.specs.Compiled.{HaveCodes}
-use Rattle.source_files.proofs.Causes.{of_error, same_further, still_one, still_clients}
-use Rattle.abl_cli.proofs.Loads.{as_many_texts, as_many_codes, short_sources, files_prevent, rules_prevent, named_prevents, is_ready}
+use Rattle.source_files.proofs.Causes.{of_error, same_further, still_asked, still_asks_clients, still_clients}
+use Rattle.abl_cli.proofs.Loads.{as_many_texts, as_many_codes, files_prevent, rules_prevent, named_prevents, is_ready}
 use Rattle.abl_cli.proofs.load.load.Goals as goal
 
 pub returns-in_err-df-clause-prevented : goal.returns-in_err-df-clause-prevented
 returns-in_err-df-clause-prevented g c =
     let p = err_from_is_err_and c.from_residual.result c.from_residual.ensures.1 in
     let is : c.from_residual.result ≡ Err c.in_err-df.field-0.0 = cc (p.1, p.2) in
-    of_error _ is (no_file (this_one c.in_err-df.ensures.refused))
+    of_error _ is (no_file (record { name = c.args.schema.now; asks = asks_schema; unread = c.in_err-df.ensures.refused }))
 
 pub returns-in_err-read_clients-clause-prevented : goal.returns-in_err-read_clients-clause-prevented
 returns-in_err-read_clients-clause-prevented g c =
@@ -34,25 +33,10 @@ returns-in_err-read_clients-clause-prevented g c =
     let refusal = c.in_err-read_clients.field-0.0 in
     let is : c.from_residual-in_err-read_clients.result ≡ Err refusal = cc (p.1, p.2) in
     of_error _ is (files_prevent files c.args.schema.now (map client_in c.args.clients.now) c.in_ok-df.df c.in_ok-df.ensures.text (g.F.Files.state c.read_clients.new.files).faults refusal
-    (elim c.in_err-read_clients.ensures.refused [
-      | inl e ↦ inl e
-      | inr one ↦ inr (still_one files later c.in_ok-df.ensures.same sound one)
-    ]))
+    (still_asked files later c.in_ok-df.ensures.same sound (λ name. still_asks_clients files later c.in_ok-df.ensures.same sound) c.in_err-read_clients.ensures.refused))
 
-pub compiled_in-requires-clause-short : goal.compiled_in-requires-clause-short
-compiled_in-requires-clause-short g c =
-    let files : FileState = g.F.Files.state c.args.files.now in
-    let later : FileState = g.F.Files.state c.read.new.files in
-    let sound = g.met.F.Files.sound_observable c.args.files.now in
-    let clients : List ClientFiles = map client_in c.args.clients.now in
-    let texts : List ClientTexts = c.read_clients.new.texts.items in
-    let read = c.in_ok-read_clients.ensures.read in
-    let texts_are = read.1 ∙ ap (λ (ts : List ClientTexts). ts ++ read.0) c.new-texts.ensures.items in
-    let have = subst (λ (ts : List ClientTexts). HaveClients files clients ts) (sym texts_are) (still_clients files later c.in_ok-df.ensures.same sound clients read.0 read.2) in
-    subst (λ (ts : List ClientTexts). All (λ (t : ClientTexts). length t.source ≤ MAX_FILE_BYTES) ts) (sym c.deref.ensures.value) (short_sources files clients texts have)
-
-pub compiled_in-requires-clause-few : goal.compiled_in-requires-clause-few
-compiled_in-requires-clause-few g c =
+pub compiled_in-requires : goal.compiled_in-requires
+compiled_in-requires g c =
     let files : FileState = g.F.Files.state c.args.files.now in
     let later : FileState = g.F.Files.state c.read.new.files in
     let sound = g.met.F.Files.sound_observable c.args.files.now in

@@ -1,22 +1,16 @@
 -- What is compiled and begun is what the bank needs, or prevents it.
-use Rattle.std.proofs.Common.{◌≡◌, ◌≤◌, Err, List, sym, ap, ◌∙◌, subst, arith, length}
-use Rattle.std.specs.Prelude.{All}
+use Rattle.std.proofs.Common.{◌≡◌, Err, List, sym, ap, ◌∙◌, subst, arith, length}
 use Rattle.std.proofs.lemmas.Result.{err_from_is_err_and}
 use Rattle.source_files.specs.declared.files.ClientTexts.{ClientTexts}
-use Rattle.source_files.specs.declared.files.TheConstants.{MAX_FILE_BYTES}
 use Rattle.source_files.specs.Compiled.{HaveCodes}
 use Rattle.source_files.proofs.Causes.{of_error}
 use Rattle.bank_run.specs.declared.bank.TheConstants.{BANK_UNITS}
 use Rattle.bank_run.specs.Result.{AreTextWorks, bank_schema, bank_wants}
-use Rattle.bank_run.proofs.Begun.{as_many_clients, as_many_codes, as_many_texts, begun, prevents, short_texts}
+use Rattle.bank_run.proofs.Begun.{as_many_clients, as_many_codes, as_many_texts, begun, prevents}
 use Rattle.bank_run.proofs.bank.load.Goals as goal
 
-pub compiled_in-requires-clause-short : goal.compiled_in-requires-clause-short
-compiled_in-requires-clause-short c =
-    subst (λ (ts : List ClientTexts). All (λ (t : ClientTexts). length t.source ≤ MAX_FILE_BYTES) ts) (sym (c.deref.ensures.value ∙ c.in-Ok.ensures)) (short_texts c.args.bank)
-
-pub compiled_in-requires-clause-few : goal.compiled_in-requires-clause-few
-compiled_in-requires-clause-few c =
+pub compiled_in-requires : goal.compiled_in-requires
+compiled_in-requires c =
     let many = as_many_texts c.args.bank in
     let same = ap (λ (ts : List ClientTexts). length ts) (c.deref.ensures.value ∙ c.in-Ok.ensures) in
     let few = c.requires.few in
