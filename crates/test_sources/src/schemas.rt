@@ -4,8 +4,8 @@
 //! and its last line are written in its place.
 
 mod answers;
-mod lines;
 
+use crate::lines::add_row;
 use std::alloc::{AllocError, Global};
 
 /// The schema file that is being read: its name, and its text so far.
@@ -28,7 +28,7 @@ impl Schemas {
     pub fn line(&mut self, alloc: Global, row: &str) -> Result<String, AllocError> {
         match row.strip_prefix("== ") {
             None => {
-                lines::add_row(alloc, &mut self.text, row)?;
+                add_row(alloc, &mut self.text, row)?;
                 Ok(String::new(alloc))
             }
             Some(next) => {

@@ -1,14 +1,25 @@
 //! Sections of rows: a schema, and what is asked of the sources that follow it.
 
-use abl_base::Bytes;
+use abl_base::{Bytes, Place};
 use abl_values::Schema;
 use schema_reader::read_df;
-use source_reader::listing::listing;
+use source_reader::listing::{OwnLines, listing};
 use source_reader::{SourceFault, judge_names, read_scopes};
 use std::alloc::{AllocError, Global};
 
 /// The most bytes of a source that are read.
 const MOST_BYTES: usize = 1 << 30;
+
+/// A source that was not put together of others: each place has its own line.
+struct OneText;
+
+impl OwnLines for OneText {
+    ghost own_line = { λ text place. place.line };
+
+    fn line_of(&self, place: Place) -> u32 {
+        place.line
+    }
+}
 
 /// What is written of a source.
 #[derive(Clone, Copy)]
@@ -50,7 +61,7 @@ impl Section {
                 Err(fault) => broken(alloc, fault),
             },
             Asked::Scopes => match read_scopes(alloc, &self.schema, text) {
-                Ok(bound) => shown(alloc, &listing(alloc, &bound)?),
+                Ok(bound) => shown(alloc, &listing(alloc, &bound, &OneText)?),
                 Err(fault) => broken(alloc, fault),
             },
         }

@@ -1,4 +1,4 @@
-//! Lines of a schema file, from the rows of the input.
+//! Lines of a text, from the rows of the input.
 
 use std::alloc::{AllocError, Global};
 use test_words::bytes_of;
