@@ -9,7 +9,7 @@ from pathlib import Path
 from page_texts import WIDTH, filled, indented, pages, split_at_mark, with_caret
 
 TABLE = Path(__file__).parent / "words.txt"
-MARK = re.compile(r"!([LGYSU]\d+)!")
+MARK = re.compile(r"!([ELGYSU]\d+)!")
 PARTS = {"", "also", "openedge", "wrong", "here", "right", "input", "prints"}
 FIXTURE = ("schema", "records")
 

@@ -20,7 +20,8 @@ time over the database, which was created with SCHEMA. CLIENT is NAME=PROG or
 NAME=PROG<INPUT, and no two have one NAME. Each client may spend STEPS units (1 to
 999999999). IMPORT reads the file INPUT; without it the input is empty. Each file
 may have 1 MiB (1048576 bytes). Put an argument with < in quotation marks, so that
-a shell does not take it.
+a shell does not take it. A source includes other files by {file.i}; their names
+are those of the folder in which abl runs.
 
 Once all clients have ended, the output of each goes to standard output, in the
 order of the arguments, and in MODE trace the lines of what they requested of the
@@ -52,11 +53,13 @@ How a command ended goes to standard error, with the status:
 
 `usage at word N` counts the arguments after DATABASE from 0. Where arguments
 are missing, N is the number of those that are there. A rule that is broken has
-a letter and a number, and the line or the line:column where it is broken first:
+a letter and a number, and the line or the line:column where it is broken first,
+with the name of the file before it where that is an include file:
 
-  F  the schema file           Y   the names and types of the source
-  L  the tokens of the source  S   the scopes of its buffers
-  G  its grammar               U   its labels and blocks
+  F  the schema file                           Y   its names and types
+  E  the include files and &IF of the source   S   the scopes of its buffers
+  L  its tokens                                U   its labels and blocks
+  G  its grammar
 
 abl --explain        the rules, statuses, stops and words of OpenEdge ABL that a
                      source cannot have, a line each

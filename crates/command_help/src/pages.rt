@@ -1,6 +1,13 @@
 //! The pages. Written by tools/explanations from tools/explanations.txt and tools/words.txt.
 
-static NAMES: [&str; 149] = [
+static NAMES: [&str; 156] = [
+    "E1",
+    "E2",
+    "E3",
+    "E4",
+    "E5",
+    "E6",
+    "E7",
     "L1",
     "L2",
     "L3",
@@ -99,7 +106,6 @@ static NAMES: [&str; 149] = [
     "FUNCTION",
     "GET-MESSAGE",
     "HANDLE",
-    "INCLUDE",
     "INDEX",
     "JOIN",
     "LC",
@@ -143,6 +149,7 @@ static NAMES: [&str; 149] = [
     "TODAY",
     "TRIM",
     "TRUNCATE",
+    "UNDEFINE",
     "UNFORMATTED",
     "UPDATE",
     "VALIDATE",
@@ -157,7 +164,14 @@ pub fn names() -> &'static [&'static str] {
     &NAMES
 }
 
-static SUMMARIES: [&str; 149] = [
+static SUMMARIES: [&str; 156] = [
+    "A reference is open at the end of its text",
+    "A reference says nothing",
+    "A part of an `&IF` is missing, or `&THEN`, `&ELSEIF`, `&ELSE` or `&ENDIF` is where it may not be",
+    "The condition of an `&IF` or `&ELSEIF` is none",
+    "A 17th text would be open at once",
+    "A limit of 1,048,576 bytes is passed",
+    "A word begins with `&` and is none of `&SCOPED-DEFINE`, `&GLOBAL-DEFINE`, `&IF`, `&THEN`, `&ELSEIF`, `&ELSE` and `&ENDIF`",
     "A byte begins no token",
     "A comment is open at the end of the source",
     "A text is open at the end of the source",
@@ -256,7 +270,6 @@ static SUMMARIES: [&str; 149] = [
     "A function of the source's own",
     "The text of a fault",
     "A reference to an object at run time",
-    "Include files and the preprocessor",
     "The place of a text in another",
     "FOR over several tables",
     "A text in small letters",
@@ -300,6 +313,7 @@ static SUMMARIES: [&str; 149] = [
     "The date of the day",
     "A text without the blanks around it",
     "A number cut after some decimals",
+    "Words of the preprocessor that are not taken",
     "A whole line of the input",
     "Values that a user types",
     "A record checked before its block ends",
@@ -315,12 +329,131 @@ pub fn summaries() -> &'static [&'static str] {
 }
 
 static TEXTS_0: [&str; 16] = [
+    "E1: A reference is open at the end of its text: a `{` has no `}`. A `{` begins
+a reference to a file, an argument or a name also inside a text between
+quotes; only `~{` begins none. One on the line of a definition closes on that
+line.
+
+Refused at 1:19:
+
+    MESSAGE \"a brace: {\".
+                      ^
+
+Close the reference, or write `~{` for a brace in a text.
+
+    MESSAGE \"a brace: ~{\".
+",
+    "E2: A reference says nothing: it is empty, its file has the empty name, or an
+argument after the file begins with `&` and is no `&NAME=value`. The inside is
+expanded before it is read, so a reference that holds only a name without
+value is empty too.
+
+Refused at 1:18:
+
+    MESSAGE \"braces: {}\".
+                     ^
+
+Write `{file.i}`, `{1}` or `{&NAME}`, and `&NAME=value` for an argument with a
+name. Two braces in a text are `~{~}`.
+
+    MESSAGE \"braces: ~{~}\".
+",
+    "E3: A part of an `&IF` is missing, or `&THEN`, `&ELSEIF`, `&ELSE` or `&ENDIF`
+is where it may not be. An `&IF` has its words in its own file, and a
+definition takes all of its line. `x&ENDIF` is a name: a blank or a sign is
+before each of the words.
+
+Refused at 1:1:
+
+    &IF DEFINED(loud) &THEN
+    ^
+    MESSAGE \"done\".
+
+Close each `&IF` with `&ENDIF`, in the same file, outside texts, comments,
+references and the lines of definitions.
+
+    &IF DEFINED(loud) &THEN
+    MESSAGE \"done\".
+    &ENDIF
+",
+    "E4: The condition of an `&IF` or `&ELSEIF` is none. It is `v`, `v = v` or `v
+<> v`, with NOT before it or without, where v is a number without a sign, a
+text between quotes or `DEFINED(NAME)`. A text alone is none, and so is a text
+beside a number. References in it are expanded first, so `{&NAME}` without a
+value is nothing.
+
+Refused at 1:1:
+
+    &IF {&level} = 2 &THEN
+    ^
+    MESSAGE \"two\".
+    &ENDIF
+
+Put the reference between quotes and compare texts, or test DEFINED first.
+
+    &IF \"{&level}\" = \"2\" &THEN
+    MESSAGE \"two\".
+    &ENDIF
+",
+    "E5: A 17th text would be open at once: the source, the file that it includes,
+the file that that one includes, and so on. The place is the reference. A file
+that includes itself comes here, unless an `&IF` ends it. The source `a.p`
+includes itself:
+
+Refused at 1:1:
+
+    {a.p}
+    ^
+
+Look which file includes one that is open already, and put what both need into
+a file of its own.
+
+    MESSAGE \"done\".
+",
+    "E6: A limit of 1,048,576 bytes is passed: by what the source or a file expands
+to, or by the inside of a reference, the line of a definition or a condition,
+expanded. Or the bytes of all files, each counted as often as it is opened,
+and all bytes that these expansions give are more than 67,108,864 together.
+The place is the byte or the reference with which the limit is passed.
+
+Refused at 5:78:
+
+    &GLOBAL-DEFINE a 0123456789abcdef
+    &GLOBAL-DEFINE a {&a}{&a}{&a}{&a}{&a}{&a}{&a}{&a}{&a}{&a}{&a}{&a}{&a}{&a}{&a}{&a}
+    &GLOBAL-DEFINE a {&a}{&a}{&a}{&a}{&a}{&a}{&a}{&a}{&a}{&a}{&a}{&a}{&a}{&a}{&a}{&a}
+    &GLOBAL-DEFINE a {&a}{&a}{&a}{&a}{&a}{&a}{&a}{&a}{&a}{&a}{&a}{&a}{&a}{&a}{&a}{&a}
+    &GLOBAL-DEFINE a {&a}{&a}{&a}{&a}{&a}{&a}{&a}{&a}{&a}{&a}{&a}{&a}{&a}{&a}{&a}{&a}
+                                                                                 ^
+
+Look for a value that is defined by itself, or a file that is included again
+and again, and divide the source.
+
+    &GLOBAL-DEFINE a 0123456789abcdef
+    &GLOBAL-DEFINE a {&a}{&a}
+",
+    "E7: A word begins with `&` and is none of `&SCOPED-DEFINE`, `&GLOBAL-DEFINE`,
+`&IF`, `&THEN`, `&ELSEIF`, `&ELSE` and `&ENDIF`; or one of the first two has
+no name after it on its line. Case is ignored, and no word is shortened. An
+`&` in a name begins none.
+
+Refused at 1:1:
+
+    &SCOPED limit 20
+    ^
+    MESSAGE {&limit}.
+
+Write the word out. `abl --explain UNDEFINE` says what takes the place of the
+other words.
+
+    &SCOPED-DEFINE limit 20
+    MESSAGE {&limit}.
+",
     "L1: A byte begins no token. Outside texts and comments a source has names,
 numbers, dates, texts, white space and the symbols `: , ( ) = <> < > <= >= + -
 * / ? ^` and the period, which is one only before white space, a comment or
-the end. So there is no `[` of an array, no `{` of an include file, and no
-name of three parts as a.b.c. At 1:1 the usual cause is a byte order mark,
-which some editors put before the text.
+the end. So there is no `[` of an array and no name of three parts as a.b.c,
+and `~{` and a `}` without its `{` are in texts and comments alone. At 1:1 the
+usual cause is a byte order mark, which some editors put before the text.
 
 Refused at 2:6:
 
@@ -329,8 +462,8 @@ Refused at 2:6:
          ^
 
 Remove the byte, or put it into a text. A statement ends with a period. Save
-the file without a byte order mark. `abl --explain EXTENT` and `abl --explain
-INCLUDE` say what takes the place of arrays and include files.
+the file without a byte order mark. `abl --explain EXTENT` says what takes the
+place of arrays.
 
     DEFINE VARIABLE i AS INTEGER.
     i = 1.
@@ -461,6 +594,14 @@ Write the buffer before the field.
     FIND FIRST Item.
     MESSAGE Item.Name.
 ",
+];
+
+/// The texts of the pages from place 0 on.
+fn texts_0() -> &'static [&'static str] {
+    &TEXTS_0
+}
+
+static TEXTS_1: [&str; 16] = [
     "Y3: A name is defined twice in one procedure, where variables, parameters,
 buffers and streams share their names; or a buffer has the name of a table; or
 two internal procedures have one name. The place is the name in the later
@@ -568,14 +709,6 @@ Use other fields. docs/formats.md ('Items') says which types are supported.
     FIND FIRST Item.
     PUT UNFORMATTED Item.Name.
 ",
-];
-
-/// The texts of the pages from place 0 on.
-fn texts_0() -> &'static [&'static str] {
-    &TEXTS_0
-}
-
-static TEXTS_1: [&str; 16] = [
     "Y10: USE-INDEX names no usable index of the buffer's table. A word index and
 an index on an unsupported field are not usable.
 
@@ -713,6 +846,14 @@ Name it once.
     DO FOR Customer:
     END.
 ",
+];
+
+/// The texts of the pages from place 16 on.
+fn texts_1() -> &'static [&'static str] {
+    &TEXTS_1
+}
+
+static TEXTS_2: [&str; 16] = [
     "U1: A label after UNDO, LEAVE, NEXT or RETRY names no block around the place.
 The place is the label. An ON phrase may name its own block.
 
@@ -834,14 +975,6 @@ Undo the block that is to be tried again.
       END.
     END.
 ",
-];
-
-/// The texts of the pages from place 16 on.
-fn texts_1() -> &'static [&'static str] {
-    &TEXTS_1
-}
-
-static TEXTS_2: [&str; 16] = [
     "F1: A line begins with ADD, UPDATE, DROP or RENAME and is none of the four
 items: ADD TABLE, ADD FIELD, ADD INDEX, ADD SEQUENCE. Nothing may follow the
 form on its line. So an incremental dump is refused.
@@ -990,6 +1123,14 @@ Keep PRIMARY at one index of each table.
     ADD INDEX \"ByNumDown\" ON \"Item\"
       INDEX-FIELD \"ItemNum\" DESCENDING
 ",
+];
+
+/// The texts of the pages from place 32 on.
+fn texts_2() -> &'static [&'static str] {
+    &TEXTS_2
+}
+
+static TEXTS_3: [&str; 16] = [
     "F10: The value of INITIAL, ORDER or EXTENT does not fit: INITIAL is no value
 of the field's type or of a sequence, ORDER or EXTENT no number up to
 2147483647.
@@ -1104,14 +1245,6 @@ It prints on standard error
 
 See the page of the rule.
 ",
-];
-
-/// The texts of the pages from place 32 on.
-fn texts_2() -> &'static [&'static str] {
-    &TEXTS_2
-}
-
-static TEXTS_3: [&str; 16] = [
     "status 4: The source breaks a rule: the first of L1 to L5, else of G1 and G2,
 else of Y1 to Y14, else of S1 to S4, else of U1 to U7. The line has the
 client's name, the rule, and the line and column, which count from 1, columns
@@ -1251,6 +1384,14 @@ Stops at 2:3:
 Give more units, or look for a loop that does not end: RETRY in a block that
 does not name RETRY is NEXT.
 ",
+];
+
+/// The texts of the pages from place 48 on.
+fn texts_3() -> &'static [&'static str] {
+    &TEXTS_3
+}
+
+static TEXTS_4: [&str; 16] = [
     "stop Depth: A RUN would be the 33rd that is open: 32 internal procedures have
 begun and have not ended. The external procedure does not count.
 
@@ -1360,14 +1501,6 @@ It prints
 
     2.5
 ",
-];
-
-/// The texts of the pages from place 48 on.
-fn texts_3() -> &'static [&'static str] {
-    &TEXTS_3
-}
-
-static TEXTS_4: [&str; 16] = [
     "ACCUMULATE: Totals that a loop keeps
 
 In OpenEdge: ACCUMULATE x (TOTAL) in a loop keeps a sum, which ACCUM TOTAL x
@@ -1582,6 +1715,14 @@ It prints
 
     4 Lift Tours
 ",
+];
+
+/// The texts of the pages from place 64 on.
+fn texts_4() -> &'static [&'static str] {
+    &TEXTS_4
+}
+
+static TEXTS_5: [&str; 16] = [
     "BY: The order of the records of FOR EACH
 
 In OpenEdge: FOR EACH .. BY field reads the records in the order of the field,
@@ -1760,14 +1901,6 @@ It prints
 
     120
 ",
-];
-
-/// The texts of the pages from place 64 on.
-fn texts_4() -> &'static [&'static str] {
-    &TEXTS_4
-}
-
-static TEXTS_5: [&str; 16] = [
     "COLUMN-LABEL: Labels, helps and other options of a variable
 
 In OpenEdge: DEFINE VARIABLE takes COLUMN-LABEL, HELP, VIEW-AS and others,
@@ -1967,6 +2100,14 @@ it prints
     Bob 6
     Bob,2
 ",
+];
+
+/// The texts of the pages from place 80 on.
+fn texts_5() -> &'static [&'static str] {
+    &TEXTS_5
+}
+
+static TEXTS_6: [&str; 16] = [
     "DISPLAY: Values on the screen
 
 In OpenEdge: DISPLAY shows values in a frame, with their labels and masks.
@@ -2126,14 +2267,6 @@ It prints
 
     125
 ",
-];
-
-/// The texts of the pages from place 80 on.
-fn texts_5() -> &'static [&'static str] {
-    &TEXTS_5
-}
-
-static TEXTS_6: [&str; 16] = [
     "GET-MESSAGE: The text of a fault
 
 In OpenEdge: After NO-ERROR, ERROR-STATUS:GET-MESSAGE(1) is the text of the
@@ -2180,19 +2313,6 @@ name.
 It prints
 
     Lift Tours
-",
-    "INCLUDE: Include files and the preprocessor
-
-In OpenEdge: {file.i} puts the text of a file in its place; &SCOPED-DEFINE and
-&IF choose and replace text before a source is compiled.
-
-Refused by L1 at 1:1:
-
-    {definitions.i}
-    ^
-
-Here: Put the texts in before the run: a source is one file. Where several
-sources share a definition, each has it.
 ",
     "INDEX: The place of a text in another
 
@@ -2364,6 +2484,14 @@ It prints
 
     2
 ",
+];
+
+/// The texts of the pages from place 96 on.
+fn texts_6() -> &'static [&'static str] {
+    &TEXTS_6
+}
+
+static TEXTS_7: [&str; 16] = [
     "MATCHES: Whether a text fits a pattern
 
 In OpenEdge: t MATCHES \"*tour*\" compares with a pattern, where `*` is any text
@@ -2494,14 +2622,6 @@ it prints
 
     7
 ",
-];
-
-/// The texts of the pages from place 96 on.
-fn texts_6() -> &'static [&'static str] {
-    &TEXTS_6
-}
-
-static TEXTS_7: [&str; 16] = [
     "OF: Records that share a field with another buffer's
 
 In OpenEdge: FOR EACH Order OF Customer, and FIND .. OF, read by the field
@@ -2729,6 +2849,14 @@ It prints
 
     shown
 ",
+];
+
+/// The texts of the pages from place 112 on.
+fn texts_7() -> &'static [&'static str] {
+    &TEXTS_7
+}
+
+static TEXTS_8: [&str; 16] = [
     "PUBLISH: Events that procedures subscribe to
 
 In OpenEdge: PUBLISH \"event\" runs the internal procedure of that name in each
@@ -2874,14 +3002,6 @@ It prints
 
     1,250 and 3,75
 ",
-];
-
-/// The texts of the pages from place 112 on.
-fn texts_7() -> &'static [&'static str] {
-    &TEXTS_7
-}
-
-static TEXTS_8: [&str; 16] = [
     "ROUND: A number rounded to some decimals
 
 In OpenEdge: ROUND(x, 2) gives x with two decimals, a half away from zero.
@@ -3127,6 +3247,14 @@ It prints
     == a:labels ==
     Lift Tours
 ",
+];
+
+/// The texts of the pages from place 128 on.
+fn texts_8() -> &'static [&'static str] {
+    &TEXTS_8
+}
+
+static TEXTS_9: [&str; 12] = [
     "TIME: The time of day
 
 In OpenEdge: TIME gives the seconds since midnight, and ETIME the milliseconds
@@ -3227,6 +3355,30 @@ It prints
 
     12.25
 ",
+    "UNDEFINE: Words of the preprocessor that are not taken
+
+In OpenEdge: &UNDEFINE takes the definition of a name back, &MESSAGE prints a
+line while a source is compiled, and &ANALYZE-SUSPEND marks a part for a tool.
+
+Refused by E7 at 1:1:
+
+    &UNDEFINE limit
+    ^
+
+Here: Define the name anew, or as an argument of a file, which ends with that
+file; leave out the lines for tools. &SCOPED-DEFINE and &GLOBAL-DEFINE are
+written out.
+
+    &SCOPED-DEFINE limit 20
+    MESSAGE \"({&limit})\".
+    &SCOPED-DEFINE limit
+    MESSAGE \"({&limit})\".
+
+It prints
+
+    (20)
+    ()
+",
     "UNFORMATTED: A whole line of the input
 
 In OpenEdge: IMPORT UNFORMATTED t reads a line as it is into a text.
@@ -3285,14 +3437,6 @@ it prints
     Lift Tours 45.5
     Hoops 2.25
 ",
-];
-
-/// The texts of the pages from place 128 on.
-fn texts_8() -> &'static [&'static str] {
-    &TEXTS_8
-}
-
-static TEXTS_9: [&str; 5] = [
     "VALIDATE: A record checked before its block ends
 
 In OpenEdge: VALIDATE Customer checks mandatory fields and unique keys, and
@@ -3632,20 +3776,6 @@ VALID HANDLE=HANDLE
 DELETE OBJECT=HANDLE
 CREATE BUFFER=HANDLE
 CREATE QUERY=HANDLE
-{=INCLUDE
-{}=INCLUDE
-PREPROCESSOR=INCLUDE
-&IF=INCLUDE
-&ELSE=INCLUDE
-&ENDIF=INCLUDE
-&SCOPED-DEFINE=INCLUDE
-&SCOPEDDEFINE=INCLUDE
-&SCOPED DEFINE=INCLUDE
-&GLOBAL-DEFINE=INCLUDE
-&GLOBALDEFINE=INCLUDE
-&GLOBAL DEFINE=INCLUDE
-&UNDEFINE=INCLUDE
-&MESSAGE=INCLUDE
 OUTER-JOIN=JOIN
 OUTERJOIN=JOIN
 OUTER JOIN=JOIN
@@ -3818,6 +3948,18 @@ RIGHT-TRIM=TRIM
 RIGHTTRIM=TRIM
 RIGHT TRIM=TRIM
 TRUNC=TRUNCATE
+&UNDEFINE=UNDEFINE
+&MESSAGE=UNDEFINE
+&ANALYZE-SUSPEND=UNDEFINE
+&ANALYZESUSPEND=UNDEFINE
+&ANALYZE SUSPEND=UNDEFINE
+&ANALYZE-RESUME=UNDEFINE
+&ANALYZERESUME=UNDEFINE
+&ANALYZE RESUME=UNDEFINE
+&SCOPED=UNDEFINE
+&SCOP=UNDEFINE
+&GLOBAL=UNDEFINE
+&GLOB=UNDEFINE
 IMPORT UNFORMATTED=UNFORMATTED
 SET=UPDATE
 PROMPT-FOR=UPDATE
