@@ -4,15 +4,16 @@
 //! `stdin` have their answers in `stdout`, worked by hand.
 #![tactic(auto)]
 
+mod disk_rows;
 mod files;
 mod images;
 mod memory;
 mod slots;
 
+use crate::disk_rows::Areas;
 use files::Disks;
 use mem_disk::MemDisk;
 use std::io;
-use test_images::Areas;
 
 /// What the rows of a section are of.
 #[derive(Drop)]

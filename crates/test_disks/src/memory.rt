@@ -2,10 +2,10 @@
 //! `crash 3 old 46 new`. `disk TEXT CALLS BYTES LENGTH FAIL ..` begins with another disk: area 0 has the
 //! bytes of the text, and the calls of these numbers fail.
 
+use crate::disk_rows::{Areas, disk_of, number, numbers, stopped};
 use crate::files::call_answer;
 use mem_disk::{MemDisk, Room, Torn};
 use std::alloc::{AllocError, Global};
-use test_images::{Areas, disk_of, number, numbers, stopped};
 use test_words::push_bytes;
 
 /// The answer to a row.

@@ -3,9 +3,10 @@
 
 mod files;
 
+use crate::disk_rows;
+use crate::disk_rows::Areas;
 use std::alloc::Global;
 use std::io;
-use test_images::Areas;
 
 /// The answer of a row: a call and its arguments, with a blank between.
 pub fn answer(
@@ -18,6 +19,6 @@ pub fn answer(
     if call == "files" {
         files::answer(machine, alloc, words)
     } else {
-        Ok(test_images::answer(alloc, areas, call, words)?)
+        Ok(disk_rows::answer(alloc, areas, call, words)?)
     }
 }

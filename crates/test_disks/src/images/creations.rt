@@ -1,13 +1,13 @@
 //! A database created over the areas, with calls of the disk stopped and failed.
 
+use crate::disk_rows::{
+    Areas, Reopened, WAYS, disk_over, images_recovered, is_multiple, reads, stopped, torn,
+};
 use crate::images::schema::{CUSTOMERS, schema};
 use disk_database::{CreateRefusal, create};
 use mem_disk::MemDisk;
 use std::alloc::{AllocError, Global};
 use storage::Disk;
-use test_images::{
-    Areas, Reopened, WAYS, disk_over, images_recovered, is_multiple, reads, stopped, torn,
-};
 
 /// The slots that are compared: the first ones, and those of the sequences.
 const COMPARED: [u32; 6] = [0, 1, 2, 5000, 5001, 8191];

@@ -1,9 +1,10 @@
 //! The answer to a row.
 
+use crate::disk_rows;
+use crate::disk_rows::{Areas, number, numbers};
 use crate::images::creations::{failed_create, stopped_create};
 use crate::images::stores;
 use std::alloc::{AllocError, Global};
-use test_images::{Areas, number, numbers};
 
 /// The answer to a row: its name and its words, with a blank between.
 pub fn answer(alloc: Global, areas: &mut Areas, row: &str) -> Result<String, AllocError> {
@@ -11,7 +12,7 @@ pub fn answer(alloc: Global, areas: &mut Areas, row: &str) -> Result<String, All
     match call {
         "create" | "open" | "dump" => stores::answer(alloc, areas, call, words),
         "create-stopped" | "create-failed" => creation(alloc, areas, call, words),
-        _ => test_images::answer(alloc, areas, call, words),
+        _ => disk_rows::answer(alloc, areas, call, words),
     }
 }
 

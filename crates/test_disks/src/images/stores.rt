@@ -3,6 +3,7 @@
 ghost use Rattle.std.specs.Prelude.{◌≡◌, ◌<◌};
 ghost use Rattle.log_meaning.specs.steps.Steps.{Image};
 
+use crate::disk_rows::{Areas, disk_over};
 use crate::images::schema::{CUSTOMERS, PLAIN, schema};
 use abl_values::Schema;
 use disk_database::{CreateRefusal, DumpRefusal, OpenRefusal, Opening, close, create, dump, open};
@@ -11,7 +12,6 @@ use mem_disk::MemDisk;
 use std::alloc::{AllocError, Global};
 use std::marker::Brand;
 use storage::Disk;
-use test_images::{Areas, disk_over};
 use test_words::push_bytes;
 
 /// The most bytes that a dump writes.

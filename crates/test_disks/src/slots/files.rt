@@ -1,11 +1,11 @@
 //! Commits over real files, to measure by hand how many there are in a second.
 
+use crate::disk_rows::commit_one;
 use bi_recovery::creation::create;
 use disk_files::DiskFiles;
 use slot_txn::SlotTxn;
 use std::alloc::Global;
 use std::io;
-use test_images::commit_one;
 
 /// Makes slots in the files of that name, commits one write of slot 3 so often, and says how often.
 pub fn answer(machine: &HostRuntime, alloc: Global, words: &str) -> io::Result<String> {

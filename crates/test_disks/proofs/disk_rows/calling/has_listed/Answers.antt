@@ -3,7 +3,7 @@ use Rattle.storage.specs.Slots.{Transaction}
 use Rattle.open_transactions.specs.Clients.{idle, transaction_of}
 use Rattle.open_transactions.specs.Written.{has_written}
 use Rattle.open_transactions.proofs.Parts.{part_here}
-use Rattle.test_images.proofs.calling.has_listed.Goals as goal
+use Rattle.test_disks.proofs.disk_rows.calling.has_listed.Goals as goal
 
 pub returns : goal.returns
 returns c =

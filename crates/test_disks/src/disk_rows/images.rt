@@ -1,8 +1,8 @@
 //! Rows that make the areas: headers, batches of notes and slots as `docs/formats.md` has them,
 //! 'Stored bytes', and any other bytes.
 
-use crate::areas::Areas;
-use crate::words::{byte_of, number, numbers, split_number, u16_of, u32_of};
+use crate::disk_rows::areas::Areas;
+use crate::disk_rows::words::{byte_of, number, numbers, split_number, u16_of, u32_of};
 use std::alloc::{AllocError, Global};
 use test_words::bytes_of;
 

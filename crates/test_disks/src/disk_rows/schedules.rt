@@ -1,13 +1,13 @@
 //! Random schedules of steps of four clients, against the model, with a failing call or without; then a
 //! stop with torn writes, and the slots opened again.
 
-use crate::areas::Areas;
-use crate::driven::Driven;
-use crate::histories::History;
-use crate::model::SLOTS;
-use crate::reopened::{Reopened, disk_of_steps, images_recovered};
-use crate::steps::Step;
-use crate::sweeps::{first_bytes, first_slots, stopped};
+use crate::disk_rows::areas::Areas;
+use crate::disk_rows::driven::Driven;
+use crate::disk_rows::histories::History;
+use crate::disk_rows::model::SLOTS;
+use crate::disk_rows::reopened::{Reopened, disk_of_steps, images_recovered};
+use crate::disk_rows::steps::Step;
+use crate::disk_rows::sweeps::{first_bytes, first_slots, stopped};
 use mem_disk::{MemDisk, Torn};
 use slot_txn::SlotTxn;
 use std::alloc::{AllocError, Global};

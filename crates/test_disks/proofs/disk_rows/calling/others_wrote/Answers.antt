@@ -1,5 +1,5 @@
 use Rattle.std.proofs.Common.{below_more, arith}
-use Rattle.test_images.proofs.calling.others_wrote.Goals as goal
+use Rattle.test_disks.proofs.disk_rows.calling.others_wrote.Goals as goal
 
 pub clients-preserved : goal.clients-preserved
 clients-preserved c = below_more _ _ c.clients.invariant (c.other_wrote.ensures c.if-other_wrote.false)

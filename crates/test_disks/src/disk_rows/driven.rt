@@ -1,10 +1,10 @@
 //! Slots over a disk and the model, driven by the same steps.
 
-use crate::calling::{Answer, perform};
-use crate::histories::History;
-use crate::model::Model;
-use crate::reopened::mark;
-use crate::steps::Step;
+use crate::disk_rows::calling::{Answer, perform};
+use crate::disk_rows::histories::History;
+use crate::disk_rows::model::Model;
+use crate::disk_rows::reopened::mark;
+use crate::disk_rows::steps::Step;
 use mem_disk::MemDisk;
 use slot_txn::SlotTxn;
 use std::alloc::{AllocError, Global};

@@ -1,13 +1,13 @@
 //! The answer to a row.
 
-use crate::areas::Areas;
-use crate::images;
-use crate::long::{checkpoint, commits, full};
-use crate::reopened::{disk_over, opened_again, shown};
-use crate::schedules::schedules;
-use crate::steps::steps_of;
-use crate::sweeps::{failed_steps, stopped_steps};
-use crate::words::{number, numbers, u32_of};
+use crate::disk_rows::areas::Areas;
+use crate::disk_rows::images;
+use crate::disk_rows::long::{checkpoint, commits, full};
+use crate::disk_rows::reopened::{disk_over, opened_again, shown};
+use crate::disk_rows::schedules::schedules;
+use crate::disk_rows::steps::steps_of;
+use crate::disk_rows::sweeps::{failed_steps, stopped_steps};
+use crate::disk_rows::words::{number, numbers, u32_of};
 use std::alloc::{AllocError, Global};
 
 /// The answer to a row: its name and its words.

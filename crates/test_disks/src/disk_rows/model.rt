@@ -1,6 +1,6 @@
 //! A plain model of the first slots, one byte each: a list of old bytes for each client.
 
-use crate::steps::Step;
+use crate::disk_rows::steps::Step;
 use std::alloc::{AllocError, Global};
 
 /// How many slots the model has.

@@ -5,7 +5,7 @@ ghost use Rattle.storage.specs.Slots.{IsAlone, is_low};
 ghost use Rattle.open_transactions.specs.Clients.{transaction_in};
 ghost use Rattle.open_transactions.specs.Written.{has_written};
 
-use crate::steps::Step;
+use crate::disk_rows::steps::Step;
 use open_transactions::{Transactions, has_low_number};
 use slot_txn::SlotTxn;
 use storage::{Disk, Mark, SlotFault, Slots};

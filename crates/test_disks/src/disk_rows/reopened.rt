@@ -2,7 +2,7 @@
 
 ghost use Rattle.std.specs.Prelude.{◌<◌, ◌≤◌, ◌^◌, length};
 
-use crate::areas::Areas;
+use crate::disk_rows::areas::Areas;
 use bi_recovery::recovery_run::recover;
 use mem_disk::{Images, MemDisk, Room};
 use slot_txn::{OpenFault, SlotTxn};

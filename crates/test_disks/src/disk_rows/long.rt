@@ -1,10 +1,10 @@
 //! A transaction of all its writes, and checkpoints.
 
-use crate::areas::Areas;
-use crate::calling::{Answer, abandon, back, begin, commit, write};
-use crate::histories::History;
-use crate::reopened::{disk_over, images_recovered, shown};
-use crate::sweeps::{Run, is_right};
+use crate::disk_rows::areas::Areas;
+use crate::disk_rows::calling::{Answer, abandon, back, begin, commit, write};
+use crate::disk_rows::histories::History;
+use crate::disk_rows::reopened::{disk_over, images_recovered, shown};
+use crate::disk_rows::sweeps::{Run, is_right};
 use mem_disk::MemDisk;
 use slot_txn::SlotTxn;
 use std::alloc::{AllocError, Global};

@@ -2,13 +2,13 @@
 
 ghost use Rattle.std.specs.Prelude.{◌≤◌};
 
-use crate::areas::Areas;
-use crate::driven::Driven;
-use crate::histories::History;
-use crate::model::SLOTS;
-use crate::reopened::{Reopened, disk_of_steps, images_recovered, marks_of};
-use crate::steps::Step;
-use crate::words::{byte_of, u32_of};
+use crate::disk_rows::areas::Areas;
+use crate::disk_rows::driven::Driven;
+use crate::disk_rows::histories::History;
+use crate::disk_rows::model::SLOTS;
+use crate::disk_rows::reopened::{Reopened, disk_of_steps, images_recovered, marks_of};
+use crate::disk_rows::steps::Step;
+use crate::disk_rows::words::{byte_of, u32_of};
 use mem_disk::{Images, MemDisk, Torn};
 use slot_txn::SlotTxn;
 use std::alloc::{AllocError, Global};
