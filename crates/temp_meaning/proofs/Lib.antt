@@ -1,0 +1,4 @@
+pub mod RowsBack
+mod Ascending
+mod TablesBack
+mod CallsBack
