@@ -12,7 +12,7 @@ if __name__ == "__main__" and sys.argv[1:] == ["--help"]:
     sys.exit()
 
 import abl_reference as plain_reference
-from abl_reference import KINDS, Block, Client, Fault, Parser, Refused, Stop, Var, fit, lex, order
+from abl_reference import KINDS, RANGE, Block, Client, Fault, Parser, Refused, Stop, Var, fit, lex, order
 
 MAX_ROW, MAX_KEY, FIRST_ROW, FRAGMENT = 30000, 200, 8192, 240
 DEFMASK, INITS = plain_reference.DEFMASK, plain_reference.INITS
@@ -1070,6 +1070,9 @@ class RecordClient(Client):
         if e[1] == 'NEXT-VALUE':
             if self.units == 0:
                 raise Stop('Budget')
+            if not -2**63 <= q[0] + q[1] < 2**63:
+                self.operation('NextValue %s' % name, 'SequenceEnd')
+                raise Fault(RANGE)
             q[0] += q[1]
         self.operation('%s %s' % ('NextValue' if e[1] == 'NEXT-VALUE' else 'CurrentValue', name), 'Value %d' % q[0])
         return ('L', q[0])
