@@ -1,0 +1,4 @@
+DO TRANSACTION:
+  INPUT FROM "invoice.d".
+  REPEAT: CREATE Invoice. IMPORT Invoice. END.
+END.

@@ -1,0 +1,4 @@
+DO TRANSACTION:
+  INPUT FROM "item.d".
+  REPEAT: CREATE Item. IMPORT Item. END.
+END.

@@ -1,0 +1,6 @@
+DO TRANSACTION:
+  INPUT FROM "order.d".
+  REPEAT: CREATE Order. IMPORT Order. END.
+  INPUT FROM "orderline.d".
+  REPEAT: CREATE OrderLine. IMPORT OrderLine. END.
+END.

@@ -1,0 +1,5 @@
+108 1 "R. Vance"
+108 2 "P. Osei"
+121 1 "M. Lindqvist"
+130 1 "H. Brandt"
+20130 1 "J. Adler"

@@ -1,0 +1,6 @@
+DO TRANSACTION:
+  INPUT FROM "item.d".
+  REPEAT: CREATE Item. IMPORT Item. END.
+  INPUT FROM "bin.d".
+  REPEAT: CREATE Bin. IMPORT Bin. END.
+END.
