@@ -11,7 +11,7 @@ iFile = NEXT-VALUE(NextFile).
 OUTPUT TO "bank.txt".
 DO TRANSACTION:
   PUT UNFORMATTED "H" STRING(iFile, "99999") STRING(YEAR(dtToday) * 10000 + MONTH(dtToday) * 100 + DAY(dtToday)) SKIP.
-  FOR EACH Invoice WHERE Invoice.SentFile = 0 EXCLUSIVE-LOCK:
+  FOR EACH Invoice WHERE Invoice.SentFile = 0 USE-INDEX SentFile EXCLUSIVE-LOCK:
     PUT UNFORMATTED "D" STRING(Invoice.InvNum, "99999999") STRING(Invoice.CustNum, "999999")
       (IF Invoice.Amount < 0 THEN "-" ELSE "+")
       STRING((IF Invoice.Amount < 0 THEN - Invoice.Amount ELSE Invoice.Amount) * 100, "99999999999") SKIP.
